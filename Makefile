@@ -1,0 +1,4 @@
+.PHONY: run test
+
+test:
+	rt ci

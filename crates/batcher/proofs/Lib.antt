@@ -1,0 +1,5 @@
+pub mod Checking
+pub mod Feeding
+pub mod KeyOrder
+pub mod MapItems
+pub mod Orders
