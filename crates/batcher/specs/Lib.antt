@@ -4,8 +4,13 @@ pub mod Ascending
 pub mod Attestations
 pub mod Keys
 pub mod Items
-pub mod Certificates
+pub mod Votes
+pub mod Selected
+pub mod Held
 pub mod Meaning
+pub mod Attempts
+pub mod Tracking
+pub mod Buffering
 pub mod Hashed
 pub mod Keyed
 pub mod Sealed

@@ -5,3 +5,5 @@
 pub mod messages;
 pub mod positions;
 pub mod scheme;
+pub mod verifier;
+pub mod votes;

@@ -152,7 +152,7 @@ pub enum Kind {
 }
 
 impl<C, D> Certificate<C, D> {
-    ghost use Rattle.batcher.specs.Certificates.{kind_certified};
+    ghost use Rattle.batcher.specs.Votes.{kind_certified};
 
     pub fn kind(&self) -> Kind
         ensures { result ≡ kind_certified self.now }

@@ -4,8 +4,10 @@ ghost use Rattle.std.specs.Prelude.{◌≡◌, ◌<◌, ◌≤◌, ◌^◌};
 ghost use Rattle.batcher.specs.Quorum.{quorum_of};
 
 mod keys;
+mod list;
 
 pub use keys::{Set, SetFault};
+pub use list::Participants;
 
 /// A period with one set of participants.
 #[derive(Clone, Copy, Debug, PartialEq, Eq, PartialOrd, Ord, Hash)]
