@@ -3,3 +3,7 @@ pub mod Feeding
 pub mod KeyOrder
 pub mod MapItems
 pub mod Orders
+pub mod Quorums
+pub mod Nullified
+pub mod Trying
+pub mod Running

@@ -8,9 +8,13 @@ pub mod Votes
 pub mod Selected
 pub mod Held
 pub mod Meaning
+pub mod Setting
 pub mod Attempts
 pub mod Tracking
 pub mod Buffering
+pub mod Reasons
+pub mod Admissions
+pub mod Nullifies
 pub mod Hashed
 pub mod Keyed
 pub mod Sealed

@@ -3,9 +3,9 @@ use Rattle.batcher.specs.Keys.{index_of, participant}
 use Rattle.batcher.proofs.KeyOrder.{index_found, index_absent}
 use Rattle.batcher.proofs.positions.keys.Set.index.Goals as goal
 
-pub returns-in-Ok : goal.returns-in-Ok
+pub returns-in-Ok-clause-index : goal.returns-in-Ok-clause-index
 unfolding index_of
-returns-in-Ok g c =
+returns-in-Ok-clause-index g c =
     let up = rw c.self.view_is at c.self.invariant.0 in
     let keys = c.deref.ensures.value ∙ c.self.view_is in
     let below = rw keys at c.in-Ok.ensures.bound in
@@ -13,9 +13,9 @@ returns-in-Ok g c =
     rw (index_found g.met.P.Ord.total c.args.self.now up c.args.key.now c.in-Ok.index below tie)
     (ap (λ n. Some (participant n)) c.from_usize.ensures)
 
-pub returns-in-Err : goal.returns-in-Err
+pub returns-in-Err-clause-index : goal.returns-in-Err-clause-index
 unfolding index_of
-returns-in-Err g c =
+returns-in-Err-clause-index g c =
     let up = rw c.self.view_is at c.self.invariant.0 in
     let keys = c.deref.ensures.value ∙ c.self.view_is in
     let split = rw keys at c.in-Err.ensures.position in

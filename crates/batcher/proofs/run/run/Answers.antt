@@ -1,0 +1,29 @@
+use Rattle.std.proofs.Common.{◌≡◌, ◌∙◌, ◌++◌, ◌∷◌, ◌+◌, [], sym, ap, take, arith, length-append}
+use Rattle.std.proofs.lemmas.Grind.{common_steps}
+use Rattle.std.proofs.lemmas.List.{take_more}
+use Rattle.batcher.specs.Setting.{setting}
+use Rattle.batcher.proofs.Running.{Runs-push}
+use Rattle.batcher.proofs.run.run.Goals as goal
+
+pub step-requires : goal.step-requires
+step-requires g c = rw (c.loop-call.invariant.number, c.call-item.is) (c.requires.calls c.loop-call.call-index c.call-item.result (omega arith))
+
+pub loop-call-preserved : goal.loop-call-preserved
+loop-call-preserved g c =
+    let x = setting (g.S.Scheme.meaning c.args.round.scheme) g.S.PublicKey.Ord.cmp g.S.Signature.PartialEq.eq g.D.PartialEq.eq c.args.round.number c.args.round.mode in
+    let more : take (c.loop-call.call-index + 1) c.args.calls.now ≡ take c.loop-call.call-index c.args.calls.now ++ c.call-item.result ∷ []
+    = take_more c.args.calls.now c.loop-call.call-index c.call-item.result (omega arith) ∙ ap (λ y. take c.loop-call.call-index c.args.calls.now ++ y ∷ []) (sym c.call-item.is) in
+    let stepped = rw (c.loop-call.invariant.scheme, c.loop-call.invariant.number, c.loop-call.invariant.mode) at c.step.ensures.steps in
+    record {
+      runs = rw (more, c.push_reserved.ensures.items) (Runs-push x c.args.round.holds (g.R.Rng.stream c.args.rng.now) (take c.loop-call.call-index c.args.calls.now) c.loop-call.answers.items c.loop-call.round.holds (g.R.Rng.stream c.loop-call.rng) c.call-item.result c.step.result c.step.new.round.holds (g.R.Rng.stream c.step.new.rng) c.loop-call.invariant.runs stepped);
+      told = rw c.push_reserved.ensures.items (omega (arith, length-append c.loop-call.answers.items (c.step.result ∷ []), c.loop-call.invariant.told));
+      room = rw c.push_reserved.ensures.capacity c.loop-call.invariant.room;
+      scheme = c.step.ensures.same.0 ∙ c.loop-call.invariant.scheme;
+      number = c.step.ensures.same.1.0 ∙ c.loop-call.invariant.number;
+      mode = c.step.ensures.same.1.1 ∙ c.loop-call.invariant.mode;
+    }
+
+pub returns-clause-runs : goal.returns-clause-runs
+returns-clause-runs g c =
+    let all : take c.loop-call.call-index c.args.calls.now ≡ c.args.calls.now = grind (arith, common_steps) in
+    rw all at c.loop-call.invariant.runs
