@@ -110,6 +110,7 @@ impl<S: Scheme<D>, D: Digest> Round<S, D> {
         requires { 1 ≤ length (S.meaning scheme.value).participants }
         ensures scheme { result.scheme ≡ scheme.value }
         ensures number { result.number ≡ round }
+        ensures mode { result.mode ≡ (if track_historical_votes then Mode.Retaining else Mode.Releasing) }
         ensures holds { result.holds ≡ nothing_held }
     {
         let participants = scheme.participants().len();

@@ -1,0 +1,292 @@
+//! The test schemes, and one that is written as from outside the crate.
+
+ghost use Rattle.std.specs.Prelude.{◌≡◌, ◌&&◌, true, Option, Some, nat_lt, length, IfOk, IfErr, OnOk};
+ghost use Rattle.std.specs.Result.{result_ok};
+ghost use Rattle.rand_core.specs.Stream.{Stream};
+ghost use Rattle.batcher.specs.Attestations.{Sorts};
+
+use super::*;
+use crate::messages::{Attestation, Certificate};
+use crate::scheme::{AttestationList, Counter, Scheme, Sealed, Verification};
+use crate::verifier::Batch;
+use rand_core::CryptoRng;
+
+fn hex(alloc: Global, bytes: &[u8]) -> Result<String, Fail> {
+    let mut text = String::new(alloc);
+    for byte in bytes {
+        write!(text, "{byte:02x}")?;
+    }
+    Ok(text)
+}
+
+// The expected bytes were hashed by another program, from the format alone.
+#[test]
+fn signatures_hash_what_the_format_says(rt: HostRuntime) -> Result<(), Fail> {
+    let alloc = rt.alloc();
+    let scheme = keyed(alloc, 4)?;
+    let round = number();
+    let nullify = scheme.sign(Participant::new(2), Subject::Nullify { round });
+    assert_eq!(rt;
+        hex(alloc, &nullify.signature)?.as_str(),
+        "8f6a3a3d62740af5b524c5ac0457ae665c6bfd60bc1f2df813a9ca4310ef470c"
+    );
+    let round = positions::Round::new(Epoch::new(333), View::new(7));
+    let proposal = Proposal::new(round, View::new(6), Sha256Digest([4; 32]));
+    let notarize = scheme.sign(Participant::new(1), Subject::Notarize { proposal });
+    assert_eq!(rt;
+        hex(alloc, &notarize.signature)?.as_str(),
+        "18e991f8e83edc733706f03c317d9a08962d418414be34fbebe31dafcd0923bc"
+    );
+    let finalize = scheme.sign(Participant::new(9), Subject::Finalize { proposal });
+    assert_eq!(rt;
+        hex(alloc, &finalize.signature)?.as_str(),
+        "86470c46ac43b93614f623924a8be74607b7ce6f8c492c1760fabc97593bcfb1"
+    );
+    Ok(())
+}
+
+// What a round of any scheme makes of the attestations, each sent by its signer.
+fn construct<S: Scheme<Digest, PublicKey = Name>>(
+    rt: &impl Abort,
+    alloc: Global,
+    scheme: Rc<S>,
+    attestations: &[Attestation<S::Signature>],
+) -> Result<Option<Batch<Certificate<S::Certificate, Digest>>>, Fail> {
+    assert!(rt; scheme.participants().len() >= 1);
+    let mut round = Round::new(alloc, number(), scheme, true);
+    for attestation in attestations {
+        let vote = Vote::Nullify(Nullify {
+            round: number(),
+            attestation: *attestation,
+        });
+        assert!(rt; round.belongs(&vote));
+        let sender = Name(attestation.signer.get() as u64);
+        assert!(rt; round.add_network(sender, vote)?.added);
+    }
+    Ok(round.try_construct(&mut Counter::new(0))?)
+}
+
+// The content of a nullification.
+fn content<C>(certificate: Option<Certificate<C, Digest>>) -> Option<C>
+where
+    C: Drop,
+{
+    match certificate {
+        Some(Certificate::Nullification(nullification)) => Some(nullification.certificate),
+        _ => None,
+    }
+}
+
+// Three good nullifies, and then a bad one.
+fn with_a_bad_one(scheme: &Keyed<true>) -> [Attestation<[u8; 32]>; 4] {
+    [
+        nullify(scheme, 2, true).attestation,
+        nullify(scheme, 0, true).attestation,
+        nullify(scheme, 1, true).attestation,
+        nullify(scheme, 3, false).attestation,
+    ]
+}
+
+#[test]
+fn a_list_names_who_signed_in_order(rt: HostRuntime) -> Result<(), Fail> {
+    let alloc = rt.alloc();
+    let scheme = keyed(alloc, 4)?;
+    let votes = with_a_bad_one(&scheme);
+    let batch = construct(&rt, alloc, Rc::new(alloc, keyed(alloc, 4)?)?, &votes)?.ok_or(
+        "no batch",
+    )?;
+    assert_eq!(rt; batch.processed, 4);
+    assert_eq!(rt; batch.invalid.as_slice(), [Participant::new(3)].as_slice());
+    assert!(rt; batch.fallback);
+    let certificate = content(batch.certificate).ok_or("no certificate")?;
+    let subject = Subject::Nullify { round: number() };
+    assert!(rt; scheme.verify_certificate(subject, &certificate));
+    let other = positions::Round::new(Epoch::new(0), View::new(2));
+    assert!(rt; !scheme.verify_certificate(Subject::Nullify { round: other }, &certificate));
+    let listed = [votes[1], votes[2], votes[0]];
+    assert_eq!(rt; certificate.attestations(), listed.as_slice());
+    let unordered = AttestationList::new(Vec::from_slice(alloc, &votes[..3])?);
+    assert!(rt; !scheme.verify_certificate(subject, &unordered));
+    let short = AttestationList::new(Vec::from_slice(alloc, &listed[..2])?);
+    assert!(rt; !scheme.verify_certificate(subject, &short));
+    let bad = AttestationList::new(Vec::from_slice(alloc, &[votes[1], votes[2], votes[3]])?);
+    assert!(rt; !scheme.verify_certificate(subject, &bad));
+    Ok(())
+}
+
+#[test]
+fn a_seal_is_given_although_a_vote_is_bad(rt: HostRuntime) -> Result<(), Fail> {
+    let alloc = rt.alloc();
+    let votes = with_a_bad_one(&keyed(alloc, 4)?);
+    let sealed = Rc::new(alloc, Sealed::new(names(alloc, 4)?, ROOT))?;
+    let batch = construct(&rt, alloc, sealed, &votes)?.ok_or("no batch")?;
+    assert_eq!(rt; batch.processed, 4);
+    assert_eq!(rt; batch.invalid.as_slice(), [].as_slice());
+    assert!(rt; !batch.fallback);
+    let certificate = content(batch.certificate).ok_or("no certificate")?;
+    assert_eq!(rt;
+        hex(alloc, &certificate)?.as_str(),
+        "fadd42ccbd58089292517bef7eee91f9c3eb8f96d29cb08e2a9811d432a46c31"
+    );
+    let scheme = Sealed::new(names(alloc, 4)?, ROOT);
+    let round = number();
+    assert!(rt; scheme.verify_certificate(Subject::Nullify { round }, &certificate));
+    assert!(rt;
+        !scheme.verify_certificate(
+            Subject::Notarize {
+                proposal: proposal(1)
+            },
+            &certificate
+        )
+    );
+    let attestation = scheme.sign(Participant::new(2), Subject::Nullify { round });
+    assert_eq!(rt; attestation, votes[0]);
+    Ok(())
+}
+
+#[test]
+fn a_scheme_that_is_not_batchable_verifies_each_vote_at_once(rt: HostRuntime) -> Result<(), Fail> {
+    let alloc = rt.alloc();
+    let votes = with_a_bad_one(&keyed(alloc, 5)?);
+    let scheme: Keyed<false> = Keyed::new(names(alloc, 5)?, ROOT);
+    let batch = construct(&rt, alloc, Rc::new(alloc, scheme)?, &votes[..1])?.ok_or("no batch")?;
+    assert_eq!(rt; batch.processed, 1);
+    assert_eq!(rt; batch.invalid.as_slice(), [].as_slice());
+    assert!(rt; batch.certificate.is_none());
+    assert!(rt; !batch.fallback);
+    Ok(())
+}
+
+/// A scheme in which a signature is the word of its signer, and a certificate a mere claim.
+#[derive(Drop)]
+struct Trusting {
+    participants: Set<Name>,
+}
+
+impl Scheme<Digest> for Trusting {
+    type PublicKey = Name;
+
+    type Signature = bool;
+
+    type Certificate = ();
+
+    ghost meaning = { λ s. record {
+      participants = s.participants;
+      batchable = true;
+      attests = λ subject a. nat_lt a.signer.0 (length s.participants) && a.signature;
+      certifies = λ subject c. true;
+      left_by_verifying = λ subject pending stream. stream;
+      assembled_at_once = λ subject pending verified stream. (Some tt, stream);
+      assembled = λ subject prior fresh. tt;
+    } };
+
+    ghost use Rattle.std.proofs.Common.{rules, refl, arith};
+    ghost use Rattle.std.proofs.lemmas.Bool.Decides.{nat_tests};
+
+    ghost lawful = { λ s. record {
+      signers_in_range = λ subject a h. Prim.grind (arith, nat_tests, h);
+      optimistic_certifies = λ subject pending verified stream c may e. refl;
+      optimistic_gives = λ subject pending verified stream may all. refl;
+      assembled_certifies = λ subject prior fresh some quorum pass. refl;
+    } };
+
+    fn participants(&self) -> &Set<Name> {
+        &self.participants
+    }
+
+    fn is_batchable() -> bool {
+        true
+    }
+
+    fn verify_attestations<R: CryptoRng>(
+        &self,
+        alloc: Global,
+        rng: &mut R,
+        subject: Subject<Digest>,
+        pending: &[Attestation<bool>],
+    ) -> Result<Verification<bool>, AllocError>
+        ensures sorts { IfOk result (Sorts (λ a. nat_lt a.signer.0 (length self.now.participants) && a.signature) pending.now) }
+        ensures stream { OnOk result (R.stream rng.new ≡ R.stream rng.old) }
+    {
+        let _ = rng;
+        let _ = subject;
+        let mut verified = Vec::new(alloc);
+        let mut invalid = Vec::new(alloc);
+        for attestation in pending {
+            if usize::from(attestation.signer) < self.participants.len() && attestation.signature {
+                verified.push(*attestation)?;
+            } else {
+                invalid.push(attestation.signer)?;
+            }
+        }
+        Ok(Verification { verified, invalid })
+    }
+
+    fn optimistic_assemble<R: CryptoRng>(
+        &self,
+        alloc: Global,
+        rng: &mut R,
+        subject: Subject<Digest>,
+        pending: &[Attestation<bool>],
+        verified: &[Attestation<bool>],
+    ) -> Result<Result<(), Verification<bool>>, AllocError>
+        ensures sorts { IfOk result (λ answer. IfErr answer (Sorts (λ a. nat_lt a.signer.0 (length self.now.participants) && a.signature) pending.now)) }
+        ensures function { IfOk result (λ answer. ◌≡◌ {A = Option (Unit {0}) × Stream} (result_ok answer, R.stream rng.new) (Some tt, R.stream rng.old)) }
+    {
+        let _ = alloc;
+        let _ = rng;
+        let _ = subject;
+        let _ = pending;
+        let _ = verified;
+        Ok(Ok(()))
+    }
+
+    fn assemble(
+        &self,
+        alloc: Global,
+        subject: Subject<Digest>,
+        prior: &[Attestation<bool>],
+        fresh: &[Attestation<bool>],
+    ) -> Result<(), AllocError>
+        ensures function { IfOk result (λ certificate. certificate ≡ tt) }
+    {
+        let _ = alloc;
+        let _ = subject;
+        let _ = prior;
+        let _ = fresh;
+        Ok(())
+    }
+
+    fn verify_certificate(&self, subject: Subject<Digest>, certificate: &()) -> bool
+        ensures { result ≡ true }
+    {
+        let _ = subject;
+        let _ = certificate;
+        true
+    }
+}
+
+#[test]
+fn a_scheme_of_ones_own_drives_a_round(rt: HostRuntime) -> Result<(), Fail> {
+    let alloc = rt.alloc();
+    let scheme = Rc::new(
+        alloc,
+        Trusting {
+            participants: names(alloc, 2)?,
+        },
+    )?;
+    let votes = [
+        Attestation {
+            signer: Participant::new(0),
+            signature: true,
+        },
+        Attestation {
+            signer: Participant::new(1),
+            signature: false,
+        },
+    ];
+    let batch = construct(&rt, alloc, scheme, &votes)?.ok_or("no batch")?;
+    assert_eq!(rt; batch.processed, 2);
+    assert!(rt; batch.certificate.is_some());
+    Ok(())
+}
