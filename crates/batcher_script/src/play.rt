@@ -1,6 +1,6 @@
 //! Plays a script: reads it, makes its calls in one run, and prints the answers.
 
-ghost use Rattle.std.specs.Prelude.{◌≡◌, ◌≤◌, ◌<◌, ◌^◌, All, IfOk, length, true};
+ghost use Rattle.std.specs.Prelude.{◌≡◌, ◌≤◌, ◌<◌, ◌^◌, All, IfOk, IfSome, length, true};
 ghost use Rattle.batcher.specs.Nullifies.{IsNullify, MayCall};
 ghost use Rattle.batcher.specs.Votes.{round_in, subject_of};
 
@@ -66,7 +66,9 @@ fn play_all<R: Read + Drop, W: Write + Drop>(
 
 /// All bytes that the reader holds. An error of the reader is a fault of the input, also where
 /// it says that memory was short.
-fn read_all<R: Read>(alloc: Global, reader: &mut R) -> Result<Vec<u8>, Stop> {
+fn read_all<R: Read>(alloc: Global, reader: &mut R) -> Result<Vec<u8>, Stop>
+    ensures { IfOk result (λ bytes. IfSome (R.remaining reader.old) (λ all. bytes.items ≡ all)) }
+{
     let mut bytes = Vec::new(alloc);
     let mut buffer = [0u8; 4096];
     for _ in 0..u64::MAX {
