@@ -1,0 +1,241 @@
+//! Plays a script: reads it, makes its calls in one run, and prints the answers.
+
+ghost use Rattle.std.specs.Prelude.{◌≡◌, ◌≤◌, ◌<◌, ◌^◌, All, IfOk, IfSome, length, true};
+ghost use Rattle.batcher.specs.Nullifies.{IsNullify, MayCall};
+ghost use Rattle.batcher.specs.Votes.{round_in, subject_of};
+
+use crate::print::{AsText, Output};
+use crate::script::{Ballot, Command, Opening, SchemeWord, Script, Signature};
+use batcher::messages::{Attestation, Nullify, Sha256Digest, Subject, Vote};
+use batcher::positions::{self, Participant, Set};
+use batcher::round::Round;
+use batcher::run::{Answer, Call, Ran, run};
+use batcher::scheme::{Counter, Keyed, Name, Scheme};
+use batcher::votes::Mode;
+use std::alloc::{AllocError, Global};
+use std::io::{ErrorKind, Read, Write};
+use std::rc::Rc;
+
+/// Why a play stops before the end of its script.
+#[derive(Clone, Copy, Debug, PartialEq, Eq)]
+pub enum Stop {
+    Malformed,
+    OutOfMemory,
+    Input,
+    Output,
+}
+
+impl From<AllocError> for Stop {
+    fn from(_error: AllocError) -> Stop {
+        Stop::OutOfMemory
+    }
+}
+
+impl Stop {
+    fn status(self) -> u8 {
+        match self {
+            Stop::Malformed => 2,
+            Stop::OutOfMemory => 3,
+            Stop::Input | Stop::Output => 4,
+        }
+    }
+}
+
+/// Plays the script that the reader holds, and answers the exit status.
+pub fn play<R: Read + Drop, W: Write + Drop>(alloc: Global, reader: R, writer: W) -> u8 {
+    match play_all(alloc, reader, writer) {
+        Ok(()) => 0,
+        Err(stop) => stop.status(),
+    }
+}
+
+fn play_all<R: Read + Drop, W: Write + Drop>(
+    alloc: Global,
+    mut reader: R,
+    writer: W,
+) -> Result<(), Stop> {
+    let bytes = read_all(alloc, &mut reader)?;
+    let script = Script::parse(alloc, bytes.as_slice())?;
+    let mut output = Output::new(alloc, writer);
+    let played = print_script(alloc, &script, &mut output);
+    if played != Err(Stop::Output) {
+        output.flush()?;
+    }
+    played
+}
+
+/// All bytes that the reader holds. An error of the reader is a fault of the input, also where
+/// it says that memory was short.
+fn read_all<R: Read>(alloc: Global, reader: &mut R) -> Result<Vec<u8>, Stop>
+    ensures { IfOk result (λ bytes. IfSome (R.remaining reader.old) (λ all. bytes.items ≡ all)) }
+{
+    let mut bytes = Vec::new(alloc);
+    let mut buffer = [0u8; 4096];
+    for _ in 0..u64::MAX {
+        match reader.read(&mut buffer) {
+            Ok(0) => return Ok(bytes),
+            Ok(count) => bytes.extend_from_slice(&buffer[..count])?,
+            Err(error) if error.kind() == ErrorKind::Interrupted => {}
+            Err(_) => return Err(Stop::Input),
+        }
+    }
+    Err(Stop::Input)
+}
+
+fn print_script<W: Write>(
+    alloc: Global,
+    script: &Script,
+    output: &mut Output<W>,
+) -> Result<(), Stop> {
+    if let Some(opening) = &script.opening {
+        output.print(AsText(opening))?;
+        let commands = script.commands.as_slice();
+        match opening.scheme {
+            SchemeWord::Keyed => {
+                print_answers::<Keyed<true>, W>(alloc, opening, commands, output)?
+            }
+        }
+    }
+    match script.malformed {
+        None => Ok(()),
+        Some(number) => {
+            output.print(format_args!("line {number}: malformed"))?;
+            Err(Stop::Malformed)
+        }
+    }
+}
+
+/// Makes the calls in one run, and prints the answers up to the first for want of memory.
+fn print_answers<S: TestScheme, W: Write>(
+    alloc: Global,
+    opening: &Opening,
+    commands: &[Command],
+    output: &mut Output<W>,
+) -> Result<(), Stop> {
+    let scheme = S::of(names(alloc, opening.participants)?);
+    let calls = calls(alloc, &scheme, opening.round, commands)?;
+    let round = Round::new(
+        alloc,
+        opening.round,
+        Rc::new(alloc, scheme).map_err(AllocError::from)?,
+        opening.mode == Mode::Retaining,
+    );
+    let Ran { round: _, answers } = run(alloc, round, &mut Counter::new(0), calls.as_slice())?;
+    for answer in &answers {
+        match answer {
+            Answer::Network(admission) => {
+                output.print(format_args!("net: {}", AsText(admission)))?
+            }
+            Answer::Construct(batch) => output.print(format_args!("construct: {}", AsText(batch)))?,
+            Answer::OutOfMemory => return Err(Stop::OutOfMemory),
+        }
+    }
+    Ok(())
+}
+
+/// A test scheme, of which all votes can be made.
+trait TestScheme: Scheme<Sha256Digest, PublicKey = Name, Signature = [u8; 32]> {
+    fn of(participants: Set<Name>) -> Self
+        ensures { (Self.meaning result).participants ≡ participants };
+
+    fn sign(&self, signer: Participant, subject: Subject<Sha256Digest>) -> Attestation<[u8; 32]>
+        ensures { signer.0 < length (Self.meaning self.now).participants → (Self.meaning self.now).attests subject result ≡ true };
+}
+
+impl<const BATCHABLE: bool> TestScheme for Keyed<BATCHABLE> {
+    fn of(participants: Set<Name>) -> Keyed<BATCHABLE> {
+        Keyed::new(participants, [0; 32])
+    }
+
+    fn sign(&self, signer: Participant, subject: Subject<Sha256Digest>) -> Attestation<[u8; 32]> {
+        Keyed::sign(self, signer, subject)
+    }
+}
+
+/// The participants 0 to `count` - 1.
+fn names(alloc: Global, count: u32) -> Result<Set<Name>, AllocError>
+    ensures { IfOk result (λ set. length set ≡ count) }
+{
+    let mut names = Vec::new(alloc);
+    for number in 0..count {
+        names.push(Name(u64::from(number)))?;
+    }
+    match Set::new(names) {
+        Ok(set) => Ok(set),
+        Err(_) => unreachable!(),
+    }
+}
+
+/// The calls of the commands, in their order.
+fn calls<S: TestScheme>(
+    alloc: Global,
+    scheme: &S,
+    round: positions::Round,
+    commands: &[Command],
+) -> Result<Vec<Call<Name, [u8; 32], Sha256Digest>>, AllocError>
+    ensures { IfOk result (λ calls. All (MayCall round) calls.items) }
+{
+    let mut calls = Vec::with_capacity(alloc, commands.len())?;
+    for command in commands {
+        calls.push(call(scheme, round, *command))?;
+    }
+    Ok(calls)
+}
+
+fn call<S: TestScheme>(
+    scheme: &S,
+    round: positions::Round,
+    command: Command,
+) -> Call<Name, [u8; 32], Sha256Digest>
+    ensures { MayCall round result }
+{
+    match command {
+        Command::Network {
+            sender,
+            signer,
+            ballot,
+            signature,
+        } => Call::Network(
+            Name(sender),
+            vote(scheme, round, Participant::new(signer), ballot, signature),
+        ),
+        Command::Construct => Call::Construct,
+    }
+}
+
+fn vote<S: TestScheme>(
+    scheme: &S,
+    round: positions::Round,
+    signer: Participant,
+    ballot: Ballot,
+    signature: Signature,
+) -> Vote<[u8; 32], Sha256Digest>
+    ensures nullify { IsNullify result }
+    ensures belongs { round_in (subject_of result) ≡ round }
+{
+    match ballot {
+        Ballot::Nullify => {
+            let subject = Subject::Nullify { round };
+            Vote::Nullify(Nullify {
+                round,
+                attestation: attestation(scheme, signer, subject, signature),
+            })
+        }
+    }
+}
+
+fn attestation<S: TestScheme>(
+    scheme: &S,
+    signer: Participant,
+    subject: Subject<Sha256Digest>,
+    signature: Signature,
+) -> Attestation<[u8; 32]> {
+    let mut attestation = scheme.sign(signer, subject);
+    if signature == Signature::Bad {
+        attestation.signature[0] ^= 1;
+    }
+    attestation
+}
+
+#[cfg(test)]
+mod tests;

@@ -1,0 +1,215 @@
+//! Scripts: their bytes as lines, the lines as words, and the words as commands. docs/FORMATS.md
+//! has the form.
+
+ghost use Rattle.std.specs.Prelude.{◌≤◌};
+
+use batcher::positions::{Epoch, Round, View};
+use batcher::votes::Mode;
+use std::alloc::{AllocError, Global};
+
+/// How many participants a round has at most.
+const MOST_PARTICIPANTS: u32 = 1000;
+
+/// The schemes that a round may use.
+#[derive(Clone, Copy, Debug, PartialEq, Eq)]
+pub enum SchemeWord {
+    Keyed,
+}
+
+/// A `round` line.
+#[derive(Clone, Copy, Debug, PartialEq, Eq)]
+pub struct Opening {
+    pub round: Round,
+    pub participants: u32,
+    pub mode: Mode,
+    pub scheme: SchemeWord,
+    ghost some: { 1 ≤ participants },
+    ghost few: { participants ≤ 1000 },
+}
+
+/// A vote, but for its round and its signer.
+#[derive(Clone, Copy, Debug, PartialEq, Eq)]
+pub enum Ballot {
+    Nullify,
+}
+
+/// What signature a vote bears: its signer's, or that with a bit flipped.
+#[derive(Clone, Copy, Debug, PartialEq, Eq)]
+pub enum Signature {
+    Good,
+    Bad,
+}
+
+/// A line after `round`.
+#[derive(Clone, Copy, Debug, PartialEq, Eq)]
+pub enum Command {
+    Network {
+        sender: u64,
+        signer: u32,
+        ballot: Ballot,
+        signature: Signature,
+    },
+    Construct,
+}
+
+/// A script up to its first malformed line.
+#[derive(Drop)]
+pub struct Script {
+    pub opening: Option<Opening>,
+    pub commands: Vec<Command>,
+    /// The number of the malformed line.
+    pub malformed: Option<usize>,
+}
+
+/// Why a line is not taken in.
+#[derive(Clone, Copy, Debug, PartialEq, Eq)]
+enum Fault {
+    Malformed,
+    OutOfMemory,
+}
+
+impl From<AllocError> for Fault {
+    fn from(_error: AllocError) -> Fault {
+        Fault::OutOfMemory
+    }
+}
+
+impl Script {
+    /// Reads a script, which want of memory alone can prevent.
+    pub fn parse(alloc: Global, bytes: &[u8]) -> Result<Script, AllocError> {
+        let mut script = Script {
+            opening: None,
+            commands: Vec::new(alloc),
+            malformed: None,
+        };
+        let lines = bytes.split_inclusive(|byte| *byte == b'\n');
+        for (index, line) in lines.enumerate() {
+            match script.add_line(alloc, line) {
+                Ok(()) => {}
+                Err(Fault::OutOfMemory) => return Err(AllocError),
+                Err(Fault::Malformed) => {
+                    script.malformed = Some(index + 1);
+                    break;
+                }
+            }
+        }
+        Ok(script)
+    }
+
+    fn add_line(&mut self, alloc: Global, line: &[u8]) -> Result<(), Fault> {
+        let text = text_of(line).ok_or(Fault::Malformed)?;
+        let words: Vec<&str> = text
+            .split([' ', '\t'])
+            .filter(|word| !word.is_empty())
+            .collect(alloc)?;
+        if is_skipped(words.as_slice()) {
+            return Ok(());
+        }
+        match self.opening {
+            None => {
+                let opening = Opening::parse(words.as_slice()).ok_or(Fault::Malformed)?;
+                self.opening = Some(opening);
+            }
+            Some(_) => {
+                let command = Command::parse(words.as_slice()).ok_or(Fault::Malformed)?;
+                self.commands.push(command).map_err(AllocError::from)?;
+            }
+        }
+        Ok(())
+    }
+}
+
+impl Opening {
+    fn parse(words: &[&str]) -> Option<Opening> {
+        let ["round", epoch, view, participants, mode, scheme] = words else {
+            return None;
+        };
+        let epoch = Epoch::new(number(epoch)?);
+        let view = View::new(number(view)?);
+        let participants: u32 = number(participants)?;
+        if participants < 1 || participants > MOST_PARTICIPANTS {
+            return None;
+        }
+        let mode = match *mode {
+            "retaining" => Mode::Retaining,
+            "releasing" => Mode::Releasing,
+            _ => return None,
+        };
+        let scheme = match *scheme {
+            "keyed" => SchemeWord::Keyed,
+            _ => return None,
+        };
+        Some(Opening {
+            round: Round::new(epoch, view),
+            participants,
+            mode,
+            scheme,
+        })
+    }
+}
+
+impl Command {
+    fn parse(words: &[&str]) -> Option<Command> {
+        match words {
+            ["net", sender, signer, kind, payload, signature] => Some(Command::Network {
+                sender: number(sender)?,
+                signer: number(signer)?,
+                ballot: Ballot::parse(kind, payload)?,
+                signature: Signature::parse(signature)?,
+            }),
+            ["construct"] => Some(Command::Construct),
+            _ => None,
+        }
+    }
+}
+
+impl Ballot {
+    fn parse(kind: &str, payload: &str) -> Option<Ballot> {
+        match (kind, payload) {
+            ("nullify", "-") => Some(Ballot::Nullify),
+            _ => None,
+        }
+    }
+}
+
+impl Signature {
+    fn parse(word: &str) -> Option<Signature> {
+        match word {
+            "ok" => Some(Signature::Good),
+            "bad" => Some(Signature::Bad),
+            _ => None,
+        }
+    }
+}
+
+/// The text of a line without its ending, where all of the line is ASCII.
+fn text_of(line: &[u8]) -> Option<&str> {
+    let text = match line.strip_suffix(b"\n") {
+        Some(ended) => ended.strip_suffix(b"\r").unwrap_or(ended),
+        None => line,
+    };
+    if text.is_ascii() {
+        str::from_utf8(text).ok()
+    } else {
+        None
+    }
+}
+
+fn is_skipped(words: &[&str]) -> bool {
+    match words {
+        [] => true,
+        [first, ..] => first.starts_with('#'),
+    }
+}
+
+/// The number that decimal digits write, where it is in the type's range.
+fn number<N: std::str::FromStr>(word: &str) -> Option<N>
+where
+    N::Err: Drop,
+{
+    if word.bytes().all(|byte| byte.is_ascii_digit()) {
+        word.parse().ok()
+    } else {
+        None
+    }
+}
