@@ -1,16 +1,13 @@
 //! Plays a script: reads it, makes its calls in one run, and prints the answers.
 
-ghost use Rattle.std.specs.Prelude.{◌≡◌, ◌≤◌, ◌<◌, ◌^◌, All, IfOk, IfSome, length, true};
-ghost use Rattle.batcher.specs.Nullifies.{IsNullify, MayCall};
-ghost use Rattle.batcher.specs.Votes.{round_in, subject_of};
+ghost use Rattle.std.specs.Prelude.{◌≡◌, IfOk, IfSome};
 
+use crate::calls::{TestScheme, calls_of, names};
 use crate::print::{AsText, Output};
-use crate::script::{Ballot, Command, Opening, SchemeWord, Script, Signature};
-use batcher::messages::{Attestation, Nullify, Sha256Digest, Subject, Vote};
-use batcher::positions::{self, Participant, Set};
+use crate::script::{Command, Opening, SchemeWord, Script};
 use batcher::round::Round;
-use batcher::run::{Answer, Call, Ran, run};
-use batcher::scheme::{Counter, Keyed, Name, Scheme};
+use batcher::run::{Answer, Ran, run};
+use batcher::scheme::{Counter, Keyed};
 use batcher::votes::Mode;
 use std::alloc::{AllocError, Global};
 use std::io::{ErrorKind, Read, Write};
@@ -113,7 +110,7 @@ fn print_answers<S: TestScheme, W: Write>(
     output: &mut Output<W>,
 ) -> Result<(), Stop> {
     let scheme = S::of(names(alloc, opening.participants)?);
-    let calls = calls(alloc, &scheme, opening.round, commands)?;
+    let calls = calls_of(alloc, &scheme, opening.round, commands)?;
     let round = Round::new(
         alloc,
         opening.round,
@@ -131,110 +128,6 @@ fn print_answers<S: TestScheme, W: Write>(
         }
     }
     Ok(())
-}
-
-/// A test scheme, of which all votes can be made.
-trait TestScheme: Scheme<Sha256Digest, PublicKey = Name, Signature = [u8; 32]> {
-    fn of(participants: Set<Name>) -> Self
-        ensures { (Self.meaning result).participants ≡ participants };
-
-    fn sign(&self, signer: Participant, subject: Subject<Sha256Digest>) -> Attestation<[u8; 32]>
-        ensures { signer.0 < length (Self.meaning self.now).participants → (Self.meaning self.now).attests subject result ≡ true };
-}
-
-impl<const BATCHABLE: bool> TestScheme for Keyed<BATCHABLE> {
-    fn of(participants: Set<Name>) -> Keyed<BATCHABLE> {
-        Keyed::new(participants, [0; 32])
-    }
-
-    fn sign(&self, signer: Participant, subject: Subject<Sha256Digest>) -> Attestation<[u8; 32]> {
-        Keyed::sign(self, signer, subject)
-    }
-}
-
-/// The participants 0 to `count` - 1.
-fn names(alloc: Global, count: u32) -> Result<Set<Name>, AllocError>
-    ensures { IfOk result (λ set. length set ≡ count) }
-{
-    let mut names = Vec::new(alloc);
-    for number in 0..count {
-        names.push(Name(u64::from(number)))?;
-    }
-    match Set::new(names) {
-        Ok(set) => Ok(set),
-        Err(_) => unreachable!(),
-    }
-}
-
-/// The calls of the commands, in their order.
-fn calls<S: TestScheme>(
-    alloc: Global,
-    scheme: &S,
-    round: positions::Round,
-    commands: &[Command],
-) -> Result<Vec<Call<Name, [u8; 32], Sha256Digest>>, AllocError>
-    ensures { IfOk result (λ calls. All (MayCall round) calls.items) }
-{
-    let mut calls = Vec::with_capacity(alloc, commands.len())?;
-    for command in commands {
-        calls.push(call(scheme, round, *command))?;
-    }
-    Ok(calls)
-}
-
-fn call<S: TestScheme>(
-    scheme: &S,
-    round: positions::Round,
-    command: Command,
-) -> Call<Name, [u8; 32], Sha256Digest>
-    ensures { MayCall round result }
-{
-    match command {
-        Command::Network {
-            sender,
-            signer,
-            ballot,
-            signature,
-        } => Call::Network(
-            Name(sender),
-            vote(scheme, round, Participant::new(signer), ballot, signature),
-        ),
-        Command::Construct => Call::Construct,
-    }
-}
-
-fn vote<S: TestScheme>(
-    scheme: &S,
-    round: positions::Round,
-    signer: Participant,
-    ballot: Ballot,
-    signature: Signature,
-) -> Vote<[u8; 32], Sha256Digest>
-    ensures nullify { IsNullify result }
-    ensures belongs { round_in (subject_of result) ≡ round }
-{
-    match ballot {
-        Ballot::Nullify => {
-            let subject = Subject::Nullify { round };
-            Vote::Nullify(Nullify {
-                round,
-                attestation: attestation(scheme, signer, subject, signature),
-            })
-        }
-    }
-}
-
-fn attestation<S: TestScheme>(
-    scheme: &S,
-    signer: Participant,
-    subject: Subject<Sha256Digest>,
-    signature: Signature,
-) -> Attestation<[u8; 32]> {
-    let mut attestation = scheme.sign(signer, subject);
-    if signature == Signature::Bad {
-        attestation.signature[0] ^= 1;
-    }
-    attestation
 }
 
 #[cfg(test)]

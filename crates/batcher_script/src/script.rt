@@ -6,6 +6,7 @@ ghost use Rattle.std.specs.Prelude.{◌≤◌};
 use batcher::positions::{Epoch, Round, View};
 use batcher::votes::Mode;
 use std::alloc::{AllocError, Global};
+use std::str::FromStr;
 
 /// How many participants a round has at most.
 const MOST_PARTICIPANTS: u32 = 1000;
@@ -127,7 +128,7 @@ impl Opening {
         let epoch = Epoch::new(number(epoch)?);
         let view = View::new(number(view)?);
         let participants: u32 = number(participants)?;
-        if participants < 1 || participants > MOST_PARTICIPANTS {
+        if !(1..=MOST_PARTICIPANTS).contains(&participants) {
             return None;
         }
         let mode = match *mode {
@@ -203,7 +204,7 @@ fn is_skipped(words: &[&str]) -> bool {
 }
 
 /// The number that decimal digits write, where it is in the type's range.
-fn number<N: std::str::FromStr>(word: &str) -> Option<N>
+fn number<N: FromStr>(word: &str) -> Option<N>
 where
     N::Err: Drop,
 {
