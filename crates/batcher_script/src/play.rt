@@ -16,9 +16,12 @@ use std::rc::Rc;
 /// Why a play stops before the end of its script.
 #[derive(Clone, Copy, Debug, PartialEq, Eq)]
 pub enum Stop {
+    /// A line is malformed, and the last line printed says which.
     Malformed,
     OutOfMemory,
+    /// A fault of the input, before anything is printed.
     Input,
+    /// A fault of the output, after which nothing is written.
     Output,
 }
 

@@ -76,7 +76,7 @@ impl From<AllocError> for Fault {
 }
 
 impl Script {
-    /// Reads a script, which want of memory alone can prevent.
+    /// Reads a script up to its first malformed line. Want of memory is the only error.
     pub fn parse(alloc: Global, bytes: &[u8]) -> Result<Script, AllocError> {
         let mut script = Script {
             opening: None,
@@ -97,6 +97,7 @@ impl Script {
         Ok(script)
     }
 
+    // Takes in one more line, with its ending.
     fn add_line(&mut self, alloc: Global, line: &[u8]) -> Result<(), Fault> {
         let text = text_of(line).ok_or(Fault::Malformed)?;
         let words: Vec<&str> = text
@@ -196,6 +197,7 @@ fn text_of(line: &[u8]) -> Option<&str> {
     }
 }
 
+/// Whether a line has no word, or is a comment.
 fn is_skipped(words: &[&str]) -> bool {
     match words {
         [] => true,
