@@ -1,5 +1,5 @@
 -- What a verifier's calls change of the votes that wait for a certificate.
-use Rattle.std.specs.Prelude.{◌≡◌, ℕ, Bool, true, false, not, cond, ◌&&◌, ◌||◌, ◌==◌, nat_le, nat_lt, ◌+◌, List, [], ◌∷◌, ◌++◌, length, Option, Some, None, is_none, is_some, filter, map}
+use Rattle.std.specs.Prelude.{◌≡◌, ℕ, Bool, true, false, not, cond, ◌&&◌, ◌||◌, ◌==◌, nat_le, nat_lt, ◌+◌, List, [], ◌∷◌, ◌++◌, length, Option, Some, None, is_none, is_some, Result, Ok, Err, filter, map}
 use Rattle.std.specs.List.{list_any, list_all}
 use Rattle.std.specs.Option.{option_map}
 use Rattle.rand_core.specs.Stream.{Stream}
@@ -18,6 +18,9 @@ use Rattle.batcher.specs.declared.messages.Kind.TheVariants.{Notarization, Nulli
 use Rattle.batcher.specs.declared.verifier.ProposalState.{ProposalState}
 use Rattle.batcher.specs.declared.verifier.ProposalState.TheVariants.{Unknown}
 use Rattle.batcher.specs.declared.verifier.Batch.{Batch}
+use Rattle.batcher.specs.declared.verifier.LeaderFault.{LeaderFault}
+use Rattle.batcher.specs.declared.verifier.LeaderFault.TheVariants.{LeaderChanged, NotFromLeader}
+use Rattle.batcher.specs.declared.messages.Notarize.{Notarize}
 use Rattle.batcher.specs.Meaning.{Meaning}
 use Rattle.batcher.specs.Attempts.{Tried, attempt_of}
 use Rattle.batcher.specs.Lists.{is_some_and}
@@ -61,6 +64,13 @@ pub record SameBuffered {G D : Type 0} (old new : Buffered G D) (kind : Kind) : 
   pub certified : of_kind new.certified kind ≡ of_kind old.certified kind
   pub pending : of_kind new.pending kind ≡ of_kind old.pending kind
   pub verified : of_kind new.verified kind ≡ of_kind old.verified kind
+
+module _ {G D : Type 0} where
+  -- what `set_leader` answers: another leader than the one that is set is refused, and a first one with a notarize of another signer
+  abbrev pub leader_answer : Option Participant → Participant → Option (Notarize G D) → Result (Unit {0}) LeaderFault
+  leader_answer (Some known) leader notarize = cond (known.0 == leader.0) (Ok tt) (Err LeaderChanged)
+  leader_answer None leader None = Ok tt
+  leader_answer None leader (Some notarize) = cond (notarize.attestation.signer.0 == leader.0) (Ok tt) (Err NotFromLeader)
 
 module _ {G D : Type 0} (same : D → D → Bool) where
   -- those of the votes of a kind that wait for its certificate, in order

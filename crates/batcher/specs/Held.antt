@@ -57,3 +57,16 @@ pub record Verifying (S G D : Type 0) : Type 0 where
   pub holds : Buffered G D
   pub pending_room : PerKind ℕ
   pub verified_room : PerKind ℕ
+
+-- What a round holds. It has forwarded its proposal at most once.
+pub record Held (G D : Type 0) : Type 0 where
+  pub tracked : Tracked G D
+  pub buffered : Buffered G D
+  pub forwarded : Bool
+
+-- a round, as contracts see it
+pub record RoundView (S G D : Type 0) : Type 0 where
+  pub scheme : S
+  pub number : Round
+  pub mode : Mode
+  pub holds : Held G D

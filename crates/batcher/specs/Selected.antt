@@ -40,3 +40,8 @@ module _ {D : Type 0} (same : D → D → Bool) where
   same_selected None None = true
   same_selected (Some p) (Some q) = same_proposal same p q
   same_selected _ _ = false
+
+  -- whether the proposal is the selected one, where one is selected
+  abbrev pub is_selected : Option (Proposal D) → Proposal D → Option Bool
+  is_selected None proposal = None
+  is_selected (Some selected) proposal = Some (same_proposal same selected proposal)

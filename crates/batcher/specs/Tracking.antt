@@ -9,6 +9,8 @@ use Rattle.batcher.specs.declared.votes.Mode.{Mode}
 use Rattle.batcher.specs.declared.votes.Mode.TheVariants.{Retaining, Releasing, Skipped}
 use Rattle.batcher.specs.declared.votes.Outcome.{Outcome}
 use Rattle.batcher.specs.declared.votes.Outcome.TheVariants.{Added, Duplicate, Conflicting}
+use Rattle.batcher.specs.declared.votes.ObservedVote.{ObservedVote}
+use Rattle.batcher.specs.declared.votes.ObservedVote.TheVariants.{Retained, Compacted}
 use Rattle.batcher.specs.Ascending.{insert_by}
 use Rattle.batcher.specs.Lists.{is_some_and, exactly_one}
 use Rattle.batcher.specs.Votes.{kind_of, signer_of, is_of_kind, is_vote_of, has_proposals, is_for}
@@ -65,6 +67,12 @@ module _ {G D : Type 0} where
   observed_opposite held (NullifyVote vote) = observed held Finalization vote.attestation.signer.0
   observed_opposite held (FinalizeVote vote) = observed held Nullification vote.attestation.signer.0
 
+  -- what a tracker shows of a signer's votes of a kind: none was seen, or one is kept, or one isn't kept
+  abbrev pub shown : Observed G D → Option (ObservedVote (Vote G D))
+  shown unseen = None
+  shown (in_full vote) = Some (Retained vote)
+  shown (as_facts facts) = Some Compacted
+
   -- what a tracker holds at first
   abbrev pub nothing_tracked : Mode → Tracked G D
   nothing_tracked mode = record { compacted = for_each (is_skipped mode); kept = for_each []; facts = for_each [] }
@@ -78,7 +86,18 @@ module _ {G D : Type 0} where
 abbrev pub no_facts : ℕ → Facts
 no_facts i = record { signer = i; has_compared = false; has_matched = false }
 
+-- a function of the vote, where it is kept
+abbrev pub observed_map : {A B : Type 0} → (A → B) → ObservedVote A → ObservedVote B
+observed_map f (Retained vote) = Retained (f vote)
+observed_map f Compacted = Compacted
+
 module _ {G D : Type 0} (same : D → D → Bool) where
+  -- whether a signer is known to have voted for the proposal. Of votes that aren't kept only the selected proposal is known, whatever this one is.
+  abbrev pub is_seen_for : Proposal D → Observed G D → Bool
+  is_seen_for p unseen = false
+  is_seen_for p (in_full vote) = is_for same p vote
+  is_seen_for p (as_facts facts) = facts.has_matched
+
   -- whether the vote and an earlier one of its signer, of which facts are known, differ in being for the selected proposal
   abbrev pub conflicts_with : Option (Proposal D) → Vote G D → Facts → Bool
   conflicts_with selected vote facts = facts.has_compared && is_some_and selected (λ p. exactly_one (is_for same p vote) facts.has_matched)

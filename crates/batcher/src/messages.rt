@@ -114,6 +114,31 @@ pub enum Vote<G, D> {
     Finalize(Finalize<G, D>),
 }
 
+impl<G, D> Vote<G, D> {
+    ghost use Rattle.batcher.specs.Votes.{kind_of, attestation_of};
+
+    /// Who signed it, as it says itself.
+    pub fn signer(&self) -> Participant
+        ensures { result ≡ (attestation_of self.now).signer }
+    {
+        match self {
+            Vote::Notarize(notarize) => notarize.attestation.signer,
+            Vote::Nullify(nullify) => nullify.attestation.signer,
+            Vote::Finalize(finalize) => finalize.attestation.signer,
+        }
+    }
+
+    pub fn kind(&self) -> Kind
+        ensures { result ≡ kind_of self.now }
+    {
+        match self {
+            Vote::Notarize(_) => Kind::Notarization,
+            Vote::Nullify(_) => Kind::Nullification,
+            Vote::Finalize(_) => Kind::Finalization,
+        }
+    }
+}
+
 /// That a quorum notarized a proposal.
 #[derive(Debug, Drop)]
 pub struct Notarization<C, D> {

@@ -2,12 +2,14 @@
 
 ghost use Rattle.std.specs.Prelude.{◌≡◌, All, IfOk};
 ghost use Rattle.batcher.specs.Setting.{setting};
-ghost use Rattle.batcher.specs.Nullifies.{MayCall, Steps, Runs, nothing_held};
+ghost use Rattle.batcher.specs.Steps.{nothing_held};
+ghost use Rattle.batcher.specs.Runs.{MayCall, Steps, Runs, certifies_answer};
 
-use crate::messages::{Certificate, Digest, Vote};
+use crate::messages::{Certificate, Digest, Proposal, Vote};
+use crate::positions::{Participant, Participants};
 use crate::round::{Admission, Round};
 use crate::scheme::Scheme;
-use crate::verifier::Batch;
+use crate::verifier::{Batch, LeaderFault};
 use rand_core::CryptoRng;
 use std::alloc::{AllocError, Global};
 
@@ -16,14 +18,22 @@ use std::alloc::{AllocError, Global};
 pub enum Call<P, G, D> {
     /// A vote that the participant with the key sent.
     Network(P, Vote<G, D>),
+    Leader(Participant),
     Construct,
+    /// This participant asks for the selected proposal, to hand it on.
+    Forward(Participant),
+    /// Who isn't known to have the proposal's block.
+    Missing(Proposal<D>),
 }
 
 /// The answer to a call, with certificates `C`.
 #[derive(Debug, Drop)]
 pub enum Answer<G, C, D> {
     Network(Admission<G, D>),
+    Leader(Result<(), LeaderFault>),
     Construct(Option<Batch<Certificate<C, D>>>),
+    Forward(Option<Proposal<D>>),
+    Missing(Participants),
     /// Memory was refused, and the round is as it was before the call.
     OutOfMemory,
 }
@@ -45,9 +55,10 @@ pub fn run<S: Scheme<D>, D: Digest, R: CryptoRng>(
     rng: &mut R,
     calls: &[Call<S::PublicKey, S::Signature, D>],
 ) -> Result<Ran<S, D>, AllocError>
-    requires fresh { round.holds ≡ nothing_held }
+    requires fresh { round.holds ≡ nothing_held round.mode }
     requires calls { All (MayCall round.number) calls.now }
     ensures runs { IfOk result (λ ran. Runs (setting (S.meaning round.scheme) S.PublicKey.cmp S.Signature.eq D.eq round.number round.mode) round.holds (R.stream rng.old) calls.now ran.answers.items ran.round.holds (R.stream rng.new)) }
+    ensures certifies { IfOk result (λ ran. All (certifies_answer (S.meaning round.scheme)) ran.answers.items) }
     ensures same { IfOk result (λ ran. (ran.round.scheme ≡ round.scheme) × ((ran.round.number ≡ round.number) × (ran.round.mode ≡ round.mode))) }
 {
     let mut answers = Vec::with_capacity(alloc, calls.len())?;
@@ -65,6 +76,7 @@ fn step<S: Scheme<D>, D: Digest, R: CryptoRng>(
 ) -> Answer<S::Signature, S::Certificate, D>
     requires { MayCall round.old.number call }
     ensures steps { Steps (setting (S.meaning round.old.scheme) S.PublicKey.cmp S.Signature.eq D.eq round.old.number round.old.mode) round.old.holds (R.stream rng.old) call result round.new.holds (R.stream rng.new) }
+    ensures certifies { certifies_answer (S.meaning round.old.scheme) result }
     ensures same { (round.new.scheme ≡ round.old.scheme) × ((round.new.number ≡ round.old.number) × (round.new.mode ≡ round.old.mode)) }
 {
     match call {
@@ -72,8 +84,14 @@ fn step<S: Scheme<D>, D: Digest, R: CryptoRng>(
             Ok(admission) => Answer::Network(admission),
             Err(_) => Answer::OutOfMemory,
         },
+        Call::Leader(leader) => Answer::Leader(round.set_leader(leader)),
         Call::Construct => match round.try_construct(rng) {
             Ok(batch) => Answer::Construct(batch),
+            Err(_) => Answer::OutOfMemory,
+        },
+        Call::Forward(me) => Answer::Forward(round.try_forward_proposal(me)),
+        Call::Missing(proposal) => match round.missing_voters(&proposal) {
+            Ok(missing) => Answer::Missing(missing),
             Err(_) => Answer::OutOfMemory,
         },
     }

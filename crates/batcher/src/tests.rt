@@ -2,9 +2,10 @@
 //! there, and again where it was refused once.
 
 ghost use Rattle.std.specs.Prelude.{◌≡◌, ◌≤◌, IfOk, length};
-ghost use Rattle.batcher.specs.Nullifies.{nothing_held};
+ghost use Rattle.batcher.specs.Steps.{nothing_held};
 
 mod memory;
+mod rounds;
 mod rows;
 mod schemes;
 
@@ -56,7 +57,7 @@ fn round(
     track_historical_votes: bool,
 ) -> Result<Round<Keyed<true>, Digest>, AllocError>
     ensures number { IfOk result (λ r. (r.number.epoch.0 ≡ 0) × (r.number.view.0 ≡ 1)) }
-    ensures fresh { IfOk result (λ r. r.holds ≡ nothing_held) }
+    ensures fresh { IfOk result (λ r. r.holds ≡ nothing_held r.mode) }
 {
     let participants = names(alloc, n)?;
     assert!(rt; participants.len() >= 1);

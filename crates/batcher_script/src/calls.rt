@@ -2,15 +2,17 @@
 
 ghost use Rattle.std.specs.Prelude.{◌≡◌, ◌<◌, All, IfOk, length, true};
 ghost use Rattle.std.specs.List.{AllZip};
-ghost use Rattle.batcher.specs.Nullifies.{IsNullify, MayCall};
-ghost use Rattle.batcher.specs.Votes.{round_in, signer_of, subject_of};
-ghost use Rattle.batcher_script.specs.Calls.{IsCallOf};
+ghost use Rattle.batcher.specs.Runs.{MayCall};
+ghost use Rattle.batcher.specs.Votes.{kind_of, round_in, signer_of, subject_of};
+ghost use Rattle.batcher_script.specs.Calls.{IsCallOf, kind_for};
 
 use crate::script::{Ballot, Command, Signature};
-use batcher::messages::{Attestation, Nullify, Sha256Digest, Subject, Vote};
-use batcher::positions::{self, Participant, Set};
+use batcher::messages::{
+    Attestation, Finalize, Notarize, Nullify, Proposal, Sha256Digest, Subject, Vote,
+};
+use batcher::positions::{self, Participant, Set, View};
 use batcher::run::Call;
-use batcher::scheme::{Keyed, Name, Scheme};
+use batcher::scheme::{Keyed, Name, Scheme, Sealed};
 use std::alloc::{AllocError, Global};
 
 /// A test scheme, of which every vote can be made.
@@ -33,6 +35,17 @@ impl<const BATCHABLE: bool> TestScheme for Keyed<BATCHABLE> {
 
     fn sign(&self, signer: Participant, subject: Subject<Sha256Digest>) -> Attestation<[u8; 32]> {
         Keyed::sign(self, signer, subject)
+    }
+}
+
+impl TestScheme for Sealed {
+    /// The scheme whose root is 32 zero bytes.
+    fn of(participants: Set<Name>) -> Sealed {
+        Sealed::new(participants, [0; 32])
+    }
+
+    fn sign(&self, signer: Participant, subject: Subject<Sha256Digest>) -> Attestation<[u8; 32]> {
+        Sealed::sign(self, signer, subject)
     }
 }
 
@@ -86,8 +99,18 @@ fn call<S: TestScheme>(
             Name(sender),
             vote(scheme, round, Participant::new(signer), ballot, signature),
         ),
+        Command::Leader(index) => Call::Leader(Participant::new(index)),
         Command::Construct => Call::Construct,
+        Command::Forward(index) => Call::Forward(Participant::new(index)),
+        Command::Missing(byte) => Call::Missing(proposal(round, byte)),
     }
+}
+
+// The proposal of the round with parent view 0 and a payload of equal bytes.
+fn proposal(round: positions::Round, byte: u8) -> Proposal<Sha256Digest>
+    ensures { result.round ≡ round }
+{
+    Proposal::new(round, View::zero(), Sha256Digest([byte; 32]))
 }
 
 fn vote<S: TestScheme>(
@@ -98,14 +121,30 @@ fn vote<S: TestScheme>(
     signature: Signature,
 ) -> Vote<[u8; 32], Sha256Digest>
     ensures signer { signer_of result ≡ signer.0 }
-    ensures nullify { IsNullify result }
+    ensures kind { kind_of result ≡ kind_for ballot }
     ensures belongs { round_in (subject_of result) ≡ round }
 {
     match ballot {
+        Ballot::Notarize(byte) => {
+            let proposal = proposal(round, byte);
+            let subject = Subject::Notarize { proposal };
+            Vote::Notarize(Notarize {
+                proposal,
+                attestation: attestation(scheme, signer, subject, signature),
+            })
+        }
         Ballot::Nullify => {
             let subject = Subject::Nullify { round };
             Vote::Nullify(Nullify {
                 round,
+                attestation: attestation(scheme, signer, subject, signature),
+            })
+        }
+        Ballot::Finalize(byte) => {
+            let proposal = proposal(round, byte);
+            let subject = Subject::Finalize { proposal };
+            Vote::Finalize(Finalize {
+                proposal,
                 attestation: attestation(scheme, signer, subject, signature),
             })
         }

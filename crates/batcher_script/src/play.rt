@@ -7,7 +7,7 @@ use crate::print::{AsText, Output};
 use crate::script::{Command, Opening, SchemeWord, Script};
 use batcher::round::Round;
 use batcher::run::{Answer, Ran, run};
-use batcher::scheme::{Counter, Keyed};
+use batcher::scheme::{Counter, Keyed, Sealed};
 use batcher::votes::Mode;
 use std::alloc::{AllocError, Global};
 use std::io::{ErrorKind, Read, Write};
@@ -94,6 +94,10 @@ fn print_script<W: Write>(
             SchemeWord::Keyed => {
                 print_answers::<Keyed<true>, W>(alloc, opening, commands, output)?
             }
+            SchemeWord::Single => {
+                print_answers::<Keyed<false>, W>(alloc, opening, commands, output)?
+            }
+            SchemeWord::Sealed => print_answers::<Sealed, W>(alloc, opening, commands, output)?,
         }
     }
     match script.malformed {
@@ -114,19 +118,27 @@ fn print_answers<S: TestScheme, W: Write>(
 ) -> Result<(), Stop> {
     let scheme = S::of(names(alloc, opening.participants)?);
     let calls = calls_of(alloc, &scheme, opening.round, commands)?;
-    let round = Round::new(
-        alloc,
-        opening.round,
-        Rc::new(alloc, scheme).map_err(AllocError::from)?,
-        opening.mode == Mode::Retaining,
-    );
+    let scheme = Rc::new(alloc, scheme).map_err(AllocError::from)?;
+    let round = match opening.mode {
+        Mode::Retaining => Round::new(alloc, opening.round, scheme, true),
+        Mode::Releasing => Round::new(alloc, opening.round, scheme, false),
+        Mode::Skipped => Round::skipped(alloc, opening.round, scheme),
+    };
     let Ran { round: _, answers } = run(alloc, round, &mut Counter::new(0), calls.as_slice())?;
     for answer in &answers {
         match answer {
             Answer::Network(admission) => {
                 output.print(format_args!("net: {}", AsText(admission)))?
             }
+            Answer::Leader(Ok(())) => output.print(format_args!("leader: ok"))?,
+            Answer::Leader(Err(fault)) => output.print(format_args!("leader: refused {fault}"))?,
             Answer::Construct(batch) => output.print(format_args!("construct: {}", AsText(batch)))?,
+            Answer::Forward(proposal) => {
+                output.print(format_args!("forward: {}", AsText(proposal)))?
+            }
+            Answer::Missing(missing) => {
+                output.print(format_args!("missing: {}", AsText(missing)))?
+            }
             Answer::OutOfMemory => return Err(Stop::OutOfMemory),
         }
     }

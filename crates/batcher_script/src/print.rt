@@ -2,7 +2,7 @@
 
 use crate::play::Stop;
 use crate::script::Opening;
-use batcher::messages::{Activity, Certificate, Sha256Digest};
+use batcher::messages::{Activity, Certificate, Proposal, Sha256Digest};
 use batcher::positions::{Participant, Participants, quorum};
 use batcher::round::{Admission, BlockReason};
 use batcher::verifier::Batch;
@@ -118,6 +118,12 @@ impl Text for Participants {
 impl Text for Sha256Digest {
     fn write<W: fmt::Write>(&self, f: &mut fmt::Formatter<W>) -> fmt::Result {
         write!(f, "{}", self.0[0])
+    }
+}
+
+impl Text for Proposal<Sha256Digest> {
+    fn write<W: fmt::Write>(&self, f: &mut fmt::Formatter<W>) -> fmt::Result {
+        self.payload.write(f)
     }
 }
 

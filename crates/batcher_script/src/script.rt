@@ -15,6 +15,9 @@ const MOST_PARTICIPANTS: u32 = 1000;
 #[derive(Clone, Copy, Debug, PartialEq, Eq)]
 pub enum SchemeWord {
     Keyed,
+    /// `Keyed` without batches.
+    Single,
+    Sealed,
 }
 
 /// A `round` line.
@@ -28,10 +31,12 @@ pub struct Opening {
     ghost few: { participants ≤ 1000 },
 }
 
-/// A vote, but for its round and its signer.
+/// A vote, but for its round and its signer. A proposal is told by its payload's byte.
 #[derive(Clone, Copy, Debug, PartialEq, Eq)]
 pub enum Ballot {
+    Notarize(u8),
     Nullify,
+    Finalize(u8),
 }
 
 /// What signature a vote bears: its signer's, or that with a bit flipped.
@@ -50,7 +55,10 @@ pub enum Command {
         ballot: Ballot,
         signature: Signature,
     },
+    Leader(u32),
     Construct,
+    Forward(u32),
+    Missing(u8),
 }
 
 /// A script up to its first malformed line.
@@ -135,10 +143,13 @@ impl Opening {
         let mode = match *mode {
             "retaining" => Mode::Retaining,
             "releasing" => Mode::Releasing,
+            "skipped" => Mode::Skipped,
             _ => return None,
         };
         let scheme = match *scheme {
             "keyed" => SchemeWord::Keyed,
+            "single" => SchemeWord::Single,
+            "sealed" => SchemeWord::Sealed,
             _ => return None,
         };
         Some(Opening {
@@ -159,7 +170,10 @@ impl Command {
                 ballot: Ballot::parse(kind, payload)?,
                 signature: Signature::parse(signature)?,
             }),
+            ["leader", index] => Some(Command::Leader(number(index)?)),
             ["construct"] => Some(Command::Construct),
+            ["forward", index] => Some(Command::Forward(number(index)?)),
+            ["missing", payload] => Some(Command::Missing(number(payload)?)),
             _ => None,
         }
     }
@@ -168,7 +182,9 @@ impl Command {
 impl Ballot {
     fn parse(kind: &str, payload: &str) -> Option<Ballot> {
         match (kind, payload) {
+            ("notarize", payload) => Some(Ballot::Notarize(number(payload)?)),
             ("nullify", "-") => Some(Ballot::Nullify),
+            ("finalize", payload) => Some(Ballot::Finalize(number(payload)?)),
             _ => None,
         }
     }

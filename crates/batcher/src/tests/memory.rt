@@ -5,8 +5,7 @@
 //! for memory refused, then their second, and so on.
 
 use super::*;
-use crate::messages::{Attestation, AttributableMap};
-use crate::run::{Answer, Call, run};
+use crate::messages::{Attestation, AttributableMap, Finalize, Kind, Notarize};
 use crate::scheme::{Counter, Scheme, Sealed, Verification};
 
 // What comes of a second try, where the first was refused.
@@ -145,5 +144,61 @@ fn rounds(rt: HostRuntime) -> Result<(), Fail> {
     );
     assert!(rt; batch.certificate.is_none());
     assert!(rt; round.try_construct(&mut rng)?.is_none());
+    Ok(())
+}
+
+// A round with votes for a proposal, its constructions and what is missing.
+#[test]
+fn proposals(rt: HostRuntime) -> Result<(), Fail> {
+    let alloc = rt.alloc();
+    let scheme = twice(|| keyed(alloc, 7))?;
+    let proposal = proposal(1);
+    let mut round = twice(|| round(&rt, alloc, 7, false))?;
+    let mut rng = Counter::new(0);
+    assert_eq!(rt; round.set_leader(Participant::new(0)), Ok(()));
+    for signer in 0..5 {
+        let participant = Participant::new(signer);
+        let sender = Name(u64::from(signer));
+        let notarize = Vote::Notarize(Notarize {
+            proposal,
+            attestation: scheme.sign(participant, Subject::Notarize { proposal }),
+        });
+        let finalize = Vote::Finalize(Finalize {
+            proposal,
+            attestation: scheme.sign(participant, Subject::Finalize { proposal }),
+        });
+        for vote in [notarize, finalize] {
+            assert!(rt; round.belongs(&vote));
+            let answer = match round.add_network(sender, vote) {
+                Ok(answer) => answer,
+                Err(_) => {
+                    assert!(rt; round.belongs(&vote));
+                    round.add_network(sender, vote)?
+                }
+            };
+            assert!(rt; answer.added);
+            assert!(rt; round.belongs(&vote));
+            assert!(rt; !round.add_network(sender, vote)?.added);
+        }
+    }
+    for kind in [Kind::Notarization, Kind::Finalization] {
+        let batch = match round.try_construct(&mut rng) {
+            Ok(batch) => batch,
+            Err(_) => round.try_construct(&mut rng)?,
+        };
+        let batch = batch.ok_or("no batch")?;
+        assert_eq!(rt; batch.processed, 5);
+        assert!(rt; batch.certificate.is_some());
+        assert!(rt; round.has_certificate(kind));
+    }
+    assert!(rt; round.try_construct(&mut rng)?.is_none());
+    let missing = match round.missing_voters(&proposal) {
+        Ok(missing) => missing,
+        Err(_) => round.missing_voters(&proposal)?,
+    };
+    assert_eq!(rt;
+        missing.as_slice(),
+        [Participant::new(5), Participant::new(6)].as_slice()
+    );
     Ok(())
 }

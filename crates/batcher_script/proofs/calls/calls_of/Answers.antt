@@ -1,7 +1,7 @@
 use Rattle.std.proofs.Common.{◌<◌, ℕ, zero, suc, List, [], ◌∷◌, ◌++◌, length, get_or, take, arith, add-one}
 use Rattle.std.specs.List.{AllZip}
 use Rattle.std.proofs.lemmas.List.Elements.{All-push}
-use Rattle.batcher.specs.Nullifies.{MayCall}
+use Rattle.batcher.specs.Runs.{MayCall}
 use Rattle.batcher_script.specs.Calls.{IsCallOf}
 use Rattle.batcher_script.proofs.calls.calls_of.Goals as goal
 

@@ -1,6 +1,6 @@
 use Rattle.std.proofs.Common.{All, take}
 use Rattle.std.specs.List.{AllZip}
-use Rattle.batcher.specs.Nullifies.{MayCall}
+use Rattle.batcher.specs.Runs.{MayCall}
 use Rattle.batcher_script.specs.Calls.{IsCallOf}
 use Rattle.batcher_script.proofs.calls.calls_of.Given as goal
 
