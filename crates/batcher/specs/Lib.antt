@@ -5,8 +5,6 @@ pub mod Attestations
 pub mod Keys
 pub mod Items
 pub mod Votes
-pub mod Selected
-pub mod Held
 pub mod Meaning
 pub mod Setting
 pub mod Attempts
