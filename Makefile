@@ -1,14 +1,21 @@
 # make run [SCRIPT=file]   plays a script; without one, the first
+# make bench               plays the rows of the benchmark and takes their time
 # make test                proves everything and runs every test
 SCRIPT ?= crates/batcher_script/stdin
 
-.PHONY: run test
+.PHONY: run bench test
 
 run: crates/batcher_script/out/batcher_script
 	@crates/batcher_script/out/batcher_script < $(SCRIPT)
 
 crates/batcher_script/out/batcher_script: $(wildcard crates/*/src/*.rt crates/*/src/*/*.rt)
 	cd crates/batcher_script && rt run < stdin > /dev/null
+
+bench: crates/batcher_bench/out/batcher_bench
+	@crates/batcher_bench/out/batcher_bench time
+
+crates/batcher_bench/out/batcher_bench: $(wildcard crates/batcher/src/*.rt crates/batcher/src/*/*.rt crates/batcher_bench/src/*.rt)
+	cd crates/batcher_bench && rt run > /dev/null
 
 test:
 	tools/test

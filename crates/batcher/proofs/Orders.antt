@@ -1,5 +1,5 @@
 -- Lists in ascending order: their uniqueness, the search by halves, and what a map does with them.
-use Rattle.std.proofs.Common.{◌≡◌, ◌≢◌, ◌≤◌, ◌<◌, ◌+◌, ℕ, suc, zero, Bool, true, false, cond, nat_eq, nat_lt, nat_le, ◌&&◌, ◌⊎◌, inl, inr, List, [], ◌∷◌, ◌++◌, length, get_or, set, take, drop, find, Some, None, map, refl, ap, sym, subst, arith}
+use Rattle.std.proofs.Common.{◌≡◌, ◌≢◌, ◌≤◌, ◌<◌, ◌+◌, ◌-◌, ℕ, suc, zero, Bool, true, false, cond, nat_eq, nat_lt, nat_le, ◌&&◌, ◌⊎◌, inl, inr, List, [], ◌∷◌, ◌++◌, length, get_or, set, take, drop, find, Some, None, map, refl, ap, sym, subst, arith}
 use Rattle.std.specs.List.{AllByRecursion, All, AllAdjacentBelow, IsDistinct, list_all}
 use Rattle.std.specs.List.Sorted.{IsPermutation, IsNonDecreasingBy, IsPartitionPoint, IsSearchInRange, IsBinarySearchResult}
 use Rattle.std.proofs.lemmas.List.Elements.{All-set}
@@ -320,3 +320,32 @@ module _ {X : Type 0} (key : X → ℕ) where
   pub find-insert_by : (x : X) (xs : List X) (i : ℕ) → find (λ z. nat_eq (key z) i) (insert_by key x xs) ≡ cond (nat_eq (key x) i) (Some x) (find (λ z. nat_eq (key z) i) xs)
   find-insert_by x [] i = refl
   find-insert_by x (y ∷ ys) i = insert_find x y ys i (nat_le (key x) (key y)) (nat_eq (key x) i) (nat_eq (key y) i) refl refl refl (find-insert_by x ys i)
+
+  -- the last element's number is the highest
+  pub below_last : (xs : List X) (n j : ℕ) (d : X) → IsAscending key xs → suc n ≡ length xs → j ≤ n → key (get_or xs j d) ≤ key (get_or xs n d)
+  unfolding IsAscending
+  below_last [] n j d up e within = absurd (omega arith)
+  below_last (x ∷ xs) zero zero d up e within = omega arith
+  below_last (x ∷ xs) zero (suc j) d up e within = absurd (omega arith)
+  below_last (x ∷ xs) (suc n) zero d up e within =
+      let higher : key x < key (get_or xs n d) = all_from_rec (λ z. key x < key z) xs up.0 n d (omega arith) in
+      omega arith
+  below_last (x ∷ xs) (suc n) (suc j) d up e within = below_last xs n j d up.1 (omega arith) (omega arith)
+
+  lower_than : (xs : List X) (k : ℕ) (last : X) → IsAscending key xs → 0 < length xs → ((d : X) → last ≡ get_or xs (length xs - 1) d) → key last < k → (j : ℕ) (d : X) → j < length xs → key (get_or xs j d) < k
+  lower_than xs k last up some is lower j d below =
+      let highest = below_last xs (length xs - 1) j d up (omega arith) (omega arith) in
+      omega (arith, highest, ap key (is d))
+
+  -- where the last element's number is lower than this, all are
+  pub all_below_last : (xs : List X) (k i : ℕ) (last : X) → IsAscending key xs → 0 < length xs → ((d : X) → last ≡ get_or xs (length xs - 1) d) → i ≡ key last → nat_lt i k ≡ true → All (λ x. key x < k) xs
+  all_below_last xs k i last up some is e lower =
+      let lt : key last < k = grind (arith, nat_tests) in
+      λ j d below. lower_than xs k last up some is lt j d below
+
+  -- where all elements are lower, a new one comes last
+  pub last_absent : (xs : List X) (k : ℕ) → All (λ x. key x < k) xs → find (λ x. nat_eq (key x) k) xs ≡ None
+  last_absent xs k below = find_absent xs (length xs) k (omega arith) (λ j d lt. below j d lt) (λ j d le lt. absurd (omega arith))
+
+  pub last_insert : (xs : List X) (k : ℕ) (x : X) → All (λ x. key x < k) xs → key x ≡ k → take (length xs) xs ++ x ∷ drop (length xs) xs ≡ insert_by key x xs
+  last_insert xs k x below e = insert_at x xs (length xs) (omega arith) (λ j d lt. omega (arith, below j d lt)) (λ j d le lt. absurd (omega arith))

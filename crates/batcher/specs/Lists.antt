@@ -1,5 +1,5 @@
 -- Lists, by counts and tests.
-use Rattle.std.specs.Prelude.{◌+◌, ◌≤◌, ℕ, Bool, cond, ◌==◌, List, [], ◌∷◌}
+use Rattle.std.specs.Prelude.{◌+◌, ◌≤◌, ℕ, Bool, true, false, cond, ◌==◌, List, [], ◌∷◌, Option, Some, None}
 
 -- how many elements pass the test
 abbrev pub count : {X : Type 0} → (X → Bool) → List X → ℕ
@@ -9,3 +9,14 @@ count test (x ∷ xs) = cond (test x) 1 0 + count test xs
 -- no two elements have the same number
 abbrev pub EachOnce : {X : Type 0} → (X → ℕ) → List X → Type 0
 EachOnce number xs = (i : ℕ) → count (λ x. number x == i) xs ≤ 1
+
+-- whether there is a value that passes the test
+abbrev pub is_some_and : {X : Type 0} → Option X → (X → Bool) → Bool
+is_some_and None test = false
+is_some_and (Some v) test = test v
+
+-- whether exactly one of the two is true
+abbrev pub exactly_one : Bool → Bool → Bool
+exactly_one true true = false
+exactly_one true false = true
+exactly_one false b = b

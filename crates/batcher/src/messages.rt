@@ -1,6 +1,6 @@
 //! Proposals, votes, certificates, and what is reported of them.
 
-ghost use Rattle.std.specs.Prelude.{◌≡◌, true};
+ghost use Rattle.std.specs.Prelude.{◌≡◌, true, Some};
 ghost use Rattle.batcher.specs.declared.positions.Participant.{Participant};
 
 mod map;
@@ -112,6 +112,46 @@ pub enum Vote<G, D> {
     Notarize(Notarize<G, D>),
     Nullify(Nullify<G>),
     Finalize(Finalize<G, D>),
+}
+
+impl<G, D> Vote<G, D> {
+    ghost use Rattle.batcher.specs.Votes.{kind_of, attestation_of};
+
+    /// Who signed it, as it says itself.
+    pub fn signer(&self) -> Participant
+        ensures { result ≡ (attestation_of self.now).signer }
+    {
+        match self {
+            Vote::Notarize(notarize) => notarize.attestation.signer,
+            Vote::Nullify(nullify) => nullify.attestation.signer,
+            Vote::Finalize(finalize) => finalize.attestation.signer,
+        }
+    }
+
+    pub fn kind(&self) -> Kind
+        ensures { result ≡ kind_of self.now }
+    {
+        match self {
+            Vote::Notarize(_) => Kind::Notarization,
+            Vote::Nullify(_) => Kind::Nullification,
+            Vote::Finalize(_) => Kind::Finalization,
+        }
+    }
+}
+
+impl<G, D: Digest> Vote<G, D> {
+    ghost use Rattle.batcher.specs.Votes.{waits};
+
+    /// Whether the vote waits where the proposal is selected: a nullify, or a vote for it.
+    pub(crate) fn waits_with(&self, proposal: &Proposal<D>) -> bool
+        ensures { result ≡ waits D.eq (Some proposal.now) self.now }
+    {
+        match self {
+            Vote::Notarize(notarize) => *proposal == notarize.proposal,
+            Vote::Nullify(_) => true,
+            Vote::Finalize(finalize) => *proposal == finalize.proposal,
+        }
+    }
 }
 
 /// That a quorum notarized a proposal.

@@ -1,31 +1,43 @@
 //! One round: what it answers to votes, and the certificates that it makes of them.
 
-ghost use Rattle.std.specs.Prelude.{◌≡◌, ◌≤◌, ◌^◌, ◌<◌, ◌↔◌, ◌&&◌, ◌++◌, [], is_some, if◌then◌else◌, Some, None, true, false, length, IfOk, OnOk, OnErr, IsTrue, IsOk, IfSome};
+ghost use Rattle.std.specs.Prelude.{◌≡◌, ◌≤◌, ◌<◌, MatchBool, ◌&&◌, ◌||◌, ◌↔◌, not, Some, None, true, false, length, is_some, if◌then◌else◌, IfOk, IfErr, OnOk, OnErr, IsTrue, IsOk, IfSome, cond};
+ghost use Rattle.batcher.specs.declared.messages.Kind.TheVariants.{Nullification as NullifyKind};
+ghost use Rattle.batcher.specs.declared.messages.Kind.{Kind as TheKind};
 ghost use Rattle.batcher.specs.Reasons.{text_of};
-ghost use Rattle.batcher.specs.Admissions.{refusal, block_for};
-ghost use Rattle.batcher.specs.declared.messages.Kind.TheVariants.{Nullification as NullificationKind};
-ghost use Rattle.batcher.specs.declared.messages.Subject.TheVariants.{Nullify as NullifySubject};
-ghost use Rattle.batcher.specs.Quorum.{quorum_of};
-ghost use Rattle.batcher.specs.Attempts.{Tried, attempt_of};
-ghost use Rattle.batcher.specs.Setting.{setting, sender_in};
-ghost use Rattle.batcher.specs.Items.{item_of};
-ghost use Rattle.batcher.specs.Tracking.{is_released_in};
-ghost use Rattle.batcher.specs.Votes.{subject_of, round_in, is_kind, subject_certified, content_of};
-ghost use Rattle.batcher.specs.Nullifies.{IsNullify, nothing_held, signer_of, kept_with, admission_from, admission_beside, AfterVote, AfterConstruct, is_ready};
+ghost use Rattle.batcher.specs.Setting.{setting};
+ghost use Rattle.batcher.specs.Lists.{is_some_and};
+ghost use Rattle.batcher.specs.Votes.{is_kind, has_proposals, kind_of, signer_of, attestation_of, subject_of, round_in, proposal_in, subject_certified};
+ghost use Rattle.batcher.specs.Selected.{proposal_of, replaces, same_selected};
+ghost use Rattle.batcher.specs.Held.{of_kind};
+ghost use Rattle.batcher.specs.Tracking.{nothing_tracked, shown, is_known, outcome_of, observed, observed_opposite, RecordsKind, kept_vote};
+ghost use Rattle.batcher.specs.Buffering.{AddsVote, FixesProposal, MayFix};
+ghost use Rattle.batcher.specs.Sound.{HasRoomFor, KeepsRoom};
+ghost use Rattle.batcher.specs.Admissions.{refusal, mismatch_reason, admission_of};
+ghost use Rattle.batcher.specs.Steps.{nothing_held, has_block, missing_in, leader_set_answer, forward_answer, AfterLeader, AfterNetwork, objection_to, admission_by, selected_in, AfterConstruct, TriesHeld, Fixes, is_ready_in, IsRight, WaitsWhereKept, AfterOwn, own_result, fault_or_memory, fixed_by, opposite_fault, unopposed_result, report_by, is_added, is_kept, AfterCertificate};
+ghost use Rattle.batcher.specs.declared.messages.Proposal.{Proposal as TheProposal};
+ghost use Rattle.batcher.specs.declared.round.OwnFault.TheVariants.{OutOfMemory as OutOfMemoryFault};
+ghost use Rattle.batcher.specs.declared.votes.Outcome.TheVariants.{Added as AddedOutcome};
+ghost use Rattle.batcher.specs.Verifiers.{certifies_itself};
+
+mod answers;
 
 use crate::messages::{
-    Activity, Attestation, AttributableMap, Certificate, Digest, Kind, Nullification, Nullify,
-    Subject, Vote,
+    Activity, Certificate, Digest, Finalize, Kind, Notarize, Nullify, Proposal, Vote,
 };
-use crate::positions::{self, Participants, quorum};
+use crate::positions::{self, Participant, Participants, quorum};
 use crate::scheme::Scheme;
-use crate::verifier::{Attempted, Batch, attempt};
-use crate::votes::Mode;
+use crate::verifier::{Batch, LeaderFault, ProposalState, Verifier};
+use crate::votes::{Mode, ObservedVote, Outcome, VoteTracker};
+use answers::{
+    admission_of, after_facts, after_opposite, beside, blocked, is_added, is_kept,
+    is_selected_anew, mismatch_reason, opposite_fault, report_by, unopposed_result,
+};
 use rand_core::CryptoRng;
 use std::alloc::{AllocError, Global};
 use std::fmt;
-use std::marker::{Model, PhantomData};
+use std::marker::Model;
 use std::rc::Rc;
+use thiserror::Error;
 
 /// Why the sender of a vote is blocked.
 #[derive(Clone, Copy, Debug, PartialEq, Eq)]
@@ -62,6 +74,35 @@ impl fmt::Display for BlockReason {
     }
 }
 
+/// Why a vote of the node's own is refused. Nothing changes then.
+#[derive(Clone, Copy, Debug, PartialEq, Eq, Error)]
+pub enum OwnFault {
+    /// A notarize of its index is kept, equal to this one or not.
+    #[error("duplicate notarize")]
+    DuplicateNotarize,
+    /// A finalize of its index is kept, equal to this one or not.
+    #[error("duplicate finalize")]
+    DuplicateFinalize,
+    /// An earlier vote of its kind and index isn't kept, and only one of the two is for the
+    /// selected proposal.
+    #[error("conflicting constructed vote")]
+    Conflicting,
+    #[error("out of memory")]
+    OutOfMemory,
+    #[error("nullify after finalize")]
+    NullifyAfterFinalize,
+    #[error("finalize after nullify")]
+    FinalizeAfterNullify,
+}
+
+impl From<AllocError> for OwnFault {
+    ghost from_gives = { λ _ fault. fault ≡ OutOfMemoryFault };
+
+    fn from(_: AllocError) -> Self {
+        OwnFault::OutOfMemory
+    }
+}
+
 /// The answer to a network vote. A block is of its sender; a report is new, or evidence.
 #[derive(Clone, Copy, Debug, PartialEq, Eq)]
 pub struct Admission<G, D> {
@@ -73,29 +114,24 @@ pub struct Admission<G, D> {
 /// The votes of one round, and the certificates that they have made.
 #[derive(Drop)]
 pub struct Round<S: Scheme<D>, D: Digest> {
-    alloc: Global,
-    number: positions::Round,
-    scheme: Rc<S>,
-    mode: Mode,
-    /// The first nullify of each signer.
-    nullifies: AttributableMap<Nullify<S::Signature>>,
-    /// Whether a nullification is there.
-    nullified: bool,
-    /// Attestations that wait to be verified.
-    pending: Vec<Attestation<S::Signature>>,
-    /// Attestations that were, and wait for a quorum.
-    verified: Vec<Attestation<S::Signature>>,
-    digests: PhantomData<D>,
+    /// Votes that wait for a certificate, for one proposal once one is selected.
+    verifier: Verifier<S, D>,
+    /// The first vote of each kind and signer, or facts of it. Some votes wait no longer, and are
+    /// here alone: those for another proposal, which a replacement brings back.
+    votes: VoteTracker<S::Signature, D>,
+    /// Whether the selected proposal was handed on.
+    forwarded: bool,
 }
 
 impl<S: Scheme<D>, D: Digest> Model for Round<S, D> {
-    ghost use Rattle.batcher.specs.Nullifies.{RoundView, IsSound};
+    ghost use Rattle.batcher.specs.Held.{RoundView};
+    ghost use Rattle.batcher.specs.Steps.{IsRight};
 
-    ghost Value = { RoundView S S.Signature };
+    ghost Value = { RoundView S S.Signature D };
 
-    ghost view = { λ r. record { scheme = r.scheme.value; number = r.number; mode = r.mode; holds = record { first = r.nullifies.items; nullified = r.nullified; pending = r.pending.items; verified = r.verified.items } } };
+    ghost view = { λ r. record { scheme = r.verifier.scheme; number = r.verifier.number; mode = r.votes.mode; holds = record { tracked = r.votes.holds; buffered = r.verifier.holds; forwarded = r.forwarded } } };
 
-    ghost invariant = { λ r. IsSound (S.meaning r.scheme.value) r.number r.nullifies r.pending.items r.verified.items };
+    ghost invariant = { λ r. IsRight (S.meaning r.verifier.scheme) r.votes r.verifier.holds r.verifier.quorum };
 }
 
 impl<S: Scheme<D>, D: Digest> Round<S, D> {
@@ -111,23 +147,45 @@ impl<S: Scheme<D>, D: Digest> Round<S, D> {
         ensures scheme { result.scheme ≡ scheme.value }
         ensures number { result.number ≡ round }
         ensures mode { result.mode ≡ (if track_historical_votes then Mode.Retaining else Mode.Releasing) }
-        ensures holds { result.holds ≡ nothing_held }
+        ensures holds { result.holds ≡ nothing_held result.mode }
     {
-        let participants = scheme.participants().len();
+        let votes = VoteTracker::new(alloc, scheme.participants().len(), track_historical_votes);
+        Round::with_votes(alloc, round, scheme, votes)
+    }
+
+    /// A round of a view that was skipped. It keeps facts of the votes alone and makes no
+    /// certificate, since peers have any that it may need. It takes no memory.
+    pub fn skipped(alloc: Global, round: positions::Round, scheme: Rc<S>) -> Self
+        requires { 1 ≤ length (S.meaning scheme.value).participants }
+        ensures scheme { result.scheme ≡ scheme.value }
+        ensures number { result.number ≡ round }
+        ensures mode { result.mode ≡ Mode.Skipped }
+        ensures holds { result.holds ≡ nothing_held result.mode }
+    {
+        let votes = VoteTracker::skipped(alloc, scheme.participants().len());
+        Round::with_votes(alloc, round, scheme, votes)
+    }
+
+    // A round over a tracker in which nothing was recorded.
+    fn with_votes(
+        alloc: Global,
+        round: positions::Round,
+        scheme: Rc<S>,
+        votes: VoteTracker<S::Signature, D>,
+    ) -> Self
+        requires some { 1 ≤ length (S.meaning scheme.value).participants }
+        requires bound { votes.participants ≡ length (S.meaning scheme.value).participants }
+        requires fresh { votes.holds ≡ nothing_tracked votes.mode }
+        ensures scheme { result.scheme ≡ scheme.value }
+        ensures number { result.number ≡ round }
+        ensures mode { result.mode ≡ votes.mode }
+        ensures holds { result.holds ≡ nothing_held votes.mode }
+    {
+        let quorum = quorum(scheme.participants().len() as u32);
         Round {
-            alloc,
-            number: round,
-            scheme,
-            mode: if track_historical_votes {
-                Mode::Retaining
-            } else {
-                Mode::Releasing
-            },
-            nullifies: AttributableMap::new(alloc, participants),
-            nullified: false,
-            pending: Vec::new(alloc),
-            verified: Vec::new(alloc),
-            digests: PhantomData,
+            verifier: Verifier::new(alloc, round, scheme, quorum),
+            votes,
+            forwarded: false,
         }
     }
 
@@ -135,7 +193,7 @@ impl<S: Scheme<D>, D: Digest> Round<S, D> {
     pub fn belongs(&self, vote: &Vote<S::Signature, D>) -> bool
         ensures { IsTrue result ↔ (round_in (subject_of vote.now) ≡ self.now.number) }
     {
-        self.number
+        self.verifier.round()
             == match vote {
                 Vote::Notarize(notarize) => notarize.proposal.round,
                 Vote::Nullify(nullify) => nullify.round,
@@ -143,100 +201,203 @@ impl<S: Scheme<D>, D: Digest> Round<S, D> {
             }
     }
 
-    /// Whether a certificate of the kind is there.
-    pub fn has_certificate(&self, kind: Kind) -> bool
-        ensures { result ≡ (is_kind kind NullificationKind && self.now.holds.nullified) }
+    /// Whether the certificate is of this round. Its parent view isn't looked at.
+    pub fn belongs_certificate(&self, certificate: &Certificate<S::Certificate, D>) -> bool
+        ensures { IsTrue result ↔ (round_in (subject_certified certificate.now) ≡ self.now.number) }
     {
-        kind == Kind::Nullification && self.nullified
+        self.verifier.round()
+            == match certificate {
+                Certificate::Notarization(notarization) => notarization.proposal.round,
+                Certificate::Nullification(nullification) => nullification.round,
+                Certificate::Finalization(finalization) => finalization.proposal.round,
+            }
     }
 
-    /// Takes in a vote that the network brought from a sender. Today it has to be a nullify.
+    /// Whether a certificate of the kind is there.
+    pub fn has_certificate(&self, kind: Kind) -> bool
+        ensures { result ≡ of_kind self.now.holds.buffered.certified kind }
+    {
+        self.verifier.has_certificate(kind)
+    }
+
+    /// Whether a nullify of the signer is kept in full.
+    pub fn has_nullify(&self, signer: Participant) -> bool
+        ensures { result ≡ is_some (kept_vote self.now.holds.tracked NullifyKind signer.0) }
+    {
+        self.votes.has_nullify(signer)
+    }
+
+    /// Whether the participant isn't known to have the proposal's block, which its notarize or
+    /// finalize for it shows. An index out of range is of no one who has it.
+    pub fn is_missing_voter(&self, proposal: &Proposal<D>, participant: Participant) -> bool
+        ensures { result ≡ not (has_block D.eq self.now.holds participant.0 proposal.now) }
+    {
+        !self.votes.has_notarize_for(participant, proposal)
+            && !self.votes.has_finalize_for(participant, proposal)
+    }
+
+    /// The participants that aren't known to have the proposal's block, in ascending order.
+    pub fn missing_voters(&self, proposal: &Proposal<D>) -> Result<Participants, AllocError>
+        ensures { IfOk result (λ list. list ≡ missing_in D.eq self.now.holds proposal.now (length (S.meaning self.now.scheme).participants)) }
+    {
+        let participants = self.verifier.participants().len();
+        let mut missing = Vec::with_capacity(self.verifier.alloc(), participants)?;
+        for index in 0..participants {
+            let participant = Participant::from_usize(index);
+            if self.is_missing_voter(proposal, participant) {
+                missing.push_reserved(participant);
+            }
+        }
+        Ok(Participants::from(missing))
+    }
+
+    /// Sets the leader. If its notarize is kept, that selects its proposal. It takes no memory.
     ///
-    /// A refusal for memory leaves the round as it was. A vote that isn't added takes none.
+    /// The same leader again changes nothing; another one is refused.
+    pub fn set_leader(&mut self, leader: Participant) -> Result<(), LeaderFault>
+        ensures answer { result ≡ leader_set_answer self.old.holds.buffered.leader leader }
+        ensures step { OnOk result (AfterLeader (setting (S.meaning self.old.scheme) S.PublicKey.cmp S.Signature.eq D.eq self.old.number self.old.mode) self.old.holds leader self.new.holds) }
+        ensures refused { OnErr result (self.new ≡ self.old) }
+        ensures same { (self.new.scheme ≡ self.old.scheme) × (self.new.number ≡ self.old.number) × (self.new.mode ≡ self.old.mode) }
+    {
+        let notarize = self.votes.notarize(leader);
+        self.verifier.set_leader(leader, notarize.as_ref())
+    }
+
+    /// The selected proposal, to hand on: once at most, and not where the known leader is `me`.
+    /// It takes no memory.
+    pub fn try_forward_proposal(&mut self, me: Participant) -> Option<Proposal<D>>
+        ensures answer { result ≡ forward_answer self.old.holds me }
+        ensures holds { self.new.holds ≡ record self.old.holds { forwarded = is_some result || self.old.holds.forwarded } }
+        ensures same { (self.new.scheme ≡ self.old.scheme) × (self.new.number ≡ self.old.number) × (self.new.mode ≡ self.old.mode) }
+    {
+        if self.forwarded || self.verifier.leader() == Some(me) {
+            return None;
+        }
+        let proposal = self.verifier.proposal().copied()?;
+        self.forwarded = true;
+        Some(proposal)
+    }
+
+    /// Takes in a vote that the network brought from a sender.
+    ///
+    /// The first of each kind per signer is added, but a nullify beside a finalize of its signer,
+    /// or the reverse. A sender is blocked for that, for the vote of another, and for two votes
+    /// that are known to differ. A refusal for memory leaves the round as it was; a vote that
+    /// isn't added takes none.
     pub fn add_network(
         &mut self,
         sender: S::PublicKey,
         vote: Vote<S::Signature, D>,
     ) -> Result<Admission<S::Signature, D>, AllocError>
-        requires nullify { IsNullify vote }
-        requires belongs { round_in (subject_of vote) ≡ self.old.number }
-        ensures step { IfOk result (λ answer. AfterVote (setting (S.meaning self.old.scheme) S.PublicKey.cmp S.Signature.eq D.eq self.old.number self.old.mode) self.old.holds sender vote answer self.new.holds) }
+        requires { round_in (subject_of vote) ≡ self.old.number }
+        ensures step { IfOk result (λ answer. AfterNetwork (setting (S.meaning self.old.scheme) S.PublicKey.cmp S.Signature.eq D.eq self.old.number self.old.mode) self.old.holds sender vote answer self.new.holds) }
         ensures refused { OnErr result (self.new ≡ self.old) }
-        ensures same { (self.new.scheme ≡ self.old.scheme) × ((self.new.number ≡ self.old.number) × (self.new.mode ≡ self.old.mode)) }
+        ensures same { (self.new.scheme ≡ self.old.scheme) × (self.new.number ≡ self.old.number) × (self.new.mode ≡ self.old.mode) }
     {
-        let Vote::Nullify(nullify) = vote else {
-            unreachable!()
-        };
-        let answer = self.admission(sender, nullify);
-        if answer.added {
-            self.keep(nullify)?;
-        }
-        Ok(answer)
-    }
-
-    // The answer to a nullify, which changes nothing yet.
-    fn admission(
-        &self,
-        sender: S::PublicKey,
-        vote: Nullify<S::Signature>,
-    ) -> Admission<S::Signature, D>
-        ensures answer { result ≡ admission_from (setting (S.meaning self.now.scheme) S.PublicKey.cmp S.Signature.eq D.eq self.now.number self.now.mode) self.now.holds (sender_in (setting (S.meaning self.now.scheme) S.PublicKey.cmp S.Signature.eq D.eq self.now.number self.now.mode) sender) vote }
-        ensures range { result.added ≡ true → signer_of vote < length (S.meaning self.now.scheme).participants }
-        ensures new { result.added ≡ true → item_of signer_of self.now.holds.first (signer_of vote) ≡ None }
-    {
-        match self.scheme.participants().index(&sender) {
-            None => blocked(BlockReason::UnknownParticipant),
+        match self.verifier.participants().index(&sender) {
+            None => Ok(blocked(BlockReason::UnknownParticipant, None)),
             Some(index) => {
-                if index == vote.attestation.signer {
-                    self.admission_of_signer(vote)
-                } else {
-                    blocked(BlockReason::NullifySignerMismatch)
+                if index != vote.signer() {
+                    return Ok(blocked(mismatch_reason(vote.kind()), None));
+                }
+                match self.objection(&vote) {
+                    Some(answer) => Ok(answer),
+                    None => self.admit(vote),
                 }
             }
         }
     }
 
-    // The same, where the vote names its sender.
-    fn admission_of_signer(&self, vote: Nullify<S::Signature>) -> Admission<S::Signature, D>
-        ensures answer { result ≡ admission_beside (setting (S.meaning self.now.scheme) S.PublicKey.cmp S.Signature.eq D.eq self.now.number self.now.mode) (item_of signer_of self.now.holds.first (signer_of vote)) (is_released_in self.now.mode self.now.holds.nullified) vote }
-        ensures new { result.added ≡ true → item_of signer_of self.now.holds.first (signer_of vote) ≡ None }
-    {
-        match self.nullifies.get(vote.attestation.signer) {
-            None => Admission {
-                added: true,
-                block: None,
-                report: Some(Activity::Nullify(vote)),
-            },
-            Some(first) => {
-                let first = *first;
-                if self.is_released() || first == vote {
-                    refused()
-                } else {
-                    blocked(BlockReason::ConflictingNullify)
-                }
-            }
-        }
-    }
-
-    // Keeps the first nullify of a signer. It waits too, unless a nullification is there.
-    fn keep(&mut self, vote: Nullify<S::Signature>) -> Result<(), AllocError>
+    // Records a vote that stands against no other. Where votes of its kind are kept, it waits for
+    // a certificate too.
+    fn admit(
+        &mut self,
+        vote: Vote<S::Signature, D>,
+    ) -> Result<Admission<S::Signature, D>, AllocError>
+        requires unopposed { objection_to (setting (S.meaning self.old.scheme) S.PublicKey.cmp S.Signature.eq D.eq self.old.number self.old.mode) self.old.holds vote ≡ None }
         requires range { signer_of vote < length (S.meaning self.old.scheme).participants }
-        requires new { item_of signer_of self.old.holds.first (signer_of vote) ≡ None }
-        ensures ok { OnOk result (self.new.holds ≡ kept_with self.old.holds vote) }
+        requires belongs { round_in (subject_of vote) ≡ self.old.number }
+        ensures answer { IfOk result (λ answer. answer ≡ admission_by (setting (S.meaning self.old.scheme) S.PublicKey.cmp S.Signature.eq D.eq self.old.number self.old.mode) (selected_in self.old.holds) (observed self.old.holds.tracked (kind_of vote) (signer_of vote)) vote) }
+        ensures tracked { OnOk result ((kind : TheKind) → RecordsKind D.eq self.old.holds.tracked self.new.holds.tracked (selected_in self.old.holds) true vote kind) }
+        ensures buffered { IfOk result (λ answer. MatchBool (answer.added && not (of_kind self.old.holds.tracked.compacted (kind_of vote))) (AddsVote D.eq self.old.holds.buffered vote false self.new.holds.buffered) (self.new.holds.buffered ≡ self.old.holds.buffered)) }
+        ensures forwarded { self.new.holds.forwarded ≡ self.old.holds.forwarded }
         ensures refused { OnErr result (self.new ≡ self.old) }
-        ensures same { (self.new.scheme ≡ self.old.scheme) × ((self.new.number ≡ self.old.number) × (self.new.mode ≡ self.old.mode)) }
+        ensures same { (self.new.scheme ≡ self.old.scheme) × (self.new.number ≡ self.old.number) × (self.new.mode ≡ self.old.mode) }
     {
-        if self.nullified {
-            self.nullifies.insert(vote)?;
-            return Ok(());
-        }
-        self.pending.reserve(1)?;
-        self.nullifies.insert(vote)?;
-        self.pending.push_reserved(vote.attestation);
-        Ok(())
+        let kind = vote.kind();
+        let additional = usize::from(!self.votes.is_compacted(kind));
+        self.verifier.make_room(kind, false, additional)?;
+        let outcome = take_in(&mut self.verifier, &mut self.votes, vote, false)?;
+        Ok(admission_of(outcome, vote))
     }
 
-    /// Tries to make a nullification, where the nullifies at hand could be enough for one.
+    /// Takes in a vote of the node's own, which attests.
+    ///
+    /// It is refused beside a kept vote of its kind, or beside the other of nullify and finalize;
+    /// a nullify that is there already is a duplicate. A finalize fixes its proposal first, also
+    /// where it is a duplicate of one that isn't kept. An added vote waits as verified. A refusal,
+    /// also one for memory, leaves the round as it was.
+    pub fn accept_vote(
+        &mut self,
+        vote: Vote<S::Signature, D>,
+    ) -> Result<(Outcome, Option<Activity<S::Signature, D>>), OwnFault>
+        requires belongs { round_in (subject_of vote) ≡ self.old.number }
+        requires attests { (S.meaning self.old.scheme).attests (subject_of vote) (attestation_of vote) ≡ true }
+        ensures step { IfOk result (λ answer. AfterOwn (setting (S.meaning self.old.scheme) S.PublicKey.cmp S.Signature.eq D.eq self.old.number self.old.mode) self.old.holds vote answer.0 answer.1 self.new.holds) }
+        ensures fault { IfErr result (λ fault. fault ≡ fault_or_memory (own_result (setting (S.meaning self.old.scheme) S.PublicKey.cmp S.Signature.eq D.eq self.old.number self.old.mode) self.old.holds vote)) }
+        ensures refused { OnErr result (self.new ≡ self.old) }
+        ensures same { (self.new.scheme ≡ self.old.scheme) × (self.new.number ≡ self.old.number) × (self.new.mode ≡ self.old.mode) }
+    {
+        let outcome = self.own_result(vote)?;
+        make_room_to_accept(&mut self.verifier, &mut self.votes, &vote, outcome)?;
+        may_fix(&mut self.verifier, &self.votes, fixed_by(&vote));
+        take_in(&mut self.verifier, &mut self.votes, vote, true)?;
+        Ok((outcome, report_by(outcome, vote)))
+    }
+
+    // What comes of an own vote, or why it is refused.
+    fn own_result(&self, vote: Vote<S::Signature, D>) -> Result<Outcome, OwnFault>
+        requires { signer_of vote < length (S.meaning self.now.scheme).participants }
+        ensures { result ≡ own_result (setting (S.meaning self.now.scheme) S.PublicKey.cmp S.Signature.eq D.eq self.now.number self.now.mode) self.now.holds vote }
+    {
+        if self.saw_opposite(&vote).is_some() {
+            return Err(opposite_fault(vote.kind()));
+        }
+        let selected = match fixed_by(&vote) {
+            Some(proposal) => self.verifier.selected_with(proposal),
+            None => self.verifier.proposal().copied(),
+        };
+        unopposed_result(vote.kind(), self.votes.outcome(&vote, selected))
+    }
+
+    /// Records a certificate that the caller has verified. It completes its kind, fixes its
+    /// proposal where none is fixed, and releases the votes of its kind.
+    ///
+    /// Where its proposal takes another's place, the kept votes for it come back as pending. A
+    /// notarization answers whether another proposal is selected than before, other certificates
+    /// answer false. A refusal for memory leaves the round as it was; where no vote comes back it
+    /// takes none.
+    pub fn record_certificate(
+        &mut self,
+        certificate: &Certificate<S::Certificate, D>,
+    ) -> Result<bool, AllocError>
+        requires { round_in (subject_certified certificate.now) ≡ self.old.number }
+        ensures step { IfOk result (λ answer. AfterCertificate (setting (S.meaning self.old.scheme) S.PublicKey.cmp S.Signature.eq D.eq self.old.number self.old.mode) self.old.holds certificate.now answer self.new.holds) }
+        ensures refused { OnErr result (self.new ≡ self.old) }
+        ensures same { (self.new.scheme ≡ self.old.scheme) × (self.new.number ≡ self.old.number) × (self.new.mode ≡ self.old.mode) }
+    {
+        let kind = certificate.kind();
+        let proposal = proposal_certified(certificate);
+        make_room_to_fix(&mut self.verifier, &self.votes, proposal, Some(kind))?;
+        self.verifier.record_certificate(kind);
+        let changed = may_fix(&mut self.verifier, &self.votes, proposal);
+        self.votes.release(kind, self.verifier.proposal().copied());
+        Ok(is_selected_anew(kind, changed))
+    }
+
+    /// Tries to make a certificate of the first kind that is ready, of notarize, nullify and
+    /// finalize. It fixes its proposal, and the votes of its kind are released.
     ///
     /// A refusal for memory leaves the round as it was; only the generator may have moved.
     pub fn try_construct<R: CryptoRng>(
@@ -244,111 +405,248 @@ impl<S: Scheme<D>, D: Digest> Round<S, D> {
         rng: &mut R,
     ) -> Result<Option<Batch<Certificate<S::Certificate, D>>>, AllocError>
         ensures step { IfOk result (λ answer. AfterConstruct (setting (S.meaning self.old.scheme) S.PublicKey.cmp S.Signature.eq D.eq self.old.number self.old.mode) self.old.holds (R.stream rng.old) answer self.new.holds (R.stream rng.new)) }
-        ensures certifies { IfOk result (λ answer. IfSome answer (λ batch. IfSome batch.certificate (λ certificate. (S.meaning self.old.scheme).certifies (subject_certified certificate) (content_of certificate) ≡ true))) }
+        ensures certifies { IfOk result (λ answer. IfSome answer (λ batch. IfSome batch.certificate (λ certificate. certifies_itself (S.meaning self.old.scheme) certificate ≡ true))) }
         ensures refused { OnErr result (self.new ≡ self.old) }
-        ensures same { (self.new.scheme ≡ self.old.scheme) × ((self.new.number ≡ self.old.number) × (self.new.mode ≡ self.old.mode)) }
+        ensures same { (self.new.scheme ≡ self.old.scheme) × (self.new.number ≡ self.old.number) × (self.new.mode ≡ self.old.mode) }
     {
-        if !self.is_ready() {
-            return Ok(None);
+        if let Some(batch) = self.try_kind(Kind::Notarization, rng)? {
+            return Ok(Some(batch));
         }
-        let Attempted {
-            processed,
-            invalid,
-            certificate,
-            fallback,
-            valid,
-        } = self.attempt_nullification(rng)?;
-        match certificate {
-            Some(certificate) => {
-                self.nullified = true;
-                self.pending.clear();
-                self.verified.clear();
-                Ok(Some(Batch {
-                    processed,
-                    invalid: Participants::from(invalid),
-                    certificate: Some(Certificate::Nullification(Nullification {
-                        round: self.number,
-                        certificate,
-                    })),
-                    fallback,
-                }))
-            }
-            None => {
-                self.verified.extend_from_slice(valid.as_slice())?;
-                self.pending.clear();
-                Ok(Some(Batch {
-                    processed,
-                    invalid: Participants::from(invalid),
-                    certificate: None,
-                    fallback,
-                }))
-            }
+        if let Some(batch) = self.try_kind(Kind::Nullification, rng)? {
+            return Ok(Some(batch));
         }
+        self.try_kind(Kind::Finalization, rng)
     }
 
-    // One attempt with the nullifies at hand. It lends them to the scheme and changes nothing yet.
-    fn attempt_nullification<R: CryptoRng>(
-        &self,
+    // Tries to make a certificate of the kind, where it is ready.
+    fn try_kind<R: CryptoRng>(
+        &mut self,
+        kind: Kind,
         rng: &mut R,
-    ) -> Result<Attempted<S::Signature, S::Certificate>, AllocError>
-        ensures attempt { IfOk result (λ r. (record { processed = r.processed; invalid = r.invalid.items; certificate = r.certificate; fallback = r.fallback; verified = (if is_some r.certificate then [] else self.now.holds.verified ++ r.valid.items) }, R.stream rng.new) ≡ attempt_of (S.meaning self.now.scheme) (NullifySubject self.now.number) (quorum_of (length (S.meaning self.now.scheme).participants)) self.now.holds.verified self.now.holds.pending (R.stream rng.old)) }
-        ensures certifies { IfOk result (λ r. IfSome r.certificate (λ c. (S.meaning self.now.scheme).certifies (NullifySubject self.now.number) c ≡ true)) }
+    ) -> Result<Option<Batch<Certificate<S::Certificate, D>>>, AllocError>
+        ensures ready { IfOk result (λ given. is_some given ≡ is_ready_in (setting (S.meaning self.old.scheme) S.PublicKey.cmp S.Signature.eq D.eq self.old.number self.old.mode) self.old.holds kind) }
+        ensures tries { IfOk result (λ given. IfSome given (λ batch. TriesHeld (setting (S.meaning self.old.scheme) S.PublicKey.cmp S.Signature.eq D.eq self.old.number self.old.mode) self.old.holds kind (R.stream rng.old) batch self.new.holds (R.stream rng.new))) }
+        ensures none { OnOk result (is_ready_in (setting (S.meaning self.old.scheme) S.PublicKey.cmp S.Signature.eq D.eq self.old.number self.old.mode) self.old.holds kind ≡ false → (self.new ≡ self.old) × (R.stream rng.new ≡ R.stream rng.old)) }
+        ensures certifies { IfOk result (λ given. IfSome given (λ batch. IfSome batch.certificate (λ certificate. certifies_itself (S.meaning self.old.scheme) certificate ≡ true))) }
+        ensures refused { OnErr result (self.new ≡ self.old) }
+        ensures same { (self.new.scheme ≡ self.old.scheme) × (self.new.number ≡ self.old.number) × (self.new.mode ≡ self.old.mode) }
     {
-        let scheme: &S = &self.scheme;
-        attempt(
-            self.alloc,
-            scheme,
-            rng,
-            Subject::Nullify { round: self.number },
-            quorum(scheme.participants().len() as u32) as usize,
-            self.verified.as_slice(),
-            self.pending.as_slice(),
-        )
+        let Some(batch) = self.verifier.try_construct(kind, rng)? else {
+            return Ok(None);
+        };
+        if let Some(certificate) = &batch.certificate {
+            let proposal = proposal_certified(certificate);
+            settle(&mut self.verifier, proposal);
+            self.votes.release(kind, proposal);
+        }
+        Ok(Some(batch))
     }
 
-    // Whether the nullifies at hand could be enough for a nullification.
-    fn is_ready(&self) -> bool
-        ensures { result ≡ is_ready (setting (S.meaning self.now.scheme) S.PublicKey.cmp S.Signature.eq D.eq self.now.number self.now.mode) self.now.holds }
+    // What is answered to a vote that is not to be recorded.
+    fn objection(&self, vote: &Vote<S::Signature, D>) -> Option<Admission<S::Signature, D>>
+        ensures { result ≡ objection_to (setting (S.meaning self.now.scheme) S.PublicKey.cmp S.Signature.eq D.eq self.now.number self.now.mode) self.now.holds vote.now }
     {
-        let quorum = quorum(self.scheme.participants().len() as u32) as usize;
-        let verified = self.verified.len();
-        let pending = self.pending.len();
-        !self.nullified
-            && (verified >= quorum
-                || (pending > 0
-                    && (!S::is_batchable() || verified.saturating_add(pending) >= quorum)))
+        match self.saw_opposite(vote) {
+            Some(ObservedVote::Retained(earlier)) => Some(after_opposite(earlier, *vote)),
+            Some(ObservedVote::Compacted) => Some(after_facts(vote)),
+            None => match self.votes.saw(vote.kind(), vote.signer()) {
+                Some(ObservedVote::Retained(kept)) => Some(beside(kept, *vote)),
+                Some(ObservedVote::Compacted) => None,
+                None => None,
+            },
+        }
     }
 
-    // Whether nullifies are no longer kept in full, so that nothing tells how two of them differ.
-    fn is_released(&self) -> bool
-        ensures { result ≡ is_released_in self.now.mode self.now.holds.nullified }
+    // What was seen of the other of nullify and finalize.
+    fn saw_opposite(
+        &self,
+        vote: &Vote<S::Signature, D>,
+    ) -> Option<ObservedVote<Vote<S::Signature, D>>>
+        ensures { result ≡ shown (observed_opposite self.now.holds.tracked vote.now) }
     {
-        match self.mode {
-            Mode::Retaining => false,
-            Mode::Releasing => self.nullified,
-            Mode::Skipped => true,
+        match vote {
+            Vote::Notarize(_) => None,
+            Vote::Nullify(nullify) => self
+                .votes
+                .saw(Kind::Finalization, nullify.attestation.signer),
+            Vote::Finalize(finalize) => self
+                .votes
+                .saw(Kind::Nullification, finalize.attestation.signer),
         }
     }
 }
 
-// The vote is refused, for no fault of its sender.
-fn refused<G, D>() -> Admission<G, D>
-    ensures { result ≡ refusal }
+// The proposal that a certificate is for.
+fn proposal_certified<C, D: Copy>(certificate: &Certificate<C, D>) -> Option<Proposal<D>>
+    ensures { result ≡ proposal_in (subject_certified certificate.now) }
 {
-    Admission {
-        added: false,
-        block: None,
-        report: None,
+    match certificate {
+        Certificate::Notarization(notarization) => Some(notarization.proposal),
+        Certificate::Nullification(_) => None,
+        Certificate::Finalization(finalization) => Some(finalization.proposal),
     }
 }
 
-// The vote is refused and its sender blocked, with no evidence to report.
-fn blocked<G, D>(reason: BlockReason) -> Admission<G, D>
-    ensures { result ≡ block_for reason None }
+// The proposal that an own vote fixes.
+fn fixed_by<G, D: Copy>(vote: &Vote<G, D>) -> Option<Proposal<D>>
+    ensures { result ≡ fixed_by vote.now }
 {
-    Admission {
-        added: false,
-        block: Some(reason),
-        report: None,
+    match vote {
+        Vote::Notarize(_) => None,
+        Vote::Nullify(_) => None,
+        Vote::Finalize(finalize) => Some(finalize.proposal),
+    }
+}
+
+// Records a vote. Where it is the first and kept in full, it waits for a certificate too.
+fn take_in<S: Scheme<D>, D: Digest>(
+    verifier: &mut Verifier<S, D>,
+    votes: &mut VoteTracker<S::Signature, D>,
+    vote: Vote<S::Signature, D>,
+    verified: bool,
+) -> Result<Outcome, AllocError>
+    requires right { IsRight (S.meaning verifier.old.scheme) votes.old verifier.old.holds verifier.old.quorum }
+    requires range { signer_of vote < length (S.meaning verifier.old.scheme).participants }
+    requires belongs { round_in (subject_of vote) ≡ verifier.old.number }
+    requires attests { verified ≡ true → (S.meaning verifier.old.scheme).attests (subject_of vote) (attestation_of vote) ≡ true }
+    requires room { of_kind votes.old.holds.compacted (kind_of vote) ≡ false → outcome_of D.eq votes.old.participants votes.old.holds (proposal_of verifier.old.holds.selection) vote ≡ AddedOutcome true → 1 ≤ cond verified (of_kind verifier.old.verified_room (kind_of vote)) (of_kind verifier.old.pending_room (kind_of vote)) }
+    ensures outcome { IfOk result (λ outcome. outcome ≡ outcome_of D.eq votes.old.participants votes.old.holds (proposal_of verifier.old.holds.selection) vote) }
+    ensures tracked { OnOk result ((kind : TheKind) → RecordsKind D.eq votes.old.holds votes.new.holds (proposal_of verifier.old.holds.selection) true vote kind) }
+    ensures buffered { IfOk result (λ outcome. MatchBool (is_kept outcome) (AddsVote D.eq verifier.old.holds vote verified verifier.new.holds) (verifier.new.holds ≡ verifier.old.holds)) }
+    ensures refused { OnErr result ((verifier.new.holds ≡ verifier.old.holds) × (votes.new.holds ≡ votes.old.holds)) }
+    ensures right { IsRight (S.meaning verifier.old.scheme) votes.new verifier.new.holds verifier.old.quorum }
+    ensures with_room { (is_known votes.old.holds (signer_of vote) ≡ false → 1 ≤ votes.old.room) → IsOk result }
+    ensures same { (verifier.new.scheme ≡ verifier.old.scheme) × (verifier.new.number ≡ verifier.old.number) × (verifier.new.quorum ≡ verifier.old.quorum) }
+    ensures mode { (votes.new.mode ≡ votes.old.mode) × (votes.new.participants ≡ votes.old.participants) }
+{
+    let outcome = votes.record(&vote, verifier.proposal())?;
+    if is_kept(outcome) {
+        verifier.add(vote, verified)?;
+    }
+    Ok(outcome)
+}
+
+// Makes room for the kept votes of a kind that come back where the proposal is fixed.
+fn make_room_for<S: Scheme<D>, D: Digest>(
+    verifier: &mut Verifier<S, D>,
+    votes: &VoteTracker<S::Signature, D>,
+    proposal: &Proposal<D>,
+    kind: Kind,
+) -> Result<(), AllocError>
+    ensures room { OnOk result (HasRoomFor D.eq verifier.old.holds.certified votes.now.holds.kept proposal.now verifier.new.pending_room kind) }
+    ensures holds { verifier.new.holds ≡ verifier.old.holds }
+    ensures kept { KeepsRoom verifier.old.pending_room verifier.old.verified_room verifier.new.pending_room verifier.new.verified_room }
+    ensures same { (verifier.new.scheme ≡ verifier.old.scheme) × (verifier.new.number ≡ verifier.old.number) × (verifier.new.quorum ≡ verifier.old.quorum) }
+{
+    if verifier.has_certificate(kind) {
+        return Ok(());
+    }
+    verifier.make_room(kind, false, votes.count_for(kind, proposal))
+}
+
+// Makes room for all kept votes that come back where the proposal is fixed. Of a kind that is
+// completed none does.
+fn make_room_to_fix<S: Scheme<D>, D: Digest>(
+    verifier: &mut Verifier<S, D>,
+    votes: &VoteTracker<S::Signature, D>,
+    proposal: Option<Proposal<D>>,
+    completed: Option<Kind>,
+) -> Result<(), AllocError>
+    ensures room { OnOk result ((fixed : TheProposal D) → proposal ≡ Some fixed → replaces D.eq verifier.old.holds.selection fixed ≡ true → (kind : TheKind) → has_proposals kind ≡ true → is_some_and completed (is_kind kind) ≡ false → HasRoomFor D.eq verifier.old.holds.certified votes.now.holds.kept fixed verifier.new.pending_room kind) }
+    ensures holds { verifier.new.holds ≡ verifier.old.holds }
+    ensures kept { KeepsRoom verifier.old.pending_room verifier.old.verified_room verifier.new.pending_room verifier.new.verified_room }
+    ensures same { (verifier.new.scheme ≡ verifier.old.scheme) × (verifier.new.number ≡ verifier.old.number) × (verifier.new.quorum ≡ verifier.old.quorum) }
+{
+    let Some(proposal) = proposal else {
+        return Ok(());
+    };
+    if !verifier.replaces(&proposal) {
+        return Ok(());
+    }
+    if completed != Some(Kind::Notarization) {
+        make_room_for(verifier, votes, &proposal, Kind::Notarization)?;
+    }
+    if completed != Some(Kind::Finalization) {
+        make_room_for(verifier, votes, &proposal, Kind::Finalization)?;
+    }
+    Ok(())
+}
+
+// Makes all the room that an own vote needs, of which this outcome comes.
+fn make_room_to_accept<S: Scheme<D>, D: Digest>(
+    verifier: &mut Verifier<S, D>,
+    votes: &mut VoteTracker<S::Signature, D>,
+    vote: &Vote<S::Signature, D>,
+    outcome: Outcome,
+) -> Result<(), AllocError>
+    ensures to_fix { OnOk result ((proposal : TheProposal D) → fixed_by vote.now ≡ Some proposal → replaces D.eq verifier.old.holds.selection proposal ≡ true → (kind : TheKind) → has_proposals kind ≡ true → HasRoomFor D.eq verifier.old.holds.certified votes.old.holds.kept proposal verifier.new.pending_room kind) }
+    ensures to_record { OnOk result (is_added outcome ≡ true → 1 ≤ votes.new.room) }
+    ensures to_wait { OnOk result (is_kept outcome ≡ true → 1 ≤ of_kind verifier.new.verified_room (kind_of vote.now)) }
+    ensures holds { verifier.new.holds ≡ verifier.old.holds }
+    ensures votes { votes.new.holds ≡ votes.old.holds }
+    ensures same { (verifier.new.scheme ≡ verifier.old.scheme) × (verifier.new.number ≡ verifier.old.number) × (verifier.new.quorum ≡ verifier.old.quorum) }
+    ensures mode { (votes.new.mode ≡ votes.old.mode) × (votes.new.participants ≡ votes.old.participants) }
+{
+    make_room_to_fix(verifier, votes, fixed_by(vote), None)?;
+    if is_added(outcome) {
+        votes.make_room()?;
+    }
+    if is_kept(outcome) {
+        verifier.make_room(vote.kind(), true, 1)?;
+    }
+    Ok(())
+}
+
+// Fixes the proposal, where none is fixed, and answers whether another is selected than before.
+// Where it takes another's place, the kept votes for it come back as pending.
+fn fix<S: Scheme<D>, D: Digest>(
+    verifier: &mut Verifier<S, D>,
+    votes: &VoteTracker<S::Signature, D>,
+    proposal: Proposal<D>,
+) -> bool
+    requires within { WaitsWhereKept votes.now.holds verifier.old.holds }
+    requires room { replaces D.eq verifier.old.holds.selection proposal ≡ true → (kind : TheKind) → has_proposals kind ≡ true → HasRoomFor D.eq verifier.old.holds.certified votes.now.holds.kept proposal verifier.old.pending_room kind }
+    ensures fixes { FixesProposal D.eq verifier.old.holds votes.now.holds.kept proposal verifier.new.holds }
+    ensures changed { result ≡ not (same_selected D.eq (proposal_of verifier.old.holds.selection) (proposal_of verifier.new.holds.selection)) }
+    ensures within { WaitsWhereKept votes.now.holds verifier.new.holds }
+    ensures room { (kind : TheKind) → of_kind verifier.old.verified_room kind ≤ of_kind verifier.new.verified_room kind }
+    ensures same { (verifier.new.scheme ≡ verifier.old.scheme) × (verifier.new.number ≡ verifier.old.number) × (verifier.new.quorum ≡ verifier.old.quorum) }
+{
+    let update = verifier.set_proposal(ProposalState::Certificate(proposal));
+    if update.replaced {
+        verifier.restore(Kind::Notarization, votes.iter_notarizes());
+        verifier.restore(Kind::Finalization, votes.iter_finalizes());
+    }
+    update.changed
+}
+
+// The same, where there is a proposal to fix.
+fn may_fix<S: Scheme<D>, D: Digest>(
+    verifier: &mut Verifier<S, D>,
+    votes: &VoteTracker<S::Signature, D>,
+    proposal: Option<Proposal<D>>,
+) -> bool
+    requires within { WaitsWhereKept votes.now.holds verifier.old.holds }
+    requires room { (fixed : TheProposal D) → proposal ≡ Some fixed → replaces D.eq verifier.old.holds.selection fixed ≡ true → (kind : TheKind) → has_proposals kind ≡ true → HasRoomFor D.eq verifier.old.holds.certified votes.now.holds.kept fixed verifier.old.pending_room kind }
+    ensures fixes { MayFix D.eq verifier.old.holds votes.now.holds.kept proposal verifier.new.holds }
+    ensures changed { result ≡ not (same_selected D.eq (proposal_of verifier.old.holds.selection) (proposal_of verifier.new.holds.selection)) }
+    ensures within { WaitsWhereKept votes.now.holds verifier.new.holds }
+    ensures room { (kind : TheKind) → of_kind verifier.old.verified_room kind ≤ of_kind verifier.new.verified_room kind }
+    ensures same { (verifier.new.scheme ≡ verifier.old.scheme) × (verifier.new.number ≡ verifier.old.number) × (verifier.new.quorum ≡ verifier.old.quorum) }
+{
+    match proposal {
+        Some(proposal) => fix(verifier, votes, proposal),
+        None => false,
+    }
+}
+
+// A certificate of the round's own making fixes its proposal, where none is fixed. It never takes
+// another's place, so no vote comes back.
+fn settle<S: Scheme<D>, D: Digest>(verifier: &mut Verifier<S, D>, proposal: Option<Proposal<D>>)
+    ensures fixes { Fixes (setting (S.meaning verifier.old.scheme) S.PublicKey.cmp S.Signature.eq D.eq verifier.old.number Mode.Retaining) verifier.old.holds proposal verifier.new.holds }
+    ensures same { (verifier.new.scheme ≡ verifier.old.scheme) × (verifier.new.number ≡ verifier.old.number) × (verifier.new.quorum ≡ verifier.old.quorum) }
+{
+    if let Some(proposal) = proposal {
+        verifier.set_proposal(ProposalState::Certificate(proposal));
     }
 }

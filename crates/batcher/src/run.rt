@@ -1,29 +1,50 @@
 //! Calls of a round as values, and whole lists of them.
 
 ghost use Rattle.std.specs.Prelude.{◌≡◌, All, IfOk};
+ghost use Rattle.std.specs.List.{list_any};
+ghost use Rattle.std.specs.List.Sorted.{IsStrictlySortedBy};
 ghost use Rattle.batcher.specs.Setting.{setting};
-ghost use Rattle.batcher.specs.Nullifies.{MayCall, Steps, Runs, nothing_held};
+ghost use Rattle.batcher.specs.Steps.{nothing_held};
+ghost use Rattle.batcher.specs.Runs.{MayCall, Steps, Runs, certifies_answer, blocked_sender, blocked_senders};
 
-use crate::messages::{Certificate, Digest, Vote};
-use crate::round::{Admission, Round};
+use crate::messages::{Activity, Certificate, Digest, Proposal, Vote};
+use crate::positions::{Participant, Participants};
+use crate::round::{Admission, OwnFault, Round};
 use crate::scheme::Scheme;
-use crate::verifier::Batch;
+use crate::verifier::{Batch, LeaderFault};
+use crate::votes::Outcome;
 use rand_core::CryptoRng;
 use std::alloc::{AllocError, Global};
 
-/// A call of a round, with keys `P`, signatures `G` and digests `D`.
-#[derive(Clone, Copy, Debug)]
-pub enum Call<P, G, D> {
+/// A call of a round, with keys `P`, signatures `G`, certificates `C` and digests `D`.
+#[derive(Debug, Drop)]
+pub enum Call<P, G, C, D> {
     /// A vote that the participant with the key sent.
     Network(P, Vote<G, D>),
+    /// A vote of the node's own, which attests.
+    Own(Vote<G, D>),
+    /// A certificate that the caller has verified.
+    Certificate(Certificate<C, D>),
+    Leader(Participant),
     Construct,
+    /// This participant asks for the selected proposal, to hand it on.
+    Forward(Participant),
+    /// Who isn't known to have the proposal's block.
+    Missing(Proposal<D>),
 }
 
 /// The answer to a call, with certificates `C`.
 #[derive(Debug, Drop)]
 pub enum Answer<G, C, D> {
     Network(Admission<G, D>),
+    Own(Outcome, Option<Activity<G, D>>),
+    /// An own vote is refused, not for want of memory.
+    OwnRefused(OwnFault),
+    Certificate(bool),
+    Leader(Result<(), LeaderFault>),
     Construct(Option<Batch<Certificate<C, D>>>),
+    Forward(Option<Proposal<D>>),
+    Missing(Participants),
     /// Memory was refused, and the round is as it was before the call.
     OutOfMemory,
 }
@@ -43,16 +64,17 @@ pub fn run<S: Scheme<D>, D: Digest, R: CryptoRng>(
     alloc: Global,
     mut round: Round<S, D>,
     rng: &mut R,
-    calls: &[Call<S::PublicKey, S::Signature, D>],
+    calls: &[Call<S::PublicKey, S::Signature, S::Certificate, D>],
 ) -> Result<Ran<S, D>, AllocError>
-    requires fresh { round.holds ≡ nothing_held }
-    requires calls { All (MayCall round.number) calls.now }
+    requires fresh { round.holds ≡ nothing_held round.mode }
+    requires calls { All (MayCall (S.meaning round.scheme) round.number) calls.now }
     ensures runs { IfOk result (λ ran. Runs (setting (S.meaning round.scheme) S.PublicKey.cmp S.Signature.eq D.eq round.number round.mode) round.holds (R.stream rng.old) calls.now ran.answers.items ran.round.holds (R.stream rng.new)) }
+    ensures certifies { IfOk result (λ ran. All (certifies_answer (S.meaning round.scheme)) ran.answers.items) }
     ensures same { IfOk result (λ ran. (ran.round.scheme ≡ round.scheme) × ((ran.round.number ≡ round.number) × (ran.round.mode ≡ round.mode))) }
 {
     let mut answers = Vec::with_capacity(alloc, calls.len())?;
     for call in calls {
-        answers.push_reserved(step(&mut round, rng, *call));
+        answers.push_reserved(step(&mut round, rng, call));
     }
     Ok(Ran { round, answers })
 }
@@ -61,20 +83,81 @@ pub fn run<S: Scheme<D>, D: Digest, R: CryptoRng>(
 fn step<S: Scheme<D>, D: Digest, R: CryptoRng>(
     round: &mut Round<S, D>,
     rng: &mut R,
-    call: Call<S::PublicKey, S::Signature, D>,
+    call: &Call<S::PublicKey, S::Signature, S::Certificate, D>,
 ) -> Answer<S::Signature, S::Certificate, D>
-    requires { MayCall round.old.number call }
-    ensures steps { Steps (setting (S.meaning round.old.scheme) S.PublicKey.cmp S.Signature.eq D.eq round.old.number round.old.mode) round.old.holds (R.stream rng.old) call result round.new.holds (R.stream rng.new) }
+    requires { MayCall (S.meaning round.old.scheme) round.old.number call.now }
+    ensures steps { Steps (setting (S.meaning round.old.scheme) S.PublicKey.cmp S.Signature.eq D.eq round.old.number round.old.mode) round.old.holds (R.stream rng.old) call.now result round.new.holds (R.stream rng.new) }
+    ensures certifies { certifies_answer (S.meaning round.old.scheme) result }
     ensures same { (round.new.scheme ≡ round.old.scheme) × ((round.new.number ≡ round.old.number) × (round.new.mode ≡ round.old.mode)) }
 {
     match call {
-        Call::Network(sender, vote) => match round.add_network(sender, vote) {
+        Call::Network(sender, vote) => match round.add_network(*sender, *vote) {
             Ok(admission) => Answer::Network(admission),
             Err(_) => Answer::OutOfMemory,
         },
+        Call::Own(vote) => match round.accept_vote(*vote) {
+            Ok((outcome, report)) => Answer::Own(outcome, report),
+            Err(OwnFault::OutOfMemory) => Answer::OutOfMemory,
+            Err(fault) => Answer::OwnRefused(fault),
+        },
+        Call::Certificate(certificate) => match round.record_certificate(certificate) {
+            Ok(changed) => Answer::Certificate(changed),
+            Err(_) => Answer::OutOfMemory,
+        },
+        Call::Leader(leader) => Answer::Leader(round.set_leader(*leader)),
         Call::Construct => match round.try_construct(rng) {
             Ok(batch) => Answer::Construct(batch),
             Err(_) => Answer::OutOfMemory,
         },
+        Call::Forward(me) => Answer::Forward(round.try_forward_proposal(*me)),
+        Call::Missing(proposal) => match round.missing_voters(proposal) {
+            Ok(missing) => Answer::Missing(missing),
+            Err(_) => Answer::OutOfMemory,
+        },
+    }
+}
+
+/// The senders that the answers block, each once, in ascending order of keys.
+///
+/// Each answer is that to the call at its place, and a call without an answer blocks no one. Of
+/// keys that compare as equal one is listed, and which one is left open.
+pub fn blocked<P: Copy + Ord, G, C, D>(
+    alloc: Global,
+    calls: &[Call<P, G, C, D>],
+    answers: &[Answer<G, C, D>],
+) -> Result<Vec<P>, AllocError>
+    ensures ascending { IfOk result (λ keys. IsStrictlySortedBy P.cmp keys.items) }
+    ensures senders { IfOk result (λ keys. (key : P) → list_any (P.eq key) keys.items ≡ list_any (P.eq key) (blocked_senders calls.now answers.now)) }
+{
+    let mut senders = blocked_in_order(alloc, calls, answers)?;
+    senders.sort_unstable();
+    senders.dedup();
+    Ok(senders)
+}
+
+// The same in the order of the calls, with repeats.
+fn blocked_in_order<P: Copy, G, C, D>(
+    alloc: Global,
+    calls: &[Call<P, G, C, D>],
+    answers: &[Answer<G, C, D>],
+) -> Result<Vec<P>, AllocError>
+    ensures { IfOk result (λ keys. keys.items ≡ blocked_senders calls.now answers.now) }
+{
+    calls
+        .iter()
+        .zip(answers)
+        .filter_map(|(call, answer)| blocked_by(call, answer))
+        .collect(alloc)
+}
+
+// The sender that the answer blocks.
+fn blocked_by<P: Copy, G, C, D>(call: &Call<P, G, C, D>, answer: &Answer<G, C, D>) -> Option<P>
+    ensures { result ≡ blocked_sender call.now answer.now }
+{
+    match (call, answer) {
+        (Call::Network(sender, _), Answer::Network(admission)) if admission.block.is_some() => {
+            Some(*sender)
+        }
+        _ => None,
     }
 }

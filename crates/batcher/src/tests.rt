@@ -1,17 +1,23 @@
 //! Tests of what no clause says: values from outside, and that a call succeeds where memory is
-//! there, and again where it was refused once.
-
-ghost use Rattle.std.specs.Prelude.{◌≡◌, ◌≤◌, IfOk, length};
-ghost use Rattle.batcher.specs.Nullifies.{nothing_held};
+//! there, and again where it was refused once. What rounds answer is shown by the scripts of
+//! `vectors/`.
+//!
+//! A test is proved safe before it runs, and what its calls promise is carried to its end. So the
+//! calls of a round stand in functions that promise nothing.
 
 mod memory;
 mod rows;
 mod schemes;
+mod verifiers;
 
-use crate::messages::{Nullify, Proposal, Sha256Digest, Subject, Vote};
+use crate::messages::{
+    Attestation, Certificate, Finalize, Kind, Notarize, Nullify, Proposal, Sha256Digest, Subject,
+    Vote,
+};
 use crate::positions::{self, Epoch, Participant, Set, View};
-use crate::round::{Admission, Round};
-use crate::scheme::{Keyed, Name};
+use crate::round::Round;
+use crate::scheme::{AttestationList, Counter, Keyed, Name, Scheme};
+use crate::verifier::Batch;
 use std::alloc::{AllocError, Global};
 use std::process::Abort;
 use std::rc::Rc;
@@ -19,13 +25,16 @@ use std::test::Fail;
 
 type Digest = Sha256Digest;
 
+type SignedVote = Vote<[u8; 32], Digest>;
+
+type TestCertificate = Certificate<AttestationList, Digest>;
+
+type TestRound = Round<Keyed<true>, Digest>;
+
 const ROOT: [u8; 32] = [0; 32];
 
 // Epoch 0, view 1.
-fn number() -> positions::Round
-    ensures epoch { result.epoch.0 ≡ 0 }
-    ensures view { result.view.0 ≡ 1 }
-{
+fn number() -> positions::Round {
     positions::Round::new(Epoch::new(0), View::new(1))
 }
 
@@ -54,36 +63,59 @@ fn round(
     alloc: Global,
     n: u64,
     track_historical_votes: bool,
-) -> Result<Round<Keyed<true>, Digest>, AllocError>
-    ensures number { IfOk result (λ r. (r.number.epoch.0 ≡ 0) × (r.number.view.0 ≡ 1)) }
-    ensures fresh { IfOk result (λ r. r.holds ≡ nothing_held) }
-{
+) -> Result<TestRound, AllocError> {
     let participants = names(alloc, n)?;
     assert!(rt; participants.len() >= 1);
     let scheme = Rc::new(alloc, Keyed::new(participants, ROOT))?;
     Ok(Round::new(alloc, number(), scheme, track_historical_votes))
 }
 
-// What the round answers to a nullify that the sender brings.
-fn send(
-    rt: &impl Abort,
-    round: &mut Round<Keyed<true>, Digest>,
-    sender: u64,
-    vote: Nullify<[u8; 32]>,
-) -> Result<Admission<[u8; 32], Digest>, AllocError> {
-    let vote = Vote::Nullify(vote);
-    assert!(rt; round.belongs(&vote));
-    round.add_network(Name(sender), vote)
-}
-
 // The nullify of a signer, or one whose signature is off by a bit.
-fn nullify(scheme: &Keyed<true>, signer: u32, good: bool) -> Nullify<[u8; 32]>
-    ensures round { (result.round.epoch.0 ≡ 0) × (result.round.view.0 ≡ 1) }
-{
+fn nullify(scheme: &Keyed<true>, signer: u32, good: bool) -> Nullify<[u8; 32]> {
     let round = number();
     let mut attestation = scheme.sign(Participant::new(signer), Subject::Nullify { round });
     if !good {
         attestation.signature[0] ^= 1;
     }
     Nullify { round, attestation }
+}
+
+// The notarize of a signer for a payload of equal bytes.
+fn notarize(scheme: &Keyed<true>, signer: u32, byte: u8) -> SignedVote {
+    let proposal = proposal(byte);
+    Vote::Notarize(Notarize {
+        proposal,
+        attestation: scheme.sign(Participant::new(signer), Subject::Notarize { proposal }),
+    })
+}
+
+// The vote of a kind by a signer, for payload 1 where it is for a proposal.
+fn vote(scheme: &Keyed<true>, kind: Kind, signer: u32) -> SignedVote {
+    let participant = Participant::new(signer);
+    let proposal = proposal(1);
+    match kind {
+        Kind::Notarization => notarize(scheme, signer, 1),
+        Kind::Nullification => Vote::Nullify(nullify(scheme, signer, true)),
+        Kind::Finalization => Vote::Finalize(Finalize {
+            proposal,
+            attestation: scheme.sign(participant, Subject::Finalize { proposal }),
+        }),
+    }
+}
+
+// Brings the round a vote that its signer sends. Whether it was added.
+fn bring<S: Scheme<Digest, PublicKey = Name>>(
+    rt: &impl Abort,
+    round: &mut Round<S, Digest>,
+    vote: Vote<S::Signature, Digest>,
+) -> Result<bool, AllocError> {
+    assert!(rt; round.belongs(&vote));
+    let sender = Name(u64::from(vote.signer().get()));
+    Ok(round.add_network(sender, vote)?.added)
+}
+
+fn construct<S: Scheme<Digest>>(
+    round: &mut Round<S, Digest>,
+) -> Result<Option<Batch<Certificate<S::Certificate, Digest>>>, AllocError> {
+    round.try_construct(&mut Counter::new(0))
 }

@@ -1,16 +1,22 @@
 //! What a script stands for: the scheme of its round, and the calls of its commands.
 
-ghost use Rattle.std.specs.Prelude.{◌≡◌, ◌<◌, All, IfOk, length, true};
-ghost use Rattle.std.specs.List.{AllZip};
-ghost use Rattle.batcher.specs.Nullifies.{IsNullify, MayCall};
-ghost use Rattle.batcher.specs.Votes.{round_in, signer_of, subject_of};
-ghost use Rattle.batcher_script.specs.Calls.{IsCallOf};
+ghost use Rattle.std.specs.Prelude.{◌≡◌, ◌<◌, ◌≤◌, All, IfOk, length, true};
+ghost use Rattle.std.specs.List.{AllPass, AllZip};
+ghost use Rattle.batcher.specs.Attestations.{IsQuorum};
+ghost use Rattle.batcher.specs.Runs.{MayCall};
+ghost use Rattle.batcher.specs.Votes.{attestation_of, signer_of, subject_of, subject_certified};
+ghost use Rattle.batcher_script.specs.Calls.{IsCallOf, proposal_for, subject_for};
+ghost use Rattle.batcher_script.specs.Commands.{is_among};
+ghost use Rattle.batcher_script.specs.declared.script.Signature.TheVariants.{Good as GoodSignature};
 
 use crate::script::{Ballot, Command, Signature};
-use batcher::messages::{Attestation, Nullify, Sha256Digest, Subject, Vote};
-use batcher::positions::{self, Participant, Set};
+use batcher::messages::{
+    Attestation, Certificate, Finalization, Finalize, Notarization, Notarize, Nullification,
+    Nullify, Proposal, Sha256Digest, Subject, Vote,
+};
+use batcher::positions::{self, Participant, Set, View, quorum};
 use batcher::run::Call;
-use batcher::scheme::{Keyed, Name, Scheme};
+use batcher::scheme::{Keyed, Name, Scheme, Sealed};
 use std::alloc::{AllocError, Global};
 
 /// A test scheme, of which every vote can be made.
@@ -36,6 +42,17 @@ impl<const BATCHABLE: bool> TestScheme for Keyed<BATCHABLE> {
     }
 }
 
+impl TestScheme for Sealed {
+    /// The scheme whose root is 32 zero bytes.
+    fn of(participants: Set<Name>) -> Sealed {
+        Sealed::new(participants, [0; 32])
+    }
+
+    fn sign(&self, signer: Participant, subject: Subject<Sha256Digest>) -> Attestation<[u8; 32]> {
+        Sealed::sign(self, signer, subject)
+    }
+}
+
 /// The participants 0 to `count` - 1.
 pub fn names(alloc: Global, count: u32) -> Result<Set<Name>, AllocError>
     ensures count { IfOk result (λ set. length set ≡ count) }
@@ -51,32 +68,40 @@ pub fn names(alloc: Global, count: u32) -> Result<Set<Name>, AllocError>
     }
 }
 
-/// The calls of the commands, in their order.
+/// The calls of the commands, in their order. A certificate is assembled of the votes of the
+/// first participants that are a quorum.
 pub fn calls_of<S: TestScheme>(
     alloc: Global,
     scheme: &S,
     round: positions::Round,
     commands: &[Command],
-) -> Result<Vec<Call<Name, [u8; 32], Sha256Digest>>, AllocError>
-    ensures each { IfOk result (λ calls. AllZip IsCallOf commands.now calls.items) }
-    ensures may { IfOk result (λ calls. All (MayCall round) calls.items) }
+) -> Result<Vec<Call<Name, [u8; 32], S::Certificate, Sha256Digest>>, AllocError>
+    requires some { 1 ≤ length (S.meaning scheme.now).participants }
+    requires few { length (S.meaning scheme.now).participants ≤ 1000 }
+    requires among { AllPass (is_among (length (S.meaning scheme.now).participants)) commands.now }
+    ensures each { IfOk result (λ calls. AllZip (IsCallOf round) commands.now calls.items) }
+    ensures may { IfOk result (λ calls. All (MayCall (S.meaning scheme.now) round) calls.items) }
 {
     let mut calls = Vec::with_capacity(alloc, commands.len())?;
     for command in commands {
-        calls.push(call(scheme, round, *command))?;
+        calls.push_reserved(call(alloc, scheme, round, *command)?);
     }
     Ok(calls)
 }
 
 fn call<S: TestScheme>(
+    alloc: Global,
     scheme: &S,
     round: positions::Round,
     command: Command,
-) -> Call<Name, [u8; 32], Sha256Digest>
-    ensures each { IsCallOf command result }
-    ensures may { MayCall round result }
+) -> Result<Call<Name, [u8; 32], S::Certificate, Sha256Digest>, AllocError>
+    requires some { 1 ≤ length (S.meaning scheme.now).participants }
+    requires few { length (S.meaning scheme.now).participants ≤ 1000 }
+    requires among { is_among (length (S.meaning scheme.now).participants) command ≡ true }
+    ensures each { IfOk result (IsCallOf round command) }
+    ensures may { IfOk result (MayCall (S.meaning scheme.now) round) }
 {
-    match command {
+    Ok(match command {
         Command::Network {
             sender,
             signer,
@@ -86,7 +111,38 @@ fn call<S: TestScheme>(
             Name(sender),
             vote(scheme, round, Participant::new(signer), ballot, signature),
         ),
+        Command::Own { signer, ballot } => {
+            let signer = Participant::new(signer);
+            Call::Own(vote(scheme, round, signer, ballot, Signature::Good))
+        }
+        Command::Certificate(ballot) => {
+            Call::Certificate(certificate(alloc, scheme, round, ballot)?)
+        }
+        Command::Leader(index) => Call::Leader(Participant::new(index)),
         Command::Construct => Call::Construct,
+        Command::Forward(index) => Call::Forward(Participant::new(index)),
+        Command::Missing(byte) => Call::Missing(proposal(round, byte)),
+    })
+}
+
+// The proposal of the round with parent view 0 and a payload of equal bytes.
+fn proposal(round: positions::Round, byte: u8) -> Proposal<Sha256Digest>
+    ensures { result ≡ proposal_for round byte }
+{
+    Proposal::new(round, View::zero(), Sha256Digest([byte; 32]))
+}
+
+fn subject(round: positions::Round, ballot: Ballot) -> Subject<Sha256Digest>
+    ensures { result ≡ subject_for round ballot }
+{
+    match ballot {
+        Ballot::Notarize(byte) => Subject::Notarize {
+            proposal: proposal(round, byte),
+        },
+        Ballot::Nullify => Subject::Nullify { round },
+        Ballot::Finalize(byte) => Subject::Finalize {
+            proposal: proposal(round, byte),
+        },
     }
 }
 
@@ -98,17 +154,21 @@ fn vote<S: TestScheme>(
     signature: Signature,
 ) -> Vote<[u8; 32], Sha256Digest>
     ensures signer { signer_of result ≡ signer.0 }
-    ensures nullify { IsNullify result }
-    ensures belongs { round_in (subject_of result) ≡ round }
+    ensures subject { subject_of result ≡ subject_for round ballot }
+    ensures attests { signature ≡ GoodSignature → signer.0 < length (S.meaning scheme.now).participants → (S.meaning scheme.now).attests (subject_of result) (attestation_of result) ≡ true }
 {
-    match ballot {
-        Ballot::Nullify => {
-            let subject = Subject::Nullify { round };
-            Vote::Nullify(Nullify {
-                round,
-                attestation: attestation(scheme, signer, subject, signature),
-            })
-        }
+    let subject = subject(round, ballot);
+    let attestation = attestation(scheme, signer, subject, signature);
+    match subject {
+        Subject::Notarize { proposal } => Vote::Notarize(Notarize {
+            proposal,
+            attestation,
+        }),
+        Subject::Nullify { round } => Vote::Nullify(Nullify { round, attestation }),
+        Subject::Finalize { proposal } => Vote::Finalize(Finalize {
+            proposal,
+            attestation,
+        }),
     }
 }
 
@@ -118,11 +178,60 @@ fn attestation<S: TestScheme>(
     subject: Subject<Sha256Digest>,
     signature: Signature,
 ) -> Attestation<[u8; 32]>
-    ensures { result.signer ≡ signer }
+    ensures signer { result.signer ≡ signer }
+    ensures attests { signature ≡ GoodSignature → signer.0 < length (S.meaning scheme.now).participants → (S.meaning scheme.now).attests subject result ≡ true }
 {
     let mut attestation = scheme.sign(signer, subject);
     if signature == Signature::Bad {
         attestation.signature[0] ^= 1;
     }
     attestation
+}
+
+// The certificate of the first participants that are a quorum.
+fn certificate<S: TestScheme>(
+    alloc: Global,
+    scheme: &S,
+    round: positions::Round,
+    ballot: Ballot,
+) -> Result<Certificate<S::Certificate, Sha256Digest>, AllocError>
+    requires some { 1 ≤ length (S.meaning scheme.now).participants }
+    requires few { length (S.meaning scheme.now).participants ≤ 1000 }
+    ensures { IfOk result (λ certificate. subject_certified certificate ≡ subject_for round ballot) }
+{
+    let subject = subject(round, ballot);
+    let attestations = quorum_of(alloc, scheme, subject)?;
+    let certificate = scheme.assemble(alloc, subject, &[], attestations.as_slice())?;
+    Ok(match subject {
+        Subject::Notarize { proposal } => Certificate::Notarization(Notarization {
+            proposal,
+            certificate,
+        }),
+        Subject::Nullify { round } => Certificate::Nullification(Nullification {
+            round,
+            certificate,
+        }),
+        Subject::Finalize { proposal } => Certificate::Finalization(Finalization {
+            proposal,
+            certificate,
+        }),
+    })
+}
+
+// The attestations of the first participants that are a quorum.
+fn quorum_of<S: TestScheme>(
+    alloc: Global,
+    scheme: &S,
+    subject: Subject<Sha256Digest>,
+) -> Result<Vec<Attestation<[u8; 32]>>, AllocError>
+    requires some { 1 ≤ length (S.meaning scheme.now).participants }
+    requires few { length (S.meaning scheme.now).participants ≤ 1000 }
+    ensures quorum { IfOk result (λ attestations. IsQuorum (length (S.meaning scheme.now).participants) attestations.items) }
+    ensures attested { IfOk result (λ attestations. AllPass ((S.meaning scheme.now).attests subject) attestations.items) }
+{
+    let mut attestations = Vec::new(alloc);
+    for index in 0..quorum(scheme.participants().len() as u32) {
+        attestations.push(scheme.sign(Participant::new(index), subject))?;
+    }
+    Ok(attestations)
 }

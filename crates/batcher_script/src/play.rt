@@ -1,13 +1,17 @@
 //! Plays a script: reads it, makes its calls in one run, and prints the answers.
 
-ghost use Rattle.std.specs.Prelude.{◌≡◌, IfOk, IfSome};
+ghost use Rattle.std.specs.Prelude.{◌≡◌, ◌≤◌, true, length, IfOk, IfSome};
+ghost use Rattle.std.specs.List.{list_all};
+ghost use Rattle.batcher.specs.Steps.{nothing_held};
+ghost use Rattle.batcher_script.specs.Commands.{is_among};
 
 use crate::calls::{TestScheme, calls_of, names};
 use crate::print::{AsText, Output};
 use crate::script::{Command, Opening, SchemeWord, Script};
+use batcher::messages::Sha256Digest;
 use batcher::round::Round;
-use batcher::run::{Answer, Ran, run};
-use batcher::scheme::{Counter, Keyed};
+use batcher::run::{Answer, Call, Ran, blocked, run};
+use batcher::scheme::{Counter, Keyed, Name, Sealed};
 use batcher::votes::Mode;
 use std::alloc::{AllocError, Global};
 use std::io::{ErrorKind, Read, Write};
@@ -87,13 +91,18 @@ fn print_script<W: Write>(
     script: &Script,
     output: &mut Output<W>,
 ) -> Result<(), Stop> {
-    if let Some(opening) = &script.opening {
+    if let Some(opening) = &script.lines.opening {
         output.print(AsText(opening))?;
-        let commands = script.commands.as_slice();
+        let commands = script.lines.commands.as_slice();
+        let questions = script.lines.questions.as_slice();
         match opening.scheme {
             SchemeWord::Keyed => {
-                print_answers::<Keyed<true>, W>(alloc, opening, commands, output)?
+                print_answers::<Keyed<true>, W>(alloc, opening, commands, questions, output)?
             }
+            SchemeWord::Single => {
+                print_answers::<Keyed<false>, W>(alloc, opening, commands, questions, output)?
+            }
+            SchemeWord::Sealed => print_answers::<Sealed, W>(alloc, opening, commands, questions, output)?,
         }
     }
     match script.malformed {
@@ -105,32 +114,87 @@ fn print_script<W: Write>(
     }
 }
 
+/// The round that the first line asks for.
+fn fresh_round<S: TestScheme>(
+    alloc: Global,
+    opening: &Opening,
+    scheme: Rc<S>,
+) -> Round<S, Sha256Digest>
+    requires { 1 ≤ length (S.meaning scheme.value).participants }
+    ensures scheme { result.scheme ≡ scheme.value }
+    ensures number { result.number ≡ opening.now.round }
+    ensures fresh { result.holds ≡ nothing_held result.mode }
+{
+    match opening.mode {
+        Mode::Retaining => Round::new(alloc, opening.round, scheme, true),
+        Mode::Releasing => Round::new(alloc, opening.round, scheme, false),
+        Mode::Skipped => Round::skipped(alloc, opening.round, scheme),
+    }
+}
+
 /// Makes the calls in one run, and prints the answers up to the first for want of memory.
 fn print_answers<S: TestScheme, W: Write>(
     alloc: Global,
     opening: &Opening,
     commands: &[Command],
+    questions: &[usize],
     output: &mut Output<W>,
-) -> Result<(), Stop> {
+) -> Result<(), Stop>
+    requires { list_all (is_among opening.now.participants) commands.now ≡ true }
+{
     let scheme = S::of(names(alloc, opening.participants)?);
     let calls = calls_of(alloc, &scheme, opening.round, commands)?;
-    let round = Round::new(
-        alloc,
-        opening.round,
-        Rc::new(alloc, scheme).map_err(AllocError::from)?,
-        opening.mode == Mode::Retaining,
-    );
+    let Ok(scheme) = Rc::new(alloc, scheme) else {
+        return Err(Stop::OutOfMemory);
+    };
+    let round = fresh_round(alloc, opening, scheme);
     let Ran { round: _, answers } = run(alloc, round, &mut Counter::new(0), calls.as_slice())?;
-    for answer in &answers {
-        match answer {
-            Answer::Network(admission) => {
-                output.print(format_args!("net: {}", AsText(admission)))?
-            }
-            Answer::Construct(batch) => output.print(format_args!("construct: {}", AsText(batch)))?,
-            Answer::OutOfMemory => return Err(Stop::OutOfMemory),
+    let answers = answers.as_slice();
+    for (place, answer) in answers.iter().enumerate() {
+        let before = &answers[..place];
+        print_blocked(alloc, calls.as_slice(), before, questions, output)?;
+        print_answer(answer, output)?;
+    }
+    print_blocked(alloc, calls.as_slice(), answers, questions, output)
+}
+
+/// Prints who is blocked by these answers, once for each question that stands behind as many.
+fn print_blocked<G: Drop, C: Drop, W: Write>(
+    alloc: Global,
+    calls: &[Call<Name, G, C, Sha256Digest>],
+    answers: &[Answer<G, C, Sha256Digest>],
+    questions: &[usize],
+    output: &mut Output<W>,
+) -> Result<(), Stop> {
+    for question in questions {
+        if *question == answers.len() {
+            let senders = blocked(alloc, calls, answers)?;
+            output.print(format_args!("blocked: {}", AsText(&senders.as_slice())))?;
         }
     }
     Ok(())
+}
+
+fn print_answer<G: Drop, C: Drop, W: Write>(
+    answer: &Answer<G, C, Sha256Digest>,
+    output: &mut Output<W>,
+) -> Result<(), Stop> {
+    match answer {
+        Answer::Network(admission) => output.print(format_args!("net: {}", AsText(admission))),
+        Answer::Own(outcome, report) => {
+            let outcome = AsText(outcome);
+            let report = AsText(report);
+            output.print(format_args!("own: {outcome}, report {report}"))
+        }
+        Answer::OwnRefused(fault) => output.print(format_args!("own: refused {fault}")),
+        Answer::Certificate(changed) => output.print(format_args!("cert: {changed}")),
+        Answer::Leader(Ok(())) => output.print(format_args!("leader: ok")),
+        Answer::Leader(Err(fault)) => output.print(format_args!("leader: refused {fault}")),
+        Answer::Construct(batch) => output.print(format_args!("construct: {}", AsText(batch))),
+        Answer::Forward(proposal) => output.print(format_args!("forward: {}", AsText(proposal))),
+        Answer::Missing(missing) => output.print(format_args!("missing: {}", AsText(missing))),
+        Answer::OutOfMemory => Err(Stop::OutOfMemory),
+    }
 }
 
 #[cfg(test)]

@@ -2,10 +2,12 @@
 
 use crate::play::Stop;
 use crate::script::Opening;
-use batcher::messages::{Activity, Certificate, Sha256Digest};
+use batcher::messages::{Activity, Certificate, Proposal, Sha256Digest};
 use batcher::positions::{Participant, Participants, quorum};
 use batcher::round::{Admission, BlockReason};
+use batcher::scheme::Name;
 use batcher::verifier::Batch;
+use batcher::votes::Outcome;
 use std::alloc::Global;
 use std::fmt;
 use std::io::Write;
@@ -109,6 +111,12 @@ impl Text for Participant {
     }
 }
 
+impl Text for Name {
+    fn write<W: fmt::Write>(&self, f: &mut fmt::Formatter<W>) -> fmt::Result {
+        write!(f, "{}", self.0)
+    }
+}
+
 impl Text for Participants {
     fn write<W: fmt::Write>(&self, f: &mut fmt::Formatter<W>) -> fmt::Result {
         self.as_slice().write(f)
@@ -118,6 +126,12 @@ impl Text for Participants {
 impl Text for Sha256Digest {
     fn write<W: fmt::Write>(&self, f: &mut fmt::Formatter<W>) -> fmt::Result {
         write!(f, "{}", self.0[0])
+    }
+}
+
+impl Text for Proposal<Sha256Digest> {
+    fn write<W: fmt::Write>(&self, f: &mut fmt::Formatter<W>) -> fmt::Result {
+        self.payload.write(f)
     }
 }
 
@@ -187,6 +201,18 @@ impl<G: Drop> Text for Admission<G, Sha256Digest> {
         let block = AsText(&self.block);
         let report = AsText(&self.report);
         write!(f, "{outcome}, block {block}, report {report}")
+    }
+}
+
+impl Text for Outcome {
+    fn write<W: fmt::Write>(&self, f: &mut fmt::Formatter<W>) -> fmt::Result {
+        f.write_str(match self {
+            Outcome::Added { retained: true } => "added retained",
+            Outcome::Added { retained: false } => "added compact",
+            Outcome::Duplicate { retained: true } => "duplicate retained",
+            Outcome::Duplicate { retained: false } => "duplicate compact",
+            Outcome::Conflicting => "conflicting",
+        })
     }
 }
 

@@ -1,7 +1,9 @@
 //! Scripts: their bytes as lines, the lines as words, and the words as commands. docs/FORMATS.md
 //! has the form.
 
-ghost use Rattle.std.specs.Prelude.{◌≤◌};
+ghost use Rattle.std.specs.Prelude.{◌≤◌, ◌≡◌, true};
+ghost use Rattle.std.specs.Option.{option_map};
+ghost use Rattle.batcher_script.specs.Commands.{is_among, are_among};
 
 use batcher::positions::{Epoch, Round, View};
 use batcher::votes::Mode;
@@ -15,6 +17,9 @@ const MOST_PARTICIPANTS: u32 = 1000;
 #[derive(Clone, Copy, Debug, PartialEq, Eq)]
 pub enum SchemeWord {
     Keyed,
+    /// `Keyed` without batches.
+    Single,
+    Sealed,
 }
 
 /// A `round` line.
@@ -28,10 +33,13 @@ pub struct Opening {
     ghost few: { participants ≤ 1000 },
 }
 
-/// A vote, but for its round and its signer.
+/// A vote, but for its round and its signer, or a certificate's kind and proposal, which is told
+/// by its payload's byte.
 #[derive(Clone, Copy, Debug, PartialEq, Eq)]
 pub enum Ballot {
+    Notarize(u8),
     Nullify,
+    Finalize(u8),
 }
 
 /// What signature a vote bears: its signer's, or that with a bit flipped.
@@ -50,14 +58,29 @@ pub enum Command {
         ballot: Ballot,
         signature: Signature,
     },
+    /// The vote of a participant.
+    Own { signer: u32, ballot: Ballot },
+    Certificate(Ballot),
+    Leader(u32),
     Construct,
+    Forward(u32),
+    Missing(u8),
+}
+
+/// The `round` line of a script, once it has come, and the commands after it.
+#[derive(Drop)]
+pub struct Lines {
+    pub opening: Option<Opening>,
+    pub commands: Vec<Command>,
+    /// Of each `blocked` line, how many commands stand before it.
+    pub questions: Vec<usize>,
+    ghost among: { are_among (option_map (λ first. first.participants) opening) commands.items ≡ true },
 }
 
 /// A script up to its first malformed line.
 #[derive(Drop)]
 pub struct Script {
-    pub opening: Option<Opening>,
-    pub commands: Vec<Command>,
+    pub lines: Lines,
     /// The number of the malformed line.
     pub malformed: Option<usize>,
 }
@@ -78,27 +101,30 @@ impl From<AllocError> for Fault {
 impl Script {
     /// Reads a script up to its first malformed line. Want of memory is the only error.
     pub fn parse(alloc: Global, bytes: &[u8]) -> Result<Script, AllocError> {
-        let mut script = Script {
+        let mut lines = Lines {
             opening: None,
             commands: Vec::new(alloc),
-            malformed: None,
+            questions: Vec::new(alloc),
         };
-        let lines = bytes.split_inclusive(|byte| *byte == b'\n');
-        for (index, line) in lines.enumerate() {
-            match script.add_line(alloc, line) {
+        let mut malformed = None;
+        let texts = bytes.split_inclusive(|byte| *byte == b'\n');
+        for (index, line) in texts.enumerate() {
+            match lines.add(alloc, line) {
                 Ok(()) => {}
                 Err(Fault::OutOfMemory) => return Err(AllocError),
                 Err(Fault::Malformed) => {
-                    script.malformed = Some(index + 1);
+                    malformed = Some(index + 1);
                     break;
                 }
             }
         }
-        Ok(script)
+        Ok(Script { lines, malformed })
     }
+}
 
+impl Lines {
     // Takes in one more line, with its ending.
-    fn add_line(&mut self, alloc: Global, line: &[u8]) -> Result<(), Fault> {
+    fn add(&mut self, alloc: Global, line: &[u8]) -> Result<(), Fault> {
         let text = text_of(line).ok_or(Fault::Malformed)?;
         let words: Vec<&str> = text
             .split([' ', '\t'])
@@ -107,16 +133,21 @@ impl Script {
         if is_skipped(words.as_slice()) {
             return Ok(());
         }
-        match self.opening {
-            None => {
-                let opening = Opening::parse(words.as_slice()).ok_or(Fault::Malformed)?;
-                self.opening = Some(opening);
-            }
-            Some(_) => {
-                let command = Command::parse(words.as_slice()).ok_or(Fault::Malformed)?;
-                self.commands.push(command).map_err(AllocError::from)?;
-            }
+        let Some(opening) = self.opening else {
+            let opening = Opening::parse(words.as_slice()).ok_or(Fault::Malformed)?;
+            self.opening = Some(opening);
+            return Ok(());
+        };
+        if is_question(words.as_slice()) {
+            let before = self.commands.len();
+            self.questions.push(before).map_err(AllocError::from)?;
+            return Ok(());
         }
+        let command = Command::parse(words.as_slice()).ok_or(Fault::Malformed)?;
+        if !command.is_among(opening.participants) {
+            return Err(Fault::Malformed);
+        }
+        self.commands.push(command).map_err(AllocError::from)?;
         Ok(())
     }
 }
@@ -135,10 +166,13 @@ impl Opening {
         let mode = match *mode {
             "retaining" => Mode::Retaining,
             "releasing" => Mode::Releasing,
+            "skipped" => Mode::Skipped,
             _ => return None,
         };
         let scheme = match *scheme {
             "keyed" => SchemeWord::Keyed,
+            "single" => SchemeWord::Single,
+            "sealed" => SchemeWord::Sealed,
             _ => return None,
         };
         Some(Opening {
@@ -151,6 +185,16 @@ impl Opening {
 }
 
 impl Command {
+    /// Whether an own vote is of one of so many participants.
+    pub fn is_among(&self, participants: u32) -> bool
+        ensures { result ≡ is_among participants self.now }
+    {
+        match self {
+            Command::Own { signer, ballot: _ } => *signer < participants,
+            _ => true,
+        }
+    }
+
     fn parse(words: &[&str]) -> Option<Command> {
         match words {
             ["net", sender, signer, kind, payload, signature] => Some(Command::Network {
@@ -159,16 +203,38 @@ impl Command {
                 ballot: Ballot::parse(kind, payload)?,
                 signature: Signature::parse(signature)?,
             }),
+            ["own", signer, kind, payload] => Some(Command::Own {
+                signer: number(signer)?,
+                ballot: Ballot::parse(kind, payload)?,
+            }),
+            ["cert", kind, payload] => {
+                Some(Command::Certificate(Ballot::parse_certified(kind, payload)?))
+            }
+            ["leader", index] => Some(Command::Leader(number(index)?)),
             ["construct"] => Some(Command::Construct),
+            ["forward", index] => Some(Command::Forward(number(index)?)),
+            ["missing", payload] => Some(Command::Missing(number(payload)?)),
             _ => None,
         }
     }
 }
 
 impl Ballot {
+    // The ballot of which a certificate's kind is made.
+    fn parse_certified(kind: &str, payload: &str) -> Option<Ballot> {
+        match kind {
+            "notarization" => Ballot::parse("notarize", payload),
+            "nullification" => Ballot::parse("nullify", payload),
+            "finalization" => Ballot::parse("finalize", payload),
+            _ => None,
+        }
+    }
+
     fn parse(kind: &str, payload: &str) -> Option<Ballot> {
         match (kind, payload) {
+            ("notarize", payload) => Some(Ballot::Notarize(number(payload)?)),
             ("nullify", "-") => Some(Ballot::Nullify),
+            ("finalize", payload) => Some(Ballot::Finalize(number(payload)?)),
             _ => None,
         }
     }
@@ -203,6 +269,11 @@ fn is_skipped(words: &[&str]) -> bool {
         [] => true,
         [first, ..] => first.starts_with('#'),
     }
+}
+
+/// Whether a line asks who is blocked.
+fn is_question(words: &[&str]) -> bool {
+    matches!(words, ["blocked"])
 }
 
 /// The number that decimal digits write, where it is in the type's range.

@@ -1,6 +1,6 @@
 //! A map from signers to their items.
 
-ghost use Rattle.std.specs.Prelude.{◌≡◌, ◌+◌, ◌-◌, ◌<◌, ◌≤◌, ◌↔◌, List, [], Some, None, false, ℕ, length, IsTrue, IsOk, IfOk, OnOk, OnErr, IfErr, vec_len, vec_capacity, slice_get, slice_index_or, insert, if◌then◌else◌, MatchResult};
+ghost use Rattle.std.specs.Prelude.{◌≡◌, ◌+◌, ◌-◌, ◌<◌, ◌≤◌, ◌↔◌, List, [], Some, None, false, length, IsTrue, IsOk, IfOk, OnOk, OnErr, IfErr, vec_len, vec_capacity, slice_get, slice_index_or, slice_set, insert, if◌then◌else◌, MatchResult};
 ghost use Rattle.std.specs.List.{All};
 ghost use Rattle.std.specs.Option.{option_copied};
 ghost use Rattle.std.specs.Iterator.{YieldsFirstRef, item_count};
@@ -66,7 +66,8 @@ impl<T: Attributable> AttributableMap<T> {
 
     /// The item of the signer.
     pub fn get(&self, signer: Participant) -> Option<&T>
-        ensures { option_copied result ≡ item_of (λ x. (T.signed_by x).0) self.now.items signer.0 }
+        ensures item { option_copied result ≡ item_of (λ x. (T.signed_by x).0) self.now.items signer.0 }
+        ensures ascending { IsAscending (λ x. (T.signed_by x).0) self.now.items }
     {
         match self.place(signer) {
             Ok(place) => Some(&self.items[place]),
@@ -120,6 +121,55 @@ impl<T: Attributable> AttributableMap<T> {
         }
     }
 
+    /// The bound on signers.
+    pub(crate) fn participants(&self) -> usize
+        ensures { result ≡ self.now.participants }
+    {
+        self.participants
+    }
+
+    /// The items in ascending order of their signers. It takes no memory.
+    pub(crate) fn as_slice(&self) -> &[T]
+        ensures items { result.now ≡ self.now.items }
+        ensures ascending { IsAscending (λ x. (T.signed_by x).0) self.now.items }
+    {
+        self.items.as_slice()
+    }
+
+    /// The item at a place where there is one. It takes no memory.
+    pub(crate) fn item_at(&self, place: usize) -> &T
+        requires { place < length self.now.items }
+        ensures { (default : T) → result.now ≡ slice_index_or self.now.items place default }
+    {
+        &self.items[place]
+    }
+
+    /// Puts the item in the place of one of the same signer. It takes no memory.
+    pub(crate) fn replace_at(&mut self, place: usize, item: T)
+        requires place { place < length self.old.items }
+        requires signer { T.signed_by (slice_index_or self.old.items place item) ≡ T.signed_by item }
+        ensures items { self.new.items ≡ slice_set self.old.items place item }
+        ensures participants { self.new.participants ≡ self.old.participants }
+        ensures room { self.new.room ≡ self.old.room }
+    {
+        self.items[place] = item;
+    }
+
+    /// Puts the item of a signer that has none in its place, which `place` tells. After
+    /// `make_room` it takes no memory.
+    pub(crate) fn insert_at(&mut self, place: usize, item: T) -> Result<(), AllocError>
+        requires signer { (T.signed_by item).0 < self.old.participants }
+        requires absent { item_of (λ x. (T.signed_by x).0) self.old.items (T.signed_by item).0 ≡ None }
+        requires place { (place ≤ length self.old.items) × (insert self.old.items place item ≡ insert_by (λ x. (T.signed_by x).0) item self.old.items) }
+        ensures items { MatchResult result (λ _. self.new.items ≡ insert_by (λ x. (T.signed_by x).0) item self.old.items) (λ _. self.new.items ≡ self.old.items) }
+        ensures participants { self.new.participants ≡ self.old.participants }
+        ensures with_room { OnErr result (self.old.room ≡ 0) }
+        ensures room { self.old.room ≤ self.new.room + 1 }
+    {
+        self.items.insert(place, item)?;
+        Ok(())
+    }
+
     /// The item at a place in the order of the signers. It takes no memory.
     pub(crate) fn at(&self, i: usize) -> Option<&T>
         ensures { option_copied result ≡ slice_get self.now.items i }
@@ -127,8 +177,33 @@ impl<T: Attributable> AttributableMap<T> {
         self.items.get(i)
     }
 
-    // Where the signer's item stands, else where it would.
-    fn place(&self, signer: Participant) -> Result<usize, usize>
+    /// Where the signer's item stands, else where it would. Items often come in the order of their
+    /// signers, so the last one is looked at first.
+    pub(crate) fn place(&self, signer: Participant) -> Result<usize, usize>
+        ensures ascending { IsAscending (λ x. (T.signed_by x).0) self.now.items }
+        ensures found { IfOk result (λ i. (i < length self.now.items) × ((d : T) → item_of (λ x. (T.signed_by x).0) self.now.items signer.0 ≡ Some (slice_index_or self.now.items i d))) }
+        ensures absent { IfErr result (λ i. (i ≤ length self.now.items) × (item_of (λ x. (T.signed_by x).0) self.now.items signer.0 ≡ None) × ((x : T) → (T.signed_by x).0 ≡ signer.0 → insert self.now.items i x ≡ insert_by (λ x. (T.signed_by x).0) x self.now.items)) }
+    {
+        if self.is_below(signer) {
+            Err(self.len())
+        } else {
+            self.searched_place(signer)
+        }
+    }
+
+    // Whether all items are of lower signers.
+    fn is_below(&self, signer: Participant) -> bool
+        ensures ascending { IsAscending (λ x. (T.signed_by x).0) self.now.items }
+        ensures below { IsTrue result → All (λ x. (T.signed_by x).0 < signer.0) self.now.items }
+    {
+        match self.items.last() {
+            Some(last) => last.signer().0 < signer.0,
+            None => true,
+        }
+    }
+
+    // Where the signer's item stands, else where it would, by halves.
+    fn searched_place(&self, signer: Participant) -> Result<usize, usize>
         ensures found { IfOk result (λ i. (i < length self.now.items) × ((d : T) → item_of (λ x. (T.signed_by x).0) self.now.items signer.0 ≡ Some (slice_index_or self.now.items i d))) }
         ensures absent { IfErr result (λ i. (i ≤ length self.now.items) × (item_of (λ x. (T.signed_by x).0) self.now.items signer.0 ≡ None) × ((x : T) → (T.signed_by x).0 ≡ signer.0 → insert self.now.items i x ≡ insert_by (λ x. (T.signed_by x).0) x self.now.items)) }
     {

@@ -1,6 +1,6 @@
 //! A scheme whose certificates list their attestations.
 
-ghost use Rattle.std.specs.Prelude.{◌≡◌, ◌++◌, ◌<◌, ◌≤◌, ◌^◌, ◌↔◌, ◌&&◌, nat_le, true, length, IsTrue, IfOk, IfErr, OnOk};
+ghost use Rattle.std.specs.Prelude.{◌≡◌, ◌++◌, ◌<◌, ◌≤◌, ◌&&◌, true, length, IfOk, IfErr, OnOk};
 ghost use Rattle.std.specs.Result.{result_ok};
 ghost use Rattle.std.specs.List.{AllPass, list_all};
 ghost use Rattle.batcher.specs.Hashed.{is_signed, is_signed-range, signature_of};

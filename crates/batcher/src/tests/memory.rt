@@ -5,9 +5,10 @@
 //! for memory refused, then their second, and so on.
 
 use super::*;
-use crate::messages::{Attestation, AttributableMap};
-use crate::run::{Answer, Call, run};
-use crate::scheme::{Counter, Scheme, Sealed, Verification};
+use crate::messages::{AttributableMap, Finalization};
+use crate::round::OwnFault;
+use crate::run::{Call, run};
+use crate::scheme::{Sealed, Verification};
 
 // What comes of a second try, where the first was refused.
 fn twice<T: Drop, E: Drop, F: Fn() -> Result<T, E>>(make: F) -> Result<T, E>
@@ -19,23 +20,46 @@ fn twice<T: Drop, E: Drop, F: Fn() -> Result<T, E>>(make: F) -> Result<T, E>
     }
 }
 
+fn keyed_twice(alloc: Global, n: u64) -> Result<Keyed<true>, AllocError> {
+    twice(|| keyed(alloc, n))
+}
+
+fn round_twice(
+    rt: &impl Abort,
+    alloc: Global,
+    n: u64,
+    track_historical_votes: bool,
+) -> Result<TestRound, AllocError> {
+    twice(|| round(rt, alloc, n, track_historical_votes))
+}
+
+// Inserts an item that is new.
+fn inserts_new(
+    rt: &impl Abort,
+    map: &mut AttributableMap<Nullify<[u8; 32]>>,
+    item: Nullify<[u8; 32]>,
+) -> Result<(), AllocError> {
+    let before = map.len();
+    let kept = match map.insert(item) {
+        Ok(kept) => kept,
+        Err(_) => {
+            assert_eq!(rt; map.len(), before);
+            assert!(rt; map.get(item.attestation.signer).is_none());
+            map.insert(item)?
+        }
+    };
+    assert!(rt; kept);
+    Ok(())
+}
+
 #[test]
 fn inserts(rt: HostRuntime) -> Result<(), Fail> {
     let alloc = rt.alloc();
-    let scheme = twice(|| keyed(alloc, 9))?;
+    let scheme = keyed_twice(alloc, 9)?;
     let mut map = AttributableMap::new(alloc, 9);
     for signer in 0..9 {
         let item = nullify(&scheme, signer, true);
-        let before = map.len();
-        let kept = match map.insert(item) {
-            Ok(kept) => kept,
-            Err(_) => {
-                assert_eq!(rt; map.len(), before);
-                assert!(rt; map.get(Participant::new(signer)).is_none());
-                map.insert(item)?
-            }
-        };
-        assert!(rt; kept);
+        inserts_new(&rt, &mut map, item)?;
         assert!(rt;
             !map.insert(item)?,
             "an insert that answers false takes no memory"
@@ -48,7 +72,7 @@ fn inserts(rt: HostRuntime) -> Result<(), Fail> {
 #[test]
 fn room(rt: HostRuntime) -> Result<(), Fail> {
     let alloc = rt.alloc();
-    let scheme = twice(|| keyed(alloc, 2))?;
+    let scheme = keyed_twice(alloc, 2)?;
     let mut map = AttributableMap::new(alloc, 2);
     match map.make_room() {
         Ok(()) => {}
@@ -58,6 +82,27 @@ fn room(rt: HostRuntime) -> Result<(), Fail> {
         }
     }
     assert!(rt; map.insert(nullify(&scheme, 1, true))?);
+    Ok(())
+}
+
+// What the scheme finds of a good nullify of 1, a bad one of 0 and a good one of 3.
+fn finds<S: Scheme<Digest, Signature = [u8; 32]>>(
+    rt: &impl Abort,
+    alloc: Global,
+    scheme: &S,
+) -> Result<(), Fail> {
+    let signers = keyed_twice(alloc, 4)?;
+    let pending = [
+        nullify(&signers, 1, true).attestation,
+        nullify(&signers, 0, false).attestation,
+        nullify(&signers, 3, true).attestation,
+    ];
+    let found = verified(alloc, scheme, &pending)?;
+    assert_eq!(rt;
+        found.verified.as_slice(),
+        [pending[0], pending[2]].as_slice()
+    );
+    assert_eq!(rt; found.invalid.as_slice(), [Participant::new(0)].as_slice());
     Ok(())
 }
 
@@ -77,73 +122,247 @@ fn verified<S: Scheme<Digest>>(
 #[test]
 fn verifications(rt: HostRuntime) -> Result<(), Fail> {
     let alloc = rt.alloc();
-    let keyed = twice(|| keyed(alloc, 4))?;
-    let sealed = Sealed::new(twice(|| names(alloc, 4))?, ROOT);
-    let pending = [
-        nullify(&keyed, 1, true).attestation,
-        nullify(&keyed, 0, false).attestation,
-        nullify(&keyed, 3, true).attestation,
+    finds(&rt, alloc, &keyed_twice(alloc, 4)?)?;
+    finds(&rt, alloc, &Sealed::new(twice(|| names(alloc, 4))?, ROOT))
+}
+
+// Brings a vote that is new, and once more where memory was refused. It comes again, and is then
+// refused without memory.
+fn adds(rt: &impl Abort, round: &mut TestRound, vote: SignedVote) -> Result<(), AllocError> {
+    let added = match bring(rt, round, vote) {
+        Ok(added) => added,
+        Err(_) => bring(rt, round, vote)?,
+    };
+    assert!(rt; added);
+    assert!(rt; !bring(rt, round, vote)?);
+    Ok(())
+}
+
+// Makes an attempt, and the same once more where memory was refused.
+fn constructs(
+    rt: &impl Abort,
+    round: &mut TestRound,
+    processed: usize,
+    invalid: &[Participant],
+    certified: Option<Kind>,
+) -> Result<(), Fail> {
+    let batch = match construct(round) {
+        Ok(batch) => batch,
+        Err(_) => construct(round)?,
+    };
+    let batch = batch.ok_or("no kind was ready")?;
+    assert_eq!(rt; batch.processed, processed);
+    assert_eq!(rt; batch.invalid.as_slice(), invalid);
+    assert_eq!(rt;
+        batch.certificate.map(|certificate| certificate.kind()),
+        certified
+    );
+    Ok(())
+}
+
+// Makes no attempt, and takes no memory.
+fn constructs_nothing(rt: &impl Abort, round: &mut TestRound) -> Result<(), AllocError> {
+    assert!(rt; construct(round)?.is_none());
+    Ok(())
+}
+
+// The first three of seven nullifies are bad.
+fn brings_bad_votes(
+    rt: &impl Abort,
+    round: &mut TestRound,
+    scheme: &Keyed<true>,
+) -> Result<(), Fail> {
+    for signer in 0..7 {
+        adds(
+            rt,
+            round,
+            Vote::Nullify(nullify(scheme, signer, signer > 2)),
+        )?;
+        // Five votes are a quorum.
+        if signer < 4 {
+            constructs_nothing(rt, round)?;
+        }
+    }
+    let invalid = [
+        Participant::new(0),
+        Participant::new(1),
+        Participant::new(2),
     ];
-    for found in [
-        verified(alloc, &keyed, &pending)?,
-        verified(alloc, &sealed, &pending)?,
+    constructs(rt, round, 7, &invalid, None)?;
+    constructs_nothing(rt, round)?;
+    Ok(())
+}
+
+#[test]
+fn bad_votes(rt: HostRuntime) -> Result<(), Fail> {
+    let scheme = keyed_twice(rt.alloc(), 7)?;
+    let mut round = round_twice(&rt, rt.alloc(), 7, true)?;
+    brings_bad_votes(&rt, &mut round, &scheme)
+}
+
+// The leader's notarize selects its proposal. Five votes of a kind follow.
+fn brings_a_quorum(
+    rt: &impl Abort,
+    round: &mut TestRound,
+    scheme: &Keyed<true>,
+    kind: Kind,
+    processed: usize,
+) -> Result<(), Fail> {
+    assert!(rt; round.set_leader(Participant::new(0)).is_ok());
+    adds(rt, round, vote(scheme, Kind::Notarization, 0))?;
+    for signer in 1..6 {
+        adds(rt, round, vote(scheme, kind, signer))?;
+    }
+    constructs(rt, round, processed, &[], Some(kind))
+}
+
+fn certifies(
+    rt: &impl Abort,
+    alloc: Global,
+    scheme: &Keyed<true>,
+    kind: Kind,
+    processed: usize,
+) -> Result<(), Fail> {
+    let mut round = round_twice(rt, alloc, 7, false)?;
+    brings_a_quorum(rt, &mut round, scheme, kind, processed)
+}
+
+#[test]
+fn certificates(rt: HostRuntime) -> Result<(), Fail> {
+    let scheme = keyed_twice(rt.alloc(), 7)?;
+    // The leader's notarize counts for a notarization too.
+    for (kind, processed) in [
+        (Kind::Notarization, 6),
+        (Kind::Nullification, 5),
+        (Kind::Finalization, 5),
     ] {
-        assert_eq!(rt;
-            found.verified.as_slice(),
-            [pending[0], pending[2]].as_slice()
-        );
-        assert_eq!(rt; found.invalid.as_slice(), [Participant::new(0)].as_slice());
+        certifies(&rt, rt.alloc(), &scheme, kind, processed)?;
     }
     Ok(())
 }
 
-// Sends the vote, and again where memory was refused.
-fn send_twice(
+// Who is missing payload 1.
+fn missing(round: &TestRound) -> Result<positions::Participants, AllocError> {
+    round.missing_voters(&proposal(1))
+}
+
+fn brings_two_votes(
     rt: &impl Abort,
-    round: &mut Round<Keyed<true>, Digest>,
-    vote: Nullify<[u8; 32]>,
-) -> Result<bool, AllocError> {
-    let sender = vote.attestation.signer.get() as u64;
-    match send(rt, round, sender, vote) {
-        Ok(answer) => Ok(answer.added),
-        Err(_) => Ok(send(rt, round, sender, vote)?.added),
-    }
+    round: &mut TestRound,
+    scheme: &Keyed<true>,
+) -> Result<(), AllocError> {
+    adds(rt, round, vote(scheme, Kind::Notarization, 1))?;
+    adds(rt, round, vote(scheme, Kind::Finalization, 2))?;
+    let missing = match missing(round) {
+        Ok(missing) => missing,
+        Err(_) => missing(round)?,
+    };
+    assert_eq!(rt;
+        missing.as_slice(),
+        [Participant::new(0), Participant::new(3)].as_slice()
+    );
+    Ok(())
 }
 
 #[test]
-fn rounds(rt: HostRuntime) -> Result<(), Fail> {
-    let alloc = rt.alloc();
-    let scheme = twice(|| keyed(alloc, 7))?;
-    let mut round = twice(|| round(&rt, alloc, 7, true))?;
-    let mut rng = Counter::new(0);
-    for signer in 0..7 {
-        let vote = nullify(&scheme, signer, signer > 2);
-        assert!(rt; send_twice(&rt, &mut round, vote)?);
-        assert!(rt;
-            !send(&rt, &mut round, signer as u64, vote)?.added,
-            "a vote that is refused takes no memory"
-        );
-        // Below a quorum no attempt is made, and none takes memory.
-        if signer < 4 {
-            assert!(rt; round.try_construct(&mut rng)?.is_none());
-        }
+fn missing_voters(rt: HostRuntime) -> Result<(), Fail> {
+    let scheme = keyed_twice(rt.alloc(), 4)?;
+    let mut round = round_twice(&rt, rt.alloc(), 4, false)?;
+    Ok(brings_two_votes(&rt, &mut round, &scheme)?)
+}
+
+// A finalization for payload 2, which no one has verified.
+fn finalization(alloc: Global) -> TestCertificate {
+    Certificate::Finalization(Finalization {
+        proposal: proposal(2),
+        certificate: AttestationList::new(Vec::new(alloc)),
+    })
+}
+
+// Records a certificate, and the same once more where memory was refused.
+fn records(
+    rt: &impl Abort,
+    round: &mut TestRound,
+    certificate: &TestCertificate,
+) -> Result<(), AllocError> {
+    if record(rt, round, certificate).is_err() {
+        record(rt, round, certificate)?;
     }
-    let batch = match round.try_construct(&mut rng) {
-        Ok(batch) => batch,
-        Err(_) => round.try_construct(&mut rng)?,
+    Ok(())
+}
+
+fn record(
+    rt: &impl Abort,
+    round: &mut TestRound,
+    certificate: &TestCertificate,
+) -> Result<bool, AllocError> {
+    assert!(rt; round.belongs_certificate(certificate));
+    round.record_certificate(certificate)
+}
+
+// The leader's notarize is for payload 1, and those of the others for payload 2. They come back
+// where a certificate fixes it.
+fn replaces_a_proposal(
+    rt: &impl Abort,
+    round: &mut TestRound,
+    scheme: &Keyed<true>,
+    certificate: &TestCertificate,
+) -> Result<(), Fail> {
+    assert!(rt; round.set_leader(Participant::new(0)).is_ok());
+    adds(rt, round, vote(scheme, Kind::Notarization, 0))?;
+    for signer in 1..4 {
+        adds(rt, round, notarize(scheme, signer, 2))?;
+    }
+    records(rt, round, certificate)?;
+    constructs(rt, round, 3, &[], Some(Kind::Notarization))
+}
+
+#[test]
+fn votes_come_back(rt: HostRuntime) -> Result<(), Fail> {
+    let alloc = rt.alloc();
+    let scheme = keyed_twice(alloc, 4)?;
+    let mut round = round_twice(&rt, alloc, 4, true)?;
+    replaces_a_proposal(&rt, &mut round, &scheme, &finalization(alloc))
+}
+
+// Whether the round takes in a finalize of its own, and once more where memory was refused.
+fn accepts(rt: &impl Abort, alloc: Global) -> Result<bool, AllocError> {
+    let participants = names(alloc, 4)?;
+    assert!(rt; participants.len() >= 2);
+    let scheme = Keyed::<true>::new(participants, ROOT);
+    let proposal = proposal(1);
+    let vote = Vote::Finalize(Finalize {
+        proposal,
+        attestation: scheme.sign(Participant::new(1), Subject::Finalize { proposal }),
+    });
+    let mut round = Round::new(alloc, proposal.round, Rc::new(alloc, scheme)?, true);
+    let answer = match round.accept_vote(vote) {
+        Err(OwnFault::OutOfMemory) => round.accept_vote(vote),
+        answer => answer,
     };
-    let batch = batch.ok_or("no batch")?;
-    assert_eq!(rt; batch.processed, 7);
-    assert_eq!(rt;
-        batch.invalid.as_slice(),
-        [
-            Participant::new(0),
-            Participant::new(1),
-            Participant::new(2)
-        ]
-        .as_slice()
-    );
-    assert!(rt; batch.certificate.is_none());
-    assert!(rt; round.try_construct(&mut rng)?.is_none());
+    Ok(answer.is_ok())
+}
+
+#[test]
+fn own_votes(rt: HostRuntime) -> Result<(), Fail> {
+    let alloc = rt.alloc();
+    assert!(rt; twice(|| accepts(&rt, alloc))?);
+    Ok(())
+}
+
+// How many answers a run of one call has.
+fn run_once(rt: &impl Abort, alloc: Global) -> Result<usize, AllocError> {
+    let participants = names(alloc, 4)?;
+    assert!(rt; participants.len() >= 1);
+    let scheme = Rc::new(alloc, Keyed::<true>::new(participants, ROOT))?;
+    let round = Round::new(alloc, number(), scheme, true);
+    let ran = run(alloc, round, &mut Counter::new(0), &[Call::Construct])?;
+    Ok(ran.answers.len())
+}
+
+#[test]
+fn runs(rt: HostRuntime) -> Result<(), Fail> {
+    let alloc = rt.alloc();
+    assert_eq!(rt; twice(|| run_once(&rt, alloc))?, 1);
     Ok(())
 }

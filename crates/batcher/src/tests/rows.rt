@@ -1,12 +1,12 @@
 //! Worked examples, with their values typed from outside.
 
 use super::*;
-use crate::messages::{Activity, Attributable, AttributableMap, Certificate, Kind};
+use crate::messages::{Attributable, AttributableMap};
 use crate::positions::{SetFault, quorum};
-use crate::round::BlockReason;
-use crate::run::run;
-use crate::scheme::Counter;
+use crate::round::{Admission, BlockReason};
+use crate::run::{Answer, Call, blocked, run};
 use crate::verifier::LeaderFault;
+use std::fmt::Display;
 
 #[test]
 fn quorums_leave_out_less_than_a_third(rt: HostRuntime) {
@@ -65,106 +65,140 @@ fn maps_keep_the_first_item_of_each_signer(rt: HostRuntime) -> Result<(), Fail> 
     Ok(())
 }
 
-#[test]
-fn a_bad_vote_in_a_quorum_falls_back(rt: HostRuntime) -> Result<(), Fail> {
-    let alloc = rt.alloc();
-    let scheme = keyed(alloc, 4)?;
-    let mut round = round(&rt, alloc, 4, false)?;
-    for signer in 0..4 {
-        let vote = nullify(&scheme, signer, signer != 3);
-        let answer = send(&rt, &mut round, signer as u64, vote)?;
-        assert!(rt; answer.added);
-        assert_eq!(rt; answer.block, None);
-        assert!(rt; answer.report == Some(Activity::Nullify(vote)));
+// Whether 1's nullify is kept in full, a nullification is there, and 1 misses payload 1.
+fn told(round: &TestRound) -> [bool; 3] {
+    [
+        round.has_nullify(Participant::new(1)),
+        round.has_certificate(Kind::Nullification),
+        round.is_missing_voter(&proposal(1), Participant::new(1)),
+    ]
+}
+
+fn belongs(round: &TestRound, certificate: &TestCertificate) -> bool {
+    round.belongs_certificate(certificate)
+}
+
+// Brings nullifies up to a nullification, and then a notarize.
+fn tells(rt: &impl Abort, round: &mut TestRound, scheme: &Keyed<true>) -> Result<(), Fail> {
+    assert_eq!(rt; told(round), [false, false, true]);
+    for signer in 1..4 {
+        assert!(rt; bring(rt, round, vote(scheme, Kind::Nullification, signer))?);
     }
-    let batch = round
-        .try_construct(&mut Counter::new(0))?
-        .ok_or("no batch")?;
-    assert_eq!(rt; batch.processed, 4);
-    assert_eq!(rt; batch.invalid.as_slice(), [Participant::new(3)].as_slice());
-    assert!(rt; matches!(&batch.certificate, Some(Certificate::Nullification(_))));
-    assert!(rt; batch.fallback);
-    assert!(rt; round.has_certificate(Kind::Nullification));
-    assert!(rt; !round.has_certificate(Kind::Notarization));
-    assert!(rt; round.try_construct(&mut Counter::new(0))?.is_none());
+    assert_eq!(rt; told(round), [true, false, true]);
+    let batch = construct(round)?.ok_or("no kind was ready")?;
+    let certificate = batch.certificate.ok_or("no certificate")?;
+    assert!(rt; belongs(round, &certificate));
+    // The nullification releases the nullifies.
+    assert_eq!(rt; told(round), [false, true, true]);
+    assert!(rt; bring(rt, round, vote(scheme, Kind::Notarization, 1))?);
+    assert_eq!(rt; told(round), [false, true, false]);
     Ok(())
 }
 
 #[test]
-fn strangers_and_liars_are_blocked(rt: HostRuntime) -> Result<(), Fail> {
-    let alloc = rt.alloc();
-    let scheme = keyed(alloc, 4)?;
-    for (track, conflict) in [(true, Some(BlockReason::ConflictingNullify)), (false, None)] {
-        let mut round = round(&rt, alloc, 4, track)?;
-        let vote = nullify(&scheme, 1, true);
-        let stranger = send(&rt, &mut round, 7, vote)?;
-        assert_eq!(rt; stranger.block, Some(BlockReason::UnknownParticipant));
-        let liar = send(&rt, &mut round, 2, vote)?;
-        assert_eq!(rt; liar.block, Some(BlockReason::NullifySignerMismatch));
-        for signer in 1..4 {
-            let vote = nullify(&scheme, signer, true);
-            assert!(rt; send(&rt, &mut round, signer as u64, vote)?.added);
-        }
-        let again = send(&rt, &mut round, 1, vote)?;
-        assert!(rt; !again.added && again.block.is_none() && again.report.is_none());
-        let other = nullify(&scheme, 1, false);
-        let before = send(&rt, &mut round, 1, other)?;
-        assert_eq!(rt; before.block, Some(BlockReason::ConflictingNullify));
-        assert!(rt; round.try_construct(&mut Counter::new(0))?.is_some());
-        // Released votes are facts, and tell nothing of how two nullifies differ.
-        let after = send(&rt, &mut round, 1, other)?;
-        assert_eq!(rt; after.block, conflict, "retaining {track}");
-        let late = send(&rt, &mut round, 0, nullify(&scheme, 0, true))?;
-        assert!(rt; late.added);
-    }
-    Ok(())
+fn rounds_tell_what_they_have(rt: HostRuntime) -> Result<(), Fail> {
+    let scheme = keyed(rt.alloc(), 4)?;
+    let mut round = round(&rt, rt.alloc(), 4, false)?;
+    tells(&rt, &mut round, &scheme)
+}
+
+// What a run over no calls leaves of a fresh round, and how many answers it gives.
+fn run_nothing(rt: &impl Abort, alloc: Global) -> Result<(TestRound, usize), AllocError> {
+    let participants = names(alloc, 4)?;
+    assert!(rt; participants.len() >= 1);
+    let scheme = Rc::new(alloc, Keyed::new(participants, ROOT))?;
+    let round = Round::new(alloc, number(), scheme, true);
+    let ran = run(alloc, round, &mut Counter::new(0), &[])?;
+    Ok((ran.round, ran.answers.len()))
 }
 
 #[test]
 fn a_run_over_no_calls_changes_nothing(rt: HostRuntime) -> Result<(), Fail> {
     let alloc = rt.alloc();
-    let ran = run(
-        alloc,
-        round(&rt, alloc, 4, true)?,
-        &mut Counter::new(0),
-        &[],
-    )?;
-    assert_eq!(rt; ran.answers.len(), 0);
-    assert!(rt; !ran.round.has_certificate(Kind::Nullification));
-    let vote = nullify(&keyed(alloc, 4)?, 1, true);
-    assert!(rt; ran.round.belongs(&Vote::Nullify(vote)));
+    let (mut round, answers) = run_nothing(&rt, alloc)?;
+    assert_eq!(rt; answers, 0);
+    assert_eq!(rt; told(&round), [false, false, true]);
+    let scheme = keyed(alloc, 4)?;
+    assert!(rt; bring(&rt, &mut round, vote(&scheme, Kind::Nullification, 1))?);
+    Ok(())
+}
+
+// Whether votes of each kind belong to the round, with this proposal or its round number.
+fn belong(
+    round: &TestRound,
+    proposal: Proposal<Digest>,
+    attestation: Attestation<[u8; 32]>,
+) -> [bool; 3] {
+    let number = proposal.round;
+    [
+        round.belongs(&Vote::Notarize(Notarize {
+            proposal,
+            attestation,
+        })),
+        round.belongs(&Vote::Nullify(Nullify {
+            round: number,
+            attestation,
+        })),
+        round.belongs(&Vote::Finalize(Finalize {
+            proposal,
+            attestation,
+        })),
+    ]
+}
+
+#[test]
+fn blocked_senders_are_listed_once(rt: HostRuntime) -> Result<(), Fail> {
+    let alloc = rt.alloc();
+    let scheme = keyed(alloc, 4)?;
+    let vote = Vote::Nullify(nullify(&scheme, 1, true));
+    let answer = |block| Answer::Network(Admission {
+        added: false,
+        block,
+        report: None,
+    });
+    let calls: [Call<Name, [u8; 32], (), Digest>; 4] = [
+        Call::Network(Name(3), vote),
+        Call::Network(Name(1), vote),
+        Call::Network(Name(2), vote),
+        Call::Network(Name(3), vote),
+    ];
+    let answers = [
+        answer(Some(BlockReason::NullifySignerMismatch)),
+        answer(None),
+        answer(Some(BlockReason::ConflictingNullify)),
+        answer(Some(BlockReason::InvalidSignature)),
+    ];
+    let senders = blocked(alloc, &calls, &answers)?;
+    assert_eq!(rt; senders.as_slice(), [Name(2), Name(3)].as_slice());
     Ok(())
 }
 
 #[test]
 fn votes_belong_by_their_round_alone(rt: HostRuntime) -> Result<(), Fail> {
-    let alloc = rt.alloc();
-    let round = round(&rt, alloc, 4, true)?;
-    let scheme = keyed(alloc, 4)?;
-    let proposal = proposal(1);
-    let attestation = scheme.sign(Participant::new(0), Subject::Notarize { proposal });
-    assert!(rt;
-        round.belongs(&Vote::Notarize(crate::messages::Notarize {
-            proposal,
-            attestation
-        }))
-    );
+    let round = round(&rt, rt.alloc(), 4, true)?;
+    let attestation = nullify(&keyed(rt.alloc(), 4)?, 0, true).attestation;
+    let later = Proposal::new(number(), View::new(9), Sha256Digest([1; 32]));
     let other = Proposal {
         round: positions::Round::new(Epoch::new(1), View::new(1)),
-        ..proposal
+        ..later
     };
-    assert!(rt;
-        !round.belongs(&Vote::Finalize(crate::messages::Finalize {
-            proposal: other,
-            attestation
-        }))
-    );
+    assert_eq!(rt; belong(&round, later, attestation), [true; 3]);
+    assert_eq!(rt; belong(&round, other, attestation), [false; 3]);
+    Ok(())
+}
+
+fn reads<T: Display + Drop>(
+    rt: &impl Abort,
+    alloc: Global,
+    value: T,
+    text: &str,
+) -> Result<(), Fail> {
+    assert_eq!(rt; format!(in alloc; "{value}")?.as_str(), text);
     Ok(())
 }
 
 #[test]
-fn texts_are_those_of_the_original(rt: HostRuntime) -> Result<(), Fail> {
-    let alloc = rt.alloc();
+fn reasons_have_the_texts_of_the_original(rt: HostRuntime) -> Result<(), Fail> {
     for (reason, text) in [
         (BlockReason::UnknownParticipant, "unknown participant"),
         (
@@ -186,19 +220,18 @@ fn texts_are_those_of_the_original(rt: HostRuntime) -> Result<(), Fail> {
         (BlockReason::NullifyAfterFinalize, "nullify after finalize"),
         (BlockReason::FinalizeAfterNullify, "finalize after nullify"),
     ] {
-        assert_eq!(rt; format!(in alloc; "{reason}")?.as_str(), text);
-    }
-    for (fault, text) in [
-        (SetFault::Duplicate, "duplicate key"),
-        (SetFault::TooMany, "too many keys"),
-    ] {
-        assert_eq!(rt; format!(in alloc; "{fault}")?.as_str(), text);
-    }
-    for (fault, text) in [
-        (LeaderFault::LeaderChanged, "leader changed within round"),
-        (LeaderFault::NotFromLeader, "notarize must be from leader"),
-    ] {
-        assert_eq!(rt; format!(in alloc; "{fault}")?.as_str(), text);
+        reads(&rt, rt.alloc(), reason, text)?;
     }
     Ok(())
+}
+
+#[test]
+fn faults_have_texts(rt: HostRuntime) -> Result<(), Fail> {
+    let alloc = rt.alloc();
+    let changed = LeaderFault::LeaderChanged;
+    reads(&rt, alloc, changed, "leader changed within round")?;
+    let other = LeaderFault::NotFromLeader;
+    reads(&rt, alloc, other, "notarize must be from leader")?;
+    reads(&rt, alloc, SetFault::Duplicate, "duplicate key")?;
+    reads(&rt, alloc, SetFault::TooMany, "too many keys")
 }

@@ -6,9 +6,7 @@ ghost use Rattle.rand_core.specs.Stream.{Stream};
 ghost use Rattle.batcher.specs.Attestations.{Sorts};
 
 use super::*;
-use crate::messages::{Attestation, Certificate};
-use crate::scheme::{AttestationList, Counter, Scheme, Sealed, Verification};
-use crate::verifier::Batch;
+use crate::scheme::{Sealed, Verification};
 use rand_core::CryptoRng;
 
 fn hex(alloc: Global, bytes: &[u8]) -> Result<String, Fail> {
@@ -46,24 +44,30 @@ fn signatures_hash_what_the_format_says(rt: HostRuntime) -> Result<(), Fail> {
 }
 
 // What a round of any scheme makes of the attestations, each sent by its signer.
-fn construct<S: Scheme<Digest, PublicKey = Name>>(
+fn batch_in<S: Scheme<Digest, PublicKey = Name>>(
     rt: &impl Abort,
-    alloc: Global,
-    scheme: Rc<S>,
+    round: &mut Round<S, Digest>,
     attestations: &[Attestation<S::Signature>],
-) -> Result<Option<Batch<Certificate<S::Certificate, Digest>>>, Fail> {
-    assert!(rt; scheme.participants().len() >= 1);
-    let mut round = Round::new(alloc, number(), scheme, true);
+) -> Result<Batch<Certificate<S::Certificate, Digest>>, Fail> {
     for attestation in attestations {
         let vote = Vote::Nullify(Nullify {
             round: number(),
             attestation: *attestation,
         });
-        assert!(rt; round.belongs(&vote));
-        let sender = Name(attestation.signer.get() as u64);
-        assert!(rt; round.add_network(sender, vote)?.added);
+        assert!(rt; bring(rt, round, vote)?);
     }
-    Ok(round.try_construct(&mut Counter::new(0))?)
+    Ok(construct(round)?.ok_or("no kind was ready")?)
+}
+
+fn batch_of<S: Scheme<Digest, PublicKey = Name>>(
+    rt: &impl Abort,
+    alloc: Global,
+    scheme: Rc<S>,
+    attestations: &[Attestation<S::Signature>],
+) -> Result<Batch<Certificate<S::Certificate, Digest>>, Fail> {
+    assert!(rt; scheme.participants().len() >= 1);
+    let mut round = Round::new(alloc, number(), scheme, true);
+    batch_in(rt, &mut round, attestations)
 }
 
 // The content of a nullification.
@@ -87,60 +91,87 @@ fn with_a_bad_one(scheme: &Keyed<true>) -> [Attestation<[u8; 32]>; 4] {
     ]
 }
 
+// Whether the attestations certify a nullification.
+fn certifies(
+    alloc: Global,
+    scheme: &Keyed<true>,
+    attestations: &[Attestation<[u8; 32]>],
+) -> Result<bool, AllocError> {
+    let certificate = AttestationList::new(Vec::from_slice(alloc, attestations)?);
+    let subject = Subject::Nullify { round: number() };
+    Ok(scheme.verify_certificate(subject, &certificate))
+}
+
+#[test]
+fn a_list_certifies_in_order_with_a_quorum_of_good_votes(rt: HostRuntime) -> Result<(), Fail> {
+    let scheme = keyed(rt.alloc(), 4)?;
+    let [two, zero, one, bad] = with_a_bad_one(&scheme);
+    for (list, certified) in [
+        ([zero, one, two], true),
+        ([two, zero, one], false),
+        ([zero, one, one], false),
+        ([zero, one, bad], false),
+    ] {
+        assert_eq!(rt; certifies(rt.alloc(), &scheme, &list)?, certified);
+    }
+    assert!(rt; !certifies(rt.alloc(), &scheme, &[zero, one])?);
+    Ok(())
+}
+
 #[test]
 fn a_list_names_who_signed_in_order(rt: HostRuntime) -> Result<(), Fail> {
     let alloc = rt.alloc();
-    let scheme = keyed(alloc, 4)?;
+    let scheme = Rc::new(alloc, keyed(alloc, 4)?)?;
     let votes = with_a_bad_one(&scheme);
-    let batch = construct(&rt, alloc, Rc::new(alloc, keyed(alloc, 4)?)?, &votes)?.ok_or(
-        "no batch",
-    )?;
+    let batch = batch_of(&rt, alloc, scheme, &votes)?;
     assert_eq!(rt; batch.processed, 4);
     assert_eq!(rt; batch.invalid.as_slice(), [Participant::new(3)].as_slice());
     assert!(rt; batch.fallback);
     let certificate = content(batch.certificate).ok_or("no certificate")?;
-    let subject = Subject::Nullify { round: number() };
-    assert!(rt; scheme.verify_certificate(subject, &certificate));
-    let other = positions::Round::new(Epoch::new(0), View::new(2));
-    assert!(rt; !scheme.verify_certificate(Subject::Nullify { round: other }, &certificate));
     let listed = [votes[1], votes[2], votes[0]];
     assert_eq!(rt; certificate.attestations(), listed.as_slice());
-    let unordered = AttestationList::new(Vec::from_slice(alloc, &votes[..3])?);
-    assert!(rt; !scheme.verify_certificate(subject, &unordered));
-    let short = AttestationList::new(Vec::from_slice(alloc, &listed[..2])?);
-    assert!(rt; !scheme.verify_certificate(subject, &short));
-    let bad = AttestationList::new(Vec::from_slice(alloc, &[votes[1], votes[2], votes[3]])?);
-    assert!(rt; !scheme.verify_certificate(subject, &bad));
     Ok(())
+}
+
+// Whether the bytes certify a nullification and a notarization.
+fn seals(alloc: Global, certificate: &[u8; 32]) -> Result<[bool; 2], AllocError> {
+    let scheme = Sealed::new(names(alloc, 4)?, ROOT);
+    let nullify = Subject::Nullify { round: number() };
+    let notarize = Subject::Notarize {
+        proposal: proposal(1),
+    };
+    Ok([
+        scheme.verify_certificate(nullify, certificate),
+        scheme.verify_certificate(notarize, certificate),
+    ])
 }
 
 #[test]
 fn a_seal_is_given_although_a_vote_is_bad(rt: HostRuntime) -> Result<(), Fail> {
     let alloc = rt.alloc();
     let votes = with_a_bad_one(&keyed(alloc, 4)?);
-    let sealed = Rc::new(alloc, Sealed::new(names(alloc, 4)?, ROOT))?;
-    let batch = construct(&rt, alloc, sealed, &votes)?.ok_or("no batch")?;
+    let scheme = Rc::new(alloc, Sealed::new(names(alloc, 4)?, ROOT))?;
+    let batch = batch_of(&rt, alloc, scheme, &votes)?;
     assert_eq!(rt; batch.processed, 4);
-    assert_eq!(rt; batch.invalid.as_slice(), [].as_slice());
+    assert!(rt; batch.invalid.as_slice().is_empty());
     assert!(rt; !batch.fallback);
     let certificate = content(batch.certificate).ok_or("no certificate")?;
     assert_eq!(rt;
         hex(alloc, &certificate)?.as_str(),
         "fadd42ccbd58089292517bef7eee91f9c3eb8f96d29cb08e2a9811d432a46c31"
     );
-    let scheme = Sealed::new(names(alloc, 4)?, ROOT);
-    let round = number();
-    assert!(rt; scheme.verify_certificate(Subject::Nullify { round }, &certificate));
-    assert!(rt;
-        !scheme.verify_certificate(
-            Subject::Notarize {
-                proposal: proposal(1)
-            },
-            &certificate
-        )
+    assert_eq!(rt; seals(alloc, &certificate)?, [true, false]);
+    Ok(())
+}
+
+#[test]
+fn sealed_votes_are_signed_as_keyed_ones(rt: HostRuntime) -> Result<(), Fail> {
+    let sealed = Sealed::new(names(rt.alloc(), 4)?, ROOT);
+    let subject = Subject::Nullify { round: number() };
+    assert_eq!(rt;
+        sealed.sign(Participant::new(2), subject),
+        nullify(&keyed(rt.alloc(), 4)?, 2, true).attestation
     );
-    let attestation = scheme.sign(Participant::new(2), Subject::Nullify { round });
-    assert_eq!(rt; attestation, votes[0]);
     Ok(())
 }
 
@@ -149,9 +180,9 @@ fn a_scheme_that_is_not_batchable_verifies_each_vote_at_once(rt: HostRuntime) ->
     let alloc = rt.alloc();
     let votes = with_a_bad_one(&keyed(alloc, 5)?);
     let scheme: Keyed<false> = Keyed::new(names(alloc, 5)?, ROOT);
-    let batch = construct(&rt, alloc, Rc::new(alloc, scheme)?, &votes[..1])?.ok_or("no batch")?;
+    let batch = batch_of(&rt, alloc, Rc::new(alloc, scheme)?, &votes[..1])?;
     assert_eq!(rt; batch.processed, 1);
-    assert_eq!(rt; batch.invalid.as_slice(), [].as_slice());
+    assert!(rt; batch.invalid.as_slice().is_empty());
     assert!(rt; batch.certificate.is_none());
     assert!(rt; !batch.fallback);
     Ok(())
@@ -180,7 +211,7 @@ impl Scheme<Digest> for Trusting {
       assembled = λ subject prior fresh. tt;
     } };
 
-    ghost use Rattle.std.proofs.Common.{rules, refl, arith};
+    ghost use Rattle.std.proofs.Common.{refl, arith};
     ghost use Rattle.std.proofs.lemmas.Bool.Decides.{nat_tests};
 
     ghost lawful = { λ s. record {
@@ -285,7 +316,7 @@ fn a_scheme_of_ones_own_drives_a_round(rt: HostRuntime) -> Result<(), Fail> {
             signature: false,
         },
     ];
-    let batch = construct(&rt, alloc, scheme, &votes)?.ok_or("no batch")?;
+    let batch = batch_of(&rt, alloc, scheme, &votes)?;
     assert_eq!(rt; batch.processed, 2);
     assert!(rt; batch.certificate.is_some());
     Ok(())

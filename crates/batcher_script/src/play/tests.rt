@@ -30,7 +30,132 @@ const FIRST_RUN: [(&str, &str); 6] = [
 ];
 
 /// Whole scripts with what they print and their status.
-const SCRIPTS: [(&str, &str, u8); 4] = [
+const SCRIPTS: [(&str, &str, u8); 9] = [
+    (
+        "round 5 9 3 releasing single
+net 1 1 notarize 4 ok
+net 1 1 notarize 5 ok
+net 7 1 nullify - ok
+net 2 1 finalize 4 ok
+net 1 1 nullify - ok
+net 1 1 finalize 4 ok
+net 1 1 nullify - bad
+net 1 1 notarize 4 bad
+construct
+bogus
+",
+        "round 5 9 participants 3 quorum 3
+net: added, block none, report notarize(1, 4)
+net: refused, block conflicting notarize, report conflicting-notarize(1, 4, 5)
+net: refused, block unknown participant, report none
+net: refused, block finalize signer mismatch, report none
+net: added, block none, report nullify(1)
+net: refused, block finalize after nullify, report nullify-finalize(1, 4)
+net: refused, block conflicting nullify, report none
+net: refused, block invalid signature, report none
+construct: processed 1, invalid [], certificate none, fallback no
+line 11: malformed
+",
+        2,
+    ),
+    (
+        "round 0 1 4 retaining keyed
+net 1 1 notarize 1 ok
+net 2 2 notarize 1 ok
+net 3 3 notarize 1 ok
+construct
+leader 1
+leader 1
+leader 2
+construct
+net 0 0 notarize 1 ok
+forward 1
+forward 3
+forward 3
+missing 1
+missing 2
+",
+        "round 0 1 participants 4 quorum 3
+net: added, block none, report notarize(1, 1)
+net: added, block none, report notarize(2, 1)
+net: added, block none, report notarize(3, 1)
+construct: none
+leader: ok
+leader: ok
+leader: refused leader changed within round
+construct: processed 3, invalid [], certificate notarization(1), fallback no
+net: added, block none, report notarize(0, 1)
+forward: none
+forward: 1
+forward: none
+missing: []
+missing: [0, 1, 2, 3]
+",
+        0,
+    ),
+    (
+        "round 0 1 4 skipped keyed
+net 1 1 notarize 1 ok
+net 1 1 notarize 2 ok
+net 1 1 nullify - ok
+net 1 1 finalize 1 ok
+missing 1
+forward 0
+construct
+",
+        "round 0 1 participants 4 quorum 3
+net: added, block none, report notarize(1, 1)
+net: refused, block none, report none
+net: added, block none, report nullify(1)
+net: refused, block finalize after nullify, report none
+missing: [0, 1, 2, 3]
+forward: none
+construct: none
+",
+        0,
+    ),
+    (
+        "round 0 1 4 releasing sealed
+net 0 0 nullify - ok
+net 1 1 nullify - ok
+net 2 2 nullify - ok
+net 3 3 nullify - bad
+construct
+",
+        "round 0 1 participants 4 quorum 3
+net: added, block none, report nullify(0)
+net: added, block none, report nullify(1)
+net: added, block none, report nullify(2)
+net: added, block none, report nullify(3)
+construct: processed 4, invalid [], certificate nullification, fallback no
+",
+        0,
+    ),
+    (
+        "round 0 1 4 releasing keyed
+leader 0
+net 0 0 notarize 1 ok
+net 1 1 finalize 1 ok
+net 2 2 finalize 1 ok
+net 3 3 finalize 1 ok
+net 2 2 finalize 2 ok
+construct
+net 2 2 finalize 2 ok
+net 3 3 nullify - ok
+",
+        "round 0 1 participants 4 quorum 3
+leader: ok
+net: added, block none, report notarize(0, 1)
+net: added, block none, report finalize(1, 1)
+net: added, block none, report finalize(2, 1)
+net: added, block none, report finalize(3, 1)
+net: refused, block conflicting finalize, report conflicting-finalize(2, 1, 2)
+construct: processed 3, invalid [], certificate finalization(1), fallback no
+net: refused, block conflicting finalize, report none
+net: refused, block nullify after finalize, report none
+",
+        0,
+    ),
     (
         "round 0 1 4 releasing keyed
 net 0 0 nullify - ok
@@ -69,7 +194,7 @@ const MALFORMED_FIRST: [&str; 7] = [
 ];
 
 /// Lines that are malformed after a `round` of 4.
-const MALFORMED_NEXT: [&str; 12] = [
+const MALFORMED_NEXT: [&str; 16] = [
     "round 0 1 4 releasing keyed",
     "net 0 4294967296 nullify - ok",
     "net 0 0 nullify 1 ok",
@@ -78,6 +203,10 @@ const MALFORMED_NEXT: [&str; 12] = [
     "net 0 -1 nullify - ok",
     "net 0 0 nullify - OK",
     "own 4 nullify -",
+    "leader",
+    "leader 4294967296",
+    "forward -1",
+    "missing -",
     "construct now",
     "con struct",
     "construct\r",
@@ -85,7 +214,8 @@ const MALFORMED_NEXT: [&str; 12] = [
 ];
 
 /// Lines after a `round` of 4, with their answers.
-const ANSWERED_NEXT: [(&str, &str); 3] = [
+const ANSWERED_NEXT: [(&str, &str); 4] = [
+    ("leader 000", "leader: ok"),
     (
         "net 0 4294967295 nullify - ok",
         "net: refused, block nullify signer mismatch, report none",

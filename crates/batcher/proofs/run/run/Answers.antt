@@ -1,12 +1,25 @@
-use Rattle.std.proofs.Common.{◌≡◌, ◌∙◌, ◌++◌, ◌∷◌, ◌+◌, [], sym, ap, take, arith, length-append}
+use Rattle.std.proofs.Common.{◌≡◌, ◌∙◌, ◌++◌, ◌∷◌, ◌+◌, [], refl, sym, ap, take, arith, length-append}
 use Rattle.std.proofs.lemmas.Grind.{common_steps}
 use Rattle.std.proofs.lemmas.List.{take_more}
+use Rattle.std.proofs.lemmas.List.Elements.{All-push}
 use Rattle.batcher.specs.Setting.{setting}
+use Rattle.batcher.specs.Runs.{certifies_answer}
 use Rattle.batcher.proofs.Running.{Runs-push}
 use Rattle.batcher.proofs.run.run.Goals as goal
 
 pub step-requires : goal.step-requires
-step-requires g c = rw (c.loop-call.invariant.number, c.call-item.is) (c.requires.calls c.loop-call.call-index c.call-item.result (omega arith))
+step-requires g c = rw (c.loop-call.invariant.scheme, c.loop-call.invariant.number, c.call-item.is) (c.requires.calls c.loop-call.call-index c.call-item.result (omega arith))
+
+pub loop-call-init : goal.loop-call-init
+loop-call-init g c = record {
+  runs = rw c.in_ok-answers.ensures.items (refl, refl);
+  certifies = rw c.in_ok-answers.ensures.items (λ k d below. absurd (omega arith));
+  told = rw c.in_ok-answers.ensures.items refl;
+  room = c.in_ok-answers.ensures.capacity;
+  scheme = refl;
+  number = refl;
+  mode = refl;
+}
 
 pub loop-call-preserved : goal.loop-call-preserved
 loop-call-preserved g c =
@@ -14,8 +27,10 @@ loop-call-preserved g c =
     let more : take (c.loop-call.call-index + 1) c.args.calls.now ≡ take c.loop-call.call-index c.args.calls.now ++ c.call-item.result ∷ []
     = take_more c.args.calls.now c.loop-call.call-index c.call-item.result (omega arith) ∙ ap (λ y. take c.loop-call.call-index c.args.calls.now ++ y ∷ []) (sym c.call-item.is) in
     let stepped = rw (c.loop-call.invariant.scheme, c.loop-call.invariant.number, c.loop-call.invariant.mode) at c.step.ensures.steps in
+    let certified = rw c.loop-call.invariant.scheme at c.step.ensures.certifies in
     record {
       runs = rw (more, c.push_reserved.ensures.items) (Runs-push x c.args.round.holds (g.R.Rng.stream c.args.rng.now) (take c.loop-call.call-index c.args.calls.now) c.loop-call.answers.items c.loop-call.round.holds (g.R.Rng.stream c.loop-call.rng) c.call-item.result c.step.result c.step.new.round.holds (g.R.Rng.stream c.step.new.rng) c.loop-call.invariant.runs stepped);
+      certifies = rw c.push_reserved.ensures.items (All-push (certifies_answer (g.S.Scheme.meaning c.args.round.scheme)) c.loop-call.answers.items c.step.result c.loop-call.invariant.certifies certified);
       told = rw c.push_reserved.ensures.items (omega (arith, length-append c.loop-call.answers.items (c.step.result ∷ []), c.loop-call.invariant.told));
       room = rw c.push_reserved.ensures.capacity c.loop-call.invariant.room;
       scheme = c.step.ensures.same.0 ∙ c.loop-call.invariant.scheme;

@@ -1,11 +1,13 @@
-use Rattle.std.proofs.Common.{All, take}
+use Rattle.std.proofs.Common.{◌≡◌, ◌≤◌, All, length, take, vec_capacity}
 use Rattle.std.specs.List.{AllZip}
-use Rattle.batcher.specs.Nullifies.{MayCall}
+use Rattle.batcher.specs.Runs.{MayCall}
 use Rattle.batcher_script.specs.Calls.{IsCallOf}
 use Rattle.batcher_script.proofs.calls.calls_of.Given as goal
 
 abbrev pub invariant-loop-command : goal.invariant-loop-command
 invariant-loop-command g l = record {
-  may : All (MayCall l.round) l.calls.items;
-  each : AllZip IsCallOf (take l.command-index l.commands) l.calls.items;
+  may : All (MayCall (g.S.Scheme.meaning l.scheme) l.round) l.calls.items;
+  each : AllZip (IsCallOf l.round) (take l.command-index l.commands) l.calls.items;
+  told : length l.calls.items ≡ l.command-index;
+  room : length l.commands ≤ vec_capacity l.calls;
 }

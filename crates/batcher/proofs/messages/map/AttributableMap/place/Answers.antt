@@ -1,18 +1,12 @@
-use Rattle.std.proofs.Common.{rules, ap}
-use Rattle.std.proofs.lemmas.List.Sorted.{answers_always}
-use Rattle.batcher.proofs.Orders.{search_found, search_absent}
+use Rattle.std.proofs.Common.{arith, refl}
+use Rattle.batcher.proofs.Orders.{last_absent, last_insert}
 use Rattle.batcher.proofs.messages.map.AttributableMap.place.Goals as goal
 
-pub returns-clause-found : goal.returns-clause-found
-returns-clause-found g c =
-    rw (← ap (λ v. v.items) c.self.view_is)
-    (search_found (λ x. (g.T.Attributable.signed_by x).0) c.self.inside.items.items c.args.signer.0 c.binary_search_by_key.result c.self.invariant.0
-    (rw c.deref.ensures.value at c.binary_search_by_key.ensures.bound)
-    (rw c.deref.ensures.value at (c.binary_search_by_key.ensures.position (λ x. (g.T.Attributable.signed_by x).0) (answers_always _ _ _ (λ f a r f' k. search rules)))))
-
-pub returns-clause-absent : goal.returns-clause-absent
-returns-clause-absent g c =
-    rw (← ap (λ v. v.items) c.self.view_is)
-    (search_absent (λ x. (g.T.Attributable.signed_by x).0) c.self.inside.items.items c.args.signer.0 c.binary_search_by_key.result c.self.invariant.0
-    (rw c.deref.ensures.value at c.binary_search_by_key.ensures.bound)
-    (rw c.deref.ensures.value at (c.binary_search_by_key.ensures.position (λ x. (g.T.Attributable.signed_by x).0) (answers_always _ _ _ (λ f a r f' k. search rules)))))
+pub returns-then-is_below-clause-absent : goal.returns-then-is_below-clause-absent
+returns-then-is_below-clause-absent g c =
+    let below = c.if-is_below.ensures.below refl in
+    rw c.len.ensures (
+      omega arith,
+      last_absent (λ x. (g.T.Attributable.signed_by x).0) c.args.self.now.items c.args.signer.0 below,
+      λ x e. last_insert (λ x. (g.T.Attributable.signed_by x).0) c.args.self.now.items c.args.signer.0 x below e,
+    )

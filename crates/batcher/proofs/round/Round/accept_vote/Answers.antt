@@ -1,0 +1,53 @@
+use Rattle.std.proofs.Common.{◌≡◌, ◌∙◌, Option, ap, sym, subst, refl, true, nat_lt, arith}
+use Rattle.std.proofs.lemmas.Bool.Decides.{nat_tests}
+use Rattle.std.specs.Prelude.{MatchBool}
+use Rattle.batcher.specs.declared.messages.Kind.{Kind}
+use Rattle.batcher.specs.declared.messages.Proposal.{Proposal}
+use Rattle.batcher.specs.declared.votes.Outcome.{Outcome}
+use Rattle.batcher.specs.Votes.{kind_of, signer_of, subject_of, attestation_of}
+use Rattle.batcher.specs.Selected.{proposal_of, fixes}
+use Rattle.batcher.specs.Held.{of_kind}
+use Rattle.batcher.specs.Tracking.{observed, observed_opposite, outcome_by, RecordsKind}
+use Rattle.batcher.specs.Buffering.{MayFix, AddsVote}
+use Rattle.batcher.specs.Steps.{fixed_by, is_kept}
+use Rattle.batcher.proofs.Owning.{err_only, in_range, result_is, may_fix_selects}
+use Rattle.batcher.proofs.round.Round.accept_vote.Goals as goal
+
+pub returns-in_err-make_room_to_accept-clause-fault : goal.returns-in_err-make_room_to_accept-clause-fault
+returns-in_err-make_room_to_accept-clause-fault g c =
+    let result = sym (rw (← c.self.view_is) at c.own_result.ensures) ∙ c.in_ok-outcome.was in
+    rw (← c.self.view_is, result) (err_only _ c.from_residual-in_err-make_room_to_accept.result c.from_residual-in_err-make_room_to_accept.ensures.1)
+
+pub returns-clause-step : goal.returns-clause-step
+returns-clause-step g c =
+    let b = c.self.inside in
+    let same = g.D.PartialEq.eq in
+    let vote = c.args.vote in
+    let held = b.votes.holds in
+    let old = b.verifier.holds in
+    let kind = kind_of vote in
+    let fixed = c.may_fix.new.verifier.holds in
+    let selected = proposal_of (fixes old.selection (fixed_by vote)) in
+    let outcome_at : Option (Proposal g.row.D.Denot) → Outcome = λ s. outcome_by same s (of_kind held.compacted kind) (observed held kind (signer_of vote)) vote in
+    let result = sym (rw (← c.self.view_is) at c.own_result.ensures) ∙ c.in_ok-outcome.was in
+    let fixes_it : MayFix same old held.kept (fixed_by vote) fixed = rw (c.in_ok-make_room_to_accept.ensures.holds, c.in_ok-make_room_to_accept.ensures.votes, c.fixed_by.ensures) at c.may_fix.ensures.fixes in
+    let selects : proposal_of fixed.selection ≡ selected = ap proposal_of (may_fix_selects same old held.kept (fixed_by vote) fixed fixes_it) in
+    let range = g.met.S.Scheme.lawful b.verifier.scheme in
+    let signer = range.signers_in_range (subject_of vote) (attestation_of vote) (rw (← c.self.view_is) at c.requires.attests) in
+    let below : nat_lt (signer_of vote) b.votes.participants ≡ true = rw c.self.invariant.bound (grind (arith, nat_tests, signer)) in
+    let took : c.in_ok-take_in.field-0 ≡ outcome_at selected =
+    (rw (c.in_ok-make_room_to_accept.ensures.votes, c.in_ok-make_room_to_accept.ensures.mode.1) at c.in_ok-take_in.ensures.outcome) ∙ in_range same b.votes.participants held _ vote below ∙ ap outcome_at selects in
+    let same_outcome : c.in_ok-take_in.field-0 ≡ c.in_ok-outcome.outcome = took ∙ sym (result_is (observed_opposite held vote) kind _ _ result) in
+    let tracked = λ (k : Kind).
+    subst (λ s. RecordsKind same held c.take_in.new.votes.holds s true vote k) selects
+    (subst (λ h. RecordsKind same h c.take_in.new.votes.holds (proposal_of fixed.selection) true vote k) c.in_ok-make_room_to_accept.ensures.votes (c.in_ok-take_in.ensures.tracked k)) in
+    rw (← c.self.view_is)
+    (record {
+      outcome_is = result;
+      report_is = c.report_by.ensures;
+      forwarded = refl;
+      fixed = fixed;
+      fixes = fixes_it;
+      tracked = tracked;
+      buffered = subst (λ o. MatchBool (is_kept o) (AddsVote same fixed vote true c.take_in.new.verifier.holds) (c.take_in.new.verifier.holds ≡ fixed)) same_outcome c.in_ok-take_in.ensures.buffered;
+    })

@@ -1,0 +1,27 @@
+use Rattle.std.proofs.Common.{◌≡◌, ◌∙◌, ap, true, nat_lt, arith}
+use Rattle.std.proofs.lemmas.Bool.Decides.{nat_tests}
+use Rattle.batcher.specs.Setting.{setting}
+use Rattle.batcher.specs.Votes.{kind_of, signer_of}
+use Rattle.batcher.specs.Selected.{proposal_of}
+use Rattle.batcher.specs.Held.{of_kind}
+use Rattle.batcher.specs.Tracking.{observed, observed_opposite, outcome_by}
+use Rattle.batcher.specs.Admissions.{admission_of}
+use Rattle.batcher.proofs.Owning.{in_range, admitted}
+use Rattle.batcher.proofs.round.Round.admit.Goals as goal
+
+pub returns-clause-answer : goal.returns-clause-answer
+returns-clause-answer g c =
+    let b = c.self.inside in
+    let same = g.D.PartialEq.eq in
+    let vote = c.args.vote in
+    let held = b.votes.holds in
+    let selected = proposal_of b.verifier.holds.selection in
+    let compacted = of_kind held.compacted (kind_of vote) in
+    let own = observed held (kind_of vote) (signer_of vote) in
+    let x = setting (g.S.Scheme.meaning b.verifier.scheme) g.S.PublicKey.Ord.cmp g.S.Signature.PartialEq.eq same b.verifier.number b.votes.mode in
+    let range = rw (← c.self.view_is) at c.requires.range in
+    let below : nat_lt (signer_of vote) b.votes.participants ≡ true = rw c.self.invariant.bound (grind (arith, nat_tests, range)) in
+    let outcome : c.in_ok-outcome.outcome ≡ outcome_by same selected compacted own vote =
+    c.in_ok-outcome.ensures.outcome ∙ in_range same b.votes.participants held _ vote below ∙ ap (λ h. outcome_by same (proposal_of h.selection) compacted own vote) c.in_ok-make_room.ensures.holds in
+    rw (← c.self.view_is)
+    (c.admission_of.ensures ∙ ap (λ o. admission_of o vote) outcome ∙ admitted x selected compacted vote (observed_opposite held vote) own (rw (← c.self.view_is) at c.requires.unopposed))

@@ -1,0 +1,18 @@
+use Rattle.std.proofs.Common.{Some, true, false, length, filter, ◌∙◌, sym, ap}
+use Rattle.batcher.specs.Votes.{waits}
+use Rattle.batcher.specs.Entries.{kept_part, marks_of}
+use Rattle.batcher.proofs.Keeping.{length-filter_map, kept_open}
+use Rattle.batcher.proofs.votes.VoteTracker.count_for.Goals as goal
+
+pub returns-then-of : goal.returns-then-of
+returns-then-of g c =
+    let p = waits g.D.PartialEq.eq (Some c.args.proposal.now) in
+    rw (← c.self.view_is) (sym (ap (λ votes. length (filter p votes)) (kept_open (marks_of c.self.inside.compacted) c.self.inside.entries.items c.args.kind true (sym c.of.ensures ∙ c.if-of.true))))
+
+pub returns : goal.returns
+returns g c =
+    let p = waits g.D.PartialEq.eq (Some c.args.proposal.now) in
+    let es = c.self.inside.entries.items in
+    rw (← c.self.view_is)
+    ((rw c.as_slice.ensures.items at c.count_for.ensures) ∙ length-filter_map (kept_part c.args.kind) p es
+    ∙ sym (ap (λ votes. length (filter p votes)) (kept_open (marks_of c.self.inside.compacted) es c.args.kind false (sym c.of.ensures ∙ c.if-of.false))))
