@@ -8,7 +8,7 @@ SCRIPT ?= crates/batcher_script/stdin
 run: crates/batcher_script/out/batcher_script
 	@crates/batcher_script/out/batcher_script < $(SCRIPT)
 
-crates/batcher_script/out/batcher_script: $(wildcard crates/*/src/*.rt crates/*/src/*/*.rt)
+crates/batcher_script/out/batcher_script: $(wildcard crates/batcher/src/*.rt crates/batcher/src/*/*.rt crates/batcher_script/src/*.rt)
 	cd crates/batcher_script && rt run < stdin > /dev/null
 
 bench: crates/batcher_bench/out/batcher_bench
@@ -16,6 +16,10 @@ bench: crates/batcher_bench/out/batcher_bench
 
 crates/batcher_bench/out/batcher_bench: $(wildcard crates/batcher/src/*.rt crates/batcher/src/*/*.rt crates/batcher_bench/src/*.rt)
 	cd crates/batcher_bench && rt run > /dev/null
+
+# What tools/refuse runs. The gate has built it by then.
+crates/batcher/out/batcher_tests: $(wildcard crates/batcher/src/*.rt crates/batcher/src/*/*.rt)
+	cd crates/batcher && rt test > /dev/null
 
 test:
 	tools/test

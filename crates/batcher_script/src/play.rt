@@ -102,7 +102,9 @@ fn print_script<W: Write>(
             SchemeWord::Single => {
                 print_answers::<Keyed<false>, W>(alloc, opening, commands, questions, output)?
             }
-            SchemeWord::Sealed => print_answers::<Sealed, W>(alloc, opening, commands, questions, output)?,
+            SchemeWord::Sealed => print_answers::<Sealed, W>(
+                alloc, opening, commands, questions, output,
+            )?,
         }
     }
     match script.malformed {

@@ -59,7 +59,10 @@ pub enum Command {
         signature: Signature,
     },
     /// The vote of a participant.
-    Own { signer: u32, ballot: Ballot },
+    Own {
+        signer: u32,
+        ballot: Ballot,
+    },
     Certificate(Ballot),
     Leader(u32),
     Construct,
