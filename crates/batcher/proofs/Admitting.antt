@@ -24,6 +24,8 @@ use Rattle.std.specs.Prelude.{MatchBool}
 use Rattle.batcher.specs.Steps.{IsRight, AfterNetwork, objection_to, objection_by, admission, admission_by, admission_named, is_recorded, selected_in}
 use Rattle.batcher.proofs.Counts.{count-append}
 use Rattle.batcher.proofs.Right.{count_buffers}
+use Rattle.batcher.specs.Selected.{is_fixed}
+use Rattle.batcher.proofs.Fixing.{selects_fixed}
 
 or_true : (b : Bool) → (b || true) ≡ true
 or_true true = refl
@@ -162,6 +164,7 @@ module _ {D K G C : Type 0} (m : Meaning D K G C) (same : D → D → Bool) (tra
         let now = still_some _ kind i (records kind).kept in
         rw now (still_more _ (is_some (kept_vote tracker.holds kind i)) _ (right.within kind i));
     compacted = λ kind. (records kind).compacted ∙ right.compacted kind ∙ ap (λ w. is_released_in w (of_kind old.certified kind)) (sym mode);
+    fixed = right.fixed;
   }
 
   module _ (new : Buffered G D) (is_verified : Bool) (adds : AddsVote same old vote is_verified new) (fresh : IsNew tracker.holds vote) (e : is_recorded ≡ true) where
@@ -225,6 +228,7 @@ module _ {D K G C : Type 0} (m : Meaning D K G C) (same : D → D → Bool) (tra
       bound = participants ∙ right.bound;
       within = λ kind i. waits_all kind i (is_of_kind kind vote) (signer_of vote == i) refl refl;
       compacted = λ kind. (records kind).compacted ∙ right.compacted kind ∙ ap (λ w. is_released_in w (of_kind old.certified kind)) (sym mode) ∙ ap (λ b. is_released_in after.mode b) (sym (adds.buffers kind).certified);
+      fixed = λ h. ap is_fixed adds.selection ∙ selects_fixed old.selection _ (right.fixed (sym (adds.buffers Finalization).certified ∙ h));
     }
 
 -- a vote that is recorded, with its premises as they turned out

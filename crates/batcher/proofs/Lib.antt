@@ -10,6 +10,8 @@ pub mod MapItems
 pub mod Missing
 pub mod Orders
 pub mod Owning
+pub mod Rooms
+pub mod Fixing
 pub mod Pairing
 pub mod Parts
 pub mod Quorums

@@ -15,15 +15,16 @@ use Rattle.batcher.specs.Lists.{count}
 use Rattle.batcher.specs.Meaning.{Meaning}
 use Rattle.batcher.specs.Setting.{Setting}
 use Rattle.batcher.specs.Votes.{is_kind, kind_of, signer_of, is_vote_of, waits}
-use Rattle.batcher.specs.Selected.{proposal_of, updated, fixes}
+use Rattle.batcher.specs.Selected.{proposal_of, updated, fixes, is_fixed}
 use Rattle.batcher.specs.Admissions.{admission_of, block_for, refusal, conflict_reason}
 use Rattle.std.proofs.lemmas.Option.{none-some}
 use Rattle.batcher.specs.Held.{PerKind, of_kind, Tracked, Buffered, Tracker}
 use Rattle.batcher.specs.Tracking.{Observed, unseen, in_full, as_facts, shown, observed, is_seen, is_known, kept_vote, conflicts_with, outcome_by, outcome_of, is_released_in, ReleasesKind, SameTracked}
 use Rattle.batcher.specs.Buffering.{MayFix, CompletesKind, coming_back}
 use Rattle.batcher.specs.Steps.{IsRight, WaitsWhereKept, objection_by, admission_by, opposite_fault, unopposed_result, duplicate_result, own_result_by, is_added, is_kept}
+use Rattle.batcher.proofs.Fixing.{fixes_fixed, fixes_any}
 
-ok_is : {A B : Type 0} (a b : A) → ◌≡◌ {A = Result A B} (Ok a) (Ok b) → a ≡ b
+pub ok_is : {A B : Type 0} (a b : A) → ◌≡◌ {A = Result A B} (Ok a) (Ok b) → a ≡ b
 ok_is a b h = cc
 
 -- what is told of an error that is there
@@ -36,6 +37,11 @@ kept_outcome (Added true) h = refl
 kept_outcome (Added false) h = absurd (cc)
 kept_outcome (Duplicate retained) h = absurd (cc)
 kept_outcome Conflicting h = absurd (cc)
+
+-- Where a signer is known, or there is room, memory isn't refused.
+pub never_full : (known : Bool) (room : ℕ) → (known ≡ true → false ≡ true) → room ≡ 0 → (known ≡ false → 1 ≤ room) → false ≡ true
+never_full true room fails none h = fails refl
+never_full false room fails none h = let one = h refl in absurd (omega (arith, one, none))
 
 module _ {D : Type 0} where
   pub fixed_some : (s : ProposalState D) (o : Option (Proposal D)) (p : Proposal D) → o ≡ Some p → proposal_of (updated s (FixedProposal p)) ≡ proposal_of (fixes s o)
@@ -150,6 +156,7 @@ module _ {D K G C : Type 0} (m : Meaning D K G C) (same : D → D → Bool) (tra
         bound = right.bound;
         within = within;
         compacted = λ kind. right.compacted kind ∙ ap (λ b. is_released_in tracker.mode b) (sym (may_fix_certifies same old tracker.holds.kept o new fixed kind));
+        fixed = λ h. ap is_fixed (may_fix_selects same old tracker.holds.kept o new fixed) ∙ fixes_fixed old.selection o (right.fixed (sym (may_fix_certifies same old tracker.holds.kept o new fixed Finalization) ∙ h));
       }
 
 -- A certificate from outside: its kind is complete, its proposal fixed, and the votes of its kind released.
@@ -192,12 +199,19 @@ module _ {D K G C : Type 0} (m : Meaning D K G C) (same : D → D → Bool) (tra
         (others kind e).compacted ∙ right.compacted kind ∙ ap (λ w. is_released_in w (of_kind old.certified kind)) (sym mode)
         ∙ ap (λ b. is_released_in settled.mode b) (sym (now_certified kind ∙ ap (λ b. b || of_kind old.certified kind) e))
 
-    pub right_certified : IsRight m settled new q
-    right_certified =
+    still_fixed : (is_kind certified Finalization ≡ true → is_some o ≡ true) → (b : Bool) → is_kind certified Finalization ≡ b → of_kind new.certified Finalization ≡ true → is_fixed new.selection ≡ true
+    still_fixed for true e h = ap is_fixed (may_fix_selects same completed tracker.holds.kept o new fixed) ∙ fixes_any completed.selection o (for e)
+    still_fixed for false e h =
+        let before = right.fixed (sym (now_certified Finalization ∙ ap (λ b. b || of_kind old.certified Finalization) e) ∙ h) in
+        ap is_fixed (may_fix_selects same completed tracker.holds.kept o new fixed) ∙ fixes_fixed completed.selection o (ap is_fixed completes.selection ∙ before)
+
+    pub right_certified : (is_kind certified Finalization ≡ true → is_some o ≡ true) → IsRight m settled new q
+    right_certified for =
         record {
           some = right.some;
           quorum_is = right.quorum_is;
           bound = participants ∙ right.bound;
           within = λ kind i. within_by kind i (is_kind certified kind) refl;
           compacted = λ kind. compacted_by kind (is_kind certified kind) refl;
+          fixed = still_fixed for (is_kind certified Finalization) refl;
         }

@@ -18,11 +18,12 @@ use Rattle.batcher.specs.Lists.{count}
 use Rattle.batcher.specs.Meaning.{Meaning}
 use Rattle.batcher.specs.Votes.{signer_of, is_vote_of, waits}
 use Rattle.batcher.specs.Held.{of_kind, Tracked, Buffered, Tracker}
-use Rattle.batcher.specs.Selected.{proposal_of}
+use Rattle.batcher.specs.Selected.{proposal_of, is_fixed}
 use Rattle.batcher.specs.Tracking.{kept_vote, nothing_tracked, is_released_in}
 use Rattle.batcher.specs.Buffering.{Buffers, nothing_buffered, SetsLeader, leader_answer}
 use Rattle.batcher.specs.Steps.{IsRight, leader_set_answer}
 use Rattle.batcher.proofs.Counts.{count-append, count-filter_le}
+use Rattle.batcher.proofs.Fixing.{selects_fixed}
 
 -- with nothing held
 module _ {D K G C : Type 0} (m : Meaning D K G C) where
@@ -54,6 +55,7 @@ module _ {D K G C : Type 0} (m : Meaning D K G C) where
     bound = bound;
     within = λ kind i. none_wait kind (cond (is_some (kept_vote tracker.holds kind i)) 1 0) i;
     compacted = λ kind. ap (λ t. of_kind t.compacted kind) fresh ∙ compacted_at_first tracker.mode kind ∙ ap (λ b. is_released_in tracker.mode b) (sym (none_certified kind));
+    fixed = λ h. let none = none_certified Finalization in absurd (cc);
   }
 
 -- through calls that put votes at the ends of the buffers and drop those that no longer wait
@@ -80,13 +82,14 @@ module _ {G D : Type 0} (same : D → D → Bool) (old new : Buffered G D) (kind
 
 module _ {D K G C : Type 0} (m : Meaning D K G C) (tracker : Tracker G D) (old new : Buffered G D) (quorum : ℕ) (right : IsRight m tracker old quorum) where
   -- where nothing joins the buffers
-  pub right_less : (same : D → D → Bool) → ((kind : Kind) → Buffers same old new kind [] []) → IsRight m tracker new quorum
-  right_less same step = record {
+  pub right_less : (same : D → D → Bool) → ((kind : Kind) → Buffers same old new kind [] []) → (is_fixed old.selection ≡ true → is_fixed new.selection ≡ true) → IsRight m tracker new quorum
+  right_less same step stays = record {
     some = right.some;
     quorum_is = right.quorum_is;
     bound = right.bound;
     within = λ kind i. omega (arith, right.within kind i, count_buffers same old new kind [] [] (step kind) (λ v. signer_of v == i));
     compacted = λ kind. right.compacted kind ∙ ap (λ b. is_released_in tracker.mode b) (sym (step kind).certified);
+    fixed = λ h. stays (right.fixed (sym (step Finalization).certified ∙ h));
   }
 
   -- a leader that is set, refused, or was before
@@ -95,7 +98,7 @@ module _ {D K G C : Type 0} (m : Meaning D K G C) (tracker : Tracker G D) (old n
       → (is_some old.leader ≡ true → new ≡ old) → OnErr result (new ≡ old)
       → (is_some old.leader ≡ false → OnOk result (SetsLeader same old leader proposal new)) → IsRight m tracker new quorum
   right_led same leader proposal true result e again refused sets = subst (λ held. IsRight m tracker held quorum) (sym (again e)) right
-  right_led same leader proposal false (Ok done) e again refused sets = right_less same (sets e).buffers
+  right_led same leader proposal false (Ok done) e again refused sets = right_less same (sets e).buffers (λ h. ap is_fixed (sets e).selection ∙ selects_fixed old.selection proposal h)
   right_led same leader proposal false (Err fault) e again refused sets = subst (λ held. IsRight m tracker held quorum) (sym refused) right
 
 found_cons : {X : Type 0} (test : X → Bool) (y z : X) (xs : List X) (b : Bool) → test y ≡ b → (find test xs ≡ Some z → test z ≡ true) → cond b (Some y) (find test xs) ≡ Some z → test z ≡ true

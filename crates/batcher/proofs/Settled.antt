@@ -27,6 +27,9 @@ use Rattle.batcher.specs.Steps.{IsRight, Fixes}
 use Rattle.batcher.proofs.Counts.{count-append, count-filter_le, count-map}
 use Rattle.batcher.proofs.Right.{count_buffers}
 use Rattle.batcher.proofs.Admitting.{kinds_same}
+use Rattle.batcher.specs.Selected.{is_fixed, fixes as to_fixed}
+use Rattle.batcher.specs.declared.messages.Kind.TheVariants.{Finalization}
+use Rattle.batcher.proofs.Fixing.{fixes_fixed, fixes_any}
 
 module _ {D K G C : Type 0} (m : Meaning D K G C) (subject : Subject D) (q : ℕ) (v p : List (Attestation G)) where
   module _ (test : Attestation G → Bool) where
@@ -154,6 +157,7 @@ module _ {D K G C : Type 0} (m : Meaning D K G C) (number : Round) (q : ℕ) (ol
         bound = right.bound;
         within = λ kind i. omega (arith, right.within kind i, count_left_by kind i (is_kind tried kind) refl);
         compacted = λ kind. right.compacted kind ∙ ap (λ b. is_released_in tracker.mode b) (sym (certified_by was none kind (is_kind tried kind) refl));
+        fixed = λ h. ap is_fixed t.selection ∙ right.fixed (sym (certified_by was none Finalization (is_kind tried Finalization) refl) ∙ h);
       }
 
   module _ (x : Setting D K G C) (proposal : Option (Proposal D)) (new : Buffered G D) where
@@ -206,16 +210,27 @@ module _ {D K G C : Type 0} (m : Meaning D K G C) (number : Round) (q : ℕ) (ol
           (others kind e).compacted ∙ right.compacted kind ∙ ap (λ d. is_released_in d (of_kind old.certified kind)) (sym mode)
           ∙ ap (λ b. is_released_in settled.mode b) (sym (fixed_certified proposal fixes kind ∙ (t.others kind e).certified))
 
+      fixed_selection : (p : Option (Proposal D)) → Fixes x left p new → new.selection ≡ to_fixed left.selection p
+      fixed_selection None e = ap (λ h. h.selection) e
+      fixed_selection (Some p) s = s.selection_is
+
+      still_fixed : IsRight m tracker old q → (is_kind tried Finalization ≡ true → is_some proposal ≡ true) → (b : Bool) → is_kind tried Finalization ≡ b → of_kind new.certified Finalization ≡ true → is_fixed new.selection ≡ true
+      still_fixed right for true e h = ap is_fixed (fixed_selection proposal fixes) ∙ fixes_any left.selection proposal (for e)
+      still_fixed right for false e h =
+          let before = right.fixed (sym (fixed_certified proposal fixes Finalization ∙ (t.others Finalization e).certified) ∙ h) in
+          ap is_fixed (fixed_selection proposal fixes) ∙ fixes_fixed left.selection proposal (ap is_fixed t.selection ∙ before)
+
       -- with a certificate that is recorded
       pub right_given :
-          IsRight m tracker old q → settled.mode ≡ tracker.mode → settled.participants ≡ tracker.participants → of_kind old.certified tried ≡ false
+          (is_kind tried Finalization ≡ true → is_some proposal ≡ true) → IsRight m tracker old q → settled.mode ≡ tracker.mode → settled.participants ≡ tracker.participants → of_kind old.certified tried ≡ false
           → ((kind : Kind) → ReleasesKind x.same_digest tracker.holds settled.holds proposal (is_kind tried kind && is_released_in tracker.mode true) kind)
           → ((kind : Kind) → is_kind tried kind ≡ false → SameTracked tracker.holds settled.holds kind) → IsRight m settled new q
-      right_given right mode participants was releases others =
+      right_given for right mode participants was releases others =
           record {
             some = right.some;
             quorum_is = right.quorum_is;
             bound = participants ∙ right.bound;
             within = λ kind i. within_by right others kind i (is_kind tried kind) refl;
             compacted = λ kind. compacted_by right mode was releases others kind (is_kind tried kind) refl;
+            fixed = still_fixed right for (is_kind tried Finalization) refl;
           }

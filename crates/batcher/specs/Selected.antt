@@ -18,6 +18,11 @@ module _ {D : Type 0} where
   updated (LeadersProposal earlier) _ = LeadersProposal earlier
   updated (FixedProposal earlier) next = FixedProposal earlier
 
+  abbrev pub is_fixed : ProposalState D → Bool
+  is_fixed Unknown = false
+  is_fixed (LeadersProposal proposal) = false
+  is_fixed (FixedProposal proposal) = true
+
   -- the leader's vote selects its proposal where none is selected
   abbrev pub selects : ProposalState D → Option (Proposal D) → ProposalState D
   selects state (Some proposal) = updated state (LeadersProposal proposal)

@@ -1,5 +1,5 @@
 -- What each call of a round answers and changes, by what the round holds alone.
-use Rattle.std.specs.Prelude.{◌≡◌, ◌≤◌, ℕ, Bool, true, false, not, cond, ◌&&◌, ◌||◌, ◌==◌, List, ◌++◌, length, Option, Some, None, is_some, Result, Ok, Err, MatchBool, filter, map}
+use Rattle.std.specs.Prelude.{◌≡◌, ◌≤◌, ℕ, Bool, true, false, not, cond, ◌&&◌, ◌||◌, ◌==◌, List, [], ◌++◌, length, Option, Some, None, is_some, Result, Ok, Err, MatchBool, filter, map}
 use Rattle.std.specs.List.{range_with_len}
 use Rattle.rand_core.specs.Stream.{Stream}
 use Rattle.batcher.specs.declared.positions.Participant.{Participant}
@@ -26,11 +26,11 @@ use Rattle.batcher.specs.Keys.{participant}
 use Rattle.batcher.specs.Quorum.{quorum_of}
 use Rattle.batcher.specs.Meaning.{Meaning}
 use Rattle.batcher.specs.Setting.{Setting, quorum_in, sender_in}
-use Rattle.batcher.specs.Votes.{is_kind, kind_of, signer_of, proposal_in, subject_of, kind_certified, subject_certified}
-use Rattle.batcher.specs.Selected.{proposal_of, updated, fixes, same_selected}
+use Rattle.batcher.specs.Votes.{is_kind, kind_of, signer_of, proposal_in, subject_of, kind_certified, subject_certified, waits}
+use Rattle.batcher.specs.Selected.{proposal_of, is_fixed, updated, fixes, same_selected}
 use Rattle.batcher.specs.Held.{of_kind, Tracked, Buffered, Tracker, Held}
 use Rattle.batcher.specs.Tracking.{Observed, unseen, in_full, as_facts, is_seen, is_seen_for, observed, observed_opposite, kept_vote, conflicts_with, outcome_by, RecordsKind, ReleasesKind, nothing_tracked, is_released_in}
-use Rattle.batcher.specs.Buffering.{nothing_buffered, AddsVote, SetsLeader, SetsProposal, MayFix, CompletesKind, TriesKind, is_ready}
+use Rattle.batcher.specs.Buffering.{nothing_buffered, AddsVote, SetsLeader, SetsProposal, MayFix, CompletesKind, TriesKind, is_ready, coming_back}
 use Rattle.batcher.specs.Admissions.{report_of, addition, refusal, block_for, mismatch_reason, conflict_reason, admission_after, admission_after_facts, admission_beside}
 
 module _ {G D : Type 0} where
@@ -52,13 +52,15 @@ WaitsWhereKept tracked held =
     (kind : Kind) (i : ℕ)
     → count (λ v. signer_of v == i) (of_kind held.verified kind ++ of_kind held.pending kind) ≤ cond (is_some (kept_vote tracked kind i)) 1 0
 
--- What a round keeps true: votes wait where they are kept; those of a kind are compacted exactly where they are released.
+-- What a round keeps true: votes wait where they are kept; those of a kind are compacted exactly where they are released; and a
+-- finalization has fixed its proposal.
 pub record IsRight {D K G C : Type 0} (m : Meaning D K G C) (tracker : Tracker G D) (held : Buffered G D) (quorum : ℕ) : Type 0 where
   pub some : 1 ≤ length m.participants
   pub quorum_is : quorum ≡ quorum_of (length m.participants)
   pub bound : tracker.participants ≡ length m.participants
   pub within : WaitsWhereKept tracker.holds held
   pub compacted : (kind : Kind) → of_kind tracker.holds.compacted kind ≡ is_released_in tracker.mode (of_kind held.certified kind)
+  pub fixed : of_kind held.certified Finalization ≡ true → is_fixed held.selection ≡ true
 
 -- whether it is the participant
 abbrev pub is_participant : Option Participant → Participant → Bool
@@ -214,7 +216,17 @@ module _ {D K G C : Type 0} (x : Setting D K G C) where
     -- One that is added and kept in full waits as verified.
     pub buffered : MatchBool (is_kept outcome) (AddsVote x.same_digest fixed vote true new.buffered) (new.buffered ≡ fixed)
 
+  -- the kept votes of a kind that wait again where a proposal is fixed
+  abbrev pub restored_by : Held G D → Option (Proposal D) → Kind → List (Vote G D)
+  restored_by old None kind = []
+  restored_by old (Some p) kind =
+      cond (of_kind old.buffered.certified kind) [] (filter (waits x.same_digest (Some p)) (coming_back x.same_digest old.buffered old.tracked.kept p kind))
+
   -- CERTIFICATE
+  -- those that wait again where a certificate is recorded: none of its own kind
+  abbrev pub restored_with : Held G D → Certificate C D → Kind → List (Vote G D)
+  restored_with old certificate kind = cond (is_kind kind (kind_certified certificate)) [] (restored_by old (proposal_in (subject_certified certificate)) kind)
+
   pub record AfterCertificate (old : Held G D) (certificate : Certificate C D) (answer : Bool) (new : Held G D) : Type 0 where
     -- A notarization answers whether another proposal is selected than before.
     pub answer_is :

@@ -1,6 +1,6 @@
 //! One round: what it answers to votes, and the certificates that it makes of them.
 
-ghost use Rattle.std.specs.Prelude.{◌≡◌, ◌≤◌, ◌<◌, MatchBool, ◌&&◌, ◌||◌, ◌↔◌, not, Some, None, true, false, length, is_some, if◌then◌else◌, IfOk, IfErr, OnOk, OnErr, IsTrue, IsOk, IfSome, cond};
+ghost use Rattle.std.specs.Prelude.{◌≡◌, ◌≤◌, ◌<◌, MatchBool, ◌&&◌, ◌||◌, ◌↔◌, not, Some, None, true, false, [], length, is_some, if◌then◌else◌, IfOk, IfErr, OnOk, OnErr, IsTrue, IsOk, IfSome, cond};
 ghost use Rattle.batcher.specs.declared.messages.Kind.TheVariants.{Nullification as NullifyKind};
 ghost use Rattle.batcher.specs.declared.messages.Kind.{Kind as TheKind};
 ghost use Rattle.batcher.specs.Reasons.{text_of};
@@ -13,7 +13,7 @@ ghost use Rattle.batcher.specs.Tracking.{nothing_tracked, shown, is_known, outco
 ghost use Rattle.batcher.specs.Buffering.{AddsVote, FixesProposal, MayFix};
 ghost use Rattle.batcher.specs.Sound.{HasRoomFor, KeepsRoom};
 ghost use Rattle.batcher.specs.Admissions.{refusal, mismatch_reason, admission_of};
-ghost use Rattle.batcher.specs.Steps.{nothing_held, has_block, missing_in, leader_set_answer, forward_answer, AfterLeader, AfterNetwork, objection_to, admission_by, selected_in, AfterConstruct, TriesHeld, Fixes, is_ready_in, IsRight, WaitsWhereKept, AfterOwn, own_result, fault_or_memory, fixed_by, opposite_fault, unopposed_result, report_by, is_added, is_kept, AfterCertificate};
+ghost use Rattle.batcher.specs.Steps.{nothing_held, has_block, missing_in, leader_set_answer, forward_answer, AfterLeader, AfterNetwork, admission, objection_to, admission_by, kind_tried, restored_with, selected_in, AfterConstruct, TriesHeld, Fixes, is_ready_in, IsRight, WaitsWhereKept, AfterOwn, own_result, fault_or_memory, fixed_by, opposite_fault, unopposed_result, report_by, is_added, is_kept, AfterCertificate};
 ghost use Rattle.batcher.specs.declared.messages.Proposal.{Proposal as TheProposal};
 ghost use Rattle.batcher.specs.declared.round.OwnFault.TheVariants.{OutOfMemory as OutOfMemoryFault};
 ghost use Rattle.batcher.specs.declared.votes.Outcome.TheVariants.{Added as AddedOutcome};
@@ -292,6 +292,7 @@ impl<S: Scheme<D>, D: Digest> Round<S, D> {
     ) -> Result<Admission<S::Signature, D>, AllocError>
         requires { round_in (subject_of vote) ≡ self.old.number }
         ensures step { IfOk result (λ answer. AfterNetwork (setting (S.meaning self.old.scheme) S.PublicKey.cmp S.Signature.eq D.eq self.old.number self.old.mode) self.old.holds sender vote answer self.new.holds) }
+        ensures no_memory { (admission (setting (S.meaning self.old.scheme) S.PublicKey.cmp S.Signature.eq D.eq self.old.number self.old.mode) self.old.holds sender vote).added ≡ false → IsOk result }
         ensures refused { OnErr result (self.new ≡ self.old) }
         ensures same { (self.new.scheme ≡ self.old.scheme) × (self.new.number ≡ self.old.number) × (self.new.mode ≡ self.old.mode) }
     {
@@ -319,6 +320,7 @@ impl<S: Scheme<D>, D: Digest> Round<S, D> {
         requires range { signer_of vote < length (S.meaning self.old.scheme).participants }
         requires belongs { round_in (subject_of vote) ≡ self.old.number }
         ensures answer { IfOk result (λ answer. answer ≡ admission_by (setting (S.meaning self.old.scheme) S.PublicKey.cmp S.Signature.eq D.eq self.old.number self.old.mode) (selected_in self.old.holds) (observed self.old.holds.tracked (kind_of vote) (signer_of vote)) vote) }
+        ensures no_memory { (admission_by (setting (S.meaning self.old.scheme) S.PublicKey.cmp S.Signature.eq D.eq self.old.number self.old.mode) (selected_in self.old.holds) (observed self.old.holds.tracked (kind_of vote) (signer_of vote)) vote).added ≡ false → IsOk result }
         ensures tracked { OnOk result ((kind : TheKind) → RecordsKind D.eq self.old.holds.tracked self.new.holds.tracked (selected_in self.old.holds) true vote kind) }
         ensures buffered { IfOk result (λ answer. MatchBool (answer.added && not (of_kind self.old.holds.tracked.compacted (kind_of vote))) (AddsVote D.eq self.old.holds.buffered vote false self.new.holds.buffered) (self.new.holds.buffered ≡ self.old.holds.buffered)) }
         ensures forwarded { self.new.holds.forwarded ≡ self.old.holds.forwarded }
@@ -345,6 +347,7 @@ impl<S: Scheme<D>, D: Digest> Round<S, D> {
         requires belongs { round_in (subject_of vote) ≡ self.old.number }
         requires attests { (S.meaning self.old.scheme).attests (subject_of vote) (attestation_of vote) ≡ true }
         ensures step { IfOk result (λ answer. AfterOwn (setting (S.meaning self.old.scheme) S.PublicKey.cmp S.Signature.eq D.eq self.old.number self.old.mode) self.old.holds vote answer.0 answer.1 self.new.holds) }
+        ensures no_memory { (outcome : Outcome) → own_result (setting (S.meaning self.old.scheme) S.PublicKey.cmp S.Signature.eq D.eq self.old.number self.old.mode) self.old.holds vote ≡ Ok outcome → is_added outcome ≡ false → IsOk result }
         ensures fault { IfErr result (λ fault. fault ≡ fault_or_memory (own_result (setting (S.meaning self.old.scheme) S.PublicKey.cmp S.Signature.eq D.eq self.old.number self.old.mode) self.old.holds vote)) }
         ensures refused { OnErr result (self.new ≡ self.old) }
         ensures same { (self.new.scheme ≡ self.old.scheme) × (self.new.number ≡ self.old.number) × (self.new.mode ≡ self.old.mode) }
@@ -384,6 +387,7 @@ impl<S: Scheme<D>, D: Digest> Round<S, D> {
     ) -> Result<bool, AllocError>
         requires { round_in (subject_certified certificate.now) ≡ self.old.number }
         ensures step { IfOk result (λ answer. AfterCertificate (setting (S.meaning self.old.scheme) S.PublicKey.cmp S.Signature.eq D.eq self.old.number self.old.mode) self.old.holds certificate.now answer self.new.holds) }
+        ensures no_memory { ((kind : TheKind) → restored_with (setting (S.meaning self.old.scheme) S.PublicKey.cmp S.Signature.eq D.eq self.old.number self.old.mode) self.old.holds certificate.now kind ≡ []) → IsOk result }
         ensures refused { OnErr result (self.new ≡ self.old) }
         ensures same { (self.new.scheme ≡ self.old.scheme) × (self.new.number ≡ self.old.number) × (self.new.mode ≡ self.old.mode) }
     {
@@ -405,6 +409,7 @@ impl<S: Scheme<D>, D: Digest> Round<S, D> {
         rng: &mut R,
     ) -> Result<Option<Batch<Certificate<S::Certificate, D>>>, AllocError>
         ensures step { IfOk result (λ answer. AfterConstruct (setting (S.meaning self.old.scheme) S.PublicKey.cmp S.Signature.eq D.eq self.old.number self.old.mode) self.old.holds (R.stream rng.old) answer self.new.holds (R.stream rng.new)) }
+        ensures no_memory { kind_tried (setting (S.meaning self.old.scheme) S.PublicKey.cmp S.Signature.eq D.eq self.old.number self.old.mode) self.old.holds ≡ None → IsOk result }
         ensures certifies { IfOk result (λ answer. IfSome answer (λ batch. IfSome batch.certificate (λ certificate. certifies_itself (S.meaning self.old.scheme) certificate ≡ true))) }
         ensures refused { OnErr result (self.new ≡ self.old) }
         ensures same { (self.new.scheme ≡ self.old.scheme) × (self.new.number ≡ self.old.number) × (self.new.mode ≡ self.old.mode) }
@@ -426,7 +431,7 @@ impl<S: Scheme<D>, D: Digest> Round<S, D> {
     ) -> Result<Option<Batch<Certificate<S::Certificate, D>>>, AllocError>
         ensures ready { IfOk result (λ given. is_some given ≡ is_ready_in (setting (S.meaning self.old.scheme) S.PublicKey.cmp S.Signature.eq D.eq self.old.number self.old.mode) self.old.holds kind) }
         ensures tries { IfOk result (λ given. IfSome given (λ batch. TriesHeld (setting (S.meaning self.old.scheme) S.PublicKey.cmp S.Signature.eq D.eq self.old.number self.old.mode) self.old.holds kind (R.stream rng.old) batch self.new.holds (R.stream rng.new))) }
-        ensures none { OnOk result (is_ready_in (setting (S.meaning self.old.scheme) S.PublicKey.cmp S.Signature.eq D.eq self.old.number self.old.mode) self.old.holds kind ≡ false → (self.new ≡ self.old) × (R.stream rng.new ≡ R.stream rng.old)) }
+        ensures none { is_ready_in (setting (S.meaning self.old.scheme) S.PublicKey.cmp S.Signature.eq D.eq self.old.number self.old.mode) self.old.holds kind ≡ false → (IsOk result) × (self.new ≡ self.old) × (R.stream rng.new ≡ R.stream rng.old) }
         ensures certifies { IfOk result (λ given. IfSome given (λ batch. IfSome batch.certificate (λ certificate. certifies_itself (S.meaning self.old.scheme) certificate ≡ true))) }
         ensures refused { OnErr result (self.new ≡ self.old) }
         ensures same { (self.new.scheme ≡ self.old.scheme) × (self.new.number ≡ self.old.number) × (self.new.mode ≡ self.old.mode) }
@@ -526,26 +531,28 @@ fn take_in<S: Scheme<D>, D: Digest>(
     Ok(outcome)
 }
 
-// Makes room for the kept votes of a kind that come back where the proposal is fixed.
+// Makes room for the kept votes of a kind that come back where the proposal is fixed. Of a kind
+// that is completed, or certified before, none does.
 fn make_room_for<S: Scheme<D>, D: Digest>(
     verifier: &mut Verifier<S, D>,
     votes: &VoteTracker<S::Signature, D>,
     proposal: &Proposal<D>,
+    completed: Option<Kind>,
     kind: Kind,
 ) -> Result<(), AllocError>
-    ensures room { OnOk result (HasRoomFor D.eq verifier.old.holds.certified votes.now.holds.kept proposal.now verifier.new.pending_room kind) }
+    ensures room { OnOk result (is_some_and completed (is_kind kind) ≡ false → HasRoomFor D.eq verifier.old.holds.certified votes.now.holds.kept proposal.now verifier.new.pending_room kind) }
+    ensures no_memory { (is_some_and completed (is_kind kind) ≡ false → of_kind votes.now.holds.compacted kind ≡ false → HasRoomFor D.eq verifier.old.holds.certified votes.now.holds.kept proposal.now verifier.old.pending_room kind) → IsOk result }
     ensures holds { verifier.new.holds ≡ verifier.old.holds }
     ensures kept { KeepsRoom verifier.old.pending_room verifier.old.verified_room verifier.new.pending_room verifier.new.verified_room }
     ensures same { (verifier.new.scheme ≡ verifier.old.scheme) × (verifier.new.number ≡ verifier.old.number) × (verifier.new.quorum ≡ verifier.old.quorum) }
 {
-    if verifier.has_certificate(kind) {
+    if completed == Some(kind) || verifier.has_certificate(kind) {
         return Ok(());
     }
     verifier.make_room(kind, false, votes.count_for(kind, proposal))
 }
 
-// Makes room for all kept votes that come back where the proposal is fixed. Of a kind that is
-// completed none does.
+// Makes room for all kept votes that come back where the proposal is fixed.
 fn make_room_to_fix<S: Scheme<D>, D: Digest>(
     verifier: &mut Verifier<S, D>,
     votes: &VoteTracker<S::Signature, D>,
@@ -553,6 +560,7 @@ fn make_room_to_fix<S: Scheme<D>, D: Digest>(
     completed: Option<Kind>,
 ) -> Result<(), AllocError>
     ensures room { OnOk result ((fixed : TheProposal D) → proposal ≡ Some fixed → replaces D.eq verifier.old.holds.selection fixed ≡ true → (kind : TheKind) → has_proposals kind ≡ true → is_some_and completed (is_kind kind) ≡ false → HasRoomFor D.eq verifier.old.holds.certified votes.now.holds.kept fixed verifier.new.pending_room kind) }
+    ensures no_memory { ((fixed : TheProposal D) → proposal ≡ Some fixed → replaces D.eq verifier.old.holds.selection fixed ≡ true → (kind : TheKind) → has_proposals kind ≡ true → is_some_and completed (is_kind kind) ≡ false → of_kind votes.now.holds.compacted kind ≡ false → HasRoomFor D.eq verifier.old.holds.certified votes.now.holds.kept fixed verifier.old.pending_room kind) → IsOk result }
     ensures holds { verifier.new.holds ≡ verifier.old.holds }
     ensures kept { KeepsRoom verifier.old.pending_room verifier.old.verified_room verifier.new.pending_room verifier.new.verified_room }
     ensures same { (verifier.new.scheme ≡ verifier.old.scheme) × (verifier.new.number ≡ verifier.old.number) × (verifier.new.quorum ≡ verifier.old.quorum) }
@@ -563,13 +571,8 @@ fn make_room_to_fix<S: Scheme<D>, D: Digest>(
     if !verifier.replaces(&proposal) {
         return Ok(());
     }
-    if completed != Some(Kind::Notarization) {
-        make_room_for(verifier, votes, &proposal, Kind::Notarization)?;
-    }
-    if completed != Some(Kind::Finalization) {
-        make_room_for(verifier, votes, &proposal, Kind::Finalization)?;
-    }
-    Ok(())
+    make_room_for(verifier, votes, &proposal, completed, Kind::Notarization)?;
+    make_room_for(verifier, votes, &proposal, completed, Kind::Finalization)
 }
 
 // Makes all the room that an own vote needs, of which this outcome comes.
@@ -582,6 +585,7 @@ fn make_room_to_accept<S: Scheme<D>, D: Digest>(
     ensures to_fix { OnOk result ((proposal : TheProposal D) → fixed_by vote.now ≡ Some proposal → replaces D.eq verifier.old.holds.selection proposal ≡ true → (kind : TheKind) → has_proposals kind ≡ true → HasRoomFor D.eq verifier.old.holds.certified votes.old.holds.kept proposal verifier.new.pending_room kind) }
     ensures to_record { OnOk result (is_added outcome ≡ true → 1 ≤ votes.new.room) }
     ensures to_wait { OnOk result (is_kept outcome ≡ true → 1 ≤ of_kind verifier.new.verified_room (kind_of vote.now)) }
+    ensures no_memory { is_added outcome ≡ false → ((proposal : TheProposal D) → fixed_by vote.now ≡ Some proposal → replaces D.eq verifier.old.holds.selection proposal ≡ true → (kind : TheKind) → has_proposals kind ≡ true → of_kind votes.old.holds.compacted kind ≡ false → HasRoomFor D.eq verifier.old.holds.certified votes.old.holds.kept proposal verifier.old.pending_room kind) → IsOk result }
     ensures holds { verifier.new.holds ≡ verifier.old.holds }
     ensures votes { votes.new.holds ≡ votes.old.holds }
     ensures same { (verifier.new.scheme ≡ verifier.old.scheme) × (verifier.new.number ≡ verifier.old.number) × (verifier.new.quorum ≡ verifier.old.quorum) }

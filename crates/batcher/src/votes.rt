@@ -449,7 +449,8 @@ impl<G: Copy, D: Digest> VoteTracker<G, D> {
 
     /// How many of the kept votes of a kind wait with the proposal.
     pub(crate) fn count_for(&self, kind: Kind, proposal: &Proposal<D>) -> usize
-        ensures { result ≡ length (filter (waits D.eq (Some proposal.now)) (of_kind self.now.holds.kept kind)) }
+        ensures count { result ≡ length (filter (waits D.eq (Some proposal.now)) (of_kind self.now.holds.kept kind)) }
+        ensures none { of_kind self.now.holds.compacted kind ≡ true → result ≡ 0 }
     {
         if self.compacted.of(kind) {
             return 0;

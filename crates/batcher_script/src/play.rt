@@ -134,7 +134,30 @@ fn fresh_round<S: TestScheme>(
     }
 }
 
-/// Makes the calls in one run, and prints the answers up to the first for want of memory.
+/// The calls of a script, and what a run answers to them.
+#[derive(Drop)]
+struct Answered<C: Drop> {
+    calls: Vec<Call<Name, [u8; 32], C, Sha256Digest>>,
+    answers: Vec<Answer<[u8; 32], C, Sha256Digest>>,
+}
+
+/// Makes the calls in one run on a fresh round.
+fn answer_all<S: TestScheme>(
+    alloc: Global,
+    opening: &Opening,
+    commands: &[Command],
+) -> Result<Answered<S::Certificate>, AllocError>
+    requires { list_all (is_among opening.now.participants) commands.now ≡ true }
+{
+    let scheme = S::of(names(alloc, opening.participants)?);
+    let calls = calls_of(alloc, &scheme, opening.round, commands)?;
+    let scheme = Rc::new(alloc, scheme)?;
+    let round = fresh_round(alloc, opening, scheme);
+    let Ran { round: _, answers } = run(alloc, round, &mut Counter::new(0), calls.as_slice())?;
+    Ok(Answered { calls, answers })
+}
+
+/// Prints the answers up to the first for want of memory.
 fn print_answers<S: TestScheme, W: Write>(
     alloc: Global,
     opening: &Opening,
@@ -144,20 +167,14 @@ fn print_answers<S: TestScheme, W: Write>(
 ) -> Result<(), Stop>
     requires { list_all (is_among opening.now.participants) commands.now ≡ true }
 {
-    let scheme = S::of(names(alloc, opening.participants)?);
-    let calls = calls_of(alloc, &scheme, opening.round, commands)?;
-    let Ok(scheme) = Rc::new(alloc, scheme) else {
-        return Err(Stop::OutOfMemory);
-    };
-    let round = fresh_round(alloc, opening, scheme);
-    let Ran { round: _, answers } = run(alloc, round, &mut Counter::new(0), calls.as_slice())?;
-    let answers = answers.as_slice();
+    let answered = answer_all::<S>(alloc, opening, commands)?;
+    let calls = answered.calls.as_slice();
+    let answers = answered.answers.as_slice();
     for (place, answer) in answers.iter().enumerate() {
-        let before = &answers[..place];
-        print_blocked(alloc, calls.as_slice(), before, questions, output)?;
+        print_blocked(alloc, calls, &answers[..place], questions, output)?;
         print_answer(answer, output)?;
     }
-    print_blocked(alloc, calls.as_slice(), answers, questions, output)
+    print_blocked(alloc, calls, answers, questions, output)
 }
 
 /// Prints who is blocked by these answers, once for each question that stands behind as many.
@@ -199,5 +216,7 @@ fn print_answer<G: Drop, C: Drop, W: Write>(
     }
 }
 
+#[cfg(test)]
+mod memory;
 #[cfg(test)]
 mod tests;

@@ -29,159 +29,6 @@ const FIRST_RUN: [(&str, &str); 6] = [
     ("construct", "construct: none"),
 ];
 
-/// Whole scripts with what they print and their status.
-const SCRIPTS: [(&str, &str, u8); 9] = [
-    (
-        "round 5 9 3 releasing single
-net 1 1 notarize 4 ok
-net 1 1 notarize 5 ok
-net 7 1 nullify - ok
-net 2 1 finalize 4 ok
-net 1 1 nullify - ok
-net 1 1 finalize 4 ok
-net 1 1 nullify - bad
-net 1 1 notarize 4 bad
-construct
-bogus
-",
-        "round 5 9 participants 3 quorum 3
-net: added, block none, report notarize(1, 4)
-net: refused, block conflicting notarize, report conflicting-notarize(1, 4, 5)
-net: refused, block unknown participant, report none
-net: refused, block finalize signer mismatch, report none
-net: added, block none, report nullify(1)
-net: refused, block finalize after nullify, report nullify-finalize(1, 4)
-net: refused, block conflicting nullify, report none
-net: refused, block invalid signature, report none
-construct: processed 1, invalid [], certificate none, fallback no
-line 11: malformed
-",
-        2,
-    ),
-    (
-        "round 0 1 4 retaining keyed
-net 1 1 notarize 1 ok
-net 2 2 notarize 1 ok
-net 3 3 notarize 1 ok
-construct
-leader 1
-leader 1
-leader 2
-construct
-net 0 0 notarize 1 ok
-forward 1
-forward 3
-forward 3
-missing 1
-missing 2
-",
-        "round 0 1 participants 4 quorum 3
-net: added, block none, report notarize(1, 1)
-net: added, block none, report notarize(2, 1)
-net: added, block none, report notarize(3, 1)
-construct: none
-leader: ok
-leader: ok
-leader: refused leader changed within round
-construct: processed 3, invalid [], certificate notarization(1), fallback no
-net: added, block none, report notarize(0, 1)
-forward: none
-forward: 1
-forward: none
-missing: []
-missing: [0, 1, 2, 3]
-",
-        0,
-    ),
-    (
-        "round 0 1 4 skipped keyed
-net 1 1 notarize 1 ok
-net 1 1 notarize 2 ok
-net 1 1 nullify - ok
-net 1 1 finalize 1 ok
-missing 1
-forward 0
-construct
-",
-        "round 0 1 participants 4 quorum 3
-net: added, block none, report notarize(1, 1)
-net: refused, block none, report none
-net: added, block none, report nullify(1)
-net: refused, block finalize after nullify, report none
-missing: [0, 1, 2, 3]
-forward: none
-construct: none
-",
-        0,
-    ),
-    (
-        "round 0 1 4 releasing sealed
-net 0 0 nullify - ok
-net 1 1 nullify - ok
-net 2 2 nullify - ok
-net 3 3 nullify - bad
-construct
-",
-        "round 0 1 participants 4 quorum 3
-net: added, block none, report nullify(0)
-net: added, block none, report nullify(1)
-net: added, block none, report nullify(2)
-net: added, block none, report nullify(3)
-construct: processed 4, invalid [], certificate nullification, fallback no
-",
-        0,
-    ),
-    (
-        "round 0 1 4 releasing keyed
-leader 0
-net 0 0 notarize 1 ok
-net 1 1 finalize 1 ok
-net 2 2 finalize 1 ok
-net 3 3 finalize 1 ok
-net 2 2 finalize 2 ok
-construct
-net 2 2 finalize 2 ok
-net 3 3 nullify - ok
-",
-        "round 0 1 participants 4 quorum 3
-leader: ok
-net: added, block none, report notarize(0, 1)
-net: added, block none, report finalize(1, 1)
-net: added, block none, report finalize(2, 1)
-net: added, block none, report finalize(3, 1)
-net: refused, block conflicting finalize, report conflicting-finalize(2, 1, 2)
-construct: processed 3, invalid [], certificate finalization(1), fallback no
-net: refused, block conflicting finalize, report none
-net: refused, block nullify after finalize, report none
-",
-        0,
-    ),
-    (
-        "round 0 1 4 releasing keyed
-net 0 0 nullify - ok
-net 1 1 nullify - ok
-net 2 2 nullify - ok
-net 3 3 nullify - bad
-construct
-",
-        "round 0 1 participants 4 quorum 3
-net: added, block none, report nullify(0)
-net: added, block none, report nullify(1)
-net: added, block none, report nullify(2)
-net: added, block none, report nullify(3)
-construct: processed 4, invalid [3], certificate nullification, fallback yes
-",
-        0,
-    ),
-    (
-        "round 18446744073709551615 1 4 retaining keyed",
-        "round 18446744073709551615 1 participants 4 quorum 3\n",
-        0,
-    ),
-    ("# x\n\nconstruct", "line 3: malformed\n", 2),
-    ("# a\n\n \t \n#\r", "", 0),
-];
-
 /// Lines that are malformed as the first.
 const MALFORMED_FIRST: [&str; 7] = [
     "round 0 1 0 releasing keyed",
@@ -249,14 +96,6 @@ fn check(
 }
 
 #[test]
-fn plays_scripts(rt: HostRuntime) -> Result<(), Fail> {
-    for (script, output, status) in SCRIPTS {
-        check(&rt, rt.alloc(), script, output, status)?;
-    }
-    Ok(())
-}
-
-#[test]
 fn tells_malformed_lines(rt: HostRuntime) -> Result<(), Fail> {
     for line in MALFORMED_FIRST {
         check(&rt, rt.alloc(), line, "line 1: malformed\n", 2)?;
@@ -270,30 +109,6 @@ fn tells_malformed_lines(rt: HostRuntime) -> Result<(), Fail> {
     for (line, reply) in ANSWERED_NEXT {
         let script = format!(in rt.alloc(); "{round}\n{line}")?;
         let output = format!(in rt.alloc(); "{answer}\n{reply}\n")?;
-        check(&rt, rt.alloc(), script.as_str(), output.as_str(), 0)?;
-    }
-    Ok(())
-}
-
-#[test]
-fn plays_each_front_of_a_script(rt: HostRuntime) -> Result<(), Fail> {
-    let mut script = String::new(rt.alloc());
-    let mut output = String::new(rt.alloc());
-    let mut number = 0u8;
-    for (line, answer) in FIRST_RUN {
-        number = number.saturating_add(1);
-        let malformed = format!(in rt.alloc(); "{output}line {number}: malformed\n")?;
-        let mut front = script.clone()?;
-        for letter in line.chars() {
-            if front.len() > script.len() {
-                check(&rt, rt.alloc(), front.as_str(), malformed.as_str(), 2)?;
-            }
-            front.push(letter)?;
-        }
-        writeln!(output, "{answer}")?;
-        check(&rt, rt.alloc(), front.as_str(), output.as_str(), 0)?;
-        script = front;
-        script.push('\n')?;
         check(&rt, rt.alloc(), script.as_str(), output.as_str(), 0)?;
     }
     Ok(())

@@ -7,10 +7,11 @@ use Rattle.batcher.specs.declared.votes.Outcome.{Outcome}
 use Rattle.batcher.specs.Votes.{kind_of, signer_of, subject_of, attestation_of}
 use Rattle.batcher.specs.Selected.{proposal_of, fixes}
 use Rattle.batcher.specs.Held.{of_kind}
-use Rattle.batcher.specs.Tracking.{observed, observed_opposite, outcome_by, RecordsKind}
+use Rattle.batcher.specs.Tracking.{observed, observed_opposite, outcome_by, is_known, RecordsKind}
 use Rattle.batcher.specs.Buffering.{MayFix, AddsVote}
-use Rattle.batcher.specs.Steps.{fixed_by, is_kept}
-use Rattle.batcher.proofs.Owning.{err_only, in_range, result_is, may_fix_selects}
+use Rattle.batcher.specs.Steps.{fixed_by, is_added, is_kept}
+use Rattle.batcher.proofs.Rooms.{fixes_no_more}
+use Rattle.batcher.proofs.Owning.{err_only, ok_is, in_range, result_is, may_fix_selects, known_signer}
 use Rattle.batcher.proofs.round.Round.accept_vote.Goals as goal
 
 pub returns-in_err-make_room_to_accept-clause-fault : goal.returns-in_err-make_room_to_accept-clause-fault
@@ -51,3 +52,31 @@ returns-clause-step g c =
       tracked = tracked;
       buffered = subst (λ o. MatchBool (is_kept o) (AddsVote same fixed vote true c.take_in.new.verifier.holds) (c.take_in.new.verifier.holds ≡ fixed)) same_outcome c.in_ok-take_in.ensures.buffered;
     })
+
+pub returns-in_err-make_room_to_accept-clause-no_memory : goal.returns-in_err-make_room_to_accept-clause-no_memory
+returns-in_err-make_room_to_accept-clause-no_memory g c =
+    let b = c.self.inside in
+    let result = sym (rw (← c.self.view_is) at c.own_result.ensures) ∙ c.in_ok-outcome.was in
+    rw (← c.self.view_is)
+    (λ outcome is not_added.
+    let same = ok_is _ _ (sym result ∙ is) in
+    let wrong =
+    c.in_err-make_room_to_accept.ensures.no_memory (rw same not_added)
+    (λ fixed fixes_it takes kind has full.
+    fixes_no_more (g.S.Scheme.meaning b.verifier.scheme) g.D.PartialEq.eq b.votes b.verifier.holds b.verifier.quorum c.self.invariant fixed kind takes full _ (observed_opposite b.votes.holds c.args.vote) _ outcome c.args.vote fixes_it is not_added) in
+    absurd (cc))
+
+pub returns-in_err-take_in-clause-no_memory : goal.returns-in_err-take_in-clause-no_memory
+returns-in_err-take_in-clause-no_memory g c =
+    let held = c.self.inside.votes.holds in
+    let vote = c.args.vote in
+    rw (← c.self.view_is)
+    (λ outcome is not_added.
+    let told = result_is (observed_opposite held vote) (kind_of vote) _ outcome is in
+    let known = known_signer g.D.PartialEq.eq held _ vote (ap is_added (sym told) ∙ not_added) in
+    let wrong =
+    c.in_err-take_in.ensures.with_room
+    (λ unknown.
+    let other = ap (λ h. is_known h (signer_of vote)) (sym c.in_ok-make_room_to_accept.ensures.votes) ∙ unknown in
+    absurd (cc)) in
+    absurd (cc))

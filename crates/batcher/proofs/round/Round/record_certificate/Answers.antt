@@ -1,12 +1,15 @@
-use Rattle.std.proofs.Common.{◌≡◌, ◌∙◌, ◌&&◌, not, ap, subst, refl, true}
+use Rattle.std.proofs.Common.{◌≡◌, ◌∙◌, ◌&&◌, not, ap, subst, refl, true, is_some, sym}
 use Rattle.batcher.specs.declared.messages.Kind.{Kind}
-use Rattle.batcher.specs.declared.messages.Kind.TheVariants.{Notarization}
+use Rattle.batcher.specs.declared.messages.Kind.TheVariants.{Notarization, Finalization}
 use Rattle.batcher.specs.Votes.{is_kind, kind_certified}
 use Rattle.batcher.specs.Selected.{proposal_of, same_selected}
 use Rattle.batcher.specs.Tracking.{ReleasesKind, is_released_in}
 use Rattle.batcher.specs.Buffering.{MayFix, CompletesKind}
+use Rattle.batcher.specs.Setting.{setting}
 use Rattle.batcher.proofs.Owning.{right_certified}
+use Rattle.batcher.proofs.Rooms.{no_room_with}
 use Rattle.batcher.proofs.round.Round.record_certificate.Goals as goal
+use Rattle.batcher.proofs.Fixing.{finalization_for}
 
 pub invariant_of-self-2 : goal.invariant_of-self-2
 invariant_of-self-2 g c =
@@ -18,7 +21,8 @@ invariant_of-self-2 g c =
     let f = c.may_fix-changed.ensures in
     rw (f.same.0, c.record_certificate.ensures.same.0, made.same.0, f.same.2, c.record_certificate.ensures.same.2, made.same.2)
     (right_certified (g.S.Scheme.meaning b.verifier.scheme) same b.votes c.release.new.self b.verifier.holds c.record_certificate.new.self.holds c.may_fix-changed.new.verifier.holds b.verifier.quorum kind
-    c.proposal_certified-proposal.result _ c.self.invariant completes f.fixes f.within c.release.ensures.participants c.release.ensures.mode c.release.ensures.releases c.release.ensures.others)
+    c.proposal_certified-proposal.result _ c.self.invariant completes f.fixes f.within c.release.ensures.participants c.release.ensures.mode c.release.ensures.releases c.release.ensures.others
+    (λ h. ap is_some c.proposal_certified-proposal.ensures ∙ finalization_for c.args.certificate.now (ap (λ k. is_kind k Finalization) (sym c.kind-kind.ensures) ∙ h)))
 
 pub returns-clause-step : goal.returns-clause-step
 returns-clause-step g c =
@@ -46,3 +50,14 @@ returns-clause-step g c =
       fixes = subst (λ p. MayFix same completed b.votes.holds.kept p new) c.proposal_certified-proposal.ensures c.may_fix-changed.ensures.fixes;
       releases = releases;
     })
+
+pub returns-in_err-make_room_to_fix-clause-no_memory : goal.returns-in_err-make_room_to_fix-clause-no_memory
+returns-in_err-make_room_to_fix-clause-no_memory g c =
+    let b = c.self.inside in
+    let x = setting (g.S.Scheme.meaning b.verifier.scheme) g.S.PublicKey.Ord.cmp g.S.Signature.PartialEq.eq g.D.PartialEq.eq b.verifier.number b.votes.mode in
+    rw (← c.self.view_is)
+    (λ none.
+    let wrong =
+    c.in_err-make_room_to_fix.ensures.no_memory
+    (λ fixed is takes kind has own full. no_room_with x (record { tracked = b.votes.holds; buffered = b.verifier.holds; forwarded = b.forwarded }) fixed kind _ takes has c.args.certificate.now _ _ c.kind-kind.ensures c.proposal_certified-proposal.ensures is own (none kind)) in
+    absurd (cc))

@@ -4,6 +4,7 @@ use Rattle.batcher.specs.Setting.{setting}
 use Rattle.batcher.proofs.Constructing.{both, not_true}
 use Rattle.batcher.proofs.Settled.{right_without, right_given}
 use Rattle.batcher.proofs.round.Round.try_kind.Goals as goal
+use Rattle.batcher.proofs.Fixing.{made_for}
 
 pub invariant_of-self-in-Some-certificate : goal.invariant_of-self-in-Some-certificate
 invariant_of-self-in-Some-certificate g c =
@@ -17,6 +18,7 @@ invariant_of-self-in-Some-certificate g c =
     (right_given (g.S.Scheme.meaning b.verifier.scheme) b.verifier.number b.verifier.quorum b.verifier.holds c.try_construct.new.self.holds c.args.kind _ _ c.in-Some.batch tries
     (setting (g.S.Scheme.meaning c.try_construct.new.self.scheme) g.S.PublicKey.Ord.cmp g.S.Signature.PartialEq.eq g.D.PartialEq.eq c.try_construct.new.self.number Retaining)
     c.proposal_certified-proposal.result c.settle.new.verifier.holds b.votes c.release.new.self c.settle.ensures.fixes (ap is_some given)
+    (λ h. ap is_some c.proposal_certified-proposal.ensures ∙ made_for c.args.kind b.verifier.number _ tries.subject tries.outcome.certificate c.in-Some-certificate.certificate tries.subject_is (sym (ap (λ o. o.certificate) tries.batch_is) ∙ given) h)
     c.self.invariant c.release.ensures.mode c.release.ensures.participants was c.release.ensures.releases c.release.ensures.others)
 
 pub invariant_of-self-in_default-certificate : goal.invariant_of-self-in_default-certificate

@@ -1,0 +1,116 @@
+//! A call that is refused for memory changes nothing: the others are answered as in a run that
+//! never had it.
+//!
+//! As it stands this test refuses nothing. `tools/refuse` runs it with its first request for
+//! memory refused, then its second, and so on.
+
+use super::*;
+use std::test::Fail;
+
+/// Scripts in which later calls show what earlier ones have changed.
+const SCRIPTS: [&str; 3] = [
+    // A proposal takes another's place, and finalizes come back.
+    "round 0 1 4 retaining keyed
+leader 0
+net 0 0 notarize 1 ok
+net 1 1 finalize 2 ok
+net 2 2 finalize 2 ok
+net 3 3 finalize 2 ok
+cert notarization 2
+construct
+missing 2
+forward 3
+forward 3
+",
+    // One validator, with votes of its own.
+    "round 0 1 1 retaining keyed
+own 0 notarize 3
+own 0 notarize 3
+construct
+own 0 finalize 3
+own 0 nullify -
+own 0 nullify -
+construct
+construct
+construct
+",
+    // Each kind is tried in its turn.
+    "round 0 1 4 retaining keyed
+leader 0
+net 0 0 notarize 1 ok
+net 1 1 notarize 1 ok
+net 2 2 notarize 1 bad
+net 1 1 nullify - ok
+net 2 2 nullify - ok
+net 3 3 nullify - ok
+net 0 0 finalize 1 ok
+construct
+construct
+construct
+construct
+net 3 3 notarize 1 ok
+construct
+",
+];
+
+/// What is printed for an answer, and nothing where memory was refused to its call.
+fn printed<G: Drop, C: Drop>(
+    alloc: Global,
+    answer: &Answer<G, C, Sha256Digest>,
+) -> Result<Vec<u8>, AllocError> {
+    let mut line = Vec::new(alloc);
+    if let Answer::OutOfMemory = answer {
+        return Ok(line);
+    }
+    let mut output = Output::new(alloc, &mut line);
+    let told = print_answer(answer, &mut output).is_ok() && output.flush().is_ok();
+    drop(output);
+    if told { Ok(line) } else { Err(AllocError) }
+}
+
+/// What the calls of a script are answered.
+fn answers(alloc: Global, text: &str) -> Result<Vec<Vec<u8>>, AllocError> {
+    let script = Script::parse(alloc, text.as_bytes())?;
+    let mut lines = Vec::new(alloc);
+    if let Some(opening) = &script.lines.opening {
+        let commands = script.lines.commands.as_slice();
+        let answered = answer_all::<Keyed<true>>(alloc, opening, commands)?;
+        for answer in answered.answers.as_slice() {
+            lines.push(printed(alloc, answer)?)?;
+        }
+    }
+    Ok(lines)
+}
+
+/// The script without the call at a place. The first line makes none.
+fn without(alloc: Global, text: &str, place: usize) -> Result<String, AllocError> {
+    let mut left = String::new(alloc);
+    for (number, line) in text.lines().enumerate() {
+        if number != place.saturating_add(1) {
+            writeln!(left, "{line}")?;
+        }
+    }
+    Ok(left)
+}
+
+/// Whether the other calls are answered as in a run without the one that was refused, if one was.
+fn is_as_without(alloc: Global, text: &str) -> Result<bool, AllocError> {
+    let mut lines = match answers(alloc, text) {
+        Ok(lines) => lines,
+        Err(_) => answers(alloc, text)?,
+    };
+    let Some(place) = lines.as_slice().iter().position(|line| line.is_empty()) else {
+        return Ok(true);
+    };
+    lines.remove(place);
+    let others = answers(alloc, without(alloc, text, place)?.as_str())?;
+    Ok(lines.as_slice() == others.as_slice())
+}
+
+#[test]
+fn refused_calls_change_nothing(rt: HostRuntime) -> Result<(), Fail> {
+    for script in SCRIPTS {
+        assert!(rt; is_as_without(rt.alloc(), script)?, "{script}");
+    }
+    Ok(())
+}
