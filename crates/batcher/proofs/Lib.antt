@@ -12,6 +12,11 @@ pub mod Orders
 pub mod Owning
 pub mod Rooms
 pub mod Fixing
+pub mod Worked
+pub mod Apart
+pub mod Observing
+pub mod Fresh
+pub mod Naming
 pub mod Pairing
 pub mod Parts
 pub mod Quorums

@@ -1,5 +1,5 @@
 -- Lists, by counts and tests.
-use Rattle.std.specs.Prelude.{◌+◌, ◌≤◌, ℕ, Bool, true, false, cond, ◌==◌, List, [], ◌∷◌, Option, Some, None}
+use Rattle.std.specs.Prelude.{◌≡◌, ◌+◌, ◌≤◌, ℕ, Bool, true, false, cond, ◌==◌, List, [], ◌∷◌, Option, Some, None}
 
 -- how many elements pass the test
 abbrev pub count : {X : Type 0} → (X → Bool) → List X → ℕ
@@ -20,3 +20,11 @@ abbrev pub exactly_one : Bool → Bool → Bool
 exactly_one true true = false
 exactly_one true false = true
 exactly_one false b = b
+
+abbrev pub is_empty : {X : Type 0} → List X → Bool
+is_empty [] = true
+is_empty (x ∷ xs) = false
+
+-- the same elements, each as often, in some order
+abbrev pub SameElements : {X : Type 0} → List X → List X → Type 0
+SameElements {X} xs ys = (test : X → Bool) → count test xs ≡ count test ys

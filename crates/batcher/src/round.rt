@@ -13,7 +13,12 @@ ghost use Rattle.batcher.specs.Tracking.{nothing_tracked, shown, is_known, outco
 ghost use Rattle.batcher.specs.Buffering.{AddsVote, FixesProposal, MayFix};
 ghost use Rattle.batcher.specs.Sound.{HasRoomFor, KeepsRoom};
 ghost use Rattle.batcher.specs.Admissions.{refusal, mismatch_reason, admission_of};
-ghost use Rattle.batcher.specs.Steps.{nothing_held, has_block, missing_in, leader_set_answer, forward_answer, AfterLeader, AfterNetwork, admission, objection_to, admission_by, kind_tried, restored_with, selected_in, AfterConstruct, TriesHeld, Fixes, is_ready_in, IsRight, WaitsWhereKept, AfterOwn, own_result, fault_or_memory, fixed_by, opposite_fault, unopposed_result, report_by, is_added, is_kept, AfterCertificate};
+ghost use Rattle.batcher.specs.Steps.{nothing_held, has_block as has_block_held, missing_in, leader_set_answer, forward_answer, AfterLeader, AfterNetwork, admission, objection_to, admission_by, kind_tried, restored_with, selected_in, AfterConstruct, TriesHeld, Fixes, is_ready_in, IsRight, WaitsWhereKept, AfterOwn, own_result, fault_or_memory, fixed_by, opposite_fault, unopposed_result, report_by, is_added, is_kept, AfterCertificate};
+ghost use Rattle.batcher.specs.History.{History};
+ghost use Rattle.batcher.specs.Selection.{is_certified, leader_of};
+ghost use Rattle.batcher.specs.Comparison.{has_block};
+ghost use Rattle.batcher.specs.Answers.{keeps_nullify, missing_after, network_answer, own_answer, forward_after};
+ghost use Rattle.batcher.specs.Stands.{Stands};
 ghost use Rattle.batcher.specs.declared.messages.Proposal.{Proposal as TheProposal};
 ghost use Rattle.batcher.specs.declared.round.OwnFault.TheVariants.{OutOfMemory as OutOfMemoryFault};
 ghost use Rattle.batcher.specs.declared.votes.Outcome.TheVariants.{Added as AddedOutcome};
@@ -148,6 +153,7 @@ impl<S: Scheme<D>, D: Digest> Round<S, D> {
         ensures number { result.number ≡ round }
         ensures mode { result.mode ≡ (if track_historical_votes then Mode.Retaining else Mode.Releasing) }
         ensures holds { result.holds ≡ nothing_held result.mode }
+        ensures stands { Stands (setting (S.meaning result.scheme) S.PublicKey.cmp S.Signature.eq D.eq result.number result.mode) [] result.holds }
     {
         let votes = VoteTracker::new(alloc, scheme.participants().len(), track_historical_votes);
         Round::with_votes(alloc, round, scheme, votes)
@@ -161,6 +167,7 @@ impl<S: Scheme<D>, D: Digest> Round<S, D> {
         ensures number { result.number ≡ round }
         ensures mode { result.mode ≡ Mode.Skipped }
         ensures holds { result.holds ≡ nothing_held result.mode }
+        ensures stands { Stands (setting (S.meaning result.scheme) S.PublicKey.cmp S.Signature.eq D.eq result.number result.mode) [] result.holds }
     {
         let votes = VoteTracker::skipped(alloc, scheme.participants().len());
         Round::with_votes(alloc, round, scheme, votes)
@@ -215,14 +222,16 @@ impl<S: Scheme<D>, D: Digest> Round<S, D> {
 
     /// Whether a certificate of the kind is there.
     pub fn has_certificate(&self, kind: Kind) -> bool
-        ensures { result ≡ of_kind self.now.holds.buffered.certified kind }
+        ensures held { result ≡ of_kind self.now.holds.buffered.certified kind }
+        ensures meets { (past : History D S.PublicKey S.Signature S.Certificate) → Stands (setting (S.meaning self.now.scheme) S.PublicKey.cmp S.Signature.eq D.eq self.now.number self.now.mode) past self.now.holds → result ≡ is_certified past kind }
     {
         self.verifier.has_certificate(kind)
     }
 
     /// Whether a nullify of the signer is kept in full.
     pub fn has_nullify(&self, signer: Participant) -> bool
-        ensures { result ≡ is_some (kept_vote self.now.holds.tracked NullifyKind signer.0) }
+        ensures held { result ≡ is_some (kept_vote self.now.holds.tracked NullifyKind signer.0) }
+        ensures meets { (past : History D S.PublicKey S.Signature S.Certificate) → Stands (setting (S.meaning self.now.scheme) S.PublicKey.cmp S.Signature.eq D.eq self.now.number self.now.mode) past self.now.holds → result ≡ keeps_nullify (setting (S.meaning self.now.scheme) S.PublicKey.cmp S.Signature.eq D.eq self.now.number self.now.mode) past signer.0 }
     {
         self.votes.has_nullify(signer)
     }
@@ -230,15 +239,24 @@ impl<S: Scheme<D>, D: Digest> Round<S, D> {
     /// Whether the participant isn't known to have the proposal's block, which its notarize or
     /// finalize for it shows. An index out of range is of no one who has it.
     pub fn is_missing_voter(&self, proposal: &Proposal<D>, participant: Participant) -> bool
-        ensures { result ≡ not (has_block D.eq self.now.holds participant.0 proposal.now) }
+        ensures held { result ≡ not (has_block_held D.eq self.now.holds participant.0 proposal.now) }
+        ensures meets { (past : History D S.PublicKey S.Signature S.Certificate) → Stands (setting (S.meaning self.now.scheme) S.PublicKey.cmp S.Signature.eq D.eq self.now.number self.now.mode) past self.now.holds → result ≡ not (has_block (setting (S.meaning self.now.scheme) S.PublicKey.cmp S.Signature.eq D.eq self.now.number self.now.mode) past participant.0 proposal.now) }
     {
-        !self.votes.has_notarize_for(participant, proposal)
-            && !self.votes.has_finalize_for(participant, proposal)
+        !self.has_block(proposal, participant)
+    }
+
+    // Whether its notarize or its finalize shows that the participant has the proposal's block.
+    fn has_block(&self, proposal: &Proposal<D>, participant: Participant) -> bool
+        ensures { result ≡ has_block_held D.eq self.now.holds participant.0 proposal.now }
+    {
+        self.votes.has_notarize_for(participant, proposal)
+            || self.votes.has_finalize_for(participant, proposal)
     }
 
     /// The participants that aren't known to have the proposal's block, in ascending order.
     pub fn missing_voters(&self, proposal: &Proposal<D>) -> Result<Participants, AllocError>
-        ensures { IfOk result (λ list. list ≡ missing_in D.eq self.now.holds proposal.now (length (S.meaning self.now.scheme).participants)) }
+        ensures held { IfOk result (λ list. list ≡ missing_in D.eq self.now.holds proposal.now (length (S.meaning self.now.scheme).participants)) }
+        ensures meets { (past : History D S.PublicKey S.Signature S.Certificate) → Stands (setting (S.meaning self.now.scheme) S.PublicKey.cmp S.Signature.eq D.eq self.now.number self.now.mode) past self.now.holds → IfOk result (λ list. list ≡ missing_after (setting (S.meaning self.now.scheme) S.PublicKey.cmp S.Signature.eq D.eq self.now.number self.now.mode) past proposal.now) }
     {
         let participants = self.verifier.participants().len();
         let mut missing = Vec::with_capacity(self.verifier.alloc(), participants)?;
@@ -256,6 +274,7 @@ impl<S: Scheme<D>, D: Digest> Round<S, D> {
     /// The same leader again changes nothing; another one is refused.
     pub fn set_leader(&mut self, leader: Participant) -> Result<(), LeaderFault>
         ensures answer { result ≡ leader_set_answer self.old.holds.buffered.leader leader }
+        ensures named { (past : History D S.PublicKey S.Signature S.Certificate) → Stands (setting (S.meaning self.old.scheme) S.PublicKey.cmp S.Signature.eq D.eq self.old.number self.old.mode) past self.old.holds → result ≡ leader_set_answer (leader_of past) leader }
         ensures step { OnOk result (AfterLeader (setting (S.meaning self.old.scheme) S.PublicKey.cmp S.Signature.eq D.eq self.old.number self.old.mode) self.old.holds leader self.new.holds) }
         ensures refused { OnErr result (self.new ≡ self.old) }
         ensures same { (self.new.scheme ≡ self.old.scheme) × (self.new.number ≡ self.old.number) × (self.new.mode ≡ self.old.mode) }
@@ -268,6 +287,7 @@ impl<S: Scheme<D>, D: Digest> Round<S, D> {
     /// It takes no memory.
     pub fn try_forward_proposal(&mut self, me: Participant) -> Option<Proposal<D>>
         ensures answer { result ≡ forward_answer self.old.holds me }
+        ensures named { (past : History D S.PublicKey S.Signature S.Certificate) → Stands (setting (S.meaning self.old.scheme) S.PublicKey.cmp S.Signature.eq D.eq self.old.number self.old.mode) past self.old.holds → result ≡ forward_after (setting (S.meaning self.old.scheme) S.PublicKey.cmp S.Signature.eq D.eq self.old.number self.old.mode) past me }
         ensures holds { self.new.holds ≡ record self.old.holds { forwarded = is_some result || self.old.holds.forwarded } }
         ensures same { (self.new.scheme ≡ self.old.scheme) × (self.new.number ≡ self.old.number) × (self.new.mode ≡ self.old.mode) }
     {
@@ -292,6 +312,7 @@ impl<S: Scheme<D>, D: Digest> Round<S, D> {
     ) -> Result<Admission<S::Signature, D>, AllocError>
         requires { round_in (subject_of vote) ≡ self.old.number }
         ensures step { IfOk result (λ answer. AfterNetwork (setting (S.meaning self.old.scheme) S.PublicKey.cmp S.Signature.eq D.eq self.old.number self.old.mode) self.old.holds sender vote answer self.new.holds) }
+        ensures named { (past : History D S.PublicKey S.Signature S.Certificate) → Stands (setting (S.meaning self.old.scheme) S.PublicKey.cmp S.Signature.eq D.eq self.old.number self.old.mode) past self.old.holds → admission (setting (S.meaning self.old.scheme) S.PublicKey.cmp S.Signature.eq D.eq self.old.number self.old.mode) self.old.holds sender vote ≡ network_answer (setting (S.meaning self.old.scheme) S.PublicKey.cmp S.Signature.eq D.eq self.old.number self.old.mode) past sender vote }
         ensures no_memory { (admission (setting (S.meaning self.old.scheme) S.PublicKey.cmp S.Signature.eq D.eq self.old.number self.old.mode) self.old.holds sender vote).added ≡ false → IsOk result }
         ensures refused { OnErr result (self.new ≡ self.old) }
         ensures same { (self.new.scheme ≡ self.old.scheme) × (self.new.number ≡ self.old.number) × (self.new.mode ≡ self.old.mode) }
@@ -347,6 +368,7 @@ impl<S: Scheme<D>, D: Digest> Round<S, D> {
         requires belongs { round_in (subject_of vote) ≡ self.old.number }
         requires attests { (S.meaning self.old.scheme).attests (subject_of vote) (attestation_of vote) ≡ true }
         ensures step { IfOk result (λ answer. AfterOwn (setting (S.meaning self.old.scheme) S.PublicKey.cmp S.Signature.eq D.eq self.old.number self.old.mode) self.old.holds vote answer.0 answer.1 self.new.holds) }
+        ensures named { (past : History D S.PublicKey S.Signature S.Certificate) → Stands (setting (S.meaning self.old.scheme) S.PublicKey.cmp S.Signature.eq D.eq self.old.number self.old.mode) past self.old.holds → own_result (setting (S.meaning self.old.scheme) S.PublicKey.cmp S.Signature.eq D.eq self.old.number self.old.mode) self.old.holds vote ≡ own_answer (setting (S.meaning self.old.scheme) S.PublicKey.cmp S.Signature.eq D.eq self.old.number self.old.mode) past vote }
         ensures no_memory { (outcome : Outcome) → own_result (setting (S.meaning self.old.scheme) S.PublicKey.cmp S.Signature.eq D.eq self.old.number self.old.mode) self.old.holds vote ≡ Ok outcome → is_added outcome ≡ false → IsOk result }
         ensures fault { IfErr result (λ fault. fault ≡ fault_or_memory (own_result (setting (S.meaning self.old.scheme) S.PublicKey.cmp S.Signature.eq D.eq self.old.number self.old.mode) self.old.holds vote)) }
         ensures refused { OnErr result (self.new ≡ self.old) }

@@ -5,6 +5,7 @@ ghost use Rattle.std.specs.List.{list_any};
 ghost use Rattle.std.specs.List.Sorted.{IsStrictlySortedBy};
 ghost use Rattle.batcher.specs.Setting.{setting};
 ghost use Rattle.batcher.specs.Steps.{nothing_held};
+ghost use Rattle.batcher.specs.Examples.{WorkedExamples};
 ghost use Rattle.batcher.specs.Runs.{MayCall, Steps, Runs, certifies_answer, blocked_sender, blocked_senders};
 
 use crate::messages::{Activity, Certificate, Digest, Proposal, Vote};
@@ -116,6 +117,12 @@ fn step<S: Scheme<D>, D: Digest, R: CryptoRng>(
         },
     }
 }
+
+/// Does nothing. Its contract is the worked examples of `docs/DEFINITIONS.md`: what histories of
+/// small rounds name as answers, computed from the definitions.
+pub fn worked_examples()
+    ensures { WorkedExamples }
+{}
 
 /// The senders that the answers block, each once, in ascending order of keys.
 ///

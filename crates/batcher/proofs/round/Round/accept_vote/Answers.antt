@@ -10,6 +10,7 @@ use Rattle.batcher.specs.Held.{of_kind}
 use Rattle.batcher.specs.Tracking.{observed, observed_opposite, outcome_by, is_known, RecordsKind}
 use Rattle.batcher.specs.Buffering.{MayFix, AddsVote}
 use Rattle.batcher.specs.Steps.{fixed_by, is_added, is_kept}
+use Rattle.batcher.proofs.Naming.{own_same}
 use Rattle.batcher.proofs.Rooms.{fixes_no_more}
 use Rattle.batcher.proofs.Owning.{err_only, ok_is, in_range, result_is, may_fix_selects, known_signer}
 use Rattle.batcher.proofs.round.Round.accept_vote.Goals as goal
@@ -80,3 +81,15 @@ returns-in_err-take_in-clause-no_memory g c =
     let other = ap (λ h. is_known h (signer_of vote)) (sym c.in_ok-make_room_to_accept.ensures.votes) ∙ unknown in
     absurd (cc)) in
     absurd (cc))
+
+pub returns-in_err-outcome-clause-named : goal.returns-in_err-outcome-clause-named
+returns-in_err-outcome-clause-named g c = λ past stands. own_same _ past c.args.self.now.holds c.args.vote stands
+
+pub returns-in_err-make_room_to_accept-clause-named : goal.returns-in_err-make_room_to_accept-clause-named
+returns-in_err-make_room_to_accept-clause-named g c = λ past stands. own_same _ past c.args.self.now.holds c.args.vote stands
+
+pub returns-in_err-take_in-clause-named : goal.returns-in_err-take_in-clause-named
+returns-in_err-take_in-clause-named g c = λ past stands. own_same _ past c.args.self.now.holds c.args.vote stands
+
+pub returns-clause-named : goal.returns-clause-named
+returns-clause-named g c = λ past stands. own_same _ past c.args.self.now.holds c.args.vote stands

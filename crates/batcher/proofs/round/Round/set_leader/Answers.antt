@@ -1,5 +1,6 @@
 use Rattle.std.proofs.Common.{◌∙◌, ap, is_some, refl}
 use Rattle.batcher.specs.Buffering.{leader_answer}
+use Rattle.batcher.specs.Steps.{leader_set_answer}
 use Rattle.batcher.proofs.Right.{right_led, led_by}
 use Rattle.batcher.proofs.round.Round.set_leader.Goals as goal
 
@@ -15,3 +16,6 @@ returns-clause-answer g c =
     rw (← c.self.view_is)
     (c.set_leader.ensures.answer ∙ ap (λ o. leader_answer c.self.inside.verifier.holds.leader c.args.leader o) c.as_ref.ensures.value
     ∙ led_by c.self.inside.votes.holds c.self.inside.verifier.holds.leader c.args.leader c.notarize-notarize.result c.notarize-notarize.ensures)
+
+pub returns-clause-named : goal.returns-clause-named
+returns-clause-named g c = λ past stands. returns-clause-answer g c ∙ ap (λ l. leader_set_answer l c.args.leader) stands.leader_is

@@ -1,0 +1,33 @@
+-- The worked examples, computed.
+use Rattle.std.proofs.Common.{refl}
+use Rattle.batcher.specs.Examples.{WorkedExamples}
+use Rattle.batcher.specs.Keys.{index_of}
+
+pub worked : WorkedExamples
+unfolding index_of
+worked =
+    record {
+      conflict_in_a_retaining_round = refl;
+      conflict_in_a_skipped_round = refl;
+      conflict_in_a_releasing_round = refl;
+      finalizes_come_back = refl;
+      alone = refl;
+      alone_it_is_fixed = refl;
+      bad_vote_in_a_quorum = refl;
+      own_finalize_twice = refl;
+      own_finalize_twice_fixes_nothing = refl;
+      own_vote_after_release = refl;
+      mixed_proposals = refl;
+      mixed_proposals_wait = refl;
+      mixed_proposals_are_filtered = refl;
+      finalization_fixes = refl;
+      leader_named_late = refl;
+      own_finalize = refl;
+      own_finalize_waits = refl;
+      nullified = refl;
+      skipped = refl;
+      whole = refl;
+      own_notarizes_come_back = refl;
+      own_votes_apart = refl;
+      second_leader = refl;
+    }
