@@ -53,6 +53,10 @@ pub some_of : {X : Type 0} (o : Option X) → is_some o ≡ true → (v : X) × 
 some_of None h = cc
 some_of (Some v) h = (v, refl)
 
+pub where_holds : {X : Type 0} (test : X → Bool) (o : Option X) → is_some_and o test ≡ true → (v : X) × (o ≡ Some v) × (test v ≡ true)
+where_holds test None h = cc
+where_holds test (Some v) h = (v, refl, h)
+
 module _ {G D : Type 0} where
   -- the vote of a kind and signer among votes
   abbrev pub vote_at : List (Vote G D) → Kind → ℕ → Option (Vote G D)
@@ -124,6 +128,40 @@ module _ {G D : Type 0} where
   pub any_is_found : (vs : List (Vote G D)) (kind : Kind) (i : ℕ) → list_any (is_vote_of kind i) vs ≡ is_some (vote_at vs kind i)
   any_is_found [] kind i = refl
   any_is_found (v ∷ vs) kind i = grind (arith, any_is_found vs kind i)
+
+module _ {G D : Type 0} where
+  pub found_behind : (v : Vote G D) (vs : List (Vote G D)) (w : Vote G D) →
+      vote_at vs (kind_of v) (signer_of v) ≡ None → IsAt vs w → IsAt (v ∷ vs) w
+  found_behind v vs w apart found =
+      ⊎_elim
+      (λ here.
+      let k : kind_of v ≡ kind_of w = is_kind-true _ _ (and_parts _ _ here).0 in
+      let s : signer_of v ≡ signer_of w = eqb-true _ _ (and_parts _ _ here).1 in
+      let none : vote_at vs (kind_of w) (signer_of w) ≡ None = subst (λ (j : ℕ). vote_at vs (kind_of w) j ≡ None) s (subst (λ (l : Kind). vote_at vs l (signer_of v) ≡ None) k apart) in
+      let no : Some w ≡ None = sym found ∙ none in cc)
+      (λ other. rw other found)
+      (cases_Bool (is_vote_of (kind_of w) (signer_of w) v))
+
+  found_here : (v : Vote G D) (vs : List (Vote G D)) → IsAt (v ∷ vs) v
+  found_here v vs = rw (is_itself v) refl
+
+  -- Tests that agree at each vote that is found count alike,
+  pub count_agree : (p q : Vote G D → Bool) (vs : List (Vote G D)) → AreApart vs →
+      ((v : Vote G D) → IsAt vs v → p v ≡ q v) → count p vs ≡ count q vs
+  count_agree p q [] apart agree = refl
+  count_agree p q (v ∷ vs) apart agree =
+      let here : p v ≡ q v = agree v (found_here v vs) in
+      let rest : count p vs ≡ count q vs = count_agree p q vs apart.1 (λ w found. agree w (found_behind v vs w apart.0 found)) in
+      rw (here, rest) refl
+
+  -- and counts that add up at each such vote add up.
+  pub count_sum : (p q r : Vote G D → Bool) (vs : List (Vote G D)) → AreApart vs →
+      ((v : Vote G D) → IsAt vs v → cond (p v) 1 0 + cond (q v) 1 0 ≡ cond (r v) 1 0) → count p vs + count q vs ≡ count r vs
+  count_sum p q r [] apart sums = omega arith
+  count_sum p q r (v ∷ vs) apart sums =
+      let here : cond (p v) 1 0 + cond (q v) 1 0 ≡ cond (r v) 1 0 = sums v (found_here v vs) in
+      let rest : count p vs + count q vs ≡ count r vs = count_sum p q r vs apart.1 (λ w found. sums w (found_behind v vs w apart.0 found)) in
+      omega (arith, here, rest)
 
 not_excluded : (s k o : Bool) → (s && (k || o)) ≡ false → (k && s) ≡ false
 not_excluded true true o h = h

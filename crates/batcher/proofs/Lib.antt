@@ -29,3 +29,13 @@ pub mod Settled
 pub mod Soundness
 pub mod Trying
 pub mod Waits
+pub mod Laws
+pub mod Past
+pub mod Selecting
+pub mod Attempting
+pub mod Buffers
+pub mod Following
+pub mod Resting
+pub mod Returning
+pub mod Releasing
+pub mod Certified

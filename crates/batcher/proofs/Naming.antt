@@ -41,7 +41,7 @@ pub filter_false : {X : Type 0} (xs : List X) → filter (λ x. false) xs ≡ []
 filter_false [] = refl
 filter_false (x ∷ xs) = filter_false xs
 
-find_same : {X : Type 0} (p q : X → Bool) (xs : List X) → ((v : X) → p v ≡ q v) → find p xs ≡ find q xs
+pub find_same : {X : Type 0} (p q : X → Bool) (xs : List X) → ((v : X) → p v ≡ q v) → find p xs ≡ find q xs
 find_same p q [] same = refl
 find_same p q (x ∷ xs) same = rw (same x, find_same p q xs same) refl
 
@@ -100,12 +100,12 @@ unselected_pair : (a s o : Bool) → s ≡ false → (a && (s && o)) ≡ false
 unselected_pair true s o h = rw h refl
 unselected_pair false s o h = refl
 
-released_where : (mode : Mode) (certified : Bool) → is_skipped mode ≡ false → certified ≡ false → is_released_in mode certified ≡ false
+pub released_where : (mode : Mode) (certified : Bool) → is_skipped mode ≡ false → certified ≡ false → is_released_in mode certified ≡ false
 released_where Retaining certified by_new h = refl
 released_where Releasing certified by_new h = h
 released_where Skipped certified by_new h = absurd (cc)
 
-always_released : (mode : Mode) (certified : Bool) → is_skipped mode ≡ true → is_released_in mode certified ≡ true
+pub always_released : (mode : Mode) (certified : Bool) → is_skipped mode ≡ true → is_released_in mode certified ≡ true
 always_released Retaining certified h = absurd (cc)
 always_released Releasing certified h = absurd (cc)
 always_released Skipped certified h = refl
@@ -308,3 +308,4 @@ module _ {D K G C : Type 0} (x : Setting D K G C) where
       ap (λ b. cond (b || is_participant held.buffered.leader me) None (selected_in held)) stands.forwarded_is
       ∙ (ap (λ l. cond (was_forwarded past || is_participant l me) None (selected_in held)) stands.leader_is
       ∙ ap (λ s. cond (was_forwarded past || is_participant (leader_of past) me) None (proposal_of s)) stands.selection_is)
+-- x

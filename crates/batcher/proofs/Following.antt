@@ -1,0 +1,215 @@
+-- How what a history names goes on with one more event, piece by piece, and that a call which moves what is held so is followed.
+use Rattle.std.proofs.Common.{◌≡◌, ℕ, Bool, true, false, not, cond, ◌&&◌, ◌||◌, List, [], ◌∷◌, ◌++◌, length, map, Option, Some, None, refl, ap, sym, ◌∙◌, ⊎_elim}
+use Rattle.std.specs.Prelude.{filter, option_and_then}
+use Rattle.std.specs.List.{list_any}
+use Rattle.std.specs.Option.{option_or}
+use Rattle.std.proofs.lemmas.Bool.{cases_Bool, and_parts, false_from_ne_true}
+use Rattle.std.proofs.lemmas.List.Elements.{filter-append}
+use Rattle.batcher.specs.declared.messages.Proposal.{Proposal}
+use Rattle.batcher.specs.declared.messages.Vote.{Vote}
+use Rattle.batcher.specs.declared.messages.Kind.{Kind}
+use Rattle.batcher.specs.declared.run.Call.{Call}
+use Rattle.batcher.specs.declared.run.Answer.{Answer}
+use Rattle.batcher.specs.Setting.{Setting}
+use Rattle.batcher.specs.Lists.{count, SameElements, is_some_and, is_empty}
+use Rattle.batcher.specs.Votes.{is_kind, kind_of, signer_of, has_proposals, kind_certified, subject_certified, proposal_in, is_of_kind, is_vote_of, is_for, waits}
+use Rattle.batcher.specs.Selected.{proposal_of}
+use Rattle.batcher.specs.Held.{of_kind, Held}
+use Rattle.batcher.specs.Tracking.{is_skipped, is_released_in}
+use Rattle.batcher.specs.Runs.{MayCall}
+use Rattle.batcher.specs.History.{Event, History, is_made, cast_votes}
+use Rattle.batcher.specs.FirstVotes.{is_free, first_votes}
+use Rattle.batcher.specs.Selection.{selection_by, selection, selected_proposal, leader_of, leader_named, is_certified, certificate_of, finalized_by, fixed_proposal, fixing_evidence, leaders_proposal, was_forwarded, comes_back, is_released}
+use Rattle.batcher.specs.Comparison.{compared_votes, compared_votes_of, is_compared, is_compared_at_release}
+use Rattle.batcher.specs.Standing.{waiting_votes, is_trusted, stood_before, was_invalid, trials, fresh_votes, proven_votes}
+use Rattle.batcher.specs.Answers.{MayAnswer}
+use Rattle.batcher.specs.Stands.{Stands, Follows, TriesBuffers, first_by_signer, facts_of, pending_after, verified_after}
+use Rattle.batcher.proofs.Apart.{is_kind-true}
+use Rattle.batcher.proofs.Counts.{count-false, count_same, filter_all, empty_of_length, length_same}
+use Rattle.batcher.proofs.Naming.{compared_if_fixed}
+use Rattle.batcher.proofs.Past.{count_fresh, count_proven, closed_is_empty}
+use Rattle.batcher.proofs.Attempting.{option_cases}
+use Rattle.batcher.proofs.Laws.{HasLaws}
+use Rattle.batcher.proofs.Buffers.{pending_follow, verified_follow}
+
+pub or_nothing : {X : Type 0} (o : Option X) → option_or o None ≡ o
+or_nothing None = refl
+or_nothing (Some v) = refl
+
+never_waits : (k w n : Bool) → (k && (w && (n && not w))) ≡ false
+never_waits true true true = refl
+never_waits true true false = refl
+never_waits true false n = refl
+never_waits false w n = refl
+
+no_change : (h r s : Bool) → s ≡ r → (h && (not r && s)) ≡ false
+no_change true true s e = refl
+no_change true false s e = e
+no_change false r s e = refl
+
+same_where_none : {X : Type 0} (o o' : Option X) → is_some_and o (λ v. false) ≡ is_some_and o' (λ v. false)
+same_where_none None None = refl
+same_where_none None (Some b) = refl
+same_where_none (Some a) None = refl
+same_where_none (Some a) (Some b) = refl
+
+pub none_both : {X : Type 0} (p q : X → Bool) (xs : List X) → ((v : X) → p v ≡ true → q v ≡ false) → filter p (filter q xs) ≡ []
+none_both p q [] apart = refl
+none_both {X = X} p q (x ∷ xs) apart =
+    ⊎_elim
+    (λ e.
+    let other : p x ≡ false = false_from_ne_true _ (λ h. let no : false ≡ true = sym (apart x h) ∙ e in cc) in
+    let kept : filter q (x ∷ xs) ≡ x ∷ filter q xs = rw e refl in
+    let dropped : filter p (x ∷ filter q xs) ≡ filter p (filter q xs) = rw other refl in
+    ap (filter p) kept ∙ (dropped ∙ none_both p q xs apart))
+    (λ e. let gone : filter q (x ∷ xs) ≡ filter q xs = rw e refl in ap (filter p) gone ∙ none_both p q xs apart)
+    (cases_Bool (q x))
+
+module _ {D K G C : Type 0} (x : Setting D K G C) where
+  -- WHAT IS BUFFERED WAITS
+  waiting_buffer : (past : History D K G C) (kind : Kind) (votes model : List (Vote G D)) → SameElements votes model →
+      ((is_certified past kind || is_skipped x.mode) ≡ true → model ≡ [])
+      → ((is_certified past kind || is_skipped x.mode) ≡ false → count (λ v. not (waits x.same_digest (selected_proposal x past) v)) model ≡ 0)
+      → waiting_votes x past kind votes ≡ votes
+  waiting_buffer past kind votes model same closed_is open_is =
+      ⊎_elim
+      (λ closed.
+      let none : votes ≡ [] = empty_of_length votes (length_same votes model same ∙ ap length (closed_is closed)) in
+      let all : waiting_votes x past kind votes ≡ [] = rw closed refl in all ∙ sym none)
+      (λ still.
+      let all : waiting_votes x past kind votes ≡ filter (waits x.same_digest (selected_proposal x past)) votes = rw still refl in
+      all ∙ filter_all (waits x.same_digest (selected_proposal x past)) votes (same (λ v. not (waits x.same_digest (selected_proposal x past) v)) ∙ open_is still))
+      (cases_Bool (is_certified past kind || is_skipped x.mode))
+
+  pub pending_wait : (past : History D K G C) (held : Held G D) (kind : Kind) → Stands x past held → waiting_votes x past kind (of_kind held.buffered.pending kind) ≡ of_kind held.buffered.pending kind
+  pending_wait past held kind stands =
+      waiting_buffer past kind (of_kind held.buffered.pending kind) (fresh_votes x past kind) (stands.each_kind kind).pending_are (λ closed. (closed_is_empty x past kind closed).0)
+      (λ still. count_fresh x past kind (λ v. not (waits x.same_digest (selected_proposal x past) v)) still
+      ∙ (count_same _ (λ v. false) (first_votes x past) (λ v. never_waits (is_of_kind kind v) (waits x.same_digest (selected_proposal x past) v) (not (is_trusted x past v || stood_before (trials x past) v))) ∙ count-false (first_votes x past)))
+
+  pub verified_wait : (past : History D K G C) (held : Held G D) (kind : Kind) → Stands x past held → waiting_votes x past kind (of_kind held.buffered.verified kind) ≡ of_kind held.buffered.verified kind
+  verified_wait past held kind stands =
+      waiting_buffer past kind (of_kind held.buffered.verified kind) (proven_votes x past kind) (stands.each_kind kind).verified_are (λ closed. (closed_is_empty x past kind closed).1)
+      (λ still. count_proven x past kind (λ v. not (waits x.same_digest (selected_proposal x past) v)) still
+      ∙ (count_same _ (λ v. false) (first_votes x past) (λ v. never_waits (is_of_kind kind v) (waits x.same_digest (selected_proposal x past) v) ((is_trusted x past v || stood_before (trials x past) v) && not (was_invalid (trials x past) v))) ∙ count-false (first_votes x past)))
+
+  -- of a kind that is closed nothing is held
+  pub closed_pending : (past : History D K G C) (held : Held G D) (kind : Kind) → Stands x past held → (is_certified past kind || is_skipped x.mode) ≡ true → of_kind held.buffered.pending kind ≡ []
+  closed_pending past held kind stands closed =
+      empty_of_length _ (length_same _ (fresh_votes x past kind) (stands.each_kind kind).pending_are ∙ ap length (closed_is_empty x past kind closed).0)
+
+  pub closed_verified : (past : History D K G C) (held : Held G D) (kind : Kind) → Stands x past held → (is_certified past kind || is_skipped x.mode) ≡ true → of_kind held.buffered.verified kind ≡ []
+  closed_verified past held kind stands closed =
+      empty_of_length _ (length_same _ (proven_votes x past kind) (stands.each_kind kind).verified_are ∙ ap length (closed_is_empty x past kind closed).1)
+
+  module _ (past : History D K G C) (event : Event D K G C) where
+    -- WHAT GOES ON
+    pub certified_same : certificate_of event ≡ None → (kind : Kind) → is_certified (event ∷ past) kind ≡ is_certified past kind
+    certified_same none kind = ap (λ o. is_some_and o (λ c. is_kind (kind_certified c) kind) || is_certified past kind) none
+
+    pub released_same : (kind : Kind) → is_certified (event ∷ past) kind ≡ is_certified past kind → is_released x (event ∷ past) kind ≡ is_released x past kind
+    released_same kind same = ap (is_released_in x.mode) same
+
+    pub no_evidence : finalized_by event.0 ≡ None → certificate_of event ≡ None → fixing_evidence event ≡ None
+    no_evidence finalized none =
+        ap (λ o. option_or o (option_and_then (λ c. proposal_in (subject_certified c)) (certificate_of event))) finalized ∙ ap (λ o. option_and_then (λ c. proposal_in (subject_certified c)) o) none
+
+    pub fixed_same : fixing_evidence event ≡ None → fixed_proposal (event ∷ past) ≡ fixed_proposal past
+    fixed_same none = ap (option_or (fixed_proposal past)) none ∙ or_nothing (fixed_proposal past)
+
+    pub leader_same : leader_named event.0 ≡ None → leader_of (event ∷ past) ≡ leader_of past
+    leader_same none = ap (option_or (leader_of past)) none ∙ or_nothing (leader_of past)
+
+    pub none_back : fixing_evidence event ≡ None → (v : Vote G D) → comes_back x past event v ≡ false
+    none_back none v = rw none refl
+
+    pub no_firsts : cast_votes x event.0 ≡ [] → first_votes x (event ∷ past) ≡ first_votes x past
+    no_firsts casts = ap (λ votes. filter (is_free (first_votes x past)) votes ++ first_votes x past) casts
+
+    -- what is selected goes on with the leader, the first votes and the evidence
+    pub selection_goes : fixed_proposal (event ∷ past) ≡ fixed_proposal past → leaders_proposal x (event ∷ past) ≡ leaders_proposal x past → selection x (event ∷ past) ≡ selection x past
+    selection_goes fixed leaders = ap (λ f. selection_by f (leaders_proposal x (event ∷ past))) fixed ∙ ap (selection_by (fixed_proposal past)) leaders
+
+    -- Where a proposal was fixed before, it stays the selected one.
+    pub fixed_stays : (p : Proposal D) → fixed_proposal past ≡ Some p → selection x (event ∷ past) ≡ selection x past
+    fixed_stays p fixed =
+        ap (λ f. selection_by (option_or f (fixing_evidence event)) (leaders_proposal x (event ∷ past))) fixed ∙ ap (λ f. selection_by f (leaders_proposal x past)) (sym fixed)
+
+    nothing_released : (kind : Kind) (i : ℕ) → is_released x (event ∷ past) kind ≡ is_released x past kind → filter (is_vote_of kind i) (filter (is_compared_at_release x past event) (first_votes x past)) ≡ []
+    nothing_released kind i same =
+        none_both (is_vote_of kind i) (is_compared_at_release x past event) (first_votes x past)
+        (λ v of.
+        let k : kind_of v ≡ kind = is_kind-true _ _ (and_parts _ _ of).0 in
+        no_change (has_proposals (kind_of v)) (is_released x past (kind_of v)) (is_released x (event ∷ past) (kind_of v))
+        (ap (is_released x (event ∷ past)) k ∙ (same ∙ ap (is_released x past) (sym k))))
+
+    -- the compared votes of a kind and signer, where the event brings none
+    pub compared_goes : (kind : Kind) (i : ℕ) → filter (is_vote_of kind i) (filter (is_compared x past event) (cast_votes x event.0)) ≡ [] →
+        is_released x (event ∷ past) kind ≡ is_released x past kind → compared_votes_of x (event ∷ past) kind i ≡ compared_votes_of x past kind i
+    compared_goes kind i none same =
+        filter-append (is_vote_of kind i) (filter (is_compared x past event) (cast_votes x event.0)) (filter (is_compared_at_release x past event) (first_votes x past) ++ compared_votes x past)
+        ∙ (ap (λ vs. vs ++ filter (is_vote_of kind i) (filter (is_compared_at_release x past event) (first_votes x past) ++ compared_votes x past)) none
+        ∙ (filter-append (is_vote_of kind i) (filter (is_compared_at_release x past event) (first_votes x past)) (compared_votes x past)
+        ∙ ap (λ vs. vs ++ compared_votes_of x past kind i) (nothing_released kind i same)))
+
+    -- facts stay where the compared votes do, whatever the event selects
+    pub facts_stay : (kind : Kind) (i : ℕ) → compared_votes_of x (event ∷ past) kind i ≡ compared_votes_of x past kind i → facts_of x (event ∷ past) kind i ≡ facts_of x past kind i
+    facts_stay kind i same =
+        ap (λ votes. record { signer = i; has_compared = not (is_empty votes); has_matched = is_some_and (selected_proposal x (event ∷ past)) (λ p. list_any (is_for x.same_digest p) votes) }) same
+        ∙ ap (λ m. record { signer = i; has_compared = not (is_empty (compared_votes_of x past kind i)); has_matched = m })
+        (⊎_elim
+        (λ unfixed.
+        ap (λ votes. is_some_and (selected_proposal x (event ∷ past)) (λ p. list_any (is_for x.same_digest p) (filter (is_vote_of kind i) votes))) (compared_if_fixed x past unfixed)
+        ∙ (same_where_none (selected_proposal x (event ∷ past)) (selected_proposal x past)
+        ∙ ap (λ votes. is_some_and (selected_proposal x past) (λ p. list_any (is_for x.same_digest p) (filter (is_vote_of kind i) votes))) (sym (compared_if_fixed x past unfixed))))
+        (λ (fixed : (p : Proposal D) × (fixed_proposal past ≡ Some p)).
+        ap (λ s. is_some_and (proposal_of s) (λ p. list_any (is_for x.same_digest p) (compared_votes_of x past kind i))) (fixed_stays fixed.0 fixed.1))
+        (option_cases x (fixed_proposal past)))
+
+-- WHAT A CALL MOVES
+module _ {D K G C : Type 0} (x : Setting D K G C) where
+  -- of a kind, beside its buffers
+  pub record MovesKind (past : History D K G C) (event : Event D K G C) (new : Held G D) (kind : Kind) : Type 0 where
+    pub certified_is : of_kind new.buffered.certified kind ≡ is_certified (event ∷ past) kind
+    pub compacted_is : of_kind new.tracked.compacted kind ≡ is_released x (event ∷ past) kind
+    pub kept_are : of_kind new.tracked.kept kind ≡ cond (is_released x (event ∷ past) kind) [] (first_by_signer x (event ∷ past) kind)
+    pub facts_are :
+        of_kind new.tracked.facts kind
+        ≡ cond (is_released x (event ∷ past) kind) (map (λ v. facts_of x (event ∷ past) kind (signer_of v)) (first_by_signer x (event ∷ past) kind)) []
+
+  -- What is held after a call, by what the history with it names, and the buffers by those before.
+  pub record Moves (past : History D K G C) (old : Held G D) (call : Call K G C D) (answer : Answer G C D) (new : Held G D) : Type 0 where
+    pub allowed : MayCall x.meaning x.number call
+    pub made : is_made answer ≡ true
+    pub answered : MayAnswer x past call answer
+    pub leader_is : new.buffered.leader ≡ leader_of ((call, answer) ∷ past)
+    pub selection_is : new.buffered.selection ≡ selection x ((call, answer) ∷ past)
+    pub forwarded_is : new.forwarded ≡ was_forwarded ((call, answer) ∷ past)
+    pub kinds : (kind : Kind) → MovesKind past (call, answer) new kind
+    pub pending_are : (kind : Kind) → of_kind new.buffered.pending kind ≡ pending_after x past old (call, answer) kind
+    pub verified_are : (kind : Kind) → of_kind new.buffered.verified kind ≡ verified_after x past old (call, answer) kind
+    pub attempt : TriesBuffers x past old (call, answer)
+
+  -- Such a call is followed: the buffers hold the fresh and the proven votes of the longer history.
+  pub followed : HasLaws x → (past : History D K G C) (old : Held G D) (call : Call K G C D) (answer : Answer G C D) (new : Held G D) → Stands x past old → Moves past old call answer new →
+      Follows x past old (call, answer) new
+  followed lawful past old call answer new stands m =
+      record {
+        stands = record {
+          possible = (m.allowed, (m.made, (m.answered, stands.possible)));
+          leader_is = m.leader_is;
+          selection_is = m.selection_is;
+          forwarded_is = m.forwarded_is;
+          each_kind = λ kind. record {
+            certified_is = (m.kinds kind).certified_is;
+            compacted_is = (m.kinds kind).compacted_is;
+            kept_are = (m.kinds kind).kept_are;
+            facts_are = (m.kinds kind).facts_are;
+            pending_are = λ test. ap (count test) (m.pending_are kind) ∙ pending_follow x lawful past old call answer kind stands m.answered test;
+            verified_are = λ test. ap (count test) (m.verified_are kind) ∙ verified_follow x lawful past old call answer kind stands m.answered m.attempt test;
+          };
+        };
+        pending_are = m.pending_are;
+        verified_are = m.verified_are;
+        attempt = m.attempt;
+      }

@@ -1,0 +1,209 @@
+-- What is known of a kind's signers once it is released: `released_facts`, and `released_map` for all of them. For any event that
+-- casts nothing and releases the kind, the facts of a first vote's signer are those of the vote, compared with the selected proposal:
+--   released_facts : is_released x past kind ≡ false → is_released x (event ∷ past) kind ≡ true → cast_votes x event.0 ≡ []
+--     → (has_proposals kind ≡ true → is_some (selected_proposal x (event ∷ past)) ≡ true) → first_vote x past kind (signer_of v) ≡ Some v
+--     → facts_of x (event ∷ past) kind (signer_of v) ≡ facts_of_kept x.same_digest (selected_proposal x (event ∷ past)) v
+use Rattle.std.proofs.Common.{◌≡◌, ℕ, Bool, true, false, not, cond, ◌&&◌, ◌||◌, List, [], ◌∷◌, ◌++◌, map, Option, Some, None, refl, ap, sym, ◌∙◌, ⊎_elim, subst}
+use Rattle.std.specs.Prelude.{filter, is_some, is_none}
+use Rattle.std.specs.List.{All, list_any}
+use Rattle.std.proofs.lemmas.Bool.{cases_Bool, and_parts, eqb-true, false_from_ne_true}
+use Rattle.std.proofs.lemmas.List.Elements.{All-nil, All-cons, All-head, All-tail, All-weaker, filter-append}
+use Rattle.batcher.specs.declared.messages.Proposal.{Proposal}
+use Rattle.batcher.specs.declared.messages.Vote.{Vote}
+use Rattle.batcher.specs.declared.messages.Kind.{Kind}
+use Rattle.batcher.specs.declared.votes.Mode.{Mode}
+use Rattle.batcher.specs.declared.votes.Mode.TheVariants.{Retaining, Releasing, Skipped}
+use Rattle.batcher.specs.Setting.{Setting}
+use Rattle.batcher.specs.Ordered.{All-ordered}
+use Rattle.batcher.specs.Lists.{is_some_and, is_empty}
+use Rattle.batcher.specs.Votes.{kind_of, signer_of, has_proposals, is_of_kind, is_vote_of, is_for}
+use Rattle.batcher.specs.Held.{Facts}
+use Rattle.batcher.specs.Tracking.{is_released_in, no_facts, facts_of_kept}
+use Rattle.batcher.specs.History.{Event, History, cast_votes}
+use Rattle.batcher.specs.FirstVotes.{first_votes, first_vote, opposite_vote}
+use Rattle.batcher.specs.Selection.{selected_proposal, is_certified, is_released}
+use Rattle.batcher.specs.Comparison.{compared_votes, compared_votes_of, is_compared, is_compared_at_release}
+use Rattle.batcher.specs.Stands.{first_by_signer, facts_of}
+use Rattle.batcher.proofs.Apart.{AreApart, IsAt, vote_at, found_behind, found_is_of, firsts_apart, is_itself, is_kind-true}
+use Rattle.batcher.proofs.Counts.{append_nil}
+use Rattle.batcher.proofs.Following.{none_both}
+
+-- what releases a kind stays
+released_less : (mode : Mode) (now before : Bool) → is_released_in mode (now || before) ≡ false → is_released_in mode before ≡ false
+released_less Retaining now before h = refl
+released_less Releasing true before h = absurd (cc)
+released_less Releasing false before h = h
+released_less Skipped now before h = h
+
+not_compared : (h r s o : Bool) → r ≡ false → ((h && r) && (s && o)) ≡ false
+not_compared true r s o e = rw e refl
+not_compared false r s o e = refl
+
+not_at_release : (h r s : Bool) → s ≡ false → (h && (not r && s)) ≡ false
+not_at_release true true s e = refl
+not_at_release true false s e = e
+not_at_release false r s e = refl
+
+at_release : (h r s : Bool) → r ≡ false → s ≡ true → (h && (not r && s)) ≡ h
+at_release true r s e f = rw (e, f) refl
+at_release false r s e f = refl
+
+-- tests that agree where another holds
+filter_where : {X : Type 0} (p q : X → Bool) (xs : List X) → ((v : X) → p v ≡ true → q v ≡ true) → filter p (filter q xs) ≡ filter p xs
+filter_where p q [] within = refl
+filter_where {X = X} p q (x ∷ xs) within =
+    ⊎_elim
+    (λ e. let kept : filter q (x ∷ xs) ≡ x ∷ filter q xs = rw e refl in ap (filter p) kept ∙ ap (λ (ys : List X). cond (p x) (x ∷ ys) ys) (filter_where p q xs within))
+    (λ e.
+    let other : p x ≡ false = false_from_ne_true _ (λ h. let no : false ≡ true = sym e ∙ within x h in cc) in
+    let dropped : filter q (x ∷ xs) ≡ filter q xs = rw e refl in
+    let gone : filter p (x ∷ xs) ≡ filter p xs = rw other refl in
+    ap (filter p) dropped ∙ (filter_where p q xs within ∙ sym gone))
+    (cases_Bool (q x))
+
+map_where : {X Y : Type 0} (f g : X → Y) (xs : List X) → All (λ v. f v ≡ g v) xs → map f xs ≡ map g xs
+map_where f g [] same = refl
+map_where {Y = Y} f g (x ∷ xs) same =
+    ap (λ (y : Y). y ∷ map f xs) (All-head (λ v. f v ≡ g v) x xs same) ∙ ap (λ (ys : List Y). g x ∷ ys) (map_where f g xs (All-tail (λ v. f v ≡ g v) x xs same))
+
+module _ {G D : Type 0} where
+  none_at : (vs : List (Vote G D)) (kind : Kind) (i : ℕ) → vote_at vs kind i ≡ None → filter (is_vote_of kind i) vs ≡ []
+  none_at [] kind i h = refl
+  none_at (v ∷ vs) kind i h =
+      ⊎_elim
+      (λ here. let no : Some v ≡ None = subst (λ (b : Bool). cond b (Some v) (vote_at vs kind i) ≡ None) here h in cc)
+      (λ other.
+      let rest : vote_at vs kind i ≡ None = subst (λ (b : Bool). cond b (Some v) (vote_at vs kind i) ≡ None) other h in
+      let gone : filter (is_vote_of kind i) (v ∷ vs) ≡ filter (is_vote_of kind i) vs = rw other refl in
+      gone ∙ none_at vs kind i rest)
+      (cases_Bool (is_vote_of kind i v))
+
+  -- among votes apart there is one of a kind and signer
+  one_at : (vs : List (Vote G D)) (kind : Kind) (i : ℕ) (w : Vote G D) → AreApart vs → vote_at vs kind i ≡ Some w → filter (is_vote_of kind i) vs ≡ w ∷ []
+  one_at [] kind i w apart h = cc
+  one_at (v ∷ vs) kind i w apart h =
+      ⊎_elim
+      (λ here.
+      let k : kind_of v ≡ kind = is_kind-true _ _ (and_parts _ _ here).0 in
+      let s : signer_of v ≡ i = eqb-true _ _ (and_parts _ _ here).1 in
+      let behind : vote_at vs kind i ≡ None = subst (λ (j : ℕ). vote_at vs kind j ≡ None) s (subst (λ (l : Kind). vote_at vs l (signer_of v) ≡ None) k apart.0) in
+      let found : Some v ≡ Some w = subst (λ (b : Bool). cond b (Some v) (vote_at vs kind i) ≡ Some w) here h in
+      let same : v ≡ w = cc in
+      let kept : filter (is_vote_of kind i) (v ∷ vs) ≡ v ∷ filter (is_vote_of kind i) vs = rw here refl in
+      kept ∙ (ap (λ (us : List (Vote G D)). v ∷ us) (none_at vs kind i behind) ∙ ap (λ (u : Vote G D). u ∷ []) same))
+      (λ other.
+      let rest : vote_at vs kind i ≡ Some w = subst (λ (b : Bool). cond b (Some v) (vote_at vs kind i) ≡ Some w) other h in
+      let gone : filter (is_vote_of kind i) (v ∷ vs) ≡ filter (is_vote_of kind i) vs = rw other refl in
+      gone ∙ one_at vs kind i w apart.1 rest)
+      (cases_Bool (is_vote_of kind i v))
+
+  -- each of them is the one of its kind and signer
+  each_found : (vs : List (Vote G D)) → AreApart vs → All (IsAt vs) vs
+  each_found [] apart = All-nil (IsAt [])
+  each_found (v ∷ vs) apart =
+      All-cons (IsAt (v ∷ vs)) v vs (rw (is_itself v) refl)
+      (All-weaker (IsAt vs) (IsAt (v ∷ vs)) (λ w found. found_behind v vs w apart.0 found) vs (each_found vs apart.1))
+
+module _ {D K G C : Type 0} (x : Setting D K G C) where
+  -- Of a kind that isn't released nothing was compared.
+  pub none_released : (past : History D K G C) (kind : Kind) (i : ℕ) → is_released x past kind ≡ false → compared_votes_of x past kind i ≡ []
+  none_released [] kind i unreleased = refl
+  none_released (event ∷ past) kind i unreleased =
+      filter-append (is_vote_of kind i) (filter (is_compared x past event) (cast_votes x event.0)) (filter (is_compared_at_release x past event) (first_votes x past) ++ compared_votes x past)
+      ∙ (ap (λ vs. vs ++ filter (is_vote_of kind i) (filter (is_compared_at_release x past event) (first_votes x past) ++ compared_votes x past)) none_cast
+      ∙ (filter-append (is_vote_of kind i) (filter (is_compared_at_release x past event) (first_votes x past)) (compared_votes x past)
+      ∙ (ap (λ vs. vs ++ compared_votes_of x past kind i) none_now ∙ none_released past kind i before)))
+    where
+      before : is_released x past kind ≡ false
+      before = released_less x.mode _ (is_certified past kind) unreleased
+
+      none_cast : filter (is_vote_of kind i) (filter (is_compared x past event) (cast_votes x event.0)) ≡ []
+      none_cast =
+          none_both (is_vote_of kind i) (is_compared x past event) (cast_votes x event.0)
+          (λ v of.
+          let k : kind_of v ≡ kind = is_kind-true _ _ (and_parts _ _ of).0 in
+          not_compared (has_proposals (kind_of v)) (is_released x past (kind_of v)) (is_some (selected_proposal x (event ∷ past))) (is_none (opposite_vote x past v)) (ap (is_released x past) k ∙ before))
+
+      none_now : filter (is_vote_of kind i) (filter (is_compared_at_release x past event) (first_votes x past)) ≡ []
+      none_now =
+          none_both (is_vote_of kind i) (is_compared_at_release x past event) (first_votes x past)
+          (λ v of.
+          let k : kind_of v ≡ kind = is_kind-true _ _ (and_parts _ _ of).0 in
+          not_at_release (has_proposals (kind_of v)) (is_released x past (kind_of v)) (is_released x (event ∷ past) (kind_of v)) (ap (is_released x (event ∷ past)) k ∙ unreleased))
+
+module _ {D K G C : Type 0} (x : Setting D K G C) (past : History D K G C) (event : Event D K G C) (kind : Kind) (unreleased : is_released x past kind ≡ false) (released : is_released x (event ∷ past) kind ≡ true) (casts : cast_votes x event.0 ≡ []) where
+  released_only : (i : ℕ) → compared_votes_of x (event ∷ past) kind i ≡ filter (is_vote_of kind i) (filter (is_compared_at_release x past event) (first_votes x past))
+  released_only i =
+      filter-append (is_vote_of kind i) (filter (is_compared x past event) (cast_votes x event.0)) (filter (is_compared_at_release x past event) (first_votes x past) ++ compared_votes x past)
+      ∙ (ap (λ vs. filter (is_vote_of kind i) (filter (is_compared x past event) vs) ++ filter (is_vote_of kind i) (filter (is_compared_at_release x past event) (first_votes x past) ++ compared_votes x past)) casts
+      ∙ (filter-append (is_vote_of kind i) (filter (is_compared_at_release x past event) (first_votes x past)) (compared_votes x past)
+      ∙ (ap (λ vs. filter (is_vote_of kind i) (filter (is_compared_at_release x past event) (first_votes x past)) ++ vs) (none_released x past kind i unreleased)
+      ∙ append_nil (filter (is_vote_of kind i) (filter (is_compared_at_release x past event) (first_votes x past))))))
+
+  compares : (v : Vote G D) → kind_of v ≡ kind → is_compared_at_release x past event v ≡ has_proposals kind
+  compares v k =
+      at_release (has_proposals (kind_of v)) (is_released x past (kind_of v)) (is_released x (event ∷ past) (kind_of v)) (ap (is_released x past) k ∙ unreleased) (ap (is_released x (event ∷ past)) k ∙ released)
+      ∙ ap has_proposals k
+
+  -- votes with proposals are compared at the release, and nullifies never
+  compared_now : (v : Vote G D) → has_proposals kind ≡ true → first_vote x past kind (signer_of v) ≡ Some v → compared_votes_of x (event ∷ past) kind (signer_of v) ≡ v ∷ []
+  compared_now v has found =
+      released_only (signer_of v)
+      ∙ (filter_where (is_vote_of kind (signer_of v)) (is_compared_at_release x past event) (first_votes x past) (λ w of. compares w (is_kind-true _ _ (and_parts _ _ of).0) ∙ has)
+      ∙ one_at (first_votes x past) kind (signer_of v) v (firsts_apart x past) found)
+
+  compared_never : (i : ℕ) → has_proposals kind ≡ false → compared_votes_of x (event ∷ past) kind i ≡ []
+  compared_never i has =
+      released_only i
+      ∙ none_both (is_vote_of kind i) (is_compared_at_release x past event) (first_votes x past) (λ w of. compares w (is_kind-true _ _ (and_parts _ _ of).0) ∙ has)
+
+  abbrev facts_by : ℕ → Option (Proposal D) → List (Vote G D) → Facts
+  facts_by i selected votes =
+      record { signer = i; has_compared = not (is_empty votes); has_matched = is_some_and selected (λ p. list_any (is_for x.same_digest p) votes) }
+
+  facts_with_one : (v : Vote G D) (selected : Option (Proposal D)) → has_proposals (kind_of v) ≡ true → is_some selected ≡ true → facts_by (signer_of v) selected (v ∷ []) ≡ facts_of_kept x.same_digest selected v
+  facts_with_one v None has some = cc
+  facts_with_one v (Some p) has some =
+      ap (λ b. cond b (facts_by (signer_of v) (Some p) (v ∷ [])) (no_facts (signer_of v))) (sym has)
+
+  facts_without : (v : Vote G D) (selected : Option (Proposal D)) → has_proposals (kind_of v) ≡ false → facts_by (signer_of v) selected [] ≡ facts_of_kept x.same_digest selected v
+  facts_without v None has = refl
+  facts_without v (Some p) has =
+      ap (λ b. cond b (facts_by (signer_of v) (Some p) (v ∷ [])) (no_facts (signer_of v))) (sym has)
+
+  -- The facts of a first vote's signer are those of the vote.
+  pub released_facts : (has_proposals kind ≡ true → is_some (selected_proposal x (event ∷ past)) ≡ true) → (v : Vote G D) → first_vote x past kind (signer_of v) ≡ Some v →
+      facts_of x (event ∷ past) kind (signer_of v) ≡ facts_of_kept x.same_digest (selected_proposal x (event ∷ past)) v
+  released_facts selected v found =
+      let k : kind_of v ≡ kind = is_kind-true _ _ (and_parts _ _ (found_is_of (first_votes x past) kind (signer_of v) v found)).0 in
+      ⊎_elim
+      (λ has. ap (facts_by (signer_of v) (selected_proposal x (event ∷ past))) (compared_now v has found) ∙ facts_with_one v (selected_proposal x (event ∷ past)) (ap has_proposals k ∙ has) (selected has))
+      (λ has. ap (facts_by (signer_of v) (selected_proposal x (event ∷ past))) (compared_never (signer_of v) has) ∙ facts_without v (selected_proposal x (event ∷ past)) (ap has_proposals k ∙ has))
+      (cases_Bool (has_proposals kind))
+
+  found_of_kind : (v : Vote G D) → is_of_kind kind v ≡ true → IsAt (first_votes x past) v → first_vote x past kind (signer_of v) ≡ Some v
+  found_of_kind v of found = subst (λ (l : Kind). first_vote x past l (signer_of v) ≡ Some v) (is_kind-true (kind_of v) kind of) found
+
+  abbrev agrees : Vote G D → Type 0
+  agrees v = facts_of x (event ∷ past) kind (signer_of v) ≡ facts_of_kept x.same_digest (selected_proposal x (event ∷ past)) v
+
+  -- and so for all first votes of the kind
+  pub released_map : (has_proposals kind ≡ true → is_some (selected_proposal x (event ∷ past)) ≡ true) →
+      map (λ v. facts_of x (event ∷ past) kind (signer_of v)) (first_by_signer x past kind) ≡ map (facts_of_kept x.same_digest (selected_proposal x (event ∷ past))) (first_by_signer x past kind)
+  released_map selected =
+      map_where (λ v. facts_of x (event ∷ past) kind (signer_of v)) (facts_of_kept x.same_digest (selected_proposal x (event ∷ past))) (first_by_signer x past kind)
+      (All-ordered signer_of agrees (filter (is_of_kind kind) (first_votes x past)) (both_filtered (first_votes x past) (each_found (first_votes x past) (firsts_apart x past))))
+    where
+      both_filtered : (vs : List (Vote G D)) → All (IsAt (first_votes x past)) vs → All agrees (filter (is_of_kind kind) vs)
+      both_filtered [] all = All-nil agrees
+      both_filtered (v ∷ vs) all =
+          let rest = both_filtered vs (All-tail (IsAt (first_votes x past)) v vs all) in
+          ⊎_elim
+          (λ of.
+          let kept : filter (is_of_kind kind) (v ∷ vs) ≡ v ∷ filter (is_of_kind kind) vs = rw of refl in
+          subst (λ (us : List (Vote G D)). All agrees us) (sym kept)
+          (All-cons agrees v (filter (is_of_kind kind) vs) (released_facts selected v (found_of_kind v of (All-head (IsAt (first_votes x past)) v vs all))) rest))
+          (λ other.
+          let gone : filter (is_of_kind kind) (v ∷ vs) ≡ filter (is_of_kind kind) vs = rw other refl in
+          subst (λ (us : List (Vote G D)). All agrees us) (sym gone) rest)
+          (cases_Bool (is_of_kind kind v))
