@@ -1,6 +1,11 @@
 -- Calls that cast no vote and bring no certificate: a leader, a proposal that is handed on, and a question.
 use Rattle.std.proofs.Common.{◌≡◌, ℕ, Bool, true, false, cond, ◌&&◌, ◌||◌, List, [], ◌∷◌, ◌++◌, map, Option, Some, None, refl, ap, sym, ◌∙◌, subst}
-use Rattle.std.specs.Prelude.{filter, find, is_some, IfSome, option_and_then, Ok, MatchBool}
+use Rattle.batcher.specs.declared.messages.Notarize.{Notarize}
+use Rattle.batcher.specs.declared.messages.Vote.TheVariants.{Notarize as NotarizeVote}
+use Rattle.batcher.specs.declared.verifier.LeaderFault.{LeaderFault}
+use Rattle.batcher.specs.Held.{Buffered}
+use Rattle.std.specs.Option.{option_map}
+use Rattle.std.specs.Prelude.{Err, Result, OnOk, OnErr, filter, find, is_some, IfSome, option_and_then, Ok, MatchBool}
 use Rattle.std.specs.Option.{option_or}
 use Rattle.batcher.specs.declared.positions.Participant.{Participant}
 use Rattle.batcher.specs.declared.messages.Proposal.{Proposal}
@@ -29,7 +34,7 @@ use Rattle.batcher.specs.Comparison.{is_compared}
 use Rattle.batcher.specs.Standing.{waiting_votes, ready_kind}
 use Rattle.batcher.specs.Trying.{Attempt, left_verified}
 use Rattle.batcher.specs.Answers.{MayAnswer}
-use Rattle.batcher.specs.Stands.{Stands, Follows, TriesBuffers, first_by_signer, facts_of, arrivals, pending_after, verified_after}
+use Rattle.batcher.specs.Stands.{Meets, Stands, Follows, TriesBuffers, first_by_signer, facts_of, arrivals, pending_after, verified_after}
 use Rattle.batcher.specs.Ascending.{ordered_by}
 use Rattle.batcher.proofs.Counts.{append_nil}
 use Rattle.batcher.proofs.Observing.{filter_same, kept_is_first, missing_same}
@@ -271,3 +276,28 @@ module _ {D K G C : Type 0} (x : Setting D K G C) (lawful : HasLaws x) where
 
               certified : (kind : Kind) → of_kind new.buffered.certified kind ≡ is_certified ((LeaderCall leader, LeaderAnswer (Ok tt)) ∷ past) kind
               certified kind = (s.buffers kind).certified ∙ (stands.each_kind kind).certified_is
+
+  -- A leader that is refused changes nothing.
+  pub leader_meets : (past : History D K G C) (old : Held G D) (leader : Participant) (result : Result (Unit {0}) LeaderFault) (new : Buffered G D) → Stands x past old →
+      result ≡ leader_set_answer old.buffered.leader leader → OnOk result (AfterLeader x old leader (record old { buffered = new })) → OnErr result (new ≡ old.buffered)
+      → Meets x past old (LeaderCall leader, LeaderAnswer result) (record old { buffered = new })
+  leader_meets past old leader (Ok done) new stands named step refused = leader_follows past old (record old { buffered = new }) leader stands named step
+  leader_meets past old leader (Err fault) new stands named step refused = ap (λ b. record old { buffered = b }) refused
+
+-- what setting a leader changes, by what its kept notarize is
+pub leader_step : {D K G C : Type 0} (x : Setting D K G C) (held : Held G D) (leader : Participant) (kept : Option (Notarize G D)) (result : Result (Unit {0}) LeaderFault) (new : Buffered G D) →
+    option_map NotarizeVote kept ≡ kept_vote held.tracked Notarization leader.0
+    → (is_some held.buffered.leader ≡ true → new ≡ held.buffered)
+    → (is_some held.buffered.leader ≡ false → OnOk result (SetsLeader x.same_digest held.buffered leader (option_map (λ vote. vote.proposal) kept) new))
+    → OnOk result (AfterLeader x held leader (record { tracked = held.tracked; buffered = new; forwarded = held.forwarded }))
+leader_step x held leader kept (Err fault) new is again sets = tt
+leader_step {D = D} {G = G} x held leader kept (Ok done) new is again sets =
+    record { tracked = refl; forwarded = refl; buffered = by_known (is_some held.buffered.leader) refl }
+  where
+    proposals : (o : Option (Notarize G D)) → option_map (λ vote. vote.proposal) o ≡ option_proposal (option_map NotarizeVote o)
+    proposals None = refl
+    proposals (Some vote) = refl
+
+    by_known : (known : Bool) → is_some held.buffered.leader ≡ known → MatchBool known (new ≡ held.buffered) (SetsLeader x.same_digest held.buffered leader (option_proposal (kept_vote held.tracked Notarization leader.0)) new)
+    by_known true e = again e
+    by_known false e = subst (λ p. SetsLeader x.same_digest held.buffered leader p new) (proposals kept ∙ ap option_proposal is) (sets e)

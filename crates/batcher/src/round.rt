@@ -17,8 +17,10 @@ ghost use Rattle.batcher.specs.Steps.{nothing_held, has_block as has_block_held,
 ghost use Rattle.batcher.specs.History.{History};
 ghost use Rattle.batcher.specs.Selection.{is_certified, leader_of};
 ghost use Rattle.batcher.specs.Comparison.{has_block};
-ghost use Rattle.batcher.specs.Answers.{keeps_nullify, missing_after, network_answer, own_answer, forward_after};
-ghost use Rattle.batcher.specs.Stands.{Stands};
+ghost use Rattle.batcher.specs.Answers.{keeps_nullify, network_answer, own_answer};
+ghost use Rattle.batcher.specs.declared.run.Call.TheVariants.{Leader as LeaderCall, Forward as ForwardCall, Missing as MissingCall, Certificate as CertificateCall};
+ghost use Rattle.batcher.specs.declared.run.Answer.TheVariants.{Leader as LeaderAnswer, Forward as ForwardAnswer, Missing as MissingAnswer, Certificate as CertificateAnswer};
+ghost use Rattle.batcher.specs.Stands.{Stands, Follows, Meets};
 ghost use Rattle.batcher.specs.declared.messages.Proposal.{Proposal as TheProposal};
 ghost use Rattle.batcher.specs.declared.round.OwnFault.TheVariants.{OutOfMemory as OutOfMemoryFault};
 ghost use Rattle.batcher.specs.declared.votes.Outcome.TheVariants.{Added as AddedOutcome};
@@ -256,7 +258,7 @@ impl<S: Scheme<D>, D: Digest> Round<S, D> {
     /// The participants that aren't known to have the proposal's block, in ascending order.
     pub fn missing_voters(&self, proposal: &Proposal<D>) -> Result<Participants, AllocError>
         ensures held { IfOk result (λ list. list ≡ missing_in D.eq self.now.holds proposal.now (length (S.meaning self.now.scheme).participants)) }
-        ensures meets { (past : History D S.PublicKey S.Signature S.Certificate) → Stands (setting (S.meaning self.now.scheme) S.PublicKey.cmp S.Signature.eq D.eq self.now.number self.now.mode) past self.now.holds → IfOk result (λ list. list ≡ missing_after (setting (S.meaning self.now.scheme) S.PublicKey.cmp S.Signature.eq D.eq self.now.number self.now.mode) past proposal.now) }
+        ensures meets { (past : History D S.PublicKey S.Signature S.Certificate) → Stands (setting (S.meaning self.now.scheme) S.PublicKey.cmp S.Signature.eq D.eq self.now.number self.now.mode) past self.now.holds → IfOk result (λ list. Follows (setting (S.meaning self.now.scheme) S.PublicKey.cmp S.Signature.eq D.eq self.now.number self.now.mode) past self.now.holds (MissingCall proposal.now, MissingAnswer list) self.now.holds) }
     {
         let participants = self.verifier.participants().len();
         let mut missing = Vec::with_capacity(self.verifier.alloc(), participants)?;
@@ -275,6 +277,7 @@ impl<S: Scheme<D>, D: Digest> Round<S, D> {
     pub fn set_leader(&mut self, leader: Participant) -> Result<(), LeaderFault>
         ensures answer { result ≡ leader_set_answer self.old.holds.buffered.leader leader }
         ensures named { (past : History D S.PublicKey S.Signature S.Certificate) → Stands (setting (S.meaning self.old.scheme) S.PublicKey.cmp S.Signature.eq D.eq self.old.number self.old.mode) past self.old.holds → result ≡ leader_set_answer (leader_of past) leader }
+        ensures meets { (past : History D S.PublicKey S.Signature S.Certificate) → Stands (setting (S.meaning self.old.scheme) S.PublicKey.cmp S.Signature.eq D.eq self.old.number self.old.mode) past self.old.holds → Meets (setting (S.meaning self.old.scheme) S.PublicKey.cmp S.Signature.eq D.eq self.old.number self.old.mode) past self.old.holds (LeaderCall leader, LeaderAnswer result) self.new.holds }
         ensures step { OnOk result (AfterLeader (setting (S.meaning self.old.scheme) S.PublicKey.cmp S.Signature.eq D.eq self.old.number self.old.mode) self.old.holds leader self.new.holds) }
         ensures refused { OnErr result (self.new ≡ self.old) }
         ensures same { (self.new.scheme ≡ self.old.scheme) × (self.new.number ≡ self.old.number) × (self.new.mode ≡ self.old.mode) }
@@ -287,7 +290,7 @@ impl<S: Scheme<D>, D: Digest> Round<S, D> {
     /// It takes no memory.
     pub fn try_forward_proposal(&mut self, me: Participant) -> Option<Proposal<D>>
         ensures answer { result ≡ forward_answer self.old.holds me }
-        ensures named { (past : History D S.PublicKey S.Signature S.Certificate) → Stands (setting (S.meaning self.old.scheme) S.PublicKey.cmp S.Signature.eq D.eq self.old.number self.old.mode) past self.old.holds → result ≡ forward_after (setting (S.meaning self.old.scheme) S.PublicKey.cmp S.Signature.eq D.eq self.old.number self.old.mode) past me }
+        ensures meets { (past : History D S.PublicKey S.Signature S.Certificate) → Stands (setting (S.meaning self.old.scheme) S.PublicKey.cmp S.Signature.eq D.eq self.old.number self.old.mode) past self.old.holds → Follows (setting (S.meaning self.old.scheme) S.PublicKey.cmp S.Signature.eq D.eq self.old.number self.old.mode) past self.old.holds (ForwardCall me, ForwardAnswer result) self.new.holds }
         ensures holds { self.new.holds ≡ record self.old.holds { forwarded = is_some result || self.old.holds.forwarded } }
         ensures same { (self.new.scheme ≡ self.old.scheme) × (self.new.number ≡ self.old.number) × (self.new.mode ≡ self.old.mode) }
     {
@@ -409,6 +412,7 @@ impl<S: Scheme<D>, D: Digest> Round<S, D> {
     ) -> Result<bool, AllocError>
         requires { round_in (subject_certified certificate.now) ≡ self.old.number }
         ensures step { IfOk result (λ answer. AfterCertificate (setting (S.meaning self.old.scheme) S.PublicKey.cmp S.Signature.eq D.eq self.old.number self.old.mode) self.old.holds certificate.now answer self.new.holds) }
+        ensures meets { (past : History D S.PublicKey S.Signature S.Certificate) → Stands (setting (S.meaning self.old.scheme) S.PublicKey.cmp S.Signature.eq D.eq self.old.number self.old.mode) past self.old.holds → IfOk result (λ answer. Follows (setting (S.meaning self.old.scheme) S.PublicKey.cmp S.Signature.eq D.eq self.old.number self.old.mode) past self.old.holds (CertificateCall certificate.now, CertificateAnswer answer) self.new.holds) }
         ensures no_memory { ((kind : TheKind) → restored_with (setting (S.meaning self.old.scheme) S.PublicKey.cmp S.Signature.eq D.eq self.old.number self.old.mode) self.old.holds certificate.now kind ≡ []) → IsOk result }
         ensures refused { OnErr result (self.new ≡ self.old) }
         ensures same { (self.new.scheme ≡ self.old.scheme) × (self.new.number ≡ self.old.number) × (self.new.mode ≡ self.old.mode) }

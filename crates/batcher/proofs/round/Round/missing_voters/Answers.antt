@@ -1,8 +1,10 @@
-use Rattle.std.proofs.Common.{◌≡◌, ◌∙◌, ◌∷◌, [], length, ap, sym, arith, length-append}
+use Rattle.std.proofs.Common.{refl, ◌≡◌, ◌∙◌, ◌∷◌, [], length, ap, sym, arith, length-append}
 use Rattle.batcher.specs.Held.{Held}
 use Rattle.batcher.specs.Steps.{missing_in}
 use Rattle.batcher.proofs.Missing.{missing_one, missing_none}
-use Rattle.batcher.proofs.Observing.{missing_same}
+use Rattle.batcher.specs.Setting.{setting}
+use Rattle.batcher.proofs.Laws.{HasLaws}
+use Rattle.batcher.proofs.Resting.{missing_follows}
 use Rattle.batcher.proofs.round.Round.missing_voters.Goals as goal
 use Rattle.batcher.proofs.round.Round.missing_voters.Goals.{then-is_missing_voter, else-is_missing_voter}
 
@@ -27,7 +29,9 @@ returns-clause-meets g c =
     let ended : c.loop-index.index ≡ c.len-participants.result = omega (arith, test, end) in
     let all = ended ∙ c.len-participants.ensures.count ∙ ap length c.participants.ensures in
     let b = c.self.inside in
+    let x = setting (g.S.Scheme.meaning b.verifier.scheme) g.S.PublicKey.Ord.cmp g.S.Signature.PartialEq.eq g.D.PartialEq.eq b.verifier.number b.votes.mode in
+    let laws : HasLaws x = record { scheme = g.met.S.Scheme.lawful b.verifier.scheme; some_participant = c.self.invariant.some; digests_equal = g.met.D.Digest.identical; digests_same = g.met.D.Eq.laws.refl } in
     let held : Held g.row.S-Signature.Denot g.row.D.Denot = record { tracked = b.votes.holds; buffered = b.verifier.holds; forwarded = b.forwarded } in
     let found = rw (← c.self.view_is) at c.loop-index.invariant.found in
     rw (← c.self.view_is)
-    (λ past stands. c.from.ensures ∙ found ∙ ap (missing_in g.D.PartialEq.eq held c.args.proposal.now) all ∙ missing_same _ past held c.args.proposal.now stands)
+    (λ past stands. missing_follows x laws past held held c.args.proposal.now c.from.result stands (c.from.ensures ∙ found ∙ ap (missing_in g.D.PartialEq.eq held c.args.proposal.now) all) refl)

@@ -6,6 +6,9 @@ use Rattle.batcher.specs.Selected.{proposal_of, same_selected}
 use Rattle.batcher.specs.Tracking.{ReleasesKind, is_released_in}
 use Rattle.batcher.specs.Buffering.{MayFix, CompletesKind}
 use Rattle.batcher.specs.Setting.{setting}
+use Rattle.batcher.specs.Held.{Held}
+use Rattle.batcher.proofs.Laws.{HasLaws}
+use Rattle.batcher.proofs.Certified.{certificate_follows}
 use Rattle.batcher.proofs.Owning.{right_certified}
 use Rattle.batcher.proofs.Rooms.{no_room_with}
 use Rattle.batcher.proofs.round.Round.record_certificate.Goals as goal
@@ -50,6 +53,16 @@ returns-clause-step g c =
       fixes = subst (λ p. MayFix same completed b.votes.holds.kept p new) c.proposal_certified-proposal.ensures c.may_fix-changed.ensures.fixes;
       releases = releases;
     })
+
+pub returns-clause-meets : goal.returns-clause-meets
+returns-clause-meets g c =
+    let b = c.self.inside in
+    let x = setting (g.S.Scheme.meaning b.verifier.scheme) g.S.PublicKey.Ord.cmp g.S.Signature.PartialEq.eq g.D.PartialEq.eq b.verifier.number b.votes.mode in
+    let laws : HasLaws x = record { scheme = g.met.S.Scheme.lawful b.verifier.scheme; some_participant = c.self.invariant.some; digests_equal = g.met.D.Digest.identical; digests_same = g.met.D.Eq.laws.refl } in
+    let held : Held g.row.S-Signature.Denot g.row.D.Denot = record { tracked = b.votes.holds; buffered = b.verifier.holds; forwarded = b.forwarded } in
+    let step = rw (← c.self.view_is) at (returns-clause-step g c) in
+    let allowed = rw (← c.self.view_is) at c.requires in
+    rw (← c.self.view_is) (λ past stands. certificate_follows x laws past held c.args.certificate.now _ _ stands step allowed)
 
 pub returns-in_err-make_room_to_fix-clause-no_memory : goal.returns-in_err-make_room_to_fix-clause-no_memory
 returns-in_err-make_room_to_fix-clause-no_memory g c =
