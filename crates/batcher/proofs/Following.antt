@@ -47,7 +47,7 @@ no_change true true s e = refl
 no_change true false s e = e
 no_change false r s e = refl
 
-same_where_none : {X : Type 0} (o o' : Option X) → is_some_and o (λ v. false) ≡ is_some_and o' (λ v. false)
+pub same_where_none : {X : Type 0} (o o' : Option X) → is_some_and o (λ v. false) ≡ is_some_and o' (λ v. false)
 same_where_none None None = refl
 same_where_none None (Some b) = refl
 same_where_none (Some a) None = refl
@@ -135,7 +135,7 @@ module _ {D K G C : Type 0} (x : Setting D K G C) where
     fixed_stays p fixed =
         ap (λ f. selection_by (option_or f (fixing_evidence event)) (leaders_proposal x (event ∷ past))) fixed ∙ ap (λ f. selection_by f (leaders_proposal x past)) (sym fixed)
 
-    nothing_released : (kind : Kind) (i : ℕ) → is_released x (event ∷ past) kind ≡ is_released x past kind → filter (is_vote_of kind i) (filter (is_compared_at_release x past event) (first_votes x past)) ≡ []
+    pub nothing_released : (kind : Kind) (i : ℕ) → is_released x (event ∷ past) kind ≡ is_released x past kind → filter (is_vote_of kind i) (filter (is_compared_at_release x past event) (first_votes x past)) ≡ []
     nothing_released kind i same =
         none_both (is_vote_of kind i) (is_compared_at_release x past event) (first_votes x past)
         (λ v of.

@@ -39,3 +39,8 @@ pub mod Resting
 pub mod Returning
 pub mod Releasing
 pub mod Certified
+pub mod Histories
+pub mod Memory
+pub mod Arriving
+pub mod Casting
+pub mod Taking

@@ -45,11 +45,11 @@ pub find_same : {X : Type 0} (p q : X → Bool) (xs : List X) → ((v : X) → p
 find_same p q [] same = refl
 find_same p q (x ∷ xs) same = rw (same x, find_same p q xs same) refl
 
-find_never : {X : Type 0} (xs : List X) → find (λ x. false) xs ≡ None
+pub find_never : {X : Type 0} (xs : List X) → find (λ x. false) xs ≡ None
 find_never [] = refl
 find_never (x ∷ xs) = find_never xs
 
-and_swap : (a b c : Bool) → b ≡ c → (a && b) ≡ (c && a)
+pub and_swap : (a b c : Bool) → b ≡ c → (a && b) ≡ (c && a)
 and_swap true true c h = h ∙ and_true c
   where
     and_true : (b : Bool) → b ≡ (b && true)
@@ -63,17 +63,17 @@ and_swap true false c h = h ∙ and_true c
 and_swap false b true h = refl
 and_swap false b false h = refl
 
-against_nullify : (k : Kind) → are_opposite k Nullification ≡ is_kind k Finalization
+pub against_nullify : (k : Kind) → are_opposite k Nullification ≡ is_kind k Finalization
 against_nullify Notarization = refl
 against_nullify Nullification = refl
 against_nullify Finalization = refl
 
-against_finalize : (k : Kind) → are_opposite k Finalization ≡ is_kind k Nullification
+pub against_finalize : (k : Kind) → are_opposite k Finalization ≡ is_kind k Nullification
 against_finalize Notarization = refl
 against_finalize Nullification = refl
 against_finalize Finalization = refl
 
-against_notarize : (k : Kind) → are_opposite k Notarization ≡ false
+pub against_notarize : (k : Kind) → are_opposite k Notarization ≡ false
 against_notarize Notarization = refl
 against_notarize Nullification = refl
 against_notarize Finalization = refl

@@ -82,7 +82,7 @@ module _ {D K G C : Type 0} (x : Setting D K G C) where
   nullify_for_none kind p (FinalizeVote v) of has = let k : kind_of (FinalizeVote v) ≡ kind = is_kind-true _ _ of in let no : true ≡ false = ap has_proposals k ∙ has in absurd (cc)
 
   -- Replacing puts the proposal in the place of the leader's.
-  replaced_is : (s : ProposalState D) (p : Proposal D) → replaces x.same_digest s p ≡ true → proposal_of (fixes s (Some p)) ≡ Some p
+  pub replaced_is : (s : ProposalState D) (p : Proposal D) → replaces x.same_digest s p ≡ true → proposal_of (fixes s (Some p)) ≡ Some p
   replaced_is Unknown p h = absurd (cc)
   replaced_is (LeadersProposal e) p h = refl
   replaced_is (FixedProposal e) p h = absurd (cc)

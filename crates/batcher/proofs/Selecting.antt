@@ -39,6 +39,12 @@ rebuilt epoch view parent payload = record { round = record { epoch = record { 0
 rebuilt_same : {D : Type 0} (a b : ℕ) (c d : ℕ) (e f : ℕ) (g h : D) → a ≡ b → c ≡ d → e ≡ f → g ≡ h → rebuilt a c e g ≡ rebuilt b d f h
 rebuilt_same a b c d e f g h p q r s = ap (λ n. rebuilt n c e g) p ∙ (ap (λ n. rebuilt b n e g) q ∙ (ap (λ n. rebuilt b d n g) r ∙ ap (λ n. rebuilt b d f n) s))
 
+-- a vote for a proposal is of a kind with proposals
+pub for_has_proposals : {G D : Type 0} (same : D → D → Bool) (p : Proposal D) (v : Vote G D) → is_for same p v ≡ true → has_proposals (kind_of v) ≡ true
+for_has_proposals same p (NotarizeVote v) h = refl
+for_has_proposals same p (NullifyVote v) h = absurd (cc)
+for_has_proposals same p (FinalizeVote v) h = refl
+
 module _ {D K G C : Type 0} (x : Setting D K G C) (lawful : HasLaws x) where
   -- the same proposal is an equal one
   pub proposals_equal : (p q : Proposal D) → same_proposal x.same_digest p q ≡ true → p ≡ q
@@ -56,11 +62,6 @@ module _ {D K G C : Type 0} (x : Setting D K G C) (lawful : HasLaws x) where
   for_one p q (NotarizeVote v) h k = proposals_equal p v.proposal h ∙ sym (proposals_equal q v.proposal k)
   for_one p q (NullifyVote v) h k = cc
   for_one p q (FinalizeVote v) h k = proposals_equal p v.proposal h ∙ sym (proposals_equal q v.proposal k)
-
-  pub for_has_proposals : (p : Proposal D) (v : Vote G D) → is_for x.same_digest p v ≡ true → has_proposals (kind_of v) ≡ true
-  for_has_proposals p (NotarizeVote v) h = refl
-  for_has_proposals p (NullifyVote v) h = cc
-  for_has_proposals p (FinalizeVote v) h = refl
 
   -- the leader's proposal stays
   pub leaders_stays : (past : History D K G C) (event : Event D K G C) (p : Proposal D) → leaders_proposal x past ≡ Some p → leaders_proposal x (event ∷ past) ≡ Some p
@@ -156,7 +157,7 @@ module _ {D K G C : Type 0} (x : Setting D K G C) (lawful : HasLaws x) where
   pub back_not_counted : (past : History D K G C) (event : Event D K G C) (v : Vote G D) → comes_back x past event v ≡ true → is_counted x (leaders_proposal x past) v ≡ false
   back_not_counted past event v h =
       let c = comes_back_by past event v h in
-      let has : has_proposals (kind_of v) ≡ true = for_has_proposals c.replaced.later v c.is_new in
+      let has : has_proposals (kind_of v) ≡ true = for_has_proposals x.same_digest c.replaced.later v c.is_new in
       let other : is_for x.same_digest c.replaced.earlier v ≡ false = not_for_both c.replaced.earlier c.replaced.later v c.replaced.differs c.is_new in
       ap (λ o. is_counted x o v) c.replaced.was ∙ rw (has, other) refl
 

@@ -1,6 +1,7 @@
 -- What may be answered to a call after a history.
 use Rattle.std.specs.Prelude.{◌≡◌, ℕ, Bool, true, false, not, cond, ◌&&◌, ◌||◌, ◌==◌, List, [], ◌∷◌, Option, Some, None, is_some, is_none, Result, Ok, Err, filter, map, ⊤}
 use Rattle.std.specs.List.{range_with_len}
+use Rattle.std.specs.Result.{result_ok}
 use Rattle.batcher.specs.declared.positions.Participant.{Participant}
 use Rattle.batcher.specs.declared.messages.Proposal.{Proposal}
 use Rattle.batcher.specs.declared.messages.Vote.{Vote}
@@ -16,17 +17,18 @@ use Rattle.batcher.specs.declared.votes.Outcome.TheVariants.{Added, Duplicate, C
 use Rattle.batcher.specs.declared.run.Call.{Call}
 use Rattle.batcher.specs.declared.run.Call.TheVariants.{Network as NetworkCall, Own as OwnCall, Certificate as CertificateCall, Leader as LeaderCall, Construct as ConstructCall, Forward as ForwardCall, Missing as MissingCall}
 use Rattle.batcher.specs.declared.run.Answer.{Answer}
-use Rattle.batcher.specs.declared.run.Answer.TheVariants.{Network as NetworkAnswer, Own as OwnAnswer, OwnRefused, Certificate as CertificateAnswer, Leader as LeaderAnswer, Construct as ConstructAnswer, Forward as ForwardAnswer, Missing as MissingAnswer}
+use Rattle.batcher.specs.declared.run.Answer.TheVariants.{OutOfMemory, Network as NetworkAnswer, Own as OwnAnswer, OwnRefused, Certificate as CertificateAnswer, Leader as LeaderAnswer, Construct as ConstructAnswer, Forward as ForwardAnswer, Missing as MissingAnswer}
 use Rattle.batcher.specs.Setting.{Setting, participants_in, sender_in}
 use Rattle.batcher.specs.Keys.{participant}
 use Rattle.batcher.specs.Votes.{kind_of, signer_of}
 use Rattle.batcher.specs.Selected.{replaces}
 use Rattle.batcher.specs.Admissions.{addition, refusal, block_for, mismatch_reason, conflict_reason, admission_after, admission_after_facts, admission_beside}
-use Rattle.batcher.specs.Steps.{is_participant, leader_set_answer, opposite_fault, unopposed_result, report_by}
+use Rattle.batcher.specs.Steps.{is_added, is_participant, leader_set_answer, opposite_fault, unopposed_result, report_by}
 use Rattle.batcher.specs.Runs.{MayCall}
-use Rattle.batcher.specs.History.{History, is_made}
+use Rattle.batcher.specs.Lists.{is_empty, is_some_and}
+use Rattle.batcher.specs.History.{History, is_made, history_after}
 use Rattle.batcher.specs.FirstVotes.{first_vote, first_like, opposite_vote}
-use Rattle.batcher.specs.Selection.{leader_of, was_forwarded, selection, selected_proposal, is_released}
+use Rattle.batcher.specs.Selection.{leader_of, was_forwarded, selection, selected_proposal, is_released, votes_restored_by}
 use Rattle.batcher.specs.Comparison.{conflicts, has_block}
 use Rattle.batcher.specs.Standing.{ready_kind}
 use Rattle.batcher.specs.Trying.{AttemptAfter}
@@ -110,3 +112,25 @@ module _ {D K G C : Type 0} (x : Setting D K G C) where
   IsPossible [] = ⊤
   IsPossible (event ∷ past) =
       MayCall x.meaning x.number event.0 × ((is_made event.1 ≡ true) × (MayAnswer past event.0 event.1 × IsPossible past))
+
+  -- Whether a call may need memory: a vote that is added, a certificate with which votes come back, a batch, and a list of participants.
+  abbrev pub needs_memory : History D K G C → Call K G C D → Bool
+  needs_memory past (NetworkCall sender vote) = (network_answer past sender vote).added
+  needs_memory past (OwnCall vote) = is_some_and (result_ok (own_answer past vote)) is_added
+  needs_memory past (CertificateCall certificate) =
+      not (is_empty (votes_restored_by x past (CertificateCall certificate, CertificateAnswer (certificate_answer past certificate))))
+  needs_memory past (LeaderCall leader) = false
+  needs_memory past ConstructCall = is_some (ready_kind x past)
+  needs_memory past (ForwardCall me) = false
+  needs_memory past (MissingCall p) = true
+
+  -- A call is answered as it may be, or refused for memory where it may need some.
+  abbrev pub IsAnswered : History D K G C → Call K G C D → Answer G C D → Type 0
+  IsAnswered past call OutOfMemory = needs_memory past call ≡ true
+  IsAnswered past call answer = MayAnswer past call answer
+
+  -- each call, after those before it with their answers
+  abbrev pub AreAnswered : History D K G C → List (Call K G C D) → List (Answer G C D) → Type 0
+  AreAnswered past [] [] = ⊤
+  AreAnswered past (call ∷ calls) (answer ∷ answers) = IsAnswered past call answer × AreAnswered (history_after past call answer) calls answers
+  AreAnswered past calls answers = ⊥
