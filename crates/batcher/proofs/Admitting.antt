@@ -20,7 +20,8 @@ use Rattle.batcher.specs.Held.{of_kind, Facts, Tracked, Buffered, Tracker, Held}
 use Rattle.batcher.specs.Tracking.{Observed, unseen, in_full, as_facts, is_seen, observed, observed_opposite, kept_vote, from_kept, from_facts, known_facts, outcome_of, outcome_by, conflicts_with, RecordsKind, is_released_in}
 use Rattle.batcher.specs.Buffering.{AddsVote, is_buffered}
 use Rattle.batcher.specs.Admissions.{admission_beside, admission_after, admission_after_facts}
-use Rattle.std.specs.Prelude.{MatchBool}
+use Rattle.std.specs.Prelude.{MatchBool, Result, Ok, Err, IfOk, OnOk}
+use Rattle.std.proofs.lemmas.Option.{none-some}
 use Rattle.batcher.specs.Steps.{IsRight, AfterNetwork, objection_to, objection_by, admission, admission_by, admission_named, is_recorded, selected_in}
 use Rattle.batcher.proofs.Counts.{count-append}
 use Rattle.batcher.proofs.Right.{count_buffers}
@@ -360,3 +361,31 @@ module _ {D K G C : Type 0} (x : Setting D K G C) (held : Held G D) (sender : K)
   -- a vote that is not recorded is answered, and changes nothing
   pub objected : objection_to x held vote ≡ Some answer → AfterNetwork x held sender vote answer held
   objected h = objected_by (observed_opposite held.tracked vote) (observed held.tracked (kind_of vote) (signer_of vote)) refl refl h
+
+-- A vote that names its sender and stands against no other is recorded.
+module _ {D K G C : Type 0} (x : Setting D K G C) (old : Held G D) (sender : K) (i : Participant) (vote : Vote G D) (known : sender_in x sender ≡ Some i) (own : i.0 ≡ signer_of vote) (none : objection_to x old vote ≡ None) where
+  unopposed : (o : Observed G D) → objection_by x o (observed old.tracked (kind_of vote) (signer_of vote)) vote ≡ None → (is_seen o ≡ false) × (admission_named x old o vote ≡ admission_by x (selected_in old) (observed old.tracked (kind_of vote) (signer_of vote)) vote)
+  unopposed unseen h = (refl, refl)
+  unopposed (in_full earlier) h = absurd (none-some _ (sym h))
+  unopposed (as_facts facts) h = absurd (none-some _ (sym h))
+
+  -- what it is answered
+  pub unopposed_admission : admission x old sender vote ≡ admission_by x (selected_in old) (observed old.tracked (kind_of vote) (signer_of vote)) vote
+  unopposed_admission = named x old sender i vote (admission x old sender vote) known own ∙ (unopposed (observed_opposite old.tracked vote) none).1
+
+  unopposed_recorded : is_recorded x old sender vote ≡ true
+  unopposed_recorded = let yes : (i.0 == signer_of vote) ≡ true = grind (arith, nat_tests) in rw (known, yes, (unopposed (observed_opposite old.tracked vote) none).0)
+
+  -- and what that changes
+  pub unopposed_step : {E : Type 0} (new : Held G D) (r : Result (Admission G D) E) → IfOk r (λ answer. answer ≡ admission_by x (selected_in old) (observed old.tracked (kind_of vote) (signer_of vote)) vote)
+      → OnOk r ((kind : Kind) → RecordsKind x.same_digest old.tracked new.tracked (selected_in old) true vote kind)
+      → IfOk r (λ answer. MatchBool (answer.added && not (of_kind old.tracked.compacted (kind_of vote))) (AddsVote x.same_digest old.buffered vote false new.buffered) (new.buffered ≡ old.buffered))
+      → new.forwarded ≡ old.forwarded → IfOk r (λ answer. AfterNetwork x old sender vote answer new)
+  unopposed_step new (Ok answer) told tracked buffered forwarded =
+      record {
+        answer_is = told ∙ sym unopposed_admission;
+        forwarded = forwarded;
+        tracked = λ kind. subst (λ r. RecordsKind x.same_digest old.tracked new.tracked (selected_in old) r vote kind) (sym unopposed_recorded) (tracked kind);
+        buffered = buffered;
+      }
+  unopposed_step new (Err refused) told tracked buffered forwarded = tt

@@ -18,6 +18,7 @@ pub mod Observing
 pub mod Fresh
 pub mod Naming
 pub mod Pairing
+pub mod Places
 pub mod Parts
 pub mod Quorums
 pub mod Recorded
@@ -44,3 +45,9 @@ pub mod Memory
 pub mod Arriving
 pub mod Casting
 pub mod Taking
+pub mod Ready
+pub mod Outcomes
+pub mod Evidence
+pub mod Settling
+pub mod Staying
+pub mod Batching

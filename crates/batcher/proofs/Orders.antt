@@ -234,10 +234,10 @@ module _ {X : Type 0} (key : X → ℕ) where
   searched_found xs k i up below e d = find_at xs i k d up below (ranked (key (get_or xs i d)) k Equal (sym (e d)))
 
   module _ (xs : List X) (k i : ℕ) (within : i ≤ length xs) (up : IsAscending key xs) (split : IsNonDecreasingBy (λ y. ordering_index (nat_cmp (key y) k)) xs → IsPartitionPoint (λ y. nat_cmp (key y) k ≡ Less) (λ y. nat_cmp (key y) k ≡ Greater) xs i) where
-    lower : (j : ℕ) (d : X) → j < i → key (get_or xs j d) < k
+    pub lower : (j : ℕ) (d : X) → j < i → key (get_or xs j d) < k
     lower j d before = ranked (key (get_or xs j d)) k Less (sym ((split (searchable xs k up)).0 j d (omega arith) before))
 
-    higher : (j : ℕ) (d : X) → i ≤ j → j < length xs → k < key (get_or xs j d)
+    pub higher : (j : ℕ) (d : X) → i ≤ j → j < length xs → k < key (get_or xs j d)
     higher j d after below = ranked (key (get_or xs j d)) k Greater (sym ((split (searchable xs k up)).1 j d after below))
 
     pub searched_absent : find (λ x. nat_eq (key x) k) xs ≡ None

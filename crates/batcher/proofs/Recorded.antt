@@ -280,7 +280,7 @@ module _ {G D : Type 0} (same : D → D → Bool) where
   facts_other b selected (FinalizeVote v) Nullification e other = refl
   facts_other b selected (FinalizeVote v) Finalization e other = absurd (cc)
 
-  entry_with_key : (b : Bool) (selected : Option (Proposal D)) (vote : Vote G D) (e : Entry G D) → key_of (entry_with same b selected vote e) ≡ key_of e
+  pub entry_with_key : (b : Bool) (selected : Option (Proposal D)) (vote : Vote G D) (e : Entry G D) → key_of (entry_with same b selected vote e) ≡ key_of e
   entry_with_key b selected (NotarizeVote v) e = refl
   entry_with_key b selected (NullifyVote v) e = refl
   entry_with_key b selected (FinalizeVote v) e = refl

@@ -1,32 +1,34 @@
--- What is known of a kind's signers once it is released: `released_facts`, and `released_map` for all of them. For any event that
--- casts nothing and releases the kind, the facts of a first vote's signer are those of the vote, compared with the selected proposal:
+-- What is known of a kind's signers once it is released. At an event that casts nothing and releases the kind, the facts of a first
+-- vote's signer are those of the vote, compared with the selected proposal: `released_facts`, and `released_map` for all of them.
 --   released_facts : is_released x past kind ≡ false → is_released x (event ∷ past) kind ≡ true → cast_votes x event.0 ≡ []
 --     → (has_proposals kind ≡ true → is_some (selected_proposal x (event ∷ past)) ≡ true) → first_vote x past kind (signer_of v) ≡ Some v
 --     → facts_of x (event ∷ past) kind (signer_of v) ≡ facts_of_kept x.same_digest (selected_proposal x (event ∷ past)) v
+-- `tracks_release` says so of all that is tracked after `ReleasesKind`, and `tracks_stay` where nothing is certified.
 use Rattle.std.proofs.Common.{◌≡◌, ℕ, Bool, true, false, not, cond, ◌&&◌, ◌||◌, List, [], ◌∷◌, ◌++◌, map, Option, Some, None, refl, ap, sym, ◌∙◌, ⊎_elim, subst}
 use Rattle.std.specs.Prelude.{filter, is_some, is_none}
 use Rattle.std.specs.List.{All, list_any}
 use Rattle.std.proofs.lemmas.Bool.{cases_Bool, and_parts, eqb-true, false_from_ne_true}
-use Rattle.std.proofs.lemmas.List.Elements.{All-nil, All-cons, All-head, All-tail, All-weaker, filter-append}
+use Rattle.std.proofs.lemmas.List.Elements.{All-nil, All-cons, All-head, All-tail, All-weaker, filter_passes, filter-append}
 use Rattle.batcher.specs.declared.messages.Proposal.{Proposal}
 use Rattle.batcher.specs.declared.messages.Vote.{Vote}
 use Rattle.batcher.specs.declared.messages.Kind.{Kind}
 use Rattle.batcher.specs.declared.votes.Mode.{Mode}
 use Rattle.batcher.specs.declared.votes.Mode.TheVariants.{Retaining, Releasing, Skipped}
 use Rattle.batcher.specs.Setting.{Setting}
+use Rattle.batcher.specs.Ascending.{ordered_by}
 use Rattle.batcher.specs.Ordered.{All-ordered}
 use Rattle.batcher.specs.Lists.{is_some_and, is_empty}
 use Rattle.batcher.specs.Votes.{kind_of, signer_of, has_proposals, is_of_kind, is_vote_of, is_for}
-use Rattle.batcher.specs.Held.{Facts}
-use Rattle.batcher.specs.Tracking.{is_released_in, no_facts, facts_of_kept}
+use Rattle.batcher.specs.Held.{of_kind, Facts, Tracked, Held}
+use Rattle.batcher.specs.Tracking.{is_released_in, no_facts, facts_of_kept, ReleasesKind}
 use Rattle.batcher.specs.History.{Event, History, cast_votes}
 use Rattle.batcher.specs.FirstVotes.{first_votes, first_vote, opposite_vote}
 use Rattle.batcher.specs.Selection.{selected_proposal, is_certified, is_released}
 use Rattle.batcher.specs.Comparison.{compared_votes, compared_votes_of, is_compared, is_compared_at_release}
-use Rattle.batcher.specs.Stands.{first_by_signer, facts_of}
+use Rattle.batcher.specs.Stands.{Stands, first_by_signer, facts_of}
 use Rattle.batcher.proofs.Apart.{AreApart, IsAt, vote_at, found_behind, found_is_of, firsts_apart, is_itself, is_kind-true}
 use Rattle.batcher.proofs.Counts.{append_nil}
-use Rattle.batcher.proofs.Following.{none_both}
+use Rattle.batcher.proofs.Following.{none_both, no_firsts, released_same, compared_goes, facts_stay}
 
 -- what releases a kind stays
 released_less : (mode : Mode) (now before : Bool) → is_released_in mode (now || before) ≡ false → is_released_in mode before ≡ false
@@ -207,3 +209,156 @@ module _ {D K G C : Type 0} (x : Setting D K G C) (past : History D K G C) (even
           let gone : filter (is_of_kind kind) (v ∷ vs) ≡ filter (is_of_kind kind) vs = rw other refl in
           subst (λ (us : List (Vote G D)). All agrees us) (sym gone) rest)
           (cases_Bool (is_of_kind kind v))
+
+-- WHAT A CERTIFICATE CHANGES OF WHAT IS TRACKED
+released_either : (mode : Mode) (now before : Bool) → ((now && is_released_in mode true) || is_released_in mode before) ≡ is_released_in mode (now || before)
+released_either Retaining true before = refl
+released_either Retaining false before = refl
+released_either Releasing true before = refl
+released_either Releasing false before = refl
+released_either Skipped true before = refl
+released_either Skipped false before = refl
+
+released_more : (mode : Mode) (now before : Bool) → is_released_in mode before ≡ true → is_released_in mode (now || before) ≡ true
+released_more Retaining now before h = h
+released_more Releasing true before h = refl
+released_more Releasing false before h = h
+released_more Skipped now before h = refl
+
+released_by : (mode : Mode) (now before : Bool) → is_released_in mode before ≡ false → is_released_in mode (now || before) ≡ true → now ≡ true
+released_by mode true before h after = refl
+released_by mode false before h after = absurd (cc)
+
+kept_once : {X : Type 0} (after before : Bool) (xs : List X) → (before ≡ true → after ≡ true) → cond after [] (cond before [] xs) ≡ cond after [] xs
+kept_once true before xs stays = refl
+kept_once false true xs stays = absurd (let no : false ≡ true = stays refl in cc)
+kept_once false false xs stays = refl
+
+map_each : {X Y : Type 0} (f g : X → Y) (xs : List X) → ((v : X) → f v ≡ g v) → map f xs ≡ map g xs
+map_each f g [] same = refl
+map_each {Y = Y} f g (x ∷ xs) same = ap (λ (y : Y). y ∷ map f xs) (same x) ∙ ap (λ (ys : List Y). g x ∷ ys) (map_each f g xs same)
+
+unproposed_facts : {G D : Type 0} (same : D → D → Bool) (selected : Option (Proposal D)) (v : Vote G D) → has_proposals (kind_of v) ≡ false → facts_of_kept same selected v ≡ no_facts (signer_of v)
+unproposed_facts same None v h = refl
+unproposed_facts same (Some p) v h =
+    ap (λ b. cond b (record { signer = signer_of v; has_compared = true; has_matched = is_for same p v || false }) (no_facts (signer_of v))) h
+
+module _ {D K G C : Type 0} (x : Setting D K G C) where
+  -- what is tracked of a kind after an event
+  pub record TracksKind (past : History D K G C) (event : Event D K G C) (new : Tracked G D) (kind : Kind) : Type 0 where
+    pub compacted_is : of_kind new.compacted kind ≡ is_released x (event ∷ past) kind
+    pub kept_are : of_kind new.kept kind ≡ cond (is_released x (event ∷ past) kind) [] (first_by_signer x (event ∷ past) kind)
+    pub facts_are :
+        of_kind new.facts kind
+        ≡ cond (is_released x (event ∷ past) kind) (map (λ v. facts_of x (event ∷ past) kind (signer_of v)) (first_by_signer x (event ∷ past) kind)) []
+
+  -- of a kind without proposals any selection gives the same facts
+  unproposed_map : (past : History D K G C) (kind : Kind) (a b : Option (Proposal D)) → has_proposals kind ≡ false →
+      map (facts_of_kept x.same_digest a) (first_by_signer x past kind) ≡ map (facts_of_kept x.same_digest b) (first_by_signer x past kind)
+  unproposed_map past kind a b has =
+      map_where (facts_of_kept x.same_digest a) (facts_of_kept x.same_digest b) (first_by_signer x past kind)
+      (All-weaker (λ v. is_of_kind kind v ≡ true) (λ v. facts_of_kept x.same_digest a v ≡ facts_of_kept x.same_digest b v)
+      (λ v of.
+      let none : has_proposals (kind_of v) ≡ false = ap has_proposals (is_kind-true (kind_of v) kind of) ∙ has in
+      unproposed_facts x.same_digest a v none ∙ sym (unproposed_facts x.same_digest b v none))
+      (first_by_signer x past kind)
+      (All-ordered signer_of (λ v. is_of_kind kind v ≡ true) (filter (is_of_kind kind) (first_votes x past)) (filter_passes (is_of_kind kind) (first_votes x past))))
+
+-- An event casts nothing, and certifies the kind where `now` is true; it is released as the mode says, with the selected proposal.
+module _ {D K G C : Type 0} (x : Setting D K G C) (past : History D K G C) (event : Event D K G C) (casts : cast_votes x event.0 ≡ []) (old : Held G D) (stands : Stands x past old) (new : Tracked G D) (proposal : Option (Proposal D)) (now : Bool) (kind : Kind) (certified : is_certified (event ∷ past) kind ≡ (now || is_certified past kind)) (releases : ReleasesKind x.same_digest old.tracked new proposal (now && is_released_in x.mode true) kind) (selects : now ≡ true → has_proposals kind ≡ true → (is_some (selected_proposal x (event ∷ past)) ≡ true) × (proposal ≡ selected_proposal x (event ∷ past))) where
+  released_is : is_released x (event ∷ past) kind ≡ is_released_in x.mode (now || is_certified past kind)
+  released_is = ap (is_released_in x.mode) certified
+
+  released_stays : is_released x past kind ≡ true → is_released x (event ∷ past) kind ≡ true
+  released_stays h = released_is ∙ released_more x.mode now (is_certified past kind) h
+
+  compacts : of_kind new.compacted kind ≡ is_released x (event ∷ past) kind
+  compacts =
+      releases.compacted
+      ∙ (ap (λ c. (now && is_released_in x.mode true) || c) (stands.each_kind kind).compacted_is
+      ∙ (released_either x.mode now (is_certified past kind) ∙ sym released_is))
+
+  firsts_stay : first_by_signer x (event ∷ past) kind ≡ first_by_signer x past kind
+  firsts_stay = ap (λ vs. ordered_by signer_of (filter (is_of_kind kind) vs)) (no_firsts x past event casts)
+
+  keeps : of_kind new.kept kind ≡ cond (is_released x (event ∷ past) kind) [] (first_by_signer x (event ∷ past) kind)
+  keeps =
+      releases.kept
+      ∙ (ap (λ c. cond c [] (of_kind old.tracked.kept kind)) compacts
+      ∙ (ap (λ vs. cond (is_released x (event ∷ past) kind) [] vs) (stands.each_kind kind).kept_are
+      ∙ (kept_once (is_released x (event ∷ past) kind) (is_released x past kind) (first_by_signer x past kind) released_stays
+      ∙ ap (λ vs. cond (is_released x (event ∷ past) kind) [] vs) (sym firsts_stay))))
+
+  abbrev facts_now : List Facts
+  facts_now = map (λ v. facts_of x (event ∷ past) kind (signer_of v)) (first_by_signer x past kind)
+
+  facts_before : is_released x past kind ≡ true → of_kind new.facts kind ≡ cond (is_released x (event ∷ past) kind) facts_now []
+  facts_before was =
+      releases.facts
+      ∙ (ap (λ c. cond c (of_kind old.tracked.facts kind) (cond (of_kind new.compacted kind) (map (facts_of_kept x.same_digest proposal) (of_kind old.tracked.kept kind)) [])) ((stands.each_kind kind).compacted_is ∙ was)
+      ∙ ((stands.each_kind kind).facts_are
+      ∙ (ap (λ c. cond c (map (λ v. facts_of x past kind (signer_of v)) (first_by_signer x past kind)) []) was
+      ∙ (map_each (λ v. facts_of x past kind (signer_of v)) (λ v. facts_of x (event ∷ past) kind (signer_of v)) (first_by_signer x past kind)
+      (λ v. sym (facts_stay x past event kind (signer_of v)
+      (compared_goes x past event kind (signer_of v) (ap (λ vs. filter (is_vote_of kind (signer_of v)) (filter (is_compared x past event) vs)) casts) (released_stays was ∙ sym was))))
+      ∙ ap (λ c. cond c facts_now []) (sym (released_stays was))))))
+
+  kept_facts : is_released x past kind ≡ false → is_released x (event ∷ past) kind ≡ true → map (facts_of_kept x.same_digest proposal) (first_by_signer x past kind) ≡ facts_now
+  kept_facts was is =
+      let at : now ≡ true = released_by x.mode now (is_certified past kind) was (sym released_is ∙ is) in
+      ⊎_elim
+      (λ has. ap (λ o. map (facts_of_kept x.same_digest o) (first_by_signer x past kind)) (selects at has).1)
+      (λ none. unproposed_map x past kind proposal (selected_proposal x (event ∷ past)) none)
+      (cases_Bool (has_proposals kind))
+      ∙ sym (released_map x past event kind was is casts (λ has. (selects at has).0))
+
+  facts_after : is_released x past kind ≡ false → of_kind new.facts kind ≡ cond (is_released x (event ∷ past) kind) facts_now []
+  facts_after was =
+      releases.facts
+      ∙ (ap (λ c. cond c (of_kind old.tracked.facts kind) (cond (of_kind new.compacted kind) (map (facts_of_kept x.same_digest proposal) (of_kind old.tracked.kept kind)) [])) ((stands.each_kind kind).compacted_is ∙ was)
+      ∙ (ap (λ c. cond c (map (facts_of_kept x.same_digest proposal) (of_kind old.tracked.kept kind)) []) compacts
+      ∙ (ap (λ vs. cond (is_released x (event ∷ past) kind) (map (facts_of_kept x.same_digest proposal) vs) []) ((stands.each_kind kind).kept_are ∙ ap (λ c. cond c [] (first_by_signer x past kind)) was)
+      ∙ by_test (is_released x (event ∷ past) kind) refl)))
+    where
+      by_test : (b : Bool) → is_released x (event ∷ past) kind ≡ b → cond b (map (facts_of_kept x.same_digest proposal) (first_by_signer x past kind)) [] ≡ cond b facts_now []
+      by_test true e = kept_facts was e
+      by_test false e = refl
+
+  -- What is tracked of a kind is what the longer history names.
+  pub tracks_release : TracksKind x past event new kind
+  tracks_release =
+      record {
+        compacted_is = compacts;
+        kept_are = keeps;
+        facts_are =
+            ⊎_elim facts_before facts_after (cases_Bool (is_released x past kind))
+            ∙ ap (λ vs. cond (is_released x (event ∷ past) kind) (map (λ v. facts_of x (event ∷ past) kind (signer_of v)) vs) []) (sym firsts_stay);
+      }
+
+-- An event that casts nothing and doesn't certify the kind leaves what is tracked of it.
+module _ {D K G C : Type 0} (x : Setting D K G C) (past : History D K G C) (event : Event D K G C) (casts : cast_votes x event.0 ≡ []) (old : Held G D) (stands : Stands x past old) (kind : Kind) (certified : is_certified (event ∷ past) kind ≡ is_certified past kind) where
+  released_alike : is_released x past kind ≡ is_released x (event ∷ past) kind
+  released_alike = sym (released_same x past event kind certified)
+
+  firsts_alike : first_by_signer x past kind ≡ first_by_signer x (event ∷ past) kind
+  firsts_alike = ap (λ vs. ordered_by signer_of (filter (is_of_kind kind) vs)) (sym (no_firsts x past event casts))
+
+  facts_alike : map (λ v. facts_of x past kind (signer_of v)) (first_by_signer x past kind) ≡ map (λ v. facts_of x (event ∷ past) kind (signer_of v)) (first_by_signer x (event ∷ past) kind)
+  facts_alike =
+      map_each (λ v. facts_of x past kind (signer_of v)) (λ v. facts_of x (event ∷ past) kind (signer_of v)) (first_by_signer x past kind)
+      (λ v. sym (facts_stay x past event kind (signer_of v)
+      (compared_goes x past event kind (signer_of v) (ap (λ vs. filter (is_vote_of kind (signer_of v)) (filter (is_compared x past event) vs)) casts) (released_same x past event kind certified))))
+      ∙ ap (map (λ v. facts_of x (event ∷ past) kind (signer_of v))) firsts_alike
+
+  pub tracks_stay : TracksKind x past event old.tracked kind
+  tracks_stay =
+      record {
+        compacted_is = (stands.each_kind kind).compacted_is ∙ released_alike;
+        kept_are =
+            (stands.each_kind kind).kept_are
+            ∙ (ap (λ b. cond b [] (first_by_signer x past kind)) released_alike ∙ ap (λ vs. cond (is_released x (event ∷ past) kind) [] vs) firsts_alike);
+        facts_are =
+            (stands.each_kind kind).facts_are
+            ∙ (ap (λ b. cond b (map (λ v. facts_of x past kind (signer_of v)) (first_by_signer x past kind)) []) released_alike
+            ∙ ap (λ fs. cond (is_released x (event ∷ past) kind) fs []) facts_alike);
+      }

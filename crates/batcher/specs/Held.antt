@@ -42,11 +42,12 @@ pub record Buffered (G D : Type 0) : Type 0 where
   pub pending : PerKind (List (Vote G D))
   pub verified : PerKind (List (Vote G D))
 
--- a tracker of the signers below a bound, with room for so many new signers
+-- a tracker of the signers below a bound: those of whom it has an entry, ascending, and room for so many more
 pub record Tracker (G D : Type 0) : Type 0 where
   pub participants : ℕ
   pub mode : Mode
   pub holds : Tracked G D
+  pub signers : List ℕ
   pub room : ℕ
 
 -- a verifier of a round, with room for so many votes a buffer

@@ -6,6 +6,7 @@ ghost use Rattle.batcher.specs.declared.positions.Participant.{Participant};
 mod map;
 
 use crate::positions::{Participant, Round, View};
+pub(crate) use map::Place;
 pub use map::{AttributableMap, MapIter};
 
 /// The digest of a payload: a value, of which `==` tells whether two are the same.

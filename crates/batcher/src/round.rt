@@ -3,17 +3,21 @@
 ghost use Rattle.std.specs.Prelude.{◌≡◌, ◌≤◌, ◌<◌, MatchBool, ◌&&◌, ◌||◌, ◌↔◌, not, Some, None, true, false, [], length, is_some, if◌then◌else◌, IfOk, IfErr, OnOk, OnErr, IsTrue, IsOk, IfSome, cond};
 ghost use Rattle.batcher.specs.declared.messages.Kind.TheVariants.{Nullification as NullifyKind};
 ghost use Rattle.batcher.specs.declared.messages.Kind.{Kind as TheKind};
+ghost use Rattle.batcher.specs.declared.positions.Round.{Round as TheNumber};
+ghost use Rattle.batcher.specs.declared.votes.Mode.{Mode as TheMode};
 ghost use Rattle.batcher.specs.Reasons.{text_of};
+ghost use Rattle.batcher.specs.Items.{place_of};
+ghost use Rattle.batcher.specs.Meaning.{Meaning};
 ghost use Rattle.batcher.specs.Setting.{setting};
 ghost use Rattle.batcher.specs.Lists.{is_some_and};
 ghost use Rattle.batcher.specs.Votes.{is_kind, has_proposals, kind_of, signer_of, attestation_of, subject_of, round_in, proposal_in, subject_certified};
-ghost use Rattle.batcher.specs.Selected.{proposal_of, replaces, same_selected};
+ghost use Rattle.batcher.specs.Selected.{proposal_of, replaces, fixes, same_selected};
 ghost use Rattle.batcher.specs.Held.{of_kind};
-ghost use Rattle.batcher.specs.Tracking.{nothing_tracked, shown, is_known, outcome_of, observed, observed_opposite, RecordsKind, kept_vote};
+ghost use Rattle.batcher.specs.Tracking.{nothing_tracked, shown, is_known, outcome_of, outcome_by, observed, observed_opposite, RecordsKind, kept_vote};
 ghost use Rattle.batcher.specs.Buffering.{AddsVote, FixesProposal, MayFix};
 ghost use Rattle.batcher.specs.Sound.{HasRoomFor, KeepsRoom};
 ghost use Rattle.batcher.specs.Admissions.{refusal, mismatch_reason, admission_of};
-ghost use Rattle.batcher.specs.Steps.{nothing_held, has_block as has_block_held, missing_in, leader_set_answer, forward_answer, AfterLeader, AfterNetwork, admission, objection_to, admission_by, kind_tried, restored_with, selected_in, AfterConstruct, TriesHeld, Fixes, is_ready_in, IsRight, WaitsWhereKept, AfterOwn, own_result, fault_or_memory, fixed_by, opposite_fault, unopposed_result, report_by, is_added, is_kept, AfterCertificate};
+ghost use Rattle.batcher.specs.Steps.{nothing_held, has_block as has_block_held, missing_in, leader_set_answer, forward_answer, AfterLeader, AfterNetwork, admission, objection_by, own_result_by, admission_by, kind_tried, restored_with, AfterConstruct, TriesHeld, Fixes, is_ready_in, IsRight, WaitsWhereKept, AfterOwn, own_result, fault_or_memory, fixed_by, opposite_fault, unopposed_result, report_by, is_added, is_kept, AfterCertificate};
 ghost use Rattle.batcher.specs.History.{History};
 ghost use Rattle.batcher.specs.Selection.{is_certified, leader_of};
 ghost use Rattle.batcher.specs.Comparison.{has_block};
@@ -29,7 +33,7 @@ ghost use Rattle.batcher.specs.Verifiers.{certifies_itself};
 mod answers;
 
 use crate::messages::{
-    Activity, Certificate, Digest, Finalize, Kind, Notarize, Nullify, Proposal, Vote,
+    Activity, Certificate, Digest, Finalize, Kind, Notarize, Nullify, Place, Proposal, Vote,
 };
 use crate::positions::{self, Participant, Participants, quorum};
 use crate::scheme::Scheme;
@@ -326,36 +330,13 @@ impl<S: Scheme<D>, D: Digest> Round<S, D> {
                 if index != vote.signer() {
                     return Ok(blocked(mismatch_reason(vote.kind()), None));
                 }
-                match self.objection(&vote) {
+                let place = self.votes.place(index);
+                match Self::objection(&self.votes, place, &vote) {
                     Some(answer) => Ok(answer),
-                    None => self.admit(vote),
+                    None => admit(&mut self.verifier, &mut self.votes, place, vote),
                 }
             }
         }
-    }
-
-    // Records a vote that stands against no other. Where votes of its kind are kept, it waits for
-    // a certificate too.
-    fn admit(
-        &mut self,
-        vote: Vote<S::Signature, D>,
-    ) -> Result<Admission<S::Signature, D>, AllocError>
-        requires unopposed { objection_to (setting (S.meaning self.old.scheme) S.PublicKey.cmp S.Signature.eq D.eq self.old.number self.old.mode) self.old.holds vote ≡ None }
-        requires range { signer_of vote < length (S.meaning self.old.scheme).participants }
-        requires belongs { round_in (subject_of vote) ≡ self.old.number }
-        ensures answer { IfOk result (λ answer. answer ≡ admission_by (setting (S.meaning self.old.scheme) S.PublicKey.cmp S.Signature.eq D.eq self.old.number self.old.mode) (selected_in self.old.holds) (observed self.old.holds.tracked (kind_of vote) (signer_of vote)) vote) }
-        ensures no_memory { (admission_by (setting (S.meaning self.old.scheme) S.PublicKey.cmp S.Signature.eq D.eq self.old.number self.old.mode) (selected_in self.old.holds) (observed self.old.holds.tracked (kind_of vote) (signer_of vote)) vote).added ≡ false → IsOk result }
-        ensures tracked { OnOk result ((kind : TheKind) → RecordsKind D.eq self.old.holds.tracked self.new.holds.tracked (selected_in self.old.holds) true vote kind) }
-        ensures buffered { IfOk result (λ answer. MatchBool (answer.added && not (of_kind self.old.holds.tracked.compacted (kind_of vote))) (AddsVote D.eq self.old.holds.buffered vote false self.new.holds.buffered) (self.new.holds.buffered ≡ self.old.holds.buffered)) }
-        ensures forwarded { self.new.holds.forwarded ≡ self.old.holds.forwarded }
-        ensures refused { OnErr result (self.new ≡ self.old) }
-        ensures same { (self.new.scheme ≡ self.old.scheme) × (self.new.number ≡ self.old.number) × (self.new.mode ≡ self.old.mode) }
-    {
-        let kind = vote.kind();
-        let additional = usize::from(!self.votes.is_compacted(kind));
-        self.verifier.make_room(kind, false, additional)?;
-        let outcome = take_in(&mut self.verifier, &mut self.votes, vote, false)?;
-        Ok(admission_of(outcome, vote))
     }
 
     /// Takes in a vote of the node's own, which attests.
@@ -377,26 +358,12 @@ impl<S: Scheme<D>, D: Digest> Round<S, D> {
         ensures refused { OnErr result (self.new ≡ self.old) }
         ensures same { (self.new.scheme ≡ self.old.scheme) × (self.new.number ≡ self.old.number) × (self.new.mode ≡ self.old.mode) }
     {
-        let outcome = self.own_result(vote)?;
+        let place = self.votes.place(vote.signer());
+        let outcome = own_result(&self.verifier, &self.votes, place, vote)?;
         make_room_to_accept(&mut self.verifier, &mut self.votes, &vote, outcome)?;
         may_fix(&mut self.verifier, &self.votes, fixed_by(&vote));
-        take_in(&mut self.verifier, &mut self.votes, vote, true)?;
+        take_in(&mut self.verifier, &mut self.votes, place, vote, true)?;
         Ok((outcome, report_by(outcome, vote)))
-    }
-
-    // What comes of an own vote, or why it is refused.
-    fn own_result(&self, vote: Vote<S::Signature, D>) -> Result<Outcome, OwnFault>
-        requires { signer_of vote < length (S.meaning self.now.scheme).participants }
-        ensures { result ≡ own_result (setting (S.meaning self.now.scheme) S.PublicKey.cmp S.Signature.eq D.eq self.now.number self.now.mode) self.now.holds vote }
-    {
-        if self.saw_opposite(&vote).is_some() {
-            return Err(opposite_fault(vote.kind()));
-        }
-        let selected = match fixed_by(&vote) {
-            Some(proposal) => self.verifier.selected_with(proposal),
-            None => self.verifier.proposal().copied(),
-        };
-        unopposed_result(vote.kind(), self.votes.outcome(&vote, selected))
     }
 
     /// Records a certificate that the caller has verified. It completes its kind, fixes its
@@ -474,37 +441,89 @@ impl<S: Scheme<D>, D: Digest> Round<S, D> {
     }
 
     // What is answered to a vote that is not to be recorded.
-    fn objection(&self, vote: &Vote<S::Signature, D>) -> Option<Admission<S::Signature, D>>
-        ensures { result ≡ objection_to (setting (S.meaning self.now.scheme) S.PublicKey.cmp S.Signature.eq D.eq self.now.number self.now.mode) self.now.holds vote.now }
+    fn objection(
+        votes: &VoteTracker<S::Signature, D>,
+        place: Place,
+        vote: &Vote<S::Signature, D>,
+    ) -> Option<Admission<S::Signature, D>>
+        requires { place ≡ place_of votes.now.signers (signer_of vote.now) }
+        ensures { (m : Meaning D S.PublicKey S.Signature S.Certificate) (number : TheNumber) (mode : TheMode) → result ≡ objection_by (setting m S.PublicKey.cmp S.Signature.eq D.eq number mode) (observed_opposite votes.now.holds vote.now) (observed votes.now.holds (kind_of vote.now) (signer_of vote.now)) vote.now }
     {
-        match self.saw_opposite(vote) {
+        match saw_opposite(votes, place, vote) {
             Some(ObservedVote::Retained(earlier)) => Some(after_opposite(earlier, *vote)),
             Some(ObservedVote::Compacted) => Some(after_facts(vote)),
-            None => match self.votes.saw(vote.kind(), vote.signer()) {
+            None => match votes.saw_at(place, vote.kind()) {
                 Some(ObservedVote::Retained(kept)) => Some(beside(kept, *vote)),
                 Some(ObservedVote::Compacted) => None,
                 None => None,
             },
         }
     }
+}
 
-    // What was seen of the other of nullify and finalize.
-    fn saw_opposite(
-        &self,
-        vote: &Vote<S::Signature, D>,
-    ) -> Option<ObservedVote<Vote<S::Signature, D>>>
-        ensures { result ≡ shown (observed_opposite self.now.holds.tracked vote.now) }
-    {
-        match vote {
-            Vote::Notarize(_) => None,
-            Vote::Nullify(nullify) => self
-                .votes
-                .saw(Kind::Finalization, nullify.attestation.signer),
-            Vote::Finalize(finalize) => self
-                .votes
-                .saw(Kind::Nullification, finalize.attestation.signer),
-        }
+// What was seen of the other of nullify and finalize.
+fn saw_opposite<G: Copy, D: Digest>(
+    votes: &VoteTracker<G, D>,
+    place: Place,
+    vote: &Vote<G, D>,
+) -> Option<ObservedVote<Vote<G, D>>>
+    requires { place ≡ place_of votes.now.signers (signer_of vote.now) }
+    ensures { result ≡ shown (observed_opposite votes.now.holds vote.now) }
+{
+    match vote {
+        Vote::Notarize(_) => None,
+        Vote::Nullify(_) => votes.saw_at(place, Kind::Finalization),
+        Vote::Finalize(_) => votes.saw_at(place, Kind::Nullification),
     }
+}
+
+// Records a vote that stands against no other. Where votes of its kind are kept, it waits for a
+// certificate too.
+fn admit<S: Scheme<D>, D: Digest>(
+    verifier: &mut Verifier<S, D>,
+    votes: &mut VoteTracker<S::Signature, D>,
+    place: Place,
+    vote: Vote<S::Signature, D>,
+) -> Result<Admission<S::Signature, D>, AllocError>
+    requires right { IsRight (S.meaning verifier.old.scheme) votes.old verifier.old.holds verifier.old.quorum }
+    requires place { place ≡ place_of votes.old.signers (signer_of vote) }
+    requires unopposed { objection_by (setting (S.meaning verifier.old.scheme) S.PublicKey.cmp S.Signature.eq D.eq verifier.old.number votes.old.mode) (observed_opposite votes.old.holds vote) (observed votes.old.holds (kind_of vote) (signer_of vote)) vote ≡ None }
+    requires range { signer_of vote < length (S.meaning verifier.old.scheme).participants }
+    requires belongs { round_in (subject_of vote) ≡ verifier.old.number }
+    ensures answer { IfOk result (λ answer. answer ≡ admission_by (setting (S.meaning verifier.old.scheme) S.PublicKey.cmp S.Signature.eq D.eq verifier.old.number votes.old.mode) (proposal_of verifier.old.holds.selection) (observed votes.old.holds (kind_of vote) (signer_of vote)) vote) }
+    ensures no_memory { (admission_by (setting (S.meaning verifier.old.scheme) S.PublicKey.cmp S.Signature.eq D.eq verifier.old.number votes.old.mode) (proposal_of verifier.old.holds.selection) (observed votes.old.holds (kind_of vote) (signer_of vote)) vote).added ≡ false → IsOk result }
+    ensures tracked { OnOk result ((kind : TheKind) → RecordsKind D.eq votes.old.holds votes.new.holds (proposal_of verifier.old.holds.selection) true vote kind) }
+    ensures buffered { IfOk result (λ answer. MatchBool (answer.added && not (of_kind votes.old.holds.compacted (kind_of vote))) (AddsVote D.eq verifier.old.holds vote false verifier.new.holds) (verifier.new.holds ≡ verifier.old.holds)) }
+    ensures refused { OnErr result ((verifier.new.holds ≡ verifier.old.holds) × (votes.new.holds ≡ votes.old.holds)) }
+    ensures right { IsRight (S.meaning verifier.old.scheme) votes.new verifier.new.holds verifier.old.quorum }
+    ensures same { (verifier.new.scheme ≡ verifier.old.scheme) × (verifier.new.number ≡ verifier.old.number) × (verifier.new.quorum ≡ verifier.old.quorum) }
+    ensures mode { (votes.new.mode ≡ votes.old.mode) × (votes.new.participants ≡ votes.old.participants) }
+{
+    let kind = vote.kind();
+    let additional = usize::from(!votes.is_compacted(kind));
+    verifier.make_room(kind, false, additional)?;
+    let outcome = take_in(verifier, votes, place, vote, false)?;
+    Ok(admission_of(outcome, vote))
+}
+
+// What comes of an own vote, or why it is refused.
+fn own_result<S: Scheme<D>, D: Digest>(
+    verifier: &Verifier<S, D>,
+    votes: &VoteTracker<S::Signature, D>,
+    place: Place,
+    vote: Vote<S::Signature, D>,
+) -> Result<Outcome, OwnFault>
+    requires { place ≡ place_of votes.now.signers (signer_of vote) }
+    ensures { result ≡ own_result_by (observed_opposite votes.now.holds vote) (kind_of vote) (outcome_by D.eq (proposal_of (fixes verifier.now.holds.selection (fixed_by vote))) (of_kind votes.now.holds.compacted (kind_of vote)) (observed votes.now.holds (kind_of vote) (signer_of vote)) vote) }
+{
+    if saw_opposite(votes, place, &vote).is_some() {
+        return Err(opposite_fault(vote.kind()));
+    }
+    let selected = match fixed_by(&vote) {
+        Some(proposal) => verifier.selected_with(proposal),
+        None => verifier.proposal().copied(),
+    };
+    unopposed_result(vote.kind(), votes.outcome_at(place, &vote, selected))
 }
 
 // The proposal that a certificate is for.
@@ -533,9 +552,11 @@ fn fixed_by<G, D: Copy>(vote: &Vote<G, D>) -> Option<Proposal<D>>
 fn take_in<S: Scheme<D>, D: Digest>(
     verifier: &mut Verifier<S, D>,
     votes: &mut VoteTracker<S::Signature, D>,
+    place: Place,
     vote: Vote<S::Signature, D>,
     verified: bool,
 ) -> Result<Outcome, AllocError>
+    requires place { place ≡ place_of votes.old.signers (signer_of vote) }
     requires right { IsRight (S.meaning verifier.old.scheme) votes.old verifier.old.holds verifier.old.quorum }
     requires range { signer_of vote < length (S.meaning verifier.old.scheme).participants }
     requires belongs { round_in (subject_of vote) ≡ verifier.old.number }
@@ -550,7 +571,7 @@ fn take_in<S: Scheme<D>, D: Digest>(
     ensures same { (verifier.new.scheme ≡ verifier.old.scheme) × (verifier.new.number ≡ verifier.old.number) × (verifier.new.quorum ≡ verifier.old.quorum) }
     ensures mode { (votes.new.mode ≡ votes.old.mode) × (votes.new.participants ≡ votes.old.participants) }
 {
-    let outcome = votes.record(&vote, verifier.proposal())?;
+    let outcome = votes.record_at(place, &vote, verifier.proposal())?;
     if is_kept(outcome) {
         verifier.add(vote, verified)?;
     }
@@ -614,6 +635,7 @@ fn make_room_to_accept<S: Scheme<D>, D: Digest>(
     ensures no_memory { is_added outcome ≡ false → ((proposal : TheProposal D) → fixed_by vote.now ≡ Some proposal → replaces D.eq verifier.old.holds.selection proposal ≡ true → (kind : TheKind) → has_proposals kind ≡ true → of_kind votes.old.holds.compacted kind ≡ false → HasRoomFor D.eq verifier.old.holds.certified votes.old.holds.kept proposal verifier.old.pending_room kind) → IsOk result }
     ensures holds { verifier.new.holds ≡ verifier.old.holds }
     ensures votes { votes.new.holds ≡ votes.old.holds }
+    ensures signers { votes.new.signers ≡ votes.old.signers }
     ensures same { (verifier.new.scheme ≡ verifier.old.scheme) × (verifier.new.number ≡ verifier.old.number) × (verifier.new.quorum ≡ verifier.old.quorum) }
     ensures mode { (votes.new.mode ≡ votes.old.mode) × (votes.new.participants ≡ votes.old.participants) }
 {

@@ -1,6 +1,6 @@
 //! The votes of a round: the first of each kind per signer, in full or as facts.
 
-ghost use Rattle.std.specs.Prelude.{◌≡◌, ◌+◌, ◌≤◌, true, nat_lt, ◌&&◌, is_some, IsOk, IfOk, OnOk, OnErr, Some, None, length, filter, map};
+ghost use Rattle.std.specs.Prelude.{ℕ, ◌≡◌, ◌+◌, ◌≤◌, ◌<◌, true, nat_lt, ◌&&◌, is_some, IsOk, IfOk, OnOk, OnErr, Some, None, length, filter, map};
 ghost use Rattle.std.specs.Option.{option_copied, option_map};
 ghost use Rattle.std.specs.Iterator.{YieldsFirst, item_count};
 ghost use Rattle.batcher.specs.declared.messages.Kind.{Kind};
@@ -8,10 +8,13 @@ ghost use Rattle.batcher.specs.declared.messages.Kind.TheVariants.{Notarization,
 ghost use Rattle.batcher.specs.Lists.{is_some_and};
 ghost use Rattle.batcher.specs.Votes.{kind_of, attestation_of, waits};
 ghost use Rattle.batcher.specs.Entries.{entry_released, kept_part};
+ghost use Rattle.batcher.specs.Items.{place_of};
 
 mod entry;
 
-use crate::messages::{AttributableMap, Digest, Finalize, Kind, Notarize, Nullify, Proposal, Vote};
+use crate::messages::{
+    AttributableMap, Digest, Finalize, Kind, Notarize, Nullify, Place, Proposal, Vote,
+};
 use crate::positions::Participant;
 use entry::Entry;
 use std::alloc::{AllocError, Global};
@@ -151,15 +154,16 @@ impl<G: Copy, D: Digest> Model for VoteTracker<G, D> {
 
     ghost Value = { Tracker G D };
 
+    ghost use Rattle.std.specs.Prelude.{map};
     ghost use Rattle.batcher.specs.Entries.{tracked_by, marks_of};
 
-    ghost view = { λ t. record { participants = t.entries.participants; mode = t.mode; holds = tracked_by (marks_of t.compacted) t.entries.items; room = t.entries.room } };
+    ghost view = { λ t. record { participants = t.entries.participants; mode = t.mode; holds = tracked_by (marks_of t.compacted) t.entries.items; signers = map (λ entry. entry.signer.0) t.entries.items; room = t.entries.room } };
 }
 
 impl<G: Copy, D: Digest> VoteTracker<G, D> {
     ghost use Rattle.batcher.specs.declared.votes.Mode.TheVariants.{Retaining, Releasing, Skipped};
     ghost use Rattle.batcher.specs.declared.messages.Vote.TheVariants.{Notarize as NotarizeVote, Nullify as NullifyVote, Finalize as FinalizeVote};
-    ghost use Rattle.batcher.specs.Tracking.{nothing_tracked, outcome_of, RecordsKind, ReleasesKind, SameTracked, is_known, kept_vote, observed, shown, observed_map, is_seen_for, is_released_in, KeepsEach};
+    ghost use Rattle.batcher.specs.Tracking.{nothing_tracked, outcome_of, outcome_by, RecordsKind, ReleasesKind, SameTracked, is_known, kept_vote, observed, shown, observed_map, is_seen_for, is_released_in, KeepsEach};
     ghost use Rattle.batcher.specs.Votes.{signer_of, is_kind};
     ghost use Rattle.batcher.specs.Held.{of_kind};
     ghost use Rattle.batcher.specs.Entries.{observed_of, kept_of};
@@ -227,43 +231,74 @@ impl<G: Copy, D: Digest> VoteTracker<G, D> {
         ensures with_room { OnErr result (self.old.room ≡ 0) }
         ensures room { self.old.room ≤ self.new.room + 1 }
     {
-        let is_compacted = self.compacted.of(kind_of(vote));
         let signer = signer_of(vote);
-        let selected = proposal.copied();
         if usize::from(signer) >= self.entries.participants() {
             return Ok(Outcome::Duplicate {
-                retained: !is_compacted,
+                retained: !self.compacted.of(kind_of(vote)),
             });
         }
-        match self.entries.place(signer) {
-            Ok(place) => {
-                let entry = *self.entries.item_at(place);
+        let place = self.place(signer);
+        self.record_at(place, vote, proposal)
+    }
+
+    /// Where the signer's entry stands, else where it would. `make_room` keeps all places. It
+    /// takes no memory.
+    pub(crate) fn place(&self, signer: Participant) -> Place
+        ensures { result ≡ place_of self.now.signers signer.0 }
+    {
+        self.entries.place(signer)
+    }
+
+    /// Records a vote, where `place` gave the place of its signer, which is in range.
+    pub(crate) fn record_at(
+        &mut self,
+        place: Place,
+        vote: &Vote<G, D>,
+        proposal: Option<&Proposal<D>>,
+    ) -> Result<Outcome, AllocError>
+        requires place { place ≡ place_of self.old.signers (signer_of vote.now) }
+        requires range { signer_of vote.now < self.old.participants }
+        ensures outcome { IfOk result (λ outcome. outcome ≡ outcome_of D.eq self.old.participants self.old.holds (option_copied proposal.entry) vote.now) }
+        ensures records { OnOk result ((kind : Kind) → RecordsKind D.eq self.old.holds self.new.holds (option_copied proposal.entry) true vote.now kind) }
+        ensures err { OnErr result (self.new.holds ≡ self.old.holds) }
+        ensures participants { self.new.participants ≡ self.old.participants }
+        ensures mode { self.new.mode ≡ self.old.mode }
+
+        // It takes memory for a signer of whom no vote was recorded, and none after `make_room`.
+        ensures known { is_known self.old.holds (signer_of vote.now) ≡ true → IsOk result }
+        ensures with_room { OnErr result (self.old.room ≡ 0) }
+        ensures room { self.old.room ≤ self.new.room + 1 }
+    {
+        let is_compacted = self.compacted.of(kind_of(vote));
+        let selected = proposal.copied();
+        match place {
+            Ok(index) => {
+                let entry = *self.entries.item_at(index);
                 self.entries
-                    .replace_at(place, entry.with(is_compacted, vote, selected));
+                    .replace_at(index, entry.with(is_compacted, vote, selected));
                 Ok(entry.outcome(is_compacted, vote, selected))
             }
-            Err(place) => {
-                let entry = Entry::unseen(signer);
+            Err(index) => {
+                let entry = Entry::unseen(signer_of(vote));
                 self.entries
-                    .insert_at(place, entry.with(is_compacted, vote, selected))?;
+                    .insert_at(index, entry.with(is_compacted, vote, selected))?;
                 Ok(entry.outcome(is_compacted, vote, selected))
             }
         }
     }
 
-    /// What `record` would answer, with nothing changed. It takes no memory.
-    pub(crate) fn outcome(&self, vote: &Vote<G, D>, proposal: Option<Proposal<D>>) -> Outcome
-        ensures { result ≡ outcome_of D.eq self.now.participants self.now.holds proposal vote.now }
+    /// What `record_at` would answer, with nothing changed. It takes no memory.
+    pub(crate) fn outcome_at(
+        &self,
+        place: Place,
+        vote: &Vote<G, D>,
+        proposal: Option<Proposal<D>>,
+    ) -> Outcome
+        requires { place ≡ place_of self.now.signers (signer_of vote.now) }
+        ensures { result ≡ outcome_by D.eq proposal (of_kind self.now.holds.compacted (kind_of vote.now)) (observed self.now.holds (kind_of vote.now) (signer_of vote.now)) vote.now }
     {
         let is_compacted = self.compacted.of(kind_of(vote));
-        let signer = signer_of(vote);
-        let index = usize::from(signer);
-        if index >= self.entries.participants() {
-            return Outcome::Duplicate {
-                retained: !is_compacted,
-            };
-        }
-        match self.entry(signer) {
+        match self.entry_at(place) {
             Some(entry) => entry.outcome(is_compacted, vote, proposal),
             None => Outcome::Added {
                 retained: !is_compacted,
@@ -275,6 +310,7 @@ impl<G: Copy, D: Digest> VoteTracker<G, D> {
     pub(crate) fn make_room(&mut self) -> Result<(), AllocError>
         ensures room { OnOk result (1 ≤ self.new.room) }
         ensures holds { self.new.holds ≡ self.old.holds }
+        ensures signers { self.new.signers ≡ self.old.signers }
         ensures participants { self.new.participants ≡ self.old.participants }
         ensures mode { self.new.mode ≡ self.old.mode }
         ensures no_memory { 1 ≤ self.old.room → IsOk result }
@@ -348,11 +384,11 @@ impl<G: Copy, D: Digest> VoteTracker<G, D> {
         self.entry(signer)?.kept_finalize(self.compacted.finalize)
     }
 
-    /// The vote of the kind and signer, where one was seen.
-    pub(crate) fn saw(&self, kind: Kind, signer: Participant) -> Option<ObservedVote<Vote<G, D>>>
-        ensures { result ≡ shown (observed self.now.holds kind signer.0) }
+    /// The vote of the kind, where one was seen of the signer whose place `place` gave.
+    pub(crate) fn saw_at(&self, place: Place, kind: Kind) -> Option<ObservedVote<Vote<G, D>>>
+        ensures { (i : ℕ) → place ≡ place_of self.now.signers i → result ≡ shown (observed self.now.holds kind i) }
     {
-        self.entry(signer)?.seen(self.compacted.of(kind), kind)
+        self.entry_at(place)?.seen(self.compacted.of(kind), kind)
     }
 
     /// Whether votes of the kind aren't kept.
@@ -411,6 +447,13 @@ impl<G: Copy, D: Digest> VoteTracker<G, D> {
         ensures kept { (kind : Kind) → kept_vote self.now.holds kind signer.0 ≡ kept_of (of_kind self.now.holds.compacted kind) kind (option_copied result) }
     {
         self.entries.get(signer)
+    }
+
+    // The entry at a place.
+    fn entry_at(&self, place: Place) -> Option<&Entry<G, D>>
+        ensures { (i : ℕ) → place ≡ place_of self.now.signers i → (kind : Kind) → observed self.now.holds kind i ≡ observed_of (of_kind self.now.holds.compacted kind) kind (option_copied result) }
+    {
+        self.entries.get_at(place)
     }
 
     /// The votes of a kind that are kept, in ascending order of their signers.

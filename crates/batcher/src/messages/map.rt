@@ -1,17 +1,20 @@
 //! A map from signers to their items.
 
-ghost use Rattle.std.specs.Prelude.{◌≡◌, ◌+◌, ◌-◌, ◌<◌, ◌≤◌, ◌↔◌, List, [], Some, None, false, length, IsTrue, IsOk, IfOk, OnOk, OnErr, IfErr, vec_len, vec_capacity, slice_get, slice_index_or, slice_set, insert, if◌then◌else◌, MatchResult};
+ghost use Rattle.std.specs.Prelude.{ℕ, ◌≡◌, ◌+◌, ◌-◌, ◌<◌, ◌≤◌, ◌↔◌, List, [], Some, None, false, length, IsTrue, IsOk, IfOk, OnOk, OnErr, IfErr, vec_len, vec_capacity, slice_get, slice_index_or, slice_set, insert, map, Err, if◌then◌else◌, MatchResult};
 ghost use Rattle.std.specs.List.{All};
 ghost use Rattle.std.specs.Option.{option_copied};
 ghost use Rattle.std.specs.Iterator.{YieldsFirstRef, item_count};
 ghost use Rattle.batcher.specs.Ascending.{IsAscending, insert_by};
-ghost use Rattle.batcher.specs.Items.{Items, item_of, is_new, replace_by};
+ghost use Rattle.batcher.specs.Items.{Items, item_of, is_new, replace_by, place_of};
 
 use crate::messages::Attributable;
 use crate::positions::Participant;
 use std::alloc::{AllocError, Global};
 use std::marker::Model;
 use std::mem;
+
+/// `Ok` of where the item of a signer stands, else `Err` of where it would.
+pub(crate) type Place = Result<usize, usize>;
 
 /// The first item of each signer below a bound, in ascending order of the signers.
 ///
@@ -69,8 +72,16 @@ impl<T: Attributable> AttributableMap<T> {
         ensures item { option_copied result ≡ item_of (λ x. (T.signed_by x).0) self.now.items signer.0 }
         ensures ascending { IsAscending (λ x. (T.signed_by x).0) self.now.items }
     {
-        match self.place(signer) {
-            Ok(place) => Some(&self.items[place]),
+        self.get_at(self.place(signer))
+    }
+
+    /// The item at a place that `place` gave for its signer.
+    pub(crate) fn get_at(&self, place: Place) -> Option<&T>
+        ensures item { (i : ℕ) → place ≡ place_of (map (λ x. (T.signed_by x).0) self.now.items) i → option_copied result ≡ item_of (λ x. (T.signed_by x).0) self.now.items i }
+        ensures ascending { IsAscending (λ x. (T.signed_by x).0) self.now.items }
+    {
+        match place {
+            Ok(index) => self.items.get(index),
             Err(_) => None,
         }
     }
@@ -139,7 +150,8 @@ impl<T: Attributable> AttributableMap<T> {
     /// The item at a place where there is one. It takes no memory.
     pub(crate) fn item_at(&self, place: usize) -> &T
         requires { place < length self.now.items }
-        ensures { (default : T) → result.now ≡ slice_index_or self.now.items place default }
+        ensures item { (default : T) → result.now ≡ slice_index_or self.now.items place default }
+        ensures ascending { IsAscending (λ x. (T.signed_by x).0) self.now.items }
     {
         &self.items[place]
     }
@@ -159,9 +171,9 @@ impl<T: Attributable> AttributableMap<T> {
     /// `make_room` it takes no memory.
     pub(crate) fn insert_at(&mut self, place: usize, item: T) -> Result<(), AllocError>
         requires signer { (T.signed_by item).0 < self.old.participants }
-        requires absent { item_of (λ x. (T.signed_by x).0) self.old.items (T.signed_by item).0 ≡ None }
-        requires place { (place ≤ length self.old.items) × (insert self.old.items place item ≡ insert_by (λ x. (T.signed_by x).0) item self.old.items) }
+        requires place { place_of (map (λ x. (T.signed_by x).0) self.old.items) (T.signed_by item).0 ≡ Err place }
         ensures items { MatchResult result (λ _. self.new.items ≡ insert_by (λ x. (T.signed_by x).0) item self.old.items) (λ _. self.new.items ≡ self.old.items) }
+        ensures ascending { IsAscending (λ x. (T.signed_by x).0) self.old.items }
         ensures participants { self.new.participants ≡ self.old.participants }
         ensures with_room { OnErr result (self.old.room ≡ 0) }
         ensures room { self.old.room ≤ self.new.room + 1 }
@@ -179,7 +191,8 @@ impl<T: Attributable> AttributableMap<T> {
 
     /// Where the signer's item stands, else where it would. Items often come in the order of their
     /// signers, so the last one is looked at first.
-    pub(crate) fn place(&self, signer: Participant) -> Result<usize, usize>
+    pub(crate) fn place(&self, signer: Participant) -> Place
+        ensures place { result ≡ place_of (map (λ x. (T.signed_by x).0) self.now.items) signer.0 }
         ensures ascending { IsAscending (λ x. (T.signed_by x).0) self.now.items }
         ensures found { IfOk result (λ i. (i < length self.now.items) × ((d : T) → item_of (λ x. (T.signed_by x).0) self.now.items signer.0 ≡ Some (slice_index_or self.now.items i d))) }
         ensures absent { IfErr result (λ i. (i ≤ length self.now.items) × (item_of (λ x. (T.signed_by x).0) self.now.items signer.0 ≡ None) × ((x : T) → (T.signed_by x).0 ≡ signer.0 → insert self.now.items i x ≡ insert_by (λ x. (T.signed_by x).0) x self.now.items)) }
@@ -203,7 +216,8 @@ impl<T: Attributable> AttributableMap<T> {
     }
 
     // Where the signer's item stands, else where it would, by halves.
-    fn searched_place(&self, signer: Participant) -> Result<usize, usize>
+    fn searched_place(&self, signer: Participant) -> Place
+        ensures place { result ≡ place_of (map (λ x. (T.signed_by x).0) self.now.items) signer.0 }
         ensures found { IfOk result (λ i. (i < length self.now.items) × ((d : T) → item_of (λ x. (T.signed_by x).0) self.now.items signer.0 ≡ Some (slice_index_or self.now.items i d))) }
         ensures absent { IfErr result (λ i. (i ≤ length self.now.items) × (item_of (λ x. (T.signed_by x).0) self.now.items signer.0 ≡ None) × ((x : T) → (T.signed_by x).0 ≡ signer.0 → insert self.now.items i x ≡ insert_by (λ x. (T.signed_by x).0) x self.now.items)) }
     {

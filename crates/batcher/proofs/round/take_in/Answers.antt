@@ -1,5 +1,4 @@
-use Rattle.std.proofs.Common.{◌≡◌, ◌∙◌, ap, sym, true, nat_lt, arith}
-use Rattle.std.proofs.lemmas.Bool.Decides.{nat_tests}
+use Rattle.std.proofs.Common.{◌∙◌, ap, sym, refl}
 use Rattle.batcher.specs.Votes.{kind_of, signer_of}
 use Rattle.batcher.proofs.Admitting.{IsNew, added_new, not_buffered, right_waiting}
 use Rattle.batcher.specs.Tracking.{outcome_of}
@@ -21,11 +20,9 @@ returns-in_ok-add-clause-right g c =
     let verifier = c.args.verifier.now in
     let added = sym c.in_ok-outcome.ensures.outcome ∙ kept_outcome c.in_ok-outcome.outcome (sym c.is_kept.ensures ∙ c.if-is_kept.true) in
     let new : IsNew held vote = added_new _ held _ vote c.args.votes.now.participants added in
-    let range = c.requires.range in
-    let below : nat_lt (signer_of vote) c.args.votes.now.participants ≡ true = rw c.requires.right.bound (grind (arith, nat_tests, range)) in
-    right_waiting (g.S.Scheme.meaning verifier.scheme) g.D.PartialEq.eq c.args.votes.now c.record.new.self verifier.holds verifier.quorum c.requires.right _ _ vote
+    right_waiting (g.S.Scheme.meaning verifier.scheme) g.D.PartialEq.eq c.args.votes.now c.record_at.new.self verifier.holds verifier.quorum c.requires.right _ _ vote
     c.in_ok-outcome.ensures.participants c.in_ok-outcome.ensures.mode c.in_ok-outcome.ensures.records
-    c.add.new.self.holds c.args.verified c.in_ok-add.ensures.adds new below
+    c.add.new.self.holds c.args.verified c.in_ok-add.ensures.adds new refl
 
 pub returns-in_err-outcome-clause-with_room : goal.returns-in_err-outcome-clause-with_room
 returns-in_err-outcome-clause-with_room g c = λ h.

@@ -17,7 +17,7 @@ use Rattle.batcher.proofs.round.Round.accept_vote.Goals as goal
 
 pub returns-in_err-make_room_to_accept-clause-fault : goal.returns-in_err-make_room_to_accept-clause-fault
 returns-in_err-make_room_to_accept-clause-fault g c =
-    let result = sym (rw (← c.self.view_is) at c.own_result.ensures) ∙ c.in_ok-outcome.was in
+    let result = sym c.own_result.ensures ∙ c.in_ok-outcome.was in
     rw (← c.self.view_is, result) (err_only _ c.from_residual-in_err-make_room_to_accept.result c.from_residual-in_err-make_room_to_accept.ensures.1)
 
 pub returns-clause-step : goal.returns-clause-step
@@ -31,7 +31,7 @@ returns-clause-step g c =
     let fixed = c.may_fix.new.verifier.holds in
     let selected = proposal_of (fixes old.selection (fixed_by vote)) in
     let outcome_at : Option (Proposal g.row.D.Denot) → Outcome = λ s. outcome_by same s (of_kind held.compacted kind) (observed held kind (signer_of vote)) vote in
-    let result = sym (rw (← c.self.view_is) at c.own_result.ensures) ∙ c.in_ok-outcome.was in
+    let result = sym c.own_result.ensures ∙ c.in_ok-outcome.was in
     let fixes_it : MayFix same old held.kept (fixed_by vote) fixed = rw (c.in_ok-make_room_to_accept.ensures.holds, c.in_ok-make_room_to_accept.ensures.votes, c.fixed_by.ensures) at c.may_fix.ensures.fixes in
     let selects : proposal_of fixed.selection ≡ selected = ap proposal_of (may_fix_selects same old held.kept (fixed_by vote) fixed fixes_it) in
     let range = g.met.S.Scheme.lawful b.verifier.scheme in
@@ -57,7 +57,7 @@ returns-clause-step g c =
 pub returns-in_err-make_room_to_accept-clause-no_memory : goal.returns-in_err-make_room_to_accept-clause-no_memory
 returns-in_err-make_room_to_accept-clause-no_memory g c =
     let b = c.self.inside in
-    let result = sym (rw (← c.self.view_is) at c.own_result.ensures) ∙ c.in_ok-outcome.was in
+    let result = sym c.own_result.ensures ∙ c.in_ok-outcome.was in
     rw (← c.self.view_is)
     (λ outcome is not_added.
     let same = ok_is _ _ (sym result ∙ is) in
@@ -93,3 +93,13 @@ returns-in_err-take_in-clause-named g c = λ past stands. own_same _ past c.args
 
 pub returns-clause-named : goal.returns-clause-named
 returns-clause-named g c = λ past stands. own_same _ past c.args.self.now.holds c.args.vote stands
+
+pub returns-in_err-outcome-clause-fault : goal.returns-in_err-outcome-clause-fault
+returns-in_err-outcome-clause-fault g c =
+    let result = sym c.own_result.ensures ∙ c.in_err-outcome.was in
+    rw (← c.self.view_is, result) (err_only _ c.from_residual.result c.from_residual.ensures.1)
+
+pub returns-in_err-take_in-clause-fault : goal.returns-in_err-take_in-clause-fault
+returns-in_err-take_in-clause-fault g c =
+    let result = sym c.own_result.ensures ∙ c.in_ok-outcome.was in
+    rw (← c.self.view_is, result) (err_only _ c.from_residual-in_err-take_in.result c.from_residual-in_err-take_in.ensures.1)

@@ -10,43 +10,44 @@ use Rattle.batcher.specs.Admissions.{admission_of}
 use Rattle.batcher.specs.Buffering.{AddsVote}
 use Rattle.batcher.specs.Steps.{is_kept}
 use Rattle.batcher.proofs.Owning.{in_range, admitted, kept_so}
-use Rattle.batcher.proofs.round.Round.admit.Goals as goal
+use Rattle.batcher.proofs.round.admit.Goals as goal
 
 pub returns-clause-answer : goal.returns-clause-answer
 returns-clause-answer g c =
-    let b = c.self.inside in
+    let verifier = c.args.verifier.now in
+    let votes = c.args.votes.now in
     let same = g.D.PartialEq.eq in
     let vote = c.args.vote in
-    let held = b.votes.holds in
-    let selected = proposal_of b.verifier.holds.selection in
+    let held = votes.holds in
+    let selected = proposal_of verifier.holds.selection in
     let compacted = of_kind held.compacted (kind_of vote) in
     let own = observed held (kind_of vote) (signer_of vote) in
-    let x = setting (g.S.Scheme.meaning b.verifier.scheme) g.S.PublicKey.Ord.cmp g.S.Signature.PartialEq.eq same b.verifier.number b.votes.mode in
-    let range = rw (← c.self.view_is) at c.requires.range in
-    let below : nat_lt (signer_of vote) b.votes.participants ≡ true = rw c.self.invariant.bound (grind (arith, nat_tests, range)) in
+    let x = setting (g.S.Scheme.meaning verifier.scheme) g.S.PublicKey.Ord.cmp g.S.Signature.PartialEq.eq same verifier.number votes.mode in
+    let range = c.requires.range in
+    let below : nat_lt (signer_of vote) votes.participants ≡ true = rw c.requires.right.bound (grind (arith, nat_tests, range)) in
     let outcome : c.in_ok-outcome.outcome ≡ outcome_by same selected compacted own vote =
-    c.in_ok-outcome.ensures.outcome ∙ in_range same b.votes.participants held _ vote below ∙ ap (λ h. outcome_by same (proposal_of h.selection) compacted own vote) c.in_ok-make_room.ensures.holds in
-    rw (← c.self.view_is)
-    (c.admission_of.ensures ∙ ap (λ o. admission_of o vote) outcome ∙ admitted x selected compacted vote (observed_opposite held vote) own (rw (← c.self.view_is) at c.requires.unopposed))
+    c.in_ok-outcome.ensures.outcome ∙ in_range same votes.participants held _ vote below ∙ ap (λ h. outcome_by same (proposal_of h.selection) compacted own vote) c.in_ok-make_room.ensures.holds in
+    c.admission_of.ensures ∙ ap (λ o. admission_of o vote) outcome ∙ admitted x selected compacted vote (observed_opposite held vote) own c.requires.unopposed
 
 pub returns-clause-buffered : goal.returns-clause-buffered
 returns-clause-buffered g c =
-    let b = c.self.inside in
+    let verifier = c.args.verifier.now in
+    let votes = c.args.votes.now in
     let same = g.D.PartialEq.eq in
     let vote = c.args.vote in
-    let held = b.votes.holds in
-    let old = b.verifier.holds in
+    let held = votes.holds in
+    let old = verifier.holds in
     let selected = proposal_of old.selection in
     let compacted = of_kind held.compacted (kind_of vote) in
     let own = observed held (kind_of vote) (signer_of vote) in
-    let x = setting (g.S.Scheme.meaning b.verifier.scheme) g.S.PublicKey.Ord.cmp g.S.Signature.PartialEq.eq same b.verifier.number b.votes.mode in
-    let range = rw (← c.self.view_is) at c.requires.range in
-    let below : nat_lt (signer_of vote) b.votes.participants ≡ true = rw c.self.invariant.bound (grind (arith, nat_tests, range)) in
+    let x = setting (g.S.Scheme.meaning verifier.scheme) g.S.PublicKey.Ord.cmp g.S.Signature.PartialEq.eq same verifier.number votes.mode in
+    let range = c.requires.range in
+    let below : nat_lt (signer_of vote) votes.participants ≡ true = rw c.requires.right.bound (grind (arith, nat_tests, range)) in
     let outcome : c.in_ok-outcome.outcome ≡ outcome_by same selected compacted own vote =
-    c.in_ok-outcome.ensures.outcome ∙ in_range same b.votes.participants held _ vote below ∙ ap (λ h. outcome_by same (proposal_of h.selection) compacted own vote) c.in_ok-make_room.ensures.holds in
+    c.in_ok-outcome.ensures.outcome ∙ in_range same votes.participants held _ vote below ∙ ap (λ h. outcome_by same (proposal_of h.selection) compacted own vote) c.in_ok-make_room.ensures.holds in
     let kept : is_kept c.in_ok-outcome.outcome ≡ ((admission_of c.in_ok-outcome.outcome vote).added && not compacted) =
     subst (λ o. is_kept o ≡ ((admission_of o vote).added && not compacted)) (sym outcome) (kept_so x selected compacted vote own) in
     let new = c.take_in.new.verifier.holds in
     let waits : MatchBool (is_kept c.in_ok-outcome.outcome) (AddsVote same old vote false new) (new ≡ old) =
     subst (λ h. MatchBool (is_kept c.in_ok-outcome.outcome) (AddsVote same h vote false new) (new ≡ h)) c.in_ok-make_room.ensures.holds c.in_ok-outcome.ensures.buffered in
-    rw (← c.self.view_is, c.admission_of.ensures) (subst (λ k. MatchBool k (AddsVote same old vote false new) (new ≡ old)) kept waits)
+    rw c.admission_of.ensures (subst (λ k. MatchBool k (AddsVote same old vote false new) (new ≡ old)) kept waits)
