@@ -19,7 +19,7 @@ use Rattle.batcher.specs.Votes.{is_kind, kind_of, signer_of, is_vote_of, is_of_k
 use Rattle.batcher.specs.Held.{of_kind, Facts, Tracked, Buffered, Tracker, Held}
 use Rattle.batcher.specs.Tracking.{Observed, unseen, in_full, as_facts, is_seen, observed, observed_opposite, kept_vote, from_kept, from_facts, known_facts, outcome_of, outcome_by, conflicts_with, RecordsKind, is_released_in}
 use Rattle.batcher.specs.Buffering.{AddsVote, is_buffered}
-use Rattle.batcher.specs.Admissions.{admission_beside, admission_after, admission_after_facts}
+use Rattle.batcher.specs.Admissions.{block_for, mismatch_reason, admission_beside, admission_after, admission_after_facts}
 use Rattle.std.specs.Prelude.{MatchBool, Result, Ok, Err, IfOk, OnOk}
 use Rattle.std.proofs.lemmas.Option.{none-some}
 use Rattle.batcher.specs.Steps.{IsRight, AfterNetwork, objection_to, objection_by, admission, admission_by, admission_named, is_recorded, selected_in}
@@ -361,6 +361,27 @@ module _ {D K G C : Type 0} (x : Setting D K G C) (held : Held G D) (sender : K)
   -- a vote that is not recorded is answered, and changes nothing
   pub objected : objection_to x held vote ≡ Some answer → AfterNetwork x held sender vote answer held
   objected h = objected_by (observed_opposite held.tracked vote) (observed held.tracked (kind_of vote) (signer_of vote)) refl refl h
+
+-- A vote that doesn't name its sender is refused, and changes nothing.
+pub mismatched : {D K G C : Type 0} (x : Setting D K G C) (held : Held G D) (sender : K) (i : Participant) (vote : Vote G D) (answer : Admission G D) → sender_in x sender ≡ Some i → (i.0 == signer_of vote) ≡ false
+    → answer ≡ block_for (mismatch_reason (kind_of vote)) None → AfterNetwork x held sender vote answer held
+mismatched x held sender i vote answer known other told =
+    record {
+      answer_is = told ∙ sym named;
+      forwarded = refl;
+      tracked = λ kind. subst (λ r. RecordsKind x.same_digest held.tracked held.tracked (selected_in held) r vote kind) (sym none) (record {
+        compacted = refl;
+        kept = not_recorded (is_of_kind kind vote) _ _ _;
+        facts = not_recorded (is_of_kind kind vote) _ _ _;
+      });
+      buffered = unchanged_if x.same_digest held.buffered vote answer.added _ (ap (λ a. a.added) told);
+    }
+  where
+    named : admission x held sender vote ≡ block_for (mismatch_reason (kind_of vote)) None
+    named = rw (known, other)
+
+    none : is_recorded x held sender vote ≡ false
+    none = rw (known, other)
 
 -- A vote that names its sender and stands against no other is recorded.
 module _ {D K G C : Type 0} (x : Setting D K G C) (old : Held G D) (sender : K) (i : Participant) (vote : Vote G D) (known : sender_in x sender ≡ Some i) (own : i.0 ≡ signer_of vote) (none : objection_to x old vote ≡ None) where

@@ -15,15 +15,16 @@ ghost use Rattle.batcher.specs.Selected.{proposal_of, replaces, fixes, same_sele
 ghost use Rattle.batcher.specs.Held.{of_kind};
 ghost use Rattle.batcher.specs.Tracking.{nothing_tracked, shown, is_known, outcome_of, outcome_by, observed, observed_opposite, RecordsKind, kept_vote};
 ghost use Rattle.batcher.specs.Buffering.{AddsVote, FixesProposal, MayFix};
-ghost use Rattle.batcher.specs.Sound.{HasRoomFor, KeepsRoom};
+ghost use Rattle.batcher.specs.Quorum.{quorum_of};
+ghost use Rattle.batcher.specs.Sound.{IsSound, HasRoomFor, KeepsRoom};
 ghost use Rattle.batcher.specs.Admissions.{refusal, mismatch_reason, admission_of};
 ghost use Rattle.batcher.specs.Steps.{nothing_held, has_block as has_block_held, missing_in, leader_set_answer, forward_answer, AfterLeader, AfterNetwork, admission, objection_by, own_result_by, admission_by, kind_tried, restored_with, AfterConstruct, TriesHeld, Fixes, is_ready_in, IsRight, WaitsWhereKept, AfterOwn, own_result, fault_or_memory, fixed_by, opposite_fault, unopposed_result, report_by, is_added, is_kept, AfterCertificate};
 ghost use Rattle.batcher.specs.History.{History};
 ghost use Rattle.batcher.specs.Selection.{is_certified, leader_of};
 ghost use Rattle.batcher.specs.Comparison.{has_block};
-ghost use Rattle.batcher.specs.Answers.{keeps_nullify, network_answer, own_answer};
-ghost use Rattle.batcher.specs.declared.run.Call.TheVariants.{Leader as LeaderCall, Forward as ForwardCall, Missing as MissingCall, Certificate as CertificateCall};
-ghost use Rattle.batcher.specs.declared.run.Answer.TheVariants.{Leader as LeaderAnswer, Forward as ForwardAnswer, Missing as MissingAnswer, Certificate as CertificateAnswer};
+ghost use Rattle.batcher.specs.Answers.{keeps_nullify, own_answer};
+ghost use Rattle.batcher.specs.declared.run.Call.TheVariants.{Network as NetworkCall, Own as OwnCall, Construct as ConstructCall, Leader as LeaderCall, Forward as ForwardCall, Missing as MissingCall, Certificate as CertificateCall};
+ghost use Rattle.batcher.specs.declared.run.Answer.TheVariants.{Network as NetworkAnswer, Own as OwnAnswer, Construct as ConstructAnswer, Leader as LeaderAnswer, Forward as ForwardAnswer, Missing as MissingAnswer, Certificate as CertificateAnswer};
 ghost use Rattle.batcher.specs.Stands.{Stands, Follows, Meets};
 ghost use Rattle.batcher.specs.declared.messages.Proposal.{Proposal as TheProposal};
 ghost use Rattle.batcher.specs.declared.round.OwnFault.TheVariants.{OutOfMemory as OutOfMemoryFault};
@@ -319,7 +320,7 @@ impl<S: Scheme<D>, D: Digest> Round<S, D> {
     ) -> Result<Admission<S::Signature, D>, AllocError>
         requires { round_in (subject_of vote) ≡ self.old.number }
         ensures step { IfOk result (λ answer. AfterNetwork (setting (S.meaning self.old.scheme) S.PublicKey.cmp S.Signature.eq D.eq self.old.number self.old.mode) self.old.holds sender vote answer self.new.holds) }
-        ensures named { (past : History D S.PublicKey S.Signature S.Certificate) → Stands (setting (S.meaning self.old.scheme) S.PublicKey.cmp S.Signature.eq D.eq self.old.number self.old.mode) past self.old.holds → admission (setting (S.meaning self.old.scheme) S.PublicKey.cmp S.Signature.eq D.eq self.old.number self.old.mode) self.old.holds sender vote ≡ network_answer (setting (S.meaning self.old.scheme) S.PublicKey.cmp S.Signature.eq D.eq self.old.number self.old.mode) past sender vote }
+        ensures meets { (past : History D S.PublicKey S.Signature S.Certificate) → Stands (setting (S.meaning self.old.scheme) S.PublicKey.cmp S.Signature.eq D.eq self.old.number self.old.mode) past self.old.holds → IfOk result (λ answer. Follows (setting (S.meaning self.old.scheme) S.PublicKey.cmp S.Signature.eq D.eq self.old.number self.old.mode) past self.old.holds (NetworkCall sender vote, NetworkAnswer answer) self.new.holds) }
         ensures no_memory { (admission (setting (S.meaning self.old.scheme) S.PublicKey.cmp S.Signature.eq D.eq self.old.number self.old.mode) self.old.holds sender vote).added ≡ false → IsOk result }
         ensures refused { OnErr result (self.new ≡ self.old) }
         ensures same { (self.new.scheme ≡ self.old.scheme) × (self.new.number ≡ self.old.number) × (self.new.mode ≡ self.old.mode) }
@@ -352,7 +353,8 @@ impl<S: Scheme<D>, D: Digest> Round<S, D> {
         requires belongs { round_in (subject_of vote) ≡ self.old.number }
         requires attests { (S.meaning self.old.scheme).attests (subject_of vote) (attestation_of vote) ≡ true }
         ensures step { IfOk result (λ answer. AfterOwn (setting (S.meaning self.old.scheme) S.PublicKey.cmp S.Signature.eq D.eq self.old.number self.old.mode) self.old.holds vote answer.0 answer.1 self.new.holds) }
-        ensures named { (past : History D S.PublicKey S.Signature S.Certificate) → Stands (setting (S.meaning self.old.scheme) S.PublicKey.cmp S.Signature.eq D.eq self.old.number self.old.mode) past self.old.holds → own_result (setting (S.meaning self.old.scheme) S.PublicKey.cmp S.Signature.eq D.eq self.old.number self.old.mode) self.old.holds vote ≡ own_answer (setting (S.meaning self.old.scheme) S.PublicKey.cmp S.Signature.eq D.eq self.old.number self.old.mode) past vote }
+        ensures meets { (past : History D S.PublicKey S.Signature S.Certificate) → Stands (setting (S.meaning self.old.scheme) S.PublicKey.cmp S.Signature.eq D.eq self.old.number self.old.mode) past self.old.holds → IfOk result (λ answer. Follows (setting (S.meaning self.old.scheme) S.PublicKey.cmp S.Signature.eq D.eq self.old.number self.old.mode) past self.old.holds (OwnCall vote, OwnAnswer answer.0 answer.1) self.new.holds) }
+        ensures named { (past : History D S.PublicKey S.Signature S.Certificate) → Stands (setting (S.meaning self.old.scheme) S.PublicKey.cmp S.Signature.eq D.eq self.old.number self.old.mode) past self.old.holds → IfErr result (λ fault. fault ≡ fault_or_memory (own_answer (setting (S.meaning self.old.scheme) S.PublicKey.cmp S.Signature.eq D.eq self.old.number self.old.mode) past vote)) }
         ensures no_memory { (outcome : Outcome) → own_result (setting (S.meaning self.old.scheme) S.PublicKey.cmp S.Signature.eq D.eq self.old.number self.old.mode) self.old.holds vote ≡ Ok outcome → is_added outcome ≡ false → IsOk result }
         ensures fault { IfErr result (λ fault. fault ≡ fault_or_memory (own_result (setting (S.meaning self.old.scheme) S.PublicKey.cmp S.Signature.eq D.eq self.old.number self.old.mode) self.old.holds vote)) }
         ensures refused { OnErr result (self.new ≡ self.old) }
@@ -402,6 +404,7 @@ impl<S: Scheme<D>, D: Digest> Round<S, D> {
         rng: &mut R,
     ) -> Result<Option<Batch<Certificate<S::Certificate, D>>>, AllocError>
         ensures step { IfOk result (λ answer. AfterConstruct (setting (S.meaning self.old.scheme) S.PublicKey.cmp S.Signature.eq D.eq self.old.number self.old.mode) self.old.holds (R.stream rng.old) answer self.new.holds (R.stream rng.new)) }
+        ensures meets { (past : History D S.PublicKey S.Signature S.Certificate) → Stands (setting (S.meaning self.old.scheme) S.PublicKey.cmp S.Signature.eq D.eq self.old.number self.old.mode) past self.old.holds → IfOk result (λ given. Follows (setting (S.meaning self.old.scheme) S.PublicKey.cmp S.Signature.eq D.eq self.old.number self.old.mode) past self.old.holds (ConstructCall, ConstructAnswer given) self.new.holds) }
         ensures no_memory { kind_tried (setting (S.meaning self.old.scheme) S.PublicKey.cmp S.Signature.eq D.eq self.old.number self.old.mode) self.old.holds ≡ None → IsOk result }
         ensures certifies { IfOk result (λ answer. IfSome answer (λ batch. IfSome batch.certificate (λ certificate. certifies_itself (S.meaning self.old.scheme) certificate ≡ true))) }
         ensures refused { OnErr result (self.new ≡ self.old) }
@@ -424,6 +427,7 @@ impl<S: Scheme<D>, D: Digest> Round<S, D> {
     ) -> Result<Option<Batch<Certificate<S::Certificate, D>>>, AllocError>
         ensures ready { IfOk result (λ given. is_some given ≡ is_ready_in (setting (S.meaning self.old.scheme) S.PublicKey.cmp S.Signature.eq D.eq self.old.number self.old.mode) self.old.holds kind) }
         ensures tries { IfOk result (λ given. IfSome given (λ batch. TriesHeld (setting (S.meaning self.old.scheme) S.PublicKey.cmp S.Signature.eq D.eq self.old.number self.old.mode) self.old.holds kind (R.stream rng.old) batch self.new.holds (R.stream rng.new))) }
+        ensures sound { IsSound (S.meaning self.old.scheme) D.eq self.old.number (quorum_of (length (S.meaning self.old.scheme).participants)) self.old.holds.buffered }
         ensures none { is_ready_in (setting (S.meaning self.old.scheme) S.PublicKey.cmp S.Signature.eq D.eq self.old.number self.old.mode) self.old.holds kind ≡ false → (IsOk result) × (self.new ≡ self.old) × (R.stream rng.new ≡ R.stream rng.old) }
         ensures certifies { IfOk result (λ given. IfSome given (λ batch. IfSome batch.certificate (λ certificate. certifies_itself (S.meaning self.old.scheme) certificate ≡ true))) }
         ensures refused { OnErr result (self.new ≡ self.old) }

@@ -14,7 +14,7 @@ ghost use Rattle.batcher.specs.Selected.{proposal_of, updated, same_selected, re
 ghost use Rattle.batcher.specs.Held.{of_kind};
 ghost use Rattle.batcher.specs.Attempts.{attempt_of};
 ghost use Rattle.batcher.specs.Buffering.{attestations_of, nothing_buffered, is_buffered, is_dropped, leader_answer, is_ready, certificate_for, Buffers, TriesKind, AddsVote, SetsLeader, SetsProposal, CompletesKind};
-ghost use Rattle.batcher.specs.Sound.{KeepsRoom, RestoresRoom};
+ghost use Rattle.batcher.specs.Sound.{IsSound, KeepsRoom, RestoresRoom};
 ghost use Rattle.batcher.specs.Verifiers.{is_of_round, certifies_itself, subject_ready};
 
 mod attempt;
@@ -335,6 +335,7 @@ impl<S: Scheme<D>, D: Digest> Verifier<S, D> {
         ensures ready { IfOk result (λ given. is_some given ≡ is_ready D.eq (S.meaning self.old.scheme).batchable self.old.quorum self.old.holds kind) }
         ensures tries { IfOk result (λ given. IfSome given (λ batch. TriesKind (S.meaning self.old.scheme) self.old.number self.old.quorum self.old.holds kind (R.stream rng.old) batch (R.stream rng.new) self.new.holds)) }
         ensures certifies { IfOk result (λ given. IfSome given (λ batch. IfSome batch.certificate (λ certificate. certifies_itself (S.meaning self.old.scheme) certificate ≡ true))) }
+        ensures sound { IsSound (S.meaning self.old.scheme) D.eq self.old.number self.old.quorum self.old.holds }
         ensures not_ready { is_ready D.eq (S.meaning self.old.scheme).batchable self.old.quorum self.old.holds kind ≡ false → (IsOk result) × (self.new ≡ self.old) × (R.stream rng.new ≡ R.stream rng.old) }
         ensures unchanged { OnErr result (self.new.holds ≡ self.old.holds) }
         ensures same { (self.new.scheme ≡ self.old.scheme) × (self.new.number ≡ self.old.number) × (self.new.quorum ≡ self.old.quorum) }
@@ -349,6 +350,7 @@ impl<S: Scheme<D>, D: Digest> Verifier<S, D> {
     fn subject_ready(&self, kind: Kind) -> Option<Subject<D>>
         ensures subject { result ≡ subject_ready D.eq (S.meaning self.now.scheme).batchable self.now.quorum self.now.holds self.now.number kind }
         ensures ready { is_some result ≡ is_ready D.eq (S.meaning self.now.scheme).batchable self.now.quorum self.now.holds kind }
+        ensures sound { IsSound (S.meaning self.now.scheme) D.eq self.now.number self.now.quorum self.now.holds }
     {
         self.state
             .subject_ready(S::is_batchable(), self.quorum, self.round, kind)

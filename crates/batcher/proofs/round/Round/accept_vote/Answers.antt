@@ -1,6 +1,6 @@
-use Rattle.std.proofs.Common.{◌≡◌, ◌∙◌, Option, ap, sym, subst, refl, true, nat_lt, arith}
+use Rattle.std.proofs.Common.{rules, ◌≡◌, ◌∙◌, Option, ap, sym, subst, refl, true, nat_lt, arith}
 use Rattle.std.proofs.lemmas.Bool.Decides.{nat_tests}
-use Rattle.std.specs.Prelude.{MatchBool}
+use Rattle.std.specs.Prelude.{MatchBool, IfErr}
 use Rattle.batcher.specs.declared.messages.Kind.{Kind}
 use Rattle.batcher.specs.declared.messages.Proposal.{Proposal}
 use Rattle.batcher.specs.declared.votes.Outcome.{Outcome}
@@ -9,8 +9,12 @@ use Rattle.batcher.specs.Selected.{proposal_of, fixes}
 use Rattle.batcher.specs.Held.{of_kind}
 use Rattle.batcher.specs.Tracking.{observed, observed_opposite, outcome_by, is_known, RecordsKind}
 use Rattle.batcher.specs.Buffering.{MayFix, AddsVote}
-use Rattle.batcher.specs.Steps.{fixed_by, is_added, is_kept}
+use Rattle.batcher.specs.Steps.{fault_or_memory, fixed_by, is_added, is_kept}
+use Rattle.batcher.specs.Setting.{setting}
+use Rattle.batcher.specs.Held.{Held}
+use Rattle.batcher.proofs.Laws.{HasLaws}
 use Rattle.batcher.proofs.Naming.{own_same}
+use Rattle.batcher.proofs.Casting.{own_follows}
 use Rattle.batcher.proofs.Rooms.{fixes_no_more}
 use Rattle.batcher.proofs.Owning.{err_only, ok_is, in_range, result_is, may_fix_selects, known_signer}
 use Rattle.batcher.proofs.round.Round.accept_vote.Goals as goal
@@ -82,17 +86,15 @@ returns-in_err-take_in-clause-no_memory g c =
     absurd (cc)) in
     absurd (cc))
 
-pub returns-in_err-outcome-clause-named : goal.returns-in_err-outcome-clause-named
-returns-in_err-outcome-clause-named g c = λ past stands. own_same _ past c.args.self.now.holds c.args.vote stands
-
-pub returns-in_err-make_room_to_accept-clause-named : goal.returns-in_err-make_room_to_accept-clause-named
-returns-in_err-make_room_to_accept-clause-named g c = λ past stands. own_same _ past c.args.self.now.holds c.args.vote stands
-
-pub returns-in_err-take_in-clause-named : goal.returns-in_err-take_in-clause-named
-returns-in_err-take_in-clause-named g c = λ past stands. own_same _ past c.args.self.now.holds c.args.vote stands
-
-pub returns-clause-named : goal.returns-clause-named
-returns-clause-named g c = λ past stands. own_same _ past c.args.self.now.holds c.args.vote stands
+pub returns-clause-meets : goal.returns-clause-meets
+returns-clause-meets g c =
+    let b = c.self.inside in
+    let x = setting (g.S.Scheme.meaning b.verifier.scheme) g.S.PublicKey.Ord.cmp g.S.Signature.PartialEq.eq g.D.PartialEq.eq b.verifier.number b.votes.mode in
+    let laws : HasLaws x = record { scheme = g.met.S.Scheme.lawful b.verifier.scheme; some_participant = c.self.invariant.some; digests_equal = g.met.D.Digest.identical; digests_same = g.met.D.Eq.laws.refl } in
+    let held : Held g.row.S-Signature.Denot g.row.D.Denot = record { tracked = b.votes.holds; buffered = b.verifier.holds; forwarded = b.forwarded } in
+    let step = rw (← c.self.view_is) at (returns-clause-step g c) in
+    let allowed = rw (← c.self.view_is) at c.requires in
+    rw (← c.self.view_is) (λ past stands. own_follows x laws past held c.args.vote _ _ _ stands (allowed.belongs, allowed.attests) step)
 
 pub returns-in_err-outcome-clause-fault : goal.returns-in_err-outcome-clause-fault
 returns-in_err-outcome-clause-fault g c =
@@ -103,3 +105,18 @@ pub returns-in_err-take_in-clause-fault : goal.returns-in_err-take_in-clause-fau
 returns-in_err-take_in-clause-fault g c =
     let result = sym c.own_result.ensures ∙ c.in_ok-outcome.was in
     rw (← c.self.view_is, result) (err_only _ c.from_residual-in_err-take_in.result c.from_residual-in_err-take_in.ensures.1)
+
+pub returns-in_err-outcome-clause-named : goal.returns-in_err-outcome-clause-named
+returns-in_err-outcome-clause-named g c =
+    let fault = rw (← c.self.view_is) at (returns-in_err-outcome-clause-fault g c) in
+    rw (← c.self.view_is) (λ past stands. subst (λ r. IfErr c.from_residual.result (λ fault. fault ≡ fault_or_memory r)) (own_same _ past _ c.args.vote stands) fault)
+
+pub returns-in_err-make_room_to_accept-clause-named : goal.returns-in_err-make_room_to_accept-clause-named
+returns-in_err-make_room_to_accept-clause-named g c =
+    let fault = rw (← c.self.view_is) at (returns-in_err-make_room_to_accept-clause-fault g c) in
+    rw (← c.self.view_is) (λ past stands. subst (λ r. IfErr c.from_residual-in_err-make_room_to_accept.result (λ fault. fault ≡ fault_or_memory r)) (own_same _ past _ c.args.vote stands) fault)
+
+pub returns-in_err-take_in-clause-named : goal.returns-in_err-take_in-clause-named
+returns-in_err-take_in-clause-named g c =
+    let fault = rw (← c.self.view_is) at (returns-in_err-take_in-clause-fault g c) in
+    rw (← c.self.view_is) (λ past stands. subst (λ r. IfErr c.from_residual-in_err-take_in.result (λ fault. fault ≡ fault_or_memory r)) (own_same _ past _ c.args.vote stands) fault)
