@@ -6,7 +6,7 @@ use Rattle.batcher.specs.declared.run.Answer.{Answer}
 use Rattle.batcher.specs.Setting.{Setting}
 use Rattle.batcher.specs.Held.{Held}
 use Rattle.batcher.specs.History.{History, is_made, history_after, history_from}
-use Rattle.batcher.specs.Answers.{IsAnswered, AreAnswered}
+use Rattle.batcher.specs.Answers.{MayAnswer, IsAnswered, AreAnswered}
 use Rattle.batcher.specs.Stands.{Stands, Follows, Meets}
 
 module _ {D K G C : Type 0} (x : Setting D K G C) where
@@ -34,8 +34,9 @@ module _ {D K G C : Type 0} (x : Setting D K G C) where
   answered-push past (c ∷ calls) [] call answer before now = absurd before
   answered-push past (c ∷ calls) (a ∷ answers) call answer before now = (before.0, answered-push (history_after past c a) calls answers call answer before.1 now)
 
-  -- WHERE MEMORY MAY BE REFUSED
-  -- a call that takes no memory in some case is refused in the other alone
-  pub only_if : (needs : Bool) → (needs ≡ false → ⊥) → needs ≡ true
-  only_if true h = refl
-  only_if false h = absurd (h refl)
+
+module _ {D K G C : Type 0} (x : Setting D K G C) where
+  -- A call that is followed is answered as the history names.
+  pub named : {past : History D K G C} {old : Held G D} {call : Call K G C D} {answer : Answer G C D} {new : Held G D} → Follows x past old (call, answer) new →
+      Follows x past old (call, answer) new × MayAnswer x past call answer
+  named follows = (follows, follows.stands.possible.1.1.0)

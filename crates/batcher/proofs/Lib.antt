@@ -51,3 +51,4 @@ pub mod Evidence
 pub mod Settling
 pub mod Staying
 pub mod Batching
+pub mod Needing

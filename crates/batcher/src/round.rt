@@ -22,7 +22,7 @@ ghost use Rattle.batcher.specs.Steps.{nothing_held, has_block as has_block_held,
 ghost use Rattle.batcher.specs.History.{History};
 ghost use Rattle.batcher.specs.Selection.{is_certified, leader_of};
 ghost use Rattle.batcher.specs.Comparison.{has_block};
-ghost use Rattle.batcher.specs.Answers.{keeps_nullify, own_answer};
+ghost use Rattle.batcher.specs.Answers.{keeps_nullify, own_answer, needs_memory};
 ghost use Rattle.batcher.specs.declared.run.Call.TheVariants.{Network as NetworkCall, Own as OwnCall, Construct as ConstructCall, Leader as LeaderCall, Forward as ForwardCall, Missing as MissingCall, Certificate as CertificateCall};
 ghost use Rattle.batcher.specs.declared.run.Answer.TheVariants.{Network as NetworkAnswer, Own as OwnAnswer, Construct as ConstructAnswer, Leader as LeaderAnswer, Forward as ForwardAnswer, Missing as MissingAnswer, Certificate as CertificateAnswer};
 ghost use Rattle.batcher.specs.Stands.{Stands, Follows, Meets};
@@ -406,6 +406,7 @@ impl<S: Scheme<D>, D: Digest> Round<S, D> {
         ensures step { IfOk result (λ answer. AfterConstruct (setting (S.meaning self.old.scheme) S.PublicKey.cmp S.Signature.eq D.eq self.old.number self.old.mode) self.old.holds (R.stream rng.old) answer self.new.holds (R.stream rng.new)) }
         ensures meets { (past : History D S.PublicKey S.Signature S.Certificate) → Stands (setting (S.meaning self.old.scheme) S.PublicKey.cmp S.Signature.eq D.eq self.old.number self.old.mode) past self.old.holds → IfOk result (λ given. Follows (setting (S.meaning self.old.scheme) S.PublicKey.cmp S.Signature.eq D.eq self.old.number self.old.mode) past self.old.holds (ConstructCall, ConstructAnswer given) self.new.holds) }
         ensures no_memory { kind_tried (setting (S.meaning self.old.scheme) S.PublicKey.cmp S.Signature.eq D.eq self.old.number self.old.mode) self.old.holds ≡ None → IsOk result }
+        ensures needed { (past : History D S.PublicKey S.Signature S.Certificate) → Stands (setting (S.meaning self.old.scheme) S.PublicKey.cmp S.Signature.eq D.eq self.old.number self.old.mode) past self.old.holds → OnErr result (needs_memory (setting (S.meaning self.old.scheme) S.PublicKey.cmp S.Signature.eq D.eq self.old.number self.old.mode) past ConstructCall ≡ true) }
         ensures certifies { IfOk result (λ answer. IfSome answer (λ batch. IfSome batch.certificate (λ certificate. certifies_itself (S.meaning self.old.scheme) certificate ≡ true))) }
         ensures refused { OnErr result (self.new ≡ self.old) }
         ensures same { (self.new.scheme ≡ self.old.scheme) × (self.new.number ≡ self.old.number) × (self.new.mode ≡ self.old.mode) }

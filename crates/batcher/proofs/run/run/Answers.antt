@@ -1,8 +1,12 @@
-use Rattle.std.proofs.Common.{◌≡◌, ◌∙◌, ◌++◌, ◌∷◌, ◌+◌, [], refl, sym, ap, take, arith, length-append}
+use Rattle.std.proofs.Common.{subst, ◌≡◌, ◌∙◌, ◌++◌, ◌∷◌, ◌+◌, [], refl, sym, ap, take, arith, length-append}
 use Rattle.std.proofs.lemmas.Grind.{common_steps}
 use Rattle.std.proofs.lemmas.List.{take_more}
 use Rattle.std.proofs.lemmas.List.Elements.{All-push}
 use Rattle.batcher.specs.Setting.{setting}
+use Rattle.batcher.specs.History.{history}
+use Rattle.batcher.specs.Stands.{Stands}
+use Rattle.batcher.proofs.Fresh.{fresh_stands}
+use Rattle.batcher.proofs.Histories.{meets_stands, history-push, answered-push}
 use Rattle.batcher.specs.Runs.{certifies_answer}
 use Rattle.batcher.proofs.Running.{Runs-push}
 use Rattle.batcher.proofs.run.run.Goals as goal
@@ -11,7 +15,12 @@ pub step-requires : goal.step-requires
 step-requires g c = rw (c.loop-call.invariant.scheme, c.loop-call.invariant.number, c.call-item.is) (c.requires.calls c.loop-call.call-index c.call-item.result (omega arith))
 
 pub loop-call-init : goal.loop-call-init
-loop-call-init g c = record {
+loop-call-init g c =
+    let round = c.args.round in
+    let x = setting (g.S.Scheme.meaning round.scheme) g.S.PublicKey.Ord.cmp g.S.Signature.PartialEq.eq g.D.PartialEq.eq round.number round.mode in
+    record {
+  stands = subst (Stands x []) (sym c.requires.fresh) (fresh_stands x);
+  answered = rw c.in_ok-answers.ensures.items tt;
   runs = rw c.in_ok-answers.ensures.items (refl, refl);
   certifies = rw c.in_ok-answers.ensures.items (λ k d below. absurd (omega arith));
   told = rw c.in_ok-answers.ensures.items refl;
@@ -28,7 +37,15 @@ loop-call-preserved g c =
     = take_more c.args.calls.now c.loop-call.call-index c.call-item.result (omega arith) ∙ ap (λ y. take c.loop-call.call-index c.args.calls.now ++ y ∷ []) (sym c.call-item.is) in
     let stepped = rw (c.loop-call.invariant.scheme, c.loop-call.invariant.number, c.loop-call.invariant.mode) at c.step.ensures.steps in
     let certified = rw c.loop-call.invariant.scheme at c.step.ensures.certifies in
+    let calls = take c.loop-call.call-index c.args.calls.now in
+    let past = history calls c.loop-call.answers.items in
+    let met = (rw (c.loop-call.invariant.scheme, c.loop-call.invariant.number, c.loop-call.invariant.mode) at c.step.ensures.meets) past c.loop-call.invariant.stands in
     record {
+      stands =
+          rw (more, c.push_reserved.ensures.items)
+          (subst (λ h. Stands x h c.step.new.round.holds) (sym (history-push x [] calls c.loop-call.answers.items c.call-item.result c.step.result c.loop-call.invariant.answered))
+          (meets_stands x past c.loop-call.round.holds c.call-item.result c.step.result c.step.new.round.holds c.loop-call.invariant.stands met.0));
+      answered = rw (more, c.push_reserved.ensures.items) (answered-push x [] calls c.loop-call.answers.items c.call-item.result c.step.result c.loop-call.invariant.answered met.1);
       runs = rw (more, c.push_reserved.ensures.items) (Runs-push x c.args.round.holds (g.R.Rng.stream c.args.rng.now) (take c.loop-call.call-index c.args.calls.now) c.loop-call.answers.items c.loop-call.round.holds (g.R.Rng.stream c.loop-call.rng) c.call-item.result c.step.result c.step.new.round.holds (g.R.Rng.stream c.step.new.rng) c.loop-call.invariant.runs stepped);
       certifies = rw c.push_reserved.ensures.items (All-push (certifies_answer (g.S.Scheme.meaning c.args.round.scheme)) c.loop-call.answers.items c.step.result c.loop-call.invariant.certifies certified);
       told = rw c.push_reserved.ensures.items (omega (arith, length-append c.loop-call.answers.items (c.step.result ∷ []), c.loop-call.invariant.told));
@@ -42,3 +59,13 @@ pub returns-clause-runs : goal.returns-clause-runs
 returns-clause-runs g c =
     let all : take c.loop-call.call-index c.args.calls.now ≡ c.args.calls.now = grind (arith, common_steps) in
     rw all at c.loop-call.invariant.runs
+
+pub returns-clause-stands : goal.returns-clause-stands
+returns-clause-stands g c =
+    let all : take c.loop-call.call-index c.args.calls.now ≡ c.args.calls.now = grind (arith, common_steps) in
+    rw all at c.loop-call.invariant.stands
+
+pub returns-clause-answered : goal.returns-clause-answered
+returns-clause-answered g c =
+    let all : take c.loop-call.call-index c.args.calls.now ≡ c.args.calls.now = grind (arith, common_steps) in
+    rw all at c.loop-call.invariant.answered

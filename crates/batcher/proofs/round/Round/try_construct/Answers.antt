@@ -8,6 +8,7 @@ use Rattle.batcher.specs.Steps.{AfterConstruct}
 use Rattle.batcher.specs.Stands.{Follows}
 use Rattle.batcher.proofs.Laws.{HasLaws}
 use Rattle.batcher.proofs.Batching.{construct_follows}
+use Rattle.batcher.proofs.Needing.{construct_needed}
 use Rattle.batcher.proofs.round.Round.try_construct.Goals as goal
 
 pub returns-in-Some-clause-step : goal.returns-in-Some-clause-step
@@ -59,3 +60,33 @@ returns-clause-meets g c =
     (λ answer. Follows x past now.holds (ConstructCall, ConstructAnswer answer) new)
     (λ answer step certifies. construct_follows x laws past now.holds before after answer new stands c.try_kind.ensures.sound certifies step)
     (returns-clause-step g c) (returns-clause-certifies g c)
+
+pub returns-in_err-batch-clause-no_memory : goal.returns-in_err-batch-clause-no_memory
+returns-in_err-batch-clause-no_memory g c = search rules
+
+pub returns-in_err-batch-clause-needed : goal.returns-in_err-batch-clause-needed
+returns-in_err-batch-clause-needed g c =
+    let now = c.args.self.now in
+    let x = setting (g.S.Scheme.meaning now.scheme) g.S.PublicKey.Ord.cmp g.S.Signature.PartialEq.eq g.D.PartialEq.eq now.number now.mode in
+    let laws : HasLaws x = record { scheme = g.met.S.Scheme.lawful now.scheme; some_participant = c.try_kind.ensures.sound.some; digests_equal = g.met.D.Digest.identical; digests_same = g.met.D.Eq.laws.refl } in
+    λ past stands. construct_needed x laws past now.holds _ stands (returns-in_err-batch-clause-no_memory g c)
+
+pub returns-in_err-batch-2-clause-no_memory : goal.returns-in_err-batch-2-clause-no_memory
+returns-in_err-batch-2-clause-no_memory g c = search rules
+
+pub returns-in_err-batch-2-clause-needed : goal.returns-in_err-batch-2-clause-needed
+returns-in_err-batch-2-clause-needed g c =
+    let now = c.args.self.now in
+    let x = setting (g.S.Scheme.meaning now.scheme) g.S.PublicKey.Ord.cmp g.S.Signature.PartialEq.eq g.D.PartialEq.eq now.number now.mode in
+    let laws : HasLaws x = record { scheme = g.met.S.Scheme.lawful now.scheme; some_participant = c.try_kind.ensures.sound.some; digests_equal = g.met.D.Digest.identical; digests_same = g.met.D.Eq.laws.refl } in
+    λ past stands. construct_needed x laws past now.holds _ stands (returns-in_err-batch-2-clause-no_memory g c)
+
+pub returns-clause-no_memory : goal.returns-clause-no_memory
+returns-clause-no_memory g c = search rules
+
+pub returns-clause-needed : goal.returns-clause-needed
+returns-clause-needed g c =
+    let now = c.args.self.now in
+    let x = setting (g.S.Scheme.meaning now.scheme) g.S.PublicKey.Ord.cmp g.S.Signature.PartialEq.eq g.D.PartialEq.eq now.number now.mode in
+    let laws : HasLaws x = record { scheme = g.met.S.Scheme.lawful now.scheme; some_participant = c.try_kind.ensures.sound.some; digests_equal = g.met.D.Digest.identical; digests_same = g.met.D.Eq.laws.refl } in
+    λ past stands. construct_needed x laws past now.holds _ stands (returns-clause-no_memory g c)

@@ -1,0 +1,85 @@
+-- A call is refused for memory only where the history says that it may need some.
+use Rattle.std.proofs.Common.{◌≡◌, Bool, true, false, not, [], Option, Some, None, refl, ap, sym, ◌∙◌}
+use Rattle.std.specs.Prelude.{Result, Ok, Err, is_some, is_ok, IsOk, OnErr}
+use Rattle.std.specs.Result.{result_ok}
+use Rattle.batcher.specs.declared.messages.Vote.{Vote}
+use Rattle.batcher.specs.declared.messages.Kind.{Kind}
+use Rattle.batcher.specs.declared.messages.Certificate.{Certificate}
+use Rattle.batcher.specs.declared.messages.Kind.TheVariants.{Notarization, Nullification, Finalization}
+use Rattle.batcher.specs.declared.votes.Outcome.{Outcome}
+use Rattle.batcher.specs.declared.votes.Outcome.TheVariants.{Added, Duplicate, Conflicting}
+use Rattle.batcher.specs.declared.round.OwnFault.TheVariants.{OutOfMemory}
+use Rattle.batcher.specs.Tracking.{Observed, unseen, in_full, as_facts}
+use Rattle.batcher.specs.declared.round.OwnFault.{OwnFault}
+use Rattle.batcher.specs.declared.run.Call.TheVariants.{Network as NetworkCall, Own as OwnCall, Certificate as CertificateCall, Construct as ConstructCall}
+use Rattle.batcher.specs.declared.run.Answer.TheVariants.{Certificate as CertificateAnswer}
+use Rattle.batcher.specs.Setting.{Setting}
+use Rattle.batcher.specs.Lists.{is_empty, is_some_and}
+use Rattle.batcher.specs.Held.{Held}
+use Rattle.batcher.specs.Steps.{opposite_fault, unopposed_result, own_result_by, fault_or_memory, is_added, admission, own_result, restored_with, kind_tried}
+use Rattle.batcher.specs.History.{History}
+use Rattle.batcher.specs.Selection.{votes_restored_by}
+use Rattle.batcher.specs.Standing.{ready_kind}
+use Rattle.batcher.specs.Answers.{certificate_answer, needs_memory}
+use Rattle.batcher.specs.Stands.{Stands}
+use Rattle.batcher.proofs.Laws.{HasLaws}
+use Rattle.batcher.proofs.Naming.{network_same, own_same}
+use Rattle.batcher.proofs.Memory.{nothing_restored}
+use Rattle.batcher.proofs.Ready.{tried_is_ready}
+
+only_if : (needs : Bool) → (needs ≡ false → false ≡ true) → needs ≡ true
+only_if true h = refl
+only_if false h = h refl
+
+none_if : {X : Type 0} (o : Option X) → is_some o ≡ false → o ≡ None
+none_if None h = refl
+none_if (Some v) h = absurd (cc)
+
+empty_if : (b : Bool) → not b ≡ false → b ≡ true
+empty_if true h = refl
+empty_if false h = absurd (cc)
+
+-- No own vote is at fault for memory.
+told_ok : (kind : Kind) (outcome : Outcome) → OutOfMemory ≡ fault_or_memory (unopposed_result kind outcome) → is_ok (unopposed_result kind outcome) ≡ true
+told_ok kind (Added retained) h = refl
+told_ok Notarization (Duplicate true) h = absurd (cc)
+told_ok Nullification (Duplicate true) h = refl
+told_ok Finalization (Duplicate true) h = absurd (cc)
+told_ok kind (Duplicate false) h = refl
+told_ok kind Conflicting h = absurd (cc)
+
+never_opposed : (kind : Kind) → OutOfMemory ≡ opposite_fault kind → ⊥
+never_opposed Notarization h = absurd (cc)
+never_opposed Nullification h = absurd (cc)
+never_opposed Finalization h = absurd (cc)
+
+pub memory_alone : {G D : Type 0} (o : Observed G D) (kind : Kind) (outcome : Outcome) → OutOfMemory ≡ fault_or_memory (own_result_by o kind outcome) → is_ok (own_result_by o kind outcome) ≡ true
+memory_alone unseen kind outcome h = told_ok kind outcome h
+memory_alone (in_full vote) kind outcome h = absurd (never_opposed kind h)
+memory_alone (as_facts facts) kind outcome h = absurd (never_opposed kind h)
+
+module _ {D K G C : Type 0} (x : Setting D K G C) where
+  pub network_needs : (past : History D K G C) (held : Held G D) (sender : K) (vote : Vote G D) → Stands x past held → ((admission x held sender vote).added ≡ false → false ≡ true) → needs_memory x past (NetworkCall sender vote) ≡ true
+  network_needs past held sender vote stands refused =
+      only_if _ (λ not_added. refused (ap (λ a. a.added) (network_same x past held sender vote stands) ∙ not_added))
+
+  own_by : (r : Result Outcome OwnFault) → is_ok r ≡ true → ((outcome : Outcome) → r ≡ Ok outcome → is_added outcome ≡ false → false ≡ true) → is_some_and (result_ok r) is_added ≡ true
+  own_by (Ok outcome) ok refused = only_if (is_added outcome) (refused outcome refl)
+  own_by (Err fault) ok refused = absurd (cc)
+
+  pub own_needs : (past : History D K G C) (held : Held G D) (vote : Vote G D) → Stands x past held → is_ok (own_result x held vote) ≡ true →
+      ((outcome : Outcome) → own_result x held vote ≡ Ok outcome → is_added outcome ≡ false → false ≡ true) → needs_memory x past (OwnCall vote) ≡ true
+  own_needs past held vote stands ok refused = ap (λ r. is_some_and (result_ok r) is_added) (sym (own_same x past held vote stands)) ∙ own_by (own_result x held vote) ok refused
+
+  pub certificate_needs : (past : History D K G C) (held : Held G D) (c : Certificate C D) → Stands x past held → (((kind : Kind) → restored_with x held c kind ≡ []) → false ≡ true) → needs_memory x past (CertificateCall c) ≡ true
+  certificate_needs past held c stands refused =
+      only_if _ (λ none. refused (nothing_restored x past held c (certificate_answer x past c) stands (empty_if (is_empty (votes_restored_by x past (CertificateCall c, CertificateAnswer (certificate_answer x past c)))) none)))
+
+  pub construct_needs : HasLaws x → (past : History D K G C) (held : Held G D) → Stands x past held → (kind_tried x held ≡ None → false ≡ true) → needs_memory x past ConstructCall ≡ true
+  construct_needs lawful past held stands refused =
+      only_if _ (λ none. refused (tried_is_ready x lawful past held stands ∙ none_if (ready_kind x past) none))
+
+  -- the same of a result
+  pub construct_needed : {X E : Type 0} → HasLaws x → (past : History D K G C) (held : Held G D) (r : Result X E) → Stands x past held → (kind_tried x held ≡ None → IsOk r) → OnErr r (needs_memory x past ConstructCall ≡ true)
+  construct_needed lawful past held (Ok v) stands no_memory = tt
+  construct_needed lawful past held (Err e) stands no_memory = construct_needs lawful past held stands no_memory
