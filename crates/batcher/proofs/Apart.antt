@@ -1,5 +1,5 @@
 -- First votes are of different kinds or signers, and a first vote stays.
-use Rattle.std.proofs.Common.{inl, inr, ◌≡◌, ℕ, ◌+◌, Bool, true, false, not, cond, ◌&&◌, ◌||◌, ◌⊎◌, List, [], ◌∷◌, ◌++◌, Option, Some, None, refl, ap, sym, ◌∙◌, arith, ⊎_elim, eqb, ltb, subst}
+use Rattle.std.proofs.Common.{inl, inr, ◌≡◌, ℕ, ◌+◌, Bool, true, false, not, cond, ◌&&◌, ◌||◌, ◌⊎◌, List, [], ◌∷◌, Option, Some, None, refl, ap, sym, ◌∙◌, arith, ⊎_elim, eqb, ltb, subst}
 use Rattle.std.specs.Prelude.{filter, find, is_some}
 use Rattle.std.specs.List.{list_any}
 use Rattle.std.proofs.lemmas.Bool.{cases_Bool, eqb-true, eq-eqb, and_parts, and_from, or_parts, not-true, false_from_ne_true, lt-ltb, le-ltb}
@@ -24,10 +24,6 @@ positive false = refl
 pub any_count : {X : Type 0} (p : X → Bool) (xs : List X) → list_any p xs ≡ ltb 0 (count p xs)
 any_count p [] = refl
 any_count p (x ∷ xs) = grind (arith, any_count p xs, lt-ltb, le-ltb)
-
-pub any-append : {X : Type 0} (p : X → Bool) (xs ys : List X) → list_any p (xs ++ ys) ≡ (list_any p xs || list_any p ys)
-any-append p [] ys = refl
-any-append p (x ∷ xs) ys = grind (arith, any-append p xs ys)
 
 pub is_kind-refl : (k : Kind) → is_kind k k ≡ true
 is_kind-refl Notarization = refl
@@ -56,6 +52,14 @@ some_of (Some v) h = (v, refl)
 pub where_holds : {X : Type 0} (test : X → Bool) (o : Option X) → is_some_and o test ≡ true → (v : X) × (o ≡ Some v) × (test v ≡ true)
 where_holds test None h = cc
 where_holds test (Some v) h = (v, refl, h)
+
+pub some_where : {X : Type 0} (test : X → Bool) (o : Option X) → is_some_and o test ≡ true → is_some o ≡ true
+some_where test None h = h
+some_where test (Some v) h = refl
+
+pub option_cases : {X : Type 0} (o : Option X) → (o ≡ None) ⊎ ((v : X) × (o ≡ Some v))
+option_cases None = inl refl
+option_cases (Some v) = inr (v, refl)
 
 module _ {G D : Type 0} where
   -- the vote of a kind and signer among votes
@@ -142,19 +146,10 @@ module _ {G D : Type 0} where
       (λ other. rw other found)
       (cases_Bool (is_vote_of (kind_of w) (signer_of w) v))
 
-  found_here : (v : Vote G D) (vs : List (Vote G D)) → IsAt (v ∷ vs) v
+  pub found_here : (v : Vote G D) (vs : List (Vote G D)) → IsAt (v ∷ vs) v
   found_here v vs = rw (is_itself v) refl
 
-  -- Tests that agree at each vote that is found count alike,
-  pub count_agree : (p q : Vote G D → Bool) (vs : List (Vote G D)) → AreApart vs →
-      ((v : Vote G D) → IsAt vs v → p v ≡ q v) → count p vs ≡ count q vs
-  count_agree p q [] apart agree = refl
-  count_agree p q (v ∷ vs) apart agree =
-      let here : p v ≡ q v = agree v (found_here v vs) in
-      let rest : count p vs ≡ count q vs = count_agree p q vs apart.1 (λ w found. agree w (found_behind v vs w apart.0 found)) in
-      rw (here, rest) refl
-
-  -- and counts that add up at each such vote add up.
+  -- Counts that add up at each vote that is found add up.
   pub count_sum : (p q r : Vote G D → Bool) (vs : List (Vote G D)) → AreApart vs →
       ((v : Vote G D) → IsAt vs v → cond (p v) 1 0 + cond (q v) 1 0 ≡ cond (r v) 1 0) → count p vs + count q vs ≡ count r vs
   count_sum p q r [] apart sums = omega arith

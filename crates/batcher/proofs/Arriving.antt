@@ -1,7 +1,9 @@
 -- A network vote: what a round does with it is what the history with it names.
-use Rattle.std.proofs.Common.{◌≡◌, Bool, true, false, not, cond, ◌&&◌, List, [], ◌∷◌, ◌++◌, Option, Some, None, refl, ap, sym, ◌∙◌, eqb, subst}
-use Rattle.std.specs.Prelude.{filter, is_some, is_none}
+use Rattle.std.proofs.Common.{◌≡◌, Bool, true, false, not, cond, ◌&&◌, [], ◌∷◌, ◌++◌, Option, Some, None, refl, ap, sym, ◌∙◌, eqb, subst}
+use Rattle.std.specs.Prelude.{is_some, is_none}
 use Rattle.std.proofs.lemmas.Bool.{and_right}
+use Rattle.std.proofs.lemmas.List.{append-nil}
+use Rattle.std.proofs.Math.Bool.{and-true}
 use Rattle.batcher.specs.declared.positions.Participant.{Participant}
 use Rattle.batcher.specs.declared.messages.Vote.{Vote}
 use Rattle.batcher.specs.declared.messages.Vote.TheVariants.{Notarize as NotarizeVote, Nullify as NullifyVote, Finalize as FinalizeVote}
@@ -12,7 +14,7 @@ use Rattle.batcher.specs.declared.run.Call.TheVariants.{Network as NetworkCall}
 use Rattle.batcher.specs.declared.run.Answer.TheVariants.{Network as NetworkAnswer}
 use Rattle.batcher.specs.Setting.{Setting, sender_in}
 use Rattle.batcher.specs.Lists.{is_some_and}
-use Rattle.batcher.specs.Votes.{kind_of, signer_of, is_of_kind, is_vote_of, opposes, same_proposal}
+use Rattle.batcher.specs.Votes.{kind_of, signer_of, is_of_kind, same_proposal}
 use Rattle.batcher.specs.Selected.{proposal_of}
 use Rattle.batcher.specs.Held.{of_kind, Held}
 use Rattle.batcher.specs.Tracking.{is_seen, observed_opposite, RecordsKind}
@@ -21,21 +23,19 @@ use Rattle.batcher.specs.Steps.{selected_in, AfterNetwork}
 use Rattle.batcher.specs.Runs.{MayCall}
 use Rattle.batcher.specs.History.{Event, History, names_sender}
 use Rattle.batcher.specs.FirstVotes.{is_free, first_votes, first_like, opposite_vote}
-use Rattle.batcher.specs.Selection.{is_released, comes_back}
+use Rattle.batcher.specs.Selection.{is_released}
 use Rattle.batcher.specs.Comparison.{conflicts}
 use Rattle.batcher.specs.Answers.{network_answer, admission_sent_by, admission_against, admission_by_first}
 use Rattle.batcher.specs.Standing.{waiting_votes}
 use Rattle.batcher.specs.Stands.{Stands, Follows, pending_after, verified_after}
-use Rattle.batcher.proofs.Counts.{append_nil}
 use Rattle.batcher.proofs.Laws.{HasLaws}
-use Rattle.batcher.proofs.Observing.{filter_same}
-use Rattle.batcher.proofs.Naming.{against_notarize, against_nullify, against_finalize, and_swap, find_never, filter_false, find_same, network_same}
-use Rattle.batcher.proofs.Selecting.{and_true}
-use Rattle.batcher.proofs.Following.{Moves, followed, leader_same, pending_wait, verified_wait, none_back}
-use Rattle.batcher.proofs.Taking.{filter_given, none_not_some, none_joins, free_is, is_new, is_taken, is_kept_new, seen_is, WaitsFixed, WaitsAfter, released_selects, waits_after, moves_kind}
+use Rattle.batcher.proofs.Naming.{network_same, opposite_is}
+use Rattle.batcher.proofs.Following.{Moves, followed, leader_same}
+use Rattle.batcher.proofs.Taking.{filter_given, none_not_some, free_is, is_new, is_taken, seen_is}
+use Rattle.batcher.proofs.Joining.{none_joins, is_kept_new, WaitsAfter, released_selects, waits_after, moves_kind, with_restored, waits_unfixed}
 
 added_table : (n k f : Bool) → (n && (k && f)) ≡ (k && ((n && f) && true))
-added_table true true f = sym (and_true f)
+added_table true true f = sym (and-true f)
 added_table true false f = refl
 added_table false true f = refl
 added_table false false f = refl
@@ -82,7 +82,7 @@ module _ {D K G C : Type 0} (x : Setting D K G C) where
   added_by_first (Some kept) true false vote = refl
 
   added_against : (past : History D K G C) (opposite : Option (Vote G D)) (vote : Vote G D) → (admission_against x past opposite vote).added ≡ (is_none (first_like x past vote) && is_none opposite)
-  added_against past None vote = added_by_first (first_like x past vote) (is_released x past (kind_of vote)) (conflicts x past vote) vote ∙ sym (and_true (is_none (first_like x past vote)))
+  added_against past None vote = added_by_first (first_like x past vote) (is_released x past (kind_of vote)) (conflicts x past vote) vote ∙ sym (and-true (is_none (first_like x past vote)))
   added_against past (Some earlier) vote =
       either_refused (is_released x past (kind_of earlier)) (admission_after_facts vote) (admission_after earlier vote) (after_facts_not_added vote) (after_not_added earlier vote) ∙ sym (and_right (is_none (first_like x past vote)) false refl)
 
@@ -100,14 +100,9 @@ module _ {D K G C : Type 0} (x : Setting D K G C) where
 
   -- WHAT IS RECORDED
   opposite_seen : (past : History D K G C) (held : Held G D) (vote : Vote G D) → Stands x past held → is_seen (observed_opposite held.tracked vote) ≡ is_some (opposite_vote x past vote)
-  opposite_seen past held (NotarizeVote v) stands =
-      ap is_some (sym (find_same (λ w. opposes w (NotarizeVote v)) (λ w. false) (first_votes x past) (λ w. and_right (eqb (signer_of w) v.attestation.signer.0) _ (against_notarize (kind_of w))) ∙ find_never (first_votes x past)))
-  opposite_seen past held (NullifyVote v) stands =
-      seen_is x past held Finalization v.attestation.signer.0 stands
-      ∙ ap is_some (sym (find_same (λ w. opposes w (NullifyVote v)) (is_vote_of Finalization v.attestation.signer.0) (first_votes x past) (λ w. and_swap (eqb (signer_of w) v.attestation.signer.0) _ _ (against_nullify (kind_of w)))))
-  opposite_seen past held (FinalizeVote v) stands =
-      seen_is x past held Nullification v.attestation.signer.0 stands
-      ∙ ap is_some (sym (find_same (λ w. opposes w (FinalizeVote v)) (is_vote_of Nullification v.attestation.signer.0) (first_votes x past) (λ w. and_swap (eqb (signer_of w) v.attestation.signer.0) _ _ (against_finalize (kind_of w)))))
+  opposite_seen past held (NotarizeVote v) stands = ap is_some (sym (opposite_is x past (NotarizeVote v)))
+  opposite_seen past held (NullifyVote v) stands = seen_is x past held Finalization v.attestation.signer.0 stands ∙ ap is_some (sym (opposite_is x past (NullifyVote v)))
+  opposite_seen past held (FinalizeVote v) stands = seen_is x past held Nullification v.attestation.signer.0 stands ∙ ap is_some (sym (opposite_is x past (FinalizeVote v)))
 
   -- WHAT THE CALL MOVES
   module _ (past : History D K G C) (old : Held G D) (sender : K) (vote : Vote G D) (answer : Admission G D) (new : Held G D) (stands : Stands x past old) (step : AfterNetwork x old sender vote answer new) where
@@ -121,7 +116,7 @@ module _ {D K G C : Type 0} (x : Setting D K G C) where
     answer_is = step.answer_is ∙ network_same x past old sender vote stands
 
     casts : cond named (vote ∷ []) [] ++ [] ≡ cond named (vote ∷ []) []
-    casts = append_nil (cond named (vote ∷ []) [])
+    casts = append-nil (cond named (vote ∷ []) [])
 
     records : (kind : Kind) → RecordsKind x.same_digest old.tracked new.tracked (selected_in old) (is_taken x past event vote named) vote kind
     records kind =
@@ -133,31 +128,13 @@ module _ {D K G C : Type 0} (x : Setting D K G C) where
         ap (λ b. b && not (of_kind old.tracked.compacted (kind_of vote))) (ap (λ a. a.added) answer_is ∙ added_is past sender vote)
         ∙ ap (λ c. is_new x past event vote named && not c) (stands.each_kind (kind_of vote)).compacted_is
 
-    abbrev waits_as_before : Kind → List (Vote G D)
-    waits_as_before kind = of_kind old.buffered.pending kind ++ filter (comes_back x past event) (of_kind old.tracked.kept kind)
-
-    nothing_back : (kind : Kind) → waits_as_before kind ≡ of_kind old.buffered.pending kind
-    nothing_back kind =
-        ap (λ vs. of_kind old.buffered.pending kind ++ vs) (filter_same (comes_back x past event) (λ v. false) (of_kind old.tracked.kept kind) (none_back x past event refl) ∙ filter_false (of_kind old.tracked.kept kind))
-        ∙ append_nil (of_kind old.buffered.pending kind)
-
-    waits_before : WaitsFixed x past event old.buffered waits_as_before (of_kind old.buffered.verified)
-    waits_before =
-        record {
-          leader_is = stands.leader_is;
-          selection_is = stands.selection_is;
-          certified_is = λ kind. (stands.each_kind kind).certified_is;
-          pending_are = λ kind. sym (ap (waiting_votes x past kind) (nothing_back kind) ∙ pending_wait x past old kind stands);
-          verified_are = λ kind. sym (verified_wait x past old kind stands);
-        }
-
-    waits : WaitsAfter x past event vote named new.buffered false waits_as_before (of_kind old.buffered.verified)
-    waits = waits_after x past event vote named old.buffered new.buffered false (answer.added && not (of_kind old.tracked.compacted (kind_of vote))) waits_as_before (of_kind old.buffered.verified) casts refl refl kept_new waits_before step.buffered
+    waits : WaitsAfter x past event vote named new.buffered false (with_restored x past event old) (of_kind old.buffered.verified)
+    waits = waits_after x past event vote named old.buffered new.buffered false (answer.added && not (of_kind old.tracked.compacted (kind_of vote))) (with_restored x past event old) (of_kind old.buffered.verified) casts refl refl kept_new (waits_unfixed x past event old old.buffered stands refl refl refl) step.buffered
 
     pending_goes : (kind : Kind) → of_kind new.buffered.pending kind ≡ pending_after x past old event kind
     pending_goes kind =
         waits.pending_are kind
-        ∙ ap (λ vs. waiting_votes x (event ∷ past) kind (waits_as_before kind ++ vs))
+        ∙ ap (λ vs. waiting_votes x (event ∷ past) kind (with_restored x past event old kind ++ vs))
         (sym (filter_given (λ v. is_of_kind kind v && is_free (first_votes x past) v) named vote
         ∙ ap (λ b. cond b (vote ∷ []) []) (added_table named (is_of_kind kind vote) (is_free (first_votes x past) vote))))
 
@@ -175,7 +152,7 @@ module _ {D K G C : Type 0} (x : Setting D K G C) where
           leader_is = waits.leader_is ∙ sym (leader_same x past event refl);
           selection_is = waits.selection_is;
           forwarded_is = step.forwarded ∙ stands.forwarded_is;
-          kinds = moves_kind x past event vote named old new (selected_in old) false waits_as_before (of_kind old.buffered.verified) stands casts refl
+          kinds = moves_kind x past event vote named old new (selected_in old) false (with_restored x past event old) (of_kind old.buffered.verified) stands casts refl
               (λ released. ap proposal_of stands.selection_is ∙ released_selects x past event vote named casts refl released) waits records;
           pending_are = pending_goes;
           verified_are = verified_goes;

@@ -1,13 +1,7 @@
 -- Whom an attempt names, what it leaves, and what has been tried.
 use Rattle.std.proofs.Common.{inl, inr, ◌≡◌, ℕ, ◌+◌, ◌≤◌, Bool, true, false, not, cond, ◌&&◌, ◌||◌, ◌⊎◌, List, [], ◌∷◌, ◌++◌, length, map, Option, Some, None, refl, ap, sym, ◌∙◌, arith, ⊎_elim, eqb, ltb, leb, subst, length-append}
 use Rattle.std.specs.Prelude.{filter, is_some, IfSome}
-use Rattle.std.proofs.lemmas.Bool.{cases_Bool, and_parts, and_from, or_cases, cond_both, false_from_ne_true, leb-true, le-leb}
-use Rattle.batcher.proofs.Apart.{IsAt, any_count, count-filter, count_at, first_stays, firsts_apart, is_kind-refl, is_kind-true, positive, some_of, where_holds}
-use Rattle.batcher.proofs.Counts.{count-append, count-false, count-map, count_same, length_same}
-use Rattle.batcher.proofs.Laws.{HasLaws}
-use Rattle.batcher.proofs.Naming.{or_none}
-use Rattle.batcher.proofs.Past.{among_standing, closed_is_empty, count_fresh, count_proven, invalid_after, invalid_in, tried_after, tried_filled}
-use Rattle.batcher.proofs.Selecting.{back_not_counted, certified_before, comes_back_by, leaders_stays}
+use Rattle.std.proofs.lemmas.Bool.{cases_Bool, and_parts, and_from, or_cases, cond_both, false_from_ne_true, leb-true, le-leb, or_right}
 use Rattle.batcher.specs.Answers.{IsPossible, MayAnswer}
 use Rattle.batcher.specs.Buffering.{have_one_subject, is_enough}
 use Rattle.batcher.specs.FirstVotes.{first_vote, first_votes}
@@ -36,6 +30,13 @@ use Rattle.batcher.specs.declared.run.Answer.TheVariants.{Certificate as Certifi
 use Rattle.batcher.specs.declared.run.Call.{Call}
 use Rattle.batcher.specs.declared.run.Call.TheVariants.{Certificate as CertificateCall, Construct as ConstructCall, Forward as ForwardCall, Leader as LeaderCall, Missing as MissingCall, Network as NetworkCall, Own as OwnCall}
 use Rattle.batcher.specs.declared.verifier.Batch.{Batch}
+use Rattle.batcher.proofs.Apart.{IsAt, any_count, count-filter, count_at, first_stays, firsts_apart, is_kind-refl, is_kind-true, positive, some_of, where_holds, option_cases}
+use Rattle.batcher.proofs.Counts.{count-append, count-false, count-map, count_same, length_same, keeps_all}
+use Rattle.batcher.proofs.Laws.{HasLaws}
+use Rattle.batcher.proofs.Naming.{or_none}
+use Rattle.batcher.proofs.Past.{among_standing, closed_is_empty, count_fresh, count_proven, invalid_after, invalid_in, tried_after, tried_filled}
+use Rattle.batcher.proofs.Selecting.{back_not_counted, certified_before, comes_back_by, leaders_stays}
+use Rattle.batcher.proofs.Constructing.{subject_is}
 
 module _ {D K G C : Type 0} (x : Setting D K G C) where
   -- an attempt that gives no certificate looked at all of the pending votes
@@ -103,10 +104,6 @@ never true true false = refl
 never true false n = refl
 never false w n = refl
 
-one_of_kind : (b : Bool) (n : ℕ) → cond (not b) 1 0 + n ≡ 0 → b ≡ true
-one_of_kind true n h = refl
-one_of_kind false n h = absurd (omega (arith, h))
-
 pub counted_grows : {X : Type 0} (counted : Option X → Bool) (l l' : Option X) → ((p : X) → l ≡ Some p → l' ≡ Some p) →
     (counted None ≡ true → counted l' ≡ true) → counted l ≡ true → counted l' ≡ true
 counted_grows counted None l' stays unknown h = unknown h
@@ -120,18 +117,15 @@ unfixed_selects : {D : Type 0} (l : Option (Proposal D)) → proposal_of (select
 unfixed_selects None = refl
 unfixed_selects (Some p) = refl
 
-module _ {D K G C : Type 0} (x : Setting D K G C) where
-  pub same_kinds : (s t : Subject D) → same_subject x.same_digest s t ≡ true → kind_in s ≡ kind_in t
-  same_kinds (NotarizeSubject p) (NotarizeSubject q) h = refl
-  same_kinds (NullifySubject p) (NullifySubject q) h = refl
-  same_kinds (FinalizeSubject p) (FinalizeSubject q) h = refl
-  same_kinds (NotarizeSubject p) (NullifySubject q) h = cc
-  same_kinds (NotarizeSubject p) (FinalizeSubject q) h = cc
-  same_kinds (NullifySubject p) (NotarizeSubject q) h = cc
-  same_kinds (NullifySubject p) (FinalizeSubject q) h = cc
-  same_kinds (FinalizeSubject p) (NotarizeSubject q) h = cc
-  same_kinds (FinalizeSubject p) (NullifySubject q) h = cc
+-- the first kind that passes does
+pub chosen : (r : Kind → Bool) (a b c : Bool) (k : Kind) → r Notarization ≡ a → r Nullification ≡ b → r Finalization ≡ c →
+    cond a (Some Notarization) (cond b (Some Nullification) (cond c (Some Finalization) None)) ≡ Some k → r k ≡ true
+chosen r true b c k ea eb ec h = let e : Notarization ≡ k = cc in subst (λ (l : Kind). r l ≡ true) e ea
+chosen r false true c k ea eb ec h = let e : Nullification ≡ k = cc in subst (λ (l : Kind). r l ≡ true) e eb
+chosen r false false true k ea eb ec h = let e : Finalization ≡ k = cc in subst (λ (l : Kind). r l ≡ true) e ec
+chosen r false false false k ea eb ec h = cc
 
+module _ {D K G C : Type 0} (x : Setting D K G C) where
   kind_of_vote : (v : Vote G D) → kind_in (subject_of v) ≡ kind_of v
   kind_of_vote (NotarizeVote v) = refl
   kind_of_vote (NullifyVote v) = refl
@@ -175,18 +169,24 @@ module _ {D K G C : Type 0} (x : Setting D K G C) where
       ∙ ap (λ n. ltb 0 n)
       (same (λ v. not (is_valid x v) && eqb (signer_of v) i) ∙ ap (count (λ v. not (is_valid x v) && eqb (signer_of v) i)) (closed_is_empty x past kind closed).0)
 
-  -- the batch of a possible answer
-  pub batch_made : (past : History D K G C) (call : Call K G C D) (answer : Answer G C D) (batch : Batch (Certificate C D)) → MayAnswer x past call answer → batch_given answer ≡ Some batch →
-      (kind : Kind) × (ready_kind x past ≡ Some kind) × AttemptAfter x past kind batch
-  batch_made past call (NetworkAnswer a) batch may e = cc
-  batch_made past call (OwnAnswer a b) batch may e = cc
-  batch_made past call (OwnRefusedAnswer a) batch may e = cc
-  batch_made past call (CertificateAnswer a) batch may e = cc
-  batch_made past call (LeaderAnswer a) batch may e = cc
-  batch_made past call (ForwardAnswer a) batch may e = cc
-  batch_made past call (MissingAnswer a) batch may e = cc
-  batch_made past call OutOfMemoryAnswer batch may e = cc
-  batch_made past call (ConstructAnswer None) batch may e = cc
+  -- The batch of a possible answer: it is of a construction, at the first ready kind, and its certificate is the event's.
+  pub record MadeBatch (past : History D K G C) (call : Call K G C D) (answer : Answer G C D) (batch : Batch (Certificate C D)) : Type 0 where
+    pub constructs : call ≡ ConstructCall
+    pub certificate : certificate_of (call, answer) ≡ batch.certificate
+    pub kind : Kind
+    pub ready : ready_kind x past ≡ Some kind
+    pub after : AttemptAfter x past kind batch
+
+  pub batch_made : (past : History D K G C) (call : Call K G C D) (answer : Answer G C D) (batch : Batch (Certificate C D)) → MayAnswer x past call answer → batch_given answer ≡ Some batch → MadeBatch past call answer batch
+  batch_made past call (NetworkAnswer a) batch may e = absurd (cc)
+  batch_made past call (OwnAnswer a b) batch may e = absurd (cc)
+  batch_made past call (OwnRefusedAnswer a) batch may e = absurd (cc)
+  batch_made past call (CertificateAnswer a) batch may e = absurd (cc)
+  batch_made past call (LeaderAnswer a) batch may e = absurd (cc)
+  batch_made past call (ForwardAnswer a) batch may e = absurd (cc)
+  batch_made past call (MissingAnswer a) batch may e = absurd (cc)
+  batch_made past call OutOfMemoryAnswer batch may e = absurd (cc)
+  batch_made past call (ConstructAnswer None) batch may e = absurd (cc)
   batch_made past (NetworkCall sender vote) (ConstructAnswer (Some b)) batch may e = absurd may
   batch_made past (OwnCall vote) (ConstructAnswer (Some b)) batch may e = absurd may
   batch_made past (CertificateCall c) (ConstructAnswer (Some b)) batch may e = absurd may
@@ -194,7 +194,14 @@ module _ {D K G C : Type 0} (x : Setting D K G C) where
   batch_made past (ForwardCall i) (ConstructAnswer (Some b)) batch may e = absurd may
   batch_made past (MissingCall p) (ConstructAnswer (Some b)) batch may e = absurd may
   batch_made past ConstructCall (ConstructAnswer (Some b)) batch may e =
-      let same : b ≡ batch = cc in (may.0, may.1.0, subst (λ (c : Batch (Certificate C D)). AttemptAfter x past may.0 c) same may.1.1)
+      let same : b ≡ batch = cc in
+      record {
+        constructs = refl;
+        certificate = ap (λ (c : Batch (Certificate C D)). c.certificate) same;
+        kind = may.0;
+        ready = may.1.0;
+        after = subst (λ (c : Batch (Certificate C D)). AttemptAfter x past may.0 c) same may.1.1;
+      }
 
   -- whom an attempt names has a fresh vote that doesn't attest
   pub found_among : (past : History D K G C) (kind : Kind) (i : ℕ) (verified pending : List (Vote G D)) (batch : Batch (Certificate C D)) →
@@ -223,9 +230,9 @@ module _ {D K G C : Type 0} (x : Setting D K G C) where
       let parts = and_parts (is_some (batch_given answer)) (is_some_and (ready_kind x past) (λ k. is_kind k kind)) tries in
       let given = some_of (batch_given answer) parts.0 in
       let made = batch_made past call answer given.0 may given.1 in
-      let now : is_kind made.0 kind ≡ true = subst (λ (o : Option Kind). is_some_and o (λ k. is_kind k kind) ≡ true) made.1 parts.1 in
-      let same : made.0 ≡ kind = is_kind-true made.0 kind now in
-      record { batch = given.0; given = given.1; ready = made.1 ∙ ap Some same; after = subst (λ (k : Kind). AttemptAfter x past k given.0) same made.2 }
+      let now : is_kind made.kind kind ≡ true = subst (λ (o : Option Kind). is_some_and o (λ k. is_kind k kind) ≡ true) made.ready parts.1 in
+      let same : made.kind ≡ kind = is_kind-true made.kind kind now in
+      record { batch = given.0; given = given.1; ready = made.ready ∙ ap Some same; after = subst (λ (k : Kind). AttemptAfter x past k given.0) same made.after }
 
   -- What was found invalid was tried.
   pub invalid_tried : (past : History D K G C) → IsPossible x past → (v : Vote G D) → was_invalid (trials x past) v ≡ true → stood_before (trials x past) v ≡ true
@@ -234,13 +241,9 @@ module _ {D K G C : Type 0} (x : Setting D K G C) where
       tried_after x past event v
       ∙ ⊎_elim
       (λ now. ap (λ b. b || stood_before (trials x past) v) (and_from _ _ (and_parts _ _ now).0 (tried_now (and_parts _ _ now).0 (and_parts _ _ now).1)))
-      (λ before. ap (λ b. (tries_kind x past event.1 (kind_of v) && is_among (signer_of v) (map signer_of (standing_votes x past (kind_of v)))) || b) (invalid_tried past possible.1.1.1 v before) ∙ or_last _)
+      (λ before. ap (λ b. (tries_kind x past event.1 (kind_of v) && is_among (signer_of v) (map signer_of (standing_votes x past (kind_of v)))) || b) (invalid_tried past possible.1.1.1 v before) ∙ or_right _ true refl)
       (or_cases _ _ (sym (invalid_after x past event v) ∙ h))
     where
-      or_last : (b : Bool) → (b || true) ≡ true
-      or_last true = refl
-      or_last false = refl
-
       waits_if_bad : (o : Option (Vote G D)) → is_some_and o (is_fresh_bad past) ≡ true → is_some_and o (waits x.same_digest (selected_proposal x past)) ≡ true
       waits_if_bad None e = e
       waits_if_bad (Some w) e = (and_parts _ _ e).0
@@ -280,7 +283,7 @@ module _ {D K G C : Type 0} (x : Setting D K G C) where
   quorum_positive lawful = omega (arith, lawful.some_participant)
 
   first_of_kind : (kind : Kind) (votes : List (Vote G D)) (v : Vote G D) (rest : List (Vote G D)) → votes ≡ v ∷ rest → count (λ w. not (is_of_kind kind w)) votes ≡ 0 → is_of_kind kind v ≡ true
-  first_of_kind kind votes v rest is none = one_of_kind (is_of_kind kind v) (count (λ w. not (is_of_kind kind w)) rest) (sym (ap (count (λ w. not (is_of_kind kind w))) is) ∙ none)
+  first_of_kind kind votes v rest is none = (keeps_all (is_of_kind kind v) (count (λ w. not (is_of_kind kind w)) rest) (sym (ap (count (λ w. not (is_of_kind kind w))) is) ∙ none)).0
 
   head_of : (votes : List (Vote G D)) → 1 ≤ length votes → (v : Vote G D) × (rest : List (Vote G D)) × (votes ≡ v ∷ rest)
   head_of [] h = absurd (omega arith)
@@ -322,44 +325,22 @@ module _ {D K G C : Type 0} (x : Setting D K G C) where
         of_vote = of_vote;
         of_certificate = of_certificate;
         kind_is = is_kind_now;
-        certified_kind = sym (kind_of_certificate c) ∙ (sym (same_kinds tried.subject (subject_certified c) of_certificate) ∙ (same_kinds tried.subject (subject_of head.0) of_vote ∙ (kind_of_vote head.0 ∙ is_kind_now)));
+        certified_kind = sym (kind_of_certificate c) ∙ (sym (ap kind_in (subject_is x.same_digest lawful.digests_equal tried.subject (subject_certified c) of_certificate)) ∙ (ap kind_in (subject_is x.same_digest lawful.digests_equal tried.subject (subject_of head.0) of_vote) ∙ (kind_of_vote head.0 ∙ is_kind_now)));
       }
 
-  -- a batch is of a construction, and its certificate is the event's
-  pub construct_made : (past : History D K G C) (call : Call K G C D) (answer : Answer G C D) (batch : Batch (Certificate C D)) → MayAnswer x past call answer → batch_given answer ≡ Some batch →
-      (call ≡ ConstructCall) × (certificate_of (call, answer) ≡ batch.certificate)
-  construct_made past call (NetworkAnswer a) batch may e = cc
-  construct_made past call (OwnAnswer a b) batch may e = cc
-  construct_made past call (OwnRefusedAnswer a) batch may e = cc
-  construct_made past call (CertificateAnswer a) batch may e = cc
-  construct_made past call (LeaderAnswer a) batch may e = cc
-  construct_made past call (ForwardAnswer a) batch may e = cc
-  construct_made past call (MissingAnswer a) batch may e = cc
-  construct_made past call OutOfMemoryAnswer batch may e = cc
-  construct_made past call (ConstructAnswer None) batch may e = cc
-  construct_made past (NetworkCall sender vote) (ConstructAnswer (Some b)) batch may e = absurd may
-  construct_made past (OwnCall vote) (ConstructAnswer (Some b)) batch may e = absurd may
-  construct_made past (CertificateCall c) (ConstructAnswer (Some b)) batch may e = absurd may
-  construct_made past (LeaderCall i) (ConstructAnswer (Some b)) batch may e = absurd may
-  construct_made past (ForwardCall i) (ConstructAnswer (Some b)) batch may e = absurd may
-  construct_made past (MissingCall p) (ConstructAnswer (Some b)) batch may e = absurd may
-  construct_made past ConstructCall (ConstructAnswer (Some b)) batch may e =
-      let same : b ≡ batch = cc in (refl, ap (λ (c : Batch (Certificate C D)). c.certificate) same)
-
-  -- the kind that is ready is ready
-  chosen : (r : Kind → Bool) (a b c : Bool) (k : Kind) → r Notarization ≡ a → r Nullification ≡ b → r Finalization ≡ c →
-      cond a (Some Notarization) (cond b (Some Nullification) (cond c (Some Finalization) None)) ≡ Some k → r k ≡ true
-  chosen r true b c k ea eb ec h = let e : Notarization ≡ k = cc in subst (λ (l : Kind). r l ≡ true) e ea
-  chosen r false true c k ea eb ec h = let e : Nullification ≡ k = cc in subst (λ (l : Kind). r l ≡ true) e eb
-  chosen r false false true k ea eb ec h = let e : Finalization ≡ k = cc in subst (λ (l : Kind). r l ≡ true) e ec
-  chosen r false false false k ea eb ec h = cc
+  -- with a certificate it certifies the kind that was tried
+  pub given_certified : HasLaws x → (past : History D K G C) (call : Call K G C D) (answer : Answer G C D) (kind : Kind) (verified pending : List (Vote G D)) (batch : Batch (Certificate C D)) →
+      MayAnswer x past call answer → batch_given answer ≡ Some batch → Attempt x verified pending batch → SameElements verified (proven_votes x past kind) → SameElements pending (fresh_votes x past kind) →
+      is_some batch.certificate ≡ true → is_certified ((call, answer) ∷ past) kind ≡ true
+  given_certified lawful past call answer kind verified pending batch may given tried verified_are pending_are some =
+      let c = some_of batch.certificate some in
+      let w = witnessed lawful past kind verified pending batch c.0 tried verified_are pending_are c.1 in
+      let event_is : certificate_of (call, answer) ≡ Some c.0 = (batch_made past call answer batch may given).certificate ∙ c.1 in
+      ap (λ o. is_some_and o (λ d. is_kind (kind_certified d) kind) || is_certified past kind) event_is
+      ∙ (ap (λ k. is_kind k kind || is_certified past kind) w.certified_kind ∙ ap (λ b. b || is_certified past kind) (is_kind-refl kind))
 
   pub ready_is : (past : History D K G C) (k : Kind) → ready_kind x past ≡ Some k → is_ready_by x (trials x past) past k ≡ true
   ready_is past k h = chosen (is_ready_by x (trials x past) past) _ _ _ k refl refl refl h
-
-  pub option_cases : {X : Type 0} (o : Option X) → (o ≡ None) ⊎ ((v : X) × (o ≡ Some v))
-  option_cases None = inl refl
-  option_cases (Some v) = inr (v, refl)
 
   -- with nothing selected, a kind whose votes have proposals is tried with a verified quorum alone, which gives a certificate
   pub unselected_gives : HasLaws x → (past : History D K G C) (call : Call K G C D) (answer : Answer G C D) (kind : Kind) → MayAnswer x past call answer → tries_kind x past answer kind ≡ true →
@@ -374,12 +355,7 @@ module _ {D K G C : Type 0} (x : Setting D K G C) where
       let reached : quorum_in x ≤ length (proven_votes x past kind) = leb-true _ _ (and_parts _ _ full).0 in
       let lengths : length t.after.verified ≡ length (proven_votes x past kind) = length_same _ _ t.after.verified_are in
       let some : is_some t.batch.certificate ≡ true = full_gives x t.after.verified t.after.pending t.batch t.after.attempt (subst (λ (n : ℕ). quorum_in x ≤ n) (sym lengths) reached) in
-      let c = some_of t.batch.certificate some in
-      let w = witnessed lawful past kind t.after.verified t.after.pending t.batch c.0 t.after.attempt t.after.verified_are t.after.pending_are c.1 in
-      let event_is : certificate_of (call, answer) ≡ Some c.0 = (construct_made past call answer t.batch may t.given).1 ∙ c.1 in
-      ap (λ o. is_some_and o (λ d. is_kind (kind_certified d) kind) || is_certified past kind) event_is
-      ∙ ap (λ k. is_kind k kind || is_certified past kind) w.certified_kind
-      ∙ ap (λ b. b || is_certified past kind) (is_kind-refl kind)
+      given_certified lawful past call answer kind t.after.verified t.after.pending t.batch may t.given t.after.attempt t.after.verified_are t.after.pending_are some
 
   -- Until a proposal is fixed, what was tried and isn't certified is counted for the leader's proposal.
   pub tried_counts : HasLaws x → (past : History D K G C) → IsPossible x past → (v : Vote G D) → IsAt (first_votes x past) v → fixed_proposal past ≡ None →

@@ -1,8 +1,8 @@
 -- A construction goes on as the history names: what it tries, what it answers, and what it leaves.
-use Rattle.std.proofs.Common.{inl, inr, ◌≡◌, Bool, true, false, cond, ◌||◌, ◌⊎◌, List, [], ◌∷◌, Option, Some, None, IfSome, is_some, refl, ap, sym, ◌∙◌, ⊎_elim, subst}
+use Rattle.std.proofs.Common.{inl, inr, ◌≡◌, true, false, cond, ◌||◌, ◌⊎◌, List, [], ◌∷◌, Option, Some, None, IfSome, is_some, refl, ap, sym, ◌∙◌, ⊎_elim, subst}
 use Rattle.std.specs.Prelude.{option_and_then}
 use Rattle.std.specs.Option.{option_or, option_map}
-use Rattle.std.proofs.lemmas.Bool.{cases_Bool, and_parts, not-true}
+use Rattle.std.proofs.lemmas.Bool.{cases_Bool, and_parts, not-true, or_right, or_left}
 use Rattle.rand_core.specs.Stream.{Stream}
 use Rattle.batcher.specs.declared.messages.Proposal.{Proposal}
 use Rattle.batcher.specs.declared.messages.Subject.{Subject}
@@ -31,13 +31,15 @@ use Rattle.batcher.proofs.Apart.{is_kind-true}
 use Rattle.batcher.proofs.Attempting.{witnessed}
 use Rattle.batcher.proofs.Laws.{HasLaws}
 use Rattle.batcher.proofs.Constructing.{verified_about}
-use Rattle.batcher.proofs.Following.{MovesKind, Moves, followed, certified_same, no_evidence, leader_same, none_back, pending_wait, verified_wait, closed_pending, closed_verified}
+use Rattle.batcher.proofs.Following.{MovesKind, Moves, followed, certified_same, no_evidence, leader_same, none_back, pending_wait, verified_wait, closed_pending, closed_verified, still_waits}
 use Rattle.batcher.proofs.Evidence.{evidence_tried, tried_selected, IsEvidence, none_comes_back}
 use Rattle.batcher.proofs.Settling.{constructed, selection_then, evidence_selects, fixes_leader, fixes_selection, fixes_certified, fixes_no_pending, fixes_no_verified, fixes_pending, fixes_verified}
 use Rattle.batcher.proofs.Outcomes.{checked_about, certified_subject, some_mapped, goes_so, attempt_is, left_is}
 use Rattle.batcher.proofs.Ready.{tried_is_ready, tried_ready}
-use Rattle.batcher.proofs.Releasing.{tracks_release, tracks_stay}
-use Rattle.batcher.proofs.Staying.{either_same, left_waits, still_waits, none_waits, pending_left, verified_left}
+use Rattle.batcher.proofs.Releasing.{tracks_release, tracks_stay, moves_tracked}
+use Rattle.batcher.proofs.Staying.{left_waits, pending_left, verified_left}
+use Rattle.batcher.proofs.Counts.{either_same}
+use Rattle.batcher.proofs.Past.{nothing_waits}
 
 -- THE ATTEMPT
 module _ {D K G C : Type 0} (x : Setting D K G C) where
@@ -80,10 +82,6 @@ module _ {D K G C : Type 0} (x : Setting D K G C) where
             ∙ (left_is x lawful t.subject verified pending before about checked_are (sound.kinds kind).attested (sound.kinds kind).once t.outcome went
             ∙ ap (λ b. cond b [] (left_verified x verified pending)) (sym gave));
       }
-
-or_second : (a b : Bool) → b ≡ true → (a || b) ≡ true
-or_second true b h = refl
-or_second false b h = h
 
 -- A BATCH
 module _ {D K G C : Type 0} (x : Setting D K G C) (lawful : HasLaws x) (past : History D K G C) (old new : Held G D) (stands : Stands x past old) (kind : Kind) (ready : ready_kind x past ≡ Some kind) (before after : Stream) (batch : Batch (Certificate C D)) (left : Buffered G D) (t : TriesKind x.meaning x.number (quorum_in x) old.buffered kind before batch after left) (tells : Tells x old kind batch left) where
@@ -189,14 +187,9 @@ module _ {D K G C : Type 0} (x : Setting D K G C) (lawful : HasLaws x) (past : H
 
     given_kind : (k : Kind) → MovesKind x past event new k
     given_kind k =
-        let tracks = tracks_release x past event refl old stands new.tracked evidence (is_kind kind k) k (certified_then k) (settles.tracked k)
-        (λ this has. selects (ap has_proposals (is_kind-true kind k this) ∙ has)) in
-        record {
-          certified_is = certified_new k;
-          compacted_is = tracks.compacted_is;
-          kept_are = tracks.kept_are;
-          facts_are = tracks.facts_are;
-        }
+        moves_tracked x past event new k (certified_new k)
+        (tracks_release x past event refl old stands new.tracked evidence (is_kind kind k) k (certified_then k) (settles.tracked k)
+        (λ this has. selects (ap has_proposals (is_kind-true kind k this) ∙ has)))
 
     certified_now : (k : Kind) → is_kind kind k ≡ true → is_certified then k ≡ true
     certified_now k this = certified_then k ∙ ap (λ b. b || is_certified past k) this
@@ -205,7 +198,7 @@ module _ {D K G C : Type 0} (x : Setting D K G C) (lawful : HasLaws x) (past : H
     certified_other k other = certified_then k ∙ ap (λ b. b || is_certified past k) other
 
     closed_by : (k : Kind) → is_skipped x.mode ≡ true → (is_certified past k || is_skipped x.mode) ≡ true
-    closed_by k skips = or_second (is_certified past k) (is_skipped x.mode) skips
+    closed_by k skips = or_right (is_certified past k) (is_skipped x.mode) skips
 
     selected_new : proposal_of new.buffered.selection ≡ selected_proposal x then
     selected_new = ap proposal_of selection_new
@@ -218,7 +211,7 @@ module _ {D K G C : Type 0} (x : Setting D K G C) (lawful : HasLaws x) (past : H
         ⊎_elim
         (λ this.
         fixes_no_pending x left new.buffered evidence k settles.buffered (ap (of_kind left.pending) (sym (is_kind-true kind k this)) ∙ t.pending)
-        ∙ sym (pending_of back k ∙ none_waits x then k (cond (is_kind kind k) [] (of_kind old.buffered.pending k)) (certified_now k this)))
+        ∙ sym (pending_of back k ∙ nothing_waits x then k (cond (is_kind kind k) [] (of_kind old.buffered.pending k)) (or_left (is_certified then k) (is_skipped x.mode) (certified_now k this))))
         (λ other.
         let same = (t.others k other).pending in
         fixes_pending x left new.buffered then k (certified_new k) selected_new evidence settles.buffered (λ skips. same ∙ closed_pending x past old k stands (closed_by k skips))
@@ -237,7 +230,7 @@ module _ {D K G C : Type 0} (x : Setting D K G C) (lawful : HasLaws x) (past : H
         ⊎_elim
         (λ this.
         fixes_no_verified x left new.buffered evidence k settles.buffered (no_verified k this)
-        ∙ sym (verified_of back k ∙ none_waits x then k (cond (is_kind kind k) (left_verified x (of_kind old.buffered.verified k) (of_kind old.buffered.pending k)) (of_kind old.buffered.verified k)) (certified_now k this)))
+        ∙ sym (verified_of back k ∙ nothing_waits x then k (cond (is_kind kind k) (left_verified x (of_kind old.buffered.verified k) (of_kind old.buffered.pending k)) (of_kind old.buffered.verified k)) (or_left (is_certified then k) (is_skipped x.mode) (certified_now k this))))
         (λ other.
         let same = (t.others k other).verified in
         fixes_verified x left new.buffered then k (certified_new k) selected_new evidence settles.buffered (λ skips. same ∙ closed_verified x past old k stands (closed_by k skips))
@@ -324,13 +317,8 @@ module _ {D K G C : Type 0} (x : Setting D K G C) (lawful : HasLaws x) (past : H
 
     left_kind : (k : Kind) → MovesKind x past event (record old { buffered = left }) k
     left_kind k =
-        let tracks = tracks_stay x past event refl old stands k (certified_stays k) in
-        record {
-          certified_is = open_left k ∙ sym (certified_stays k);
-          compacted_is = tracks.compacted_is;
-          kept_are = tracks.kept_are;
-          facts_are = tracks.facts_are;
-        }
+        moves_tracked x past event (record old { buffered = left }) k (open_left k ∙ sym (certified_stays k))
+        (tracks_stay x past event refl old stands k (certified_stays k))
 
     left_moves : Moves x past old ConstructCall (ConstructAnswer (Some batch)) (record old { buffered = left })
     left_moves =
@@ -360,13 +348,8 @@ module _ {D K G C : Type 0} (x : Setting D K G C) (past : History D K G C) (old 
 
   idle_kind : (k : Kind) → MovesKind x past idle old k
   idle_kind k =
-      let tracks = tracks_stay x past idle refl old stands k refl in
-      record {
-        certified_is = (stands.each_kind k).certified_is;
-        compacted_is = tracks.compacted_is;
-        kept_are = tracks.kept_are;
-        facts_are = tracks.facts_are;
-      }
+      moves_tracked x past idle old k ((stands.each_kind k).certified_is)
+      (tracks_stay x past idle refl old stands k refl)
 
   idle_moves : Moves x past old ConstructCall (ConstructAnswer None) old
   idle_moves =

@@ -2,27 +2,22 @@
 use Rattle.std.proofs.Common.{◌≡◌, ℕ, ◌+◌, Bool, true, false, not, cond, ◌&&◌, ◌||◌, List, [], ◌∷◌, ◌++◌, map, Option, Some, None, refl, ap, sym, ◌∙◌, arith, ⊎_elim, leb, subst}
 use Rattle.std.specs.Prelude.{filter, is_some, IfSome}
 use Rattle.std.proofs.lemmas.Bool.{cases_Bool, and_from, or_parts, cond_both, false_from_ne_true}
-use Rattle.batcher.proofs.Counts.{append_nil}
-use Rattle.batcher.proofs.Naming.{released_where}
-use Rattle.batcher.proofs.Apart.{IsAt, any-append, any_filtered, count-filter, count_sum, firsts_apart, free_is_new, is_itself, is_kind-refl, is_kind-true, new_votes, some_of, vote_at}
-use Rattle.batcher.proofs.Attempting.{any_bad_fresh, back_not_tried, bad_of_all, construct_made, invalid_tried, is_fresh_bad, option_cases, tries_by, witnessed}
-use Rattle.batcher.proofs.Counts.{count-append, count-false, count_same}
-use Rattle.batcher.proofs.Laws.{HasLaws}
-use Rattle.batcher.proofs.Past.{among_standing, closed_is_empty, count_fresh, count_proven, invalid_after, invalid_in, own_filled, own_stays, restored_after, restored_filled, tried_after, tried_filled}
-use Rattle.batcher.proofs.Selecting.{back_waits_after, back_waits_before, certified_before, waited_before}
+use Rattle.std.proofs.lemmas.List.{append-nil}
+use Rattle.std.proofs.lemmas.List.Folds.{list_any-append}
+use Rattle.std.proofs.lemmas.Option.{same_Some}
 use Rattle.batcher.specs.Answers.{IsPossible, MayAnswer}
 use Rattle.batcher.specs.Ascending.{insert_by, ordered_by}
 use Rattle.batcher.specs.FirstVotes.{first_vote, first_votes, is_free, own_first_votes}
 use Rattle.batcher.specs.Held.{Held, of_kind}
 use Rattle.batcher.specs.History.{Event, History, batch_given, cast_votes, own_votes, sent_votes}
 use Rattle.batcher.specs.Lists.{SameElements, count, is_some_and}
-use Rattle.batcher.specs.Selection.{certificate_of, comes_back, is_certified, is_released, restored_votes, selected_proposal, votes_restored_by}
+use Rattle.batcher.specs.Selection.{comes_back, is_certified, is_released, restored_votes, selected_proposal, votes_restored_by}
 use Rattle.batcher.specs.Setting.{Setting, quorum_in}
 use Rattle.batcher.specs.Standing.{fresh_votes, holds_vote, is_among, is_trusted, is_valid, proven_votes, ready_kind, standing_votes, stood_before, trials, waiting_votes, was_invalid}
 use Rattle.batcher.specs.Stands.{TriesBuffers, Stands, arrivals, first_by_signer, pending_after, tries_kind, verified_after}
 use Rattle.batcher.specs.Tracking.{is_skipped}
 use Rattle.batcher.specs.Trying.{Attempt, bad_signers, left_verified, votes_checked}
-use Rattle.batcher.specs.Votes.{is_kind, is_of_kind, is_vote_of, kind_certified, kind_of, signer_of, waits}
+use Rattle.batcher.specs.Votes.{is_kind, is_of_kind, is_vote_of, kind_of, signer_of, waits}
 use Rattle.batcher.specs.declared.messages.Certificate.{Certificate}
 use Rattle.batcher.specs.declared.messages.Kind.{Kind}
 use Rattle.batcher.specs.declared.messages.Vote.{Vote}
@@ -30,6 +25,13 @@ use Rattle.batcher.specs.declared.run.Answer.{Answer}
 use Rattle.batcher.specs.declared.run.Call.{Call}
 use Rattle.batcher.specs.declared.run.Call.TheVariants.{Certificate as CertificateCall, Construct as ConstructCall, Forward as ForwardCall, Leader as LeaderCall, Missing as MissingCall, Network as NetworkCall, Own as OwnCall}
 use Rattle.batcher.specs.declared.verifier.Batch.{Batch}
+use Rattle.batcher.proofs.Naming.{released_where}
+use Rattle.batcher.proofs.Apart.{IsAt, any_filtered, count-filter, count_sum, firsts_apart, free_is_new, is_itself, is_kind-true, new_votes, vote_at, option_cases}
+use Rattle.batcher.proofs.Attempting.{any_bad_fresh, back_not_tried, bad_of_all, invalid_tried, is_fresh_bad, tries_by, given_certified, batch_made}
+use Rattle.batcher.proofs.Counts.{count-append, count-false, count_same}
+use Rattle.batcher.proofs.Laws.{HasLaws}
+use Rattle.batcher.proofs.Past.{among_standing, closed_is_empty, count_fresh, count_proven, invalid_after, invalid_in, own_filled, own_stays, restored_after, restored_filled, tried_after, tried_filled, nothing_waits, open_waits}
+use Rattle.batcher.proofs.Selecting.{back_waits_after, back_waits_before, certified_before, waited_before}
 
 fresh_table : (t k w w' own rest td cb T : Bool) →
     (cb ≡ false → w' ≡ true → w ≡ true) → (cb ≡ true → w' ≡ true) → (cb ≡ true → w ≡ false) → (cb ≡ true → td ≡ false) →
@@ -98,10 +100,6 @@ module _ {D K G C : Type 0} (x : Setting D K G C) where
   abbrev passes_after : History D K G C → Event D K G C → (Vote G D → Bool) → Vote G D → Bool
   passes_after past event test v = waits x.same_digest (selected_proposal x (event ∷ past)) v && test v
 
-  -- what an attempt leaves open
-  pub open_is : (past : History D K G C) (kind : Kind) → (is_certified past kind || is_skipped x.mode) ≡ false → (is_certified past kind ≡ false) × (is_skipped x.mode ≡ false)
-  open_is past kind h = or_parts _ _ h
-
   pub open_before : (past : History D K G C) (event : Event D K G C) (kind : Kind) → (is_certified (event ∷ past) kind || is_skipped x.mode) ≡ false → (is_certified past kind || is_skipped x.mode) ≡ false
   open_before past event kind h = let o = or_parts _ _ h in rw (certified_before past event kind o.0, o.1) refl
 
@@ -121,7 +119,7 @@ module _ {D K G C : Type 0} (x : Setting D K G C) where
 
   not_restored : (past : History D K G C) (event : Event D K G C) (v : Vote G D) → vote_at (first_votes x past) (kind_of v) (signer_of v) ≡ None → holds_vote (restored_votes x (event ∷ past)) v ≡ false
   not_restored past event v free =
-      any-append (is_vote_of (kind_of v) (signer_of v)) (votes_restored_by x past event) (restored_votes x past)
+      list_any-append (is_vote_of (kind_of v) (signer_of v)) (votes_restored_by x past event) (restored_votes x past)
       ∙ (ap (λ b. b || holds_vote (restored_votes x past) v) (any_filtered (comes_back x past event) (first_votes x past) (kind_of v) (signer_of v) (firsts_apart x past) ∙ ap (λ o. is_some_and o (comes_back x past event)) free)
       ∙ false_from_ne_true _ (λ h. let no : false ≡ true = sym (ap is_some free) ∙ restored_filled x past v h in cc))
 
@@ -129,8 +127,8 @@ module _ {D K G C : Type 0} (x : Setting D K G C) where
   pub no_batch : (past : History D K G C) (call : Call K G C D) (answer : Answer G C D) → MayAnswer x past call answer → (call ≡ ConstructCall → ⊥) → batch_given answer ≡ None
   no_batch past call answer may other =
       ⊎_elim (λ none. none)
-      (λ (some : (b : Batch (Certificate C D)) × (batch_given answer ≡ Some b)). absurd (other (construct_made x past call answer some.0 may some.1).0))
-      (option_cases x (batch_given answer))
+      (λ (some : (b : Batch (Certificate C D)) × (batch_given answer ≡ Some b)). absurd (other (batch_made x past call answer some.0 may some.1).constructs))
+      (option_cases (batch_given answer))
 
   -- the tests of the fresh and the proven votes
   abbrev pub is_fresh : History D K G C → Kind → (Vote G D → Bool) → Vote G D → Bool
@@ -156,7 +154,7 @@ module _ {D K G C : Type 0} (x : Setting D K G C) where
       count-filter (is_fresh ((NetworkCall sender vote, answer) ∷ past) kind test) (is_free (first_votes x past)) (cast_votes x (NetworkCall sender vote))
       ∙ (count_same _ _ (cast_votes x (NetworkCall sender vote)) each
       ∙ (sym (count-filter (passes_after past (NetworkCall sender vote, answer) test) (λ v. is_of_kind kind v && is_free (first_votes x past) v) (cast_votes x (NetworkCall sender vote)))
-      ∙ ap (λ vs. count (passes_after past (NetworkCall sender vote, answer) test) (filter (λ v. is_of_kind kind v && is_free (first_votes x past) v) vs)) (append_nil (sent_votes x (NetworkCall sender vote)))))
+      ∙ ap (λ vs. count (passes_after past (NetworkCall sender vote, answer) test) (filter (λ v. is_of_kind kind v && is_free (first_votes x past) v) vs)) (append-nil (sent_votes x (NetworkCall sender vote)))))
     where
       none : batch_given answer ≡ None
       none = no_batch past (NetworkCall sender vote) answer may (λ e. cc)
@@ -227,21 +225,15 @@ proven_table t true w w' own rest td i a true T p q r s = rw (q refl, r refl) (b
     back false false own i T = refl
 proven_table t true w false own rest td i a false T p q r s = gone t w (((own && not rest) || td) && not i) (not ((own && not rest) || td)) a
   where
+    zeros : (t n a : Bool) → 0 + cond (t && (n && (a && false))) 1 0 ≡ 0
+    zeros true true true = refl
+    zeros true true false = refl
+    zeros true false a = refl
+    zeros false n a = refl
+
     gone : (t w m n a : Bool) → cond (w && (m && false)) 1 0 + cond (t && (w && (n && (a && false)))) 1 0 ≡ 0
     gone t true true n a = zeros t n a
-      where
-        zeros : (t n a : Bool) → 0 + cond (t && (n && (a && false))) 1 0 ≡ 0
-        zeros true true true = refl
-        zeros true true false = refl
-        zeros true false a = refl
-        zeros false n a = refl
     gone t true false n a = zeros t n a
-      where
-        zeros : (t n a : Bool) → 0 + cond (t && (n && (a && false))) 1 0 ≡ 0
-        zeros true true true = refl
-        zeros true true false = refl
-        zeros true false a = refl
-        zeros false n a = refl
     gone true false m n a = refl
     gone false false m n a = refl
 proven_table t true w true own rest td i a false T p q r s = rw (p refl refl) (stays t (own && not rest) td i a T s)
@@ -256,9 +248,6 @@ proven_table t true w true own rest td i a false T p q r s = rw (p refl refl) (s
     stays true false false false true T s = omega arith
     stays true false false false false T s = omega arith
     stays false false false false a T s = omega arith
-
-some_same : {X : Type 0} {a b : X} → Some a ≡ Some b → a ≡ b
-some_same h = cc
 
 module _ {D K G C : Type 0} (x : Setting D K G C) (lawful : HasLaws x) where
   pub trusted_after : (past : History D K G C) (event : Event D K G C) (v : Vote G D) → IsAt (first_votes x past) v →
@@ -289,16 +278,12 @@ module _ {D K G C : Type 0} (x : Setting D K G C) (lawful : HasLaws x) where
       let t = tries_by x past event.0 event.1 kind may tries in
       let with_batch =
       subst (λ (o : Option (Batch (Certificate C D))). IfSome o (λ batch. (k : Kind) × ((ready_kind x past ≡ Some k) × Attempt x (of_kind old.buffered.verified k) (of_kind old.buffered.pending k) batch))) t.given buffers in
-      let one : with_batch.0 ≡ kind = some_same (sym with_batch.1.0 ∙ t.ready) in
+      let one : with_batch.0 ≡ kind = same_Some _ _ (sym with_batch.1.0 ∙ t.ready) in
       let tried : Attempt x (of_kind old.buffered.verified kind) (of_kind old.buffered.pending kind) t.batch =
       subst (λ (k : Kind). Attempt x (of_kind old.buffered.verified k) (of_kind old.buffered.pending k) t.batch) one with_batch.1.1 in
       let none : is_some t.batch.certificate ≡ false = false_from_ne_true _ (λ some.
-      let c = some_of t.batch.certificate some in
-      let w = witnessed x lawful past kind (of_kind old.buffered.verified kind) (of_kind old.buffered.pending kind) t.batch c.0 tried (stands.each_kind kind).verified_are (stands.each_kind kind).pending_are c.1 in
-      let event_is : certificate_of event ≡ Some c.0 = (construct_made x past event.0 event.1 t.batch may t.given).1 ∙ c.1 in
       let certified : is_certified (event ∷ past) kind ≡ true =
-      ap (λ o. is_some_and o (λ d. is_kind (kind_certified d) kind) || is_certified past kind) event_is
-      ∙ (ap (λ k. is_kind k kind || is_certified past kind) w.certified_kind ∙ ap (λ b. b || is_certified past kind) (is_kind-refl kind)) in
+      given_certified x lawful past event.0 event.1 kind (of_kind old.buffered.verified kind) (of_kind old.buffered.pending kind) t.batch may t.given tried (stands.each_kind kind).verified_are (stands.each_kind kind).pending_are some in
       let no : false ≡ true = sym still ∙ certified in cc) in
       let all = bad_of_all x (of_kind old.buffered.verified kind) (of_kind old.buffered.pending kind) t.batch tried none in
       record { batch = t.batch; given = t.given; tried = tried; invalid = all.0; all_tried = all.1 }
@@ -354,15 +339,9 @@ module _ {D K G C : Type 0} (x : Setting D K G C) (lawful : HasLaws x) where
       (λ other. other_kind_fresh (tries_kind x past event.1 kind) (is_of_kind kind v) _ _ _ other)
       (cases_Bool (is_of_kind kind v)))
 
-  nothing_left : (past : History D K G C) (event : Event D K G C) (kind : Kind) (votes : List (Vote G D)) → (is_certified (event ∷ past) kind || is_skipped x.mode) ≡ true → waiting_votes x (event ∷ past) kind votes ≡ []
-  nothing_left past event kind votes closed = rw closed refl
-
   count_waiting : (past : History D K G C) (event : Event D K G C) (kind : Kind) (votes : List (Vote G D)) (test : Vote G D → Bool) → (is_certified (event ∷ past) kind || is_skipped x.mode) ≡ false →
       count test (waiting_votes x (event ∷ past) kind votes) ≡ count (passes_after x past event test) votes
-  count_waiting past event kind votes test still = ap (count test) (opened still) ∙ count-filter test (waits x.same_digest (selected_proposal x (event ∷ past))) votes
-    where
-      opened : (is_certified (event ∷ past) kind || is_skipped x.mode) ≡ false → waiting_votes x (event ∷ past) kind votes ≡ filter (waits x.same_digest (selected_proposal x (event ∷ past))) votes
-      opened h = rw h refl
+  count_waiting past event kind votes test still = ap (count test) (open_waits x (event ∷ past) kind votes still) ∙ count-filter test (waits x.same_digest (selected_proposal x (event ∷ past))) votes
 
   left_fresh : (past : History D K G C) (old : Held G D) (event : Event D K G C) (kind : Kind) (test : Vote G D → Bool) → Stands x past old → (is_certified past kind || is_skipped x.mode) ≡ false →
       count test (cond (tries_kind x past event.1 kind) [] (of_kind old.buffered.pending kind)) ≡ count (λ v. not (tries_kind x past event.1 kind) && is_fresh x past kind test v) (first_votes x past)
@@ -395,7 +374,7 @@ module _ {D K G C : Type 0} (x : Setting D K G C) (lawful : HasLaws x) where
       SameElements (pending_after x past old (call, answer) kind) (fresh_votes x ((call, answer) ∷ past) kind)
   pending_follow past old call answer kind stands may test =
       ⊎_elim
-      (λ closed. ap (count test) (nothing_left past (call, answer) kind _ closed ∙ sym (closed_is_empty x ((call, answer) ∷ past) kind closed).0))
+      (λ closed. ap (count test) (nothing_waits x ((call, answer) ∷ past) kind _ closed ∙ sym (closed_is_empty x ((call, answer) ∷ past) kind closed).0))
       (λ still.
       let before = open_before x past (call, answer) kind still in
       let W = passes_after x past (call, answer) test in
@@ -490,7 +469,7 @@ module _ {D K G C : Type 0} (x : Setting D K G C) (lawful : HasLaws x) where
       SameElements (verified_after x past old (call, answer) kind) (proven_votes x ((call, answer) ∷ past) kind)
   verified_follow past old call answer kind stands may buffers test =
       ⊎_elim
-      (λ closed. ap (count test) (nothing_left past (call, answer) kind _ closed ∙ sym (closed_is_empty x ((call, answer) ∷ past) kind closed).1))
+      (λ closed. ap (count test) (nothing_waits x ((call, answer) ∷ past) kind _ closed ∙ sym (closed_is_empty x ((call, answer) ∷ past) kind closed).1))
       (λ still.
       let before = open_before x past (call, answer) kind still in
       let W = passes_after x past (call, answer) test in

@@ -1,76 +1,42 @@
 -- A recorded certificate is followed: it completes its kind, fixes its proposal, and releases the votes of its kind.
-use Rattle.std.proofs.Common.{◌≡◌, ℕ, Bool, true, false, not, cond, ◌&&◌, ◌||◌, List, [], ◌∷◌, ◌++◌, map, Option, Some, None, refl, ap, sym, ◌∙◌, subst}
-use Rattle.std.specs.Prelude.{filter, is_some, is_none, option_and_then}
+use Rattle.std.proofs.Common.{◌≡◌, Bool, true, false, not, cond, ◌&&◌, ◌||◌, List, [], ◌∷◌, ◌++◌, Option, Some, None, refl, ap, sym, ◌∙◌, subst}
+use Rattle.std.specs.Prelude.{filter, is_some, is_none}
 use Rattle.std.specs.Option.{option_or}
-use Rattle.std.proofs.lemmas.Bool.{or_parts}
-use Rattle.std.proofs.lemmas.List.Elements.{filter-append}
+use Rattle.std.proofs.lemmas.Bool.{or_parts, or_right, or_left}
+use Rattle.std.proofs.lemmas.List.{append-nil}
 use Rattle.batcher.specs.declared.messages.Proposal.{Proposal}
 use Rattle.batcher.specs.declared.messages.Vote.{Vote}
 use Rattle.batcher.specs.declared.messages.Kind.{Kind}
-use Rattle.batcher.specs.declared.messages.Kind.TheVariants.{Notarization, Nullification, Finalization}
+use Rattle.batcher.specs.declared.messages.Kind.TheVariants.{Notarization}
 use Rattle.batcher.specs.declared.messages.Certificate.{Certificate}
 use Rattle.batcher.specs.declared.messages.Certificate.TheVariants.{Notarization as NotarizationCertificate, Nullification as NullificationCertificate, Finalization as FinalizationCertificate}
 use Rattle.batcher.specs.declared.verifier.ProposalState.{ProposalState}
 use Rattle.batcher.specs.declared.verifier.ProposalState.TheVariants.{Unknown, Leader as LeadersProposal, Certificate as FixedProposal}
-use Rattle.batcher.specs.declared.votes.Mode.{Mode}
-use Rattle.batcher.specs.declared.votes.Mode.TheVariants.{Retaining, Releasing, Skipped}
 use Rattle.batcher.specs.declared.run.Call.TheVariants.{Certificate as CertificateCall}
 use Rattle.batcher.specs.declared.run.Answer.TheVariants.{Certificate as CertificateAnswer}
 use Rattle.batcher.specs.Setting.{Setting}
-use Rattle.batcher.specs.Votes.{is_kind, kind_certified, subject_certified, subject_of, proposal_in, signer_of, has_proposals, waits}
+use Rattle.batcher.specs.Votes.{is_kind, kind_certified, subject_certified, proposal_in, has_proposals, waits}
 use Rattle.batcher.specs.Selected.{proposal_of, updated, replaces, same_selected}
 use Rattle.batcher.specs.Held.{of_kind, Held}
-use Rattle.batcher.specs.Tracking.{is_skipped, is_released_in, facts_of_kept}
+use Rattle.batcher.specs.Tracking.{is_skipped}
 use Rattle.batcher.specs.Buffering.{still_waiting, coming_back, FixesProposal, MayFix}
 use Rattle.batcher.specs.Steps.{AfterCertificate}
 use Rattle.batcher.specs.Runs.{MayCall}
 use Rattle.batcher.specs.History.{Event, History}
-use Rattle.batcher.specs.FirstVotes.{first_vote}
-use Rattle.batcher.specs.Selection.{selection_by, selection, selected_proposal, leader_of, is_certified, fixed_proposal, leaders_proposal, comes_back, is_released}
+use Rattle.batcher.specs.Selection.{selection_by, selection, selected_proposal, leader_of, is_certified, fixed_proposal, leaders_proposal, comes_back}
 use Rattle.batcher.specs.Standing.{waiting_votes}
 use Rattle.batcher.specs.Answers.{certificate_answer}
-use Rattle.batcher.specs.Stands.{Stands, Follows, first_by_signer, facts_of, pending_after, verified_after}
-use Rattle.batcher.proofs.Counts.{append_nil}
-use Rattle.batcher.proofs.Naming.{filter_false, always_released}
-use Rattle.batcher.proofs.Observing.{filter_same}
+use Rattle.batcher.specs.Stands.{Stands, Follows, pending_after, verified_after}
+use Rattle.batcher.proofs.Naming.{certificate_has_proposal}
 use Rattle.batcher.proofs.Laws.{HasLaws}
-use Rattle.batcher.proofs.Selecting.{proposals_same}
-use Rattle.batcher.proofs.Following.{or_nothing, fixed_same, none_back, selection_goes, closed_pending, closed_verified, pending_wait, verified_wait, compared_goes, facts_stay, MovesKind, followed}
-use Rattle.batcher.proofs.Resting.{map_same, or_last, waiting_same, still_is_waiting}
-use Rattle.batcher.proofs.Returning.{fixes_by, returned}
-use Rattle.batcher.proofs.Releasing.{released_map}
-
--- A kind is released by its certificate, but in a round that retains votes.
-pub released_goes : (mode : Mode) (given was : Bool) → ((given && is_released_in mode true) || is_released_in mode was) ≡ is_released_in mode (given || was)
-released_goes Retaining true was = refl
-released_goes Retaining false was = refl
-released_goes Releasing true was = refl
-released_goes Releasing false was = refl
-released_goes Skipped true was = refl
-released_goes Skipped false was = refl
-
-pub released_stays : (mode : Mode) (given was : Bool) → is_released_in mode was ≡ true → is_released_in mode (given || was) ≡ true
-released_stays Retaining given was h = absurd (cc)
-released_stays Releasing given was h = or_last given was h
-released_stays Skipped given was h = refl
-
-pub given_now : (mode : Mode) (given was : Bool) → is_released_in mode was ≡ false → is_released_in mode (given || was) ≡ true → given ≡ true
-given_now Retaining given was h k = absurd (cc)
-given_now Releasing true was h k = refl
-given_now Releasing false was h k = sym h ∙ k
-given_now Skipped given was h k = absurd (cc)
-
-pub kept_still : {X : Type 0} (was is : Bool) (kept : List X) → (was ≡ true → is ≡ true) → cond is [] (cond was [] kept) ≡ cond is [] kept
-kept_still was true kept stays = refl
-kept_still true false kept stays = let e : false ≡ true = stays refl in absurd (cc)
-kept_still false false kept stays = refl
-
-proposal_certified : {C D : Type 0} (c : Certificate C D) (kind : Kind) → is_kind (kind_certified c) kind ≡ true → has_proposals kind ≡ true → is_some (proposal_in (subject_certified c)) ≡ true
-proposal_certified (NotarizationCertificate c) kind h has = refl
-proposal_certified (NullificationCertificate c) Notarization h has = absurd (cc)
-proposal_certified (NullificationCertificate c) Nullification h has = absurd (cc)
-proposal_certified (NullificationCertificate c) Finalization h has = absurd (cc)
-proposal_certified (FinalizationCertificate c) kind h has = refl
+use Rattle.batcher.proofs.Following.{or_nothing, none_back, closed_verified, pending_wait, verified_wait, MovesKind, followed, leaders_same, still_waits, still_is_waiting, fixed_waits, waiting_behind}
+use Rattle.batcher.proofs.Returning.{returned, nothing_comes}
+use Rattle.batcher.proofs.Counts.{filter_none, first_only}
+use Rattle.batcher.proofs.Constructing.{same_proposals}
+use Rattle.batcher.proofs.Releasing.{tracks_release, moves_tracked}
+use Rattle.batcher.proofs.Selecting.{selection_fixes}
+use Rattle.batcher.proofs.Past.{nothing_waits}
+use Rattle.batcher.proofs.Apart.{is_kind-true}
 
 selected_some : {D : Type 0} (fixed evidence leaders : Option (Proposal D)) → is_some evidence ≡ true → is_some (proposal_of (selection_by (option_or fixed evidence) leaders)) ≡ true
 selected_some (Some f) evidence leaders h = refl
@@ -82,30 +48,14 @@ module _ {D K G C : Type 0} (x : Setting D K G C) (lawful : HasLaws x) where
   changed_by : (s : ProposalState D) (p : Proposal D) → not (same_selected x.same_digest (proposal_of s) (proposal_of (updated s (FixedProposal p)))) ≡ (is_none (proposal_of s) || replaces x.same_digest s p)
   changed_by Unknown p = refl
   changed_by (LeadersProposal e) p = refl
-  changed_by (FixedProposal f) p = ap not (proposals_same x lawful f)
-
-  -- votes behind others, of which the same wait
-  pub waiting_behind : (now : History D K G C) (kind : Kind) (votes more others : List (Vote G D)) →
-      filter (waits x.same_digest (selected_proposal x now)) more ≡ filter (waits x.same_digest (selected_proposal x now)) others
-      → waiting_votes x now kind (votes ++ more) ≡ waiting_votes x now kind (votes ++ others)
-  waiting_behind now kind votes more others same =
-      ap (cond (is_certified now kind || is_skipped x.mode) [])
-      (filter-append (waits x.same_digest (selected_proposal x now)) votes more
-      ∙ (ap (λ vs. filter (waits x.same_digest (selected_proposal x now)) votes ++ vs) same
-      ∙ sym (filter-append (waits x.same_digest (selected_proposal x now)) votes others)))
-
-  -- in a skipped round nothing is kept
-  pub none_kept : (past : History D K G C) (held : Held G D) (kind : Kind) → Stands x past held → is_skipped x.mode ≡ true → of_kind held.tracked.kept kind ≡ []
-  none_kept past held kind stands skips =
-      (stands.each_kind kind).kept_are ∙ ap (λ r. cond r [] (first_by_signer x past kind)) (always_released x.mode (is_certified past kind) skips)
+  changed_by (FixedProposal f) p = ap not (same_proposals x.same_digest lawful.digests_same f)
 
   module _ (past : History D K G C) (old : Held G D) (c : Certificate C D) (answer : Bool) (new : Held G D) (stands : Stands x past old) (step : AfterCertificate x old c answer new) where
     abbrev event : Event D K G C
     event = (CertificateCall c, CertificateAnswer answer)
 
     leaders_stay : leaders_proposal x (event ∷ past) ≡ leaders_proposal x past
-    leaders_stay =
-        ap (λ l. cond (is_skipped x.mode) None (option_and_then (λ v. proposal_in (subject_of v)) (option_and_then (λ i. first_vote x past Notarization i.0) l))) (or_nothing (leader_of past))
+    leaders_stay = leaders_same x past event refl (or_nothing (leader_of past))
 
     completed_certified : (kind : Kind) → of_kind step.completed.certified kind ≡ is_certified (event ∷ past) kind
     completed_certified kind = step.completes.certified kind ∙ ap (λ b. is_kind (kind_certified c) kind || b) (stands.each_kind kind).certified_is
@@ -121,8 +71,8 @@ module _ {D K G C : Type 0} (x : Setting D K G C) (lawful : HasLaws x) where
     -- what a certificate without a proposal leaves
     left_open : (kind : Kind) (k : Bool) (votes : List (Vote G D)) → is_kind (kind_certified c) kind ≡ k → selection x (event ∷ past) ≡ selection x past →
         waiting_votes x past kind votes ≡ votes → cond k [] votes ≡ waiting_votes x (event ∷ past) kind votes
-    left_open kind true votes e same waiting = sym (ap (λ b. cond ((b || is_certified past kind) || is_skipped x.mode) [] (filter (waits x.same_digest (selected_proposal x (event ∷ past))) votes)) e)
-    left_open kind false votes e same waiting = sym waiting ∙ waiting_same x past event kind votes (ap (λ b. b || is_certified past kind) e) same
+    left_open kind true votes e same waiting = sym (nothing_waits x (event ∷ past) kind votes (or_left _ (is_skipped x.mode) (or_left _ (is_certified past kind) e)))
+    left_open kind false votes e same waiting = sym (still_waits x past event kind votes (ap (λ b. b || is_certified past kind) e) (ap proposal_of same) waiting)
 
     without : proposal_in (subject_certified c) ≡ None → new.buffered ≡ step.completed → Fixed
     without none h =
@@ -131,22 +81,22 @@ module _ {D K G C : Type 0} (x : Setting D K G C) (lawful : HasLaws x) where
           selection_is = ap (λ b. b.selection) h ∙ (step.completes.selection ∙ (stands.selection_is ∙ sym same));
           certified_is = λ kind. ap (λ b. of_kind b.certified kind) h ∙ completed_certified kind;
           pending_is = λ kind.
-          ap (λ b. of_kind b.pending kind) h
-          ∙ (step.completes.pending kind
-          ∙ (left_open kind (is_kind (kind_certified c) kind) (of_kind old.buffered.pending kind) refl same (pending_wait x past old kind stands)
-          ∙ ap (waiting_votes x (event ∷ past) kind) (sym (ap (λ vs. (of_kind old.buffered.pending kind ++ vs) ++ []) (none_of kind) ∙ (append_nil (of_kind old.buffered.pending kind ++ []) ∙ append_nil (of_kind old.buffered.pending kind))))));
+              ap (λ b. of_kind b.pending kind) h
+              ∙ (step.completes.pending kind
+              ∙ (left_open kind (is_kind (kind_certified c) kind) (of_kind old.buffered.pending kind) refl same (pending_wait x past old kind stands)
+              ∙ ap (waiting_votes x (event ∷ past) kind) (sym (first_only (of_kind old.buffered.pending kind) _ (none_of kind)))));
           verified_is = λ kind.
-          ap (λ b. of_kind b.verified kind) h
-          ∙ (step.completes.verified kind
-          ∙ (left_open kind (is_kind (kind_certified c) kind) (of_kind old.buffered.verified kind) refl same (verified_wait x past old kind stands)
-          ∙ ap (waiting_votes x (event ∷ past) kind) (sym (append_nil (of_kind old.buffered.verified kind)))));
+              ap (λ b. of_kind b.verified kind) h
+              ∙ (step.completes.verified kind
+              ∙ (left_open kind (is_kind (kind_certified c) kind) (of_kind old.buffered.verified kind) refl same (verified_wait x past old kind stands)
+              ∙ ap (waiting_votes x (event ∷ past) kind) (sym (append-nil (of_kind old.buffered.verified kind)))));
         }
       where
         same : selection x (event ∷ past) ≡ selection x past
-        same = selection_goes x past event (fixed_same x past event none) leaders_stay
+        same = selection_fixes x past event None leaders_stay none
 
         none_of : (kind : Kind) → filter (comes_back x past event) (of_kind old.tracked.kept kind) ≡ []
-        none_of kind = filter_same (comes_back x past event) (λ v. false) (of_kind old.tracked.kept kind) (none_back x past event none) ∙ filter_false (of_kind old.tracked.kept kind)
+        none_of kind = filter_none (comes_back x past event) (of_kind old.tracked.kept kind) (none_back x past event none)
 
     with_proposal : (p : Proposal D) → proposal_in (subject_certified c) ≡ Some p → FixesProposal x.same_digest step.completed old.tracked.kept p new.buffered → Fixed
     with_proposal p some f =
@@ -161,22 +111,15 @@ module _ {D K G C : Type 0} (x : Setting D K G C) (lawful : HasLaws x) where
         selected : new.buffered.selection ≡ selection x (event ∷ past)
         selected =
             f.selection
-            ∙ (ap (λ s. updated s (FixedProposal p)) (step.completes.selection ∙ stands.selection_is)
-            ∙ (fixes_by x (fixed_proposal past) (Some p) (leaders_proposal x past)
-            ∙ (ap (selection_by (option_or (fixed_proposal past) (Some p))) (sym leaders_stay)
-            ∙ ap (λ o. selection_by (option_or (fixed_proposal past) o) (leaders_proposal x (event ∷ past))) (sym some))))
+            ∙ (ap (λ s. updated s (FixedProposal p)) (step.completes.selection ∙ stands.selection_is) ∙ sym (selection_fixes x past event (Some p) leaders_stay some))
 
         certified : (kind : Kind) → of_kind new.buffered.certified kind ≡ is_certified (event ∷ past) kind
         certified kind = (f.buffers kind).certified ∙ completed_certified kind
 
-        nothing_back : (kind : Kind) (b : Bool) → is_skipped x.mode ≡ true → cond b (of_kind old.tracked.kept kind) [] ≡ []
-        nothing_back kind true skips = none_kept past old kind stands skips
-        nothing_back kind false skips = refl
-
         closed_both : (kind : Kind) (votes others : List (Vote G D)) → is_certified (event ∷ past) kind ≡ true → still_waiting x.same_digest new.buffered kind votes ≡ waiting_votes x (event ∷ past) kind others
         closed_both kind votes others e =
             ap (λ b. cond b [] (filter (waits x.same_digest (proposal_of new.buffered.selection)) votes)) (certified kind ∙ e)
-            ∙ sym (ap (λ b. cond (b || is_skipped x.mode) [] (filter (waits x.same_digest (selected_proposal x (event ∷ past))) others)) e)
+            ∙ sym (nothing_waits x (event ∷ past) kind others (or_left (is_certified (event ∷ past) kind) (is_skipped x.mode) e))
 
         by_mark : (kind : Kind) (b : Bool) → is_certified (event ∷ past) kind ≡ b →
             still_waiting x.same_digest new.buffered kind (of_kind step.completed.pending kind ++ coming_back x.same_digest step.completed old.tracked.kept p kind) ≡ pending_after x past old event kind
@@ -184,11 +127,11 @@ module _ {D K G C : Type 0} (x : Setting D K G C) (lawful : HasLaws x) where
         by_mark kind false e =
             let other = or_parts (is_kind (kind_certified c) kind) (is_certified past kind) e in
             ap (λ vs. still_waiting x.same_digest new.buffered kind (vs ++ coming_back x.same_digest step.completed old.tracked.kept p kind)) (step.completes.pending kind ∙ ap (λ b. cond b [] (of_kind old.buffered.pending kind)) other.0)
-            ∙ (still_is_waiting x (event ∷ past) new kind (of_kind old.buffered.pending kind ++ coming_back x.same_digest step.completed old.tracked.kept p kind) (certified kind) selected
-            (λ skips. ap (λ vs. vs ++ coming_back x.same_digest step.completed old.tracked.kept p kind) (closed_pending x past old kind stands (or_last (is_certified past kind) _ skips)) ∙ nothing_back kind _ skips)
-            ∙ (waiting_behind (event ∷ past) kind (of_kind old.buffered.pending kind) (coming_back x.same_digest step.completed old.tracked.kept p kind) (filter (comes_back x past event) (of_kind old.tracked.kept kind))
+            ∙ (still_is_waiting x (event ∷ past) new.buffered kind (of_kind old.buffered.pending kind ++ coming_back x.same_digest step.completed old.tracked.kept p kind) (certified kind) (ap proposal_of selected)
+            (nothing_comes x past old kind p step.completed stands)
+            ∙ (waiting_behind x (event ∷ past) kind (of_kind old.buffered.pending kind) (coming_back x.same_digest step.completed old.tracked.kept p kind) (filter (comes_back x past event) (of_kind old.tracked.kept kind))
             (returned x past event old kind p step.completed stands step.completes.selection some leaders_stay e)
-            ∙ ap (waiting_votes x (event ∷ past) kind) (sym (append_nil (of_kind old.buffered.pending kind ++ filter (comes_back x past event) (of_kind old.tracked.kept kind))))))
+            ∙ ap (waiting_votes x (event ∷ past) kind) (sym (append-nil (of_kind old.buffered.pending kind ++ filter (comes_back x past event) (of_kind old.tracked.kept kind))))))
 
         by_mark_verified : (kind : Kind) (b : Bool) → is_certified (event ∷ past) kind ≡ b →
             still_waiting x.same_digest new.buffered kind (of_kind step.completed.verified kind ++ []) ≡ verified_after x past old event kind
@@ -196,8 +139,9 @@ module _ {D K G C : Type 0} (x : Setting D K G C) (lawful : HasLaws x) where
         by_mark_verified kind false e =
             let other = or_parts (is_kind (kind_certified c) kind) (is_certified past kind) e in
             ap (λ vs. still_waiting x.same_digest new.buffered kind (vs ++ [])) (step.completes.verified kind ∙ ap (λ b. cond b [] (of_kind old.buffered.verified kind)) other.0)
-            ∙ still_is_waiting x (event ∷ past) new kind (of_kind old.buffered.verified kind ++ []) (certified kind) selected
-            (λ skips. ap (λ vs. vs ++ []) (closed_verified x past old kind stands (or_last (is_certified past kind) _ skips)))
+            ∙ (fixed_waits x (event ∷ past) new.buffered kind (of_kind old.buffered.verified kind) (certified kind) (ap proposal_of selected)
+            (λ skips. closed_verified x past old kind stands (or_right (is_certified past kind) _ skips))
+            ∙ ap (waiting_votes x (event ∷ past) kind) (sym (append-nil (of_kind old.buffered.verified kind))))
 
     by_evidence : (o : Option (Proposal D)) → proposal_in (subject_certified c) ≡ o → Fixed
     by_evidence None e = without e (subst (λ o. MayFix x.same_digest step.completed old.tracked.kept o new.buffered) e step.fixes)
@@ -206,56 +150,16 @@ module _ {D K G C : Type 0} (x : Setting D K G C) (lawful : HasLaws x) where
     fixed : Fixed
     fixed = by_evidence (proposal_in (subject_certified c)) refl
 
-    compacted_is : (kind : Kind) → of_kind new.tracked.compacted kind ≡ is_released x (event ∷ past) kind
-    compacted_is kind =
-        (step.releases kind).compacted
-        ∙ (ap (λ b. (is_kind (kind_certified c) kind && is_released_in x.mode true) || b) (stands.each_kind kind).compacted_is
-        ∙ released_goes x.mode (is_kind (kind_certified c) kind) (is_certified past kind))
-
-    facts_before : (kind : Kind) (i : ℕ) → is_released x past kind ≡ true → facts_of x (event ∷ past) kind i ≡ facts_of x past kind i
-    facts_before kind i was =
-        facts_stay x past event kind i (compared_goes x past event kind i refl (released_stays x.mode (is_kind (kind_certified c) kind) (is_certified past kind) was ∙ sym was))
-
     -- with the certificate of a kind of votes for proposals, one is selected
-    one_selected : (kind : Kind) → is_released x past kind ≡ false → is_released x (event ∷ past) kind ≡ true → has_proposals kind ≡ true → is_some (selected_proposal x (event ∷ past)) ≡ true
-    one_selected kind unreleased released has =
-        selected_some (fixed_proposal past) (proposal_in (subject_certified c)) (leaders_proposal x (event ∷ past))
-        (proposal_certified c kind (given_now x.mode (is_kind (kind_certified c) kind) (is_certified past kind) unreleased released) has)
-
-    facts_released : (kind : Kind) (was is : Bool) → is_released x past kind ≡ was → is_released x (event ∷ past) kind ≡ is →
-        cond was (map (λ v. facts_of x past kind (signer_of v)) (first_by_signer x past kind)) (cond is (map (facts_of_kept x.same_digest (selected_proposal x (event ∷ past))) (first_by_signer x past kind)) [])
-        ≡ cond is (map (λ v. facts_of x (event ∷ past) kind (signer_of v)) (first_by_signer x (event ∷ past) kind)) []
-    facts_released kind true true e d = map_same _ _ (first_by_signer x past kind) (λ v. sym (facts_before kind (signer_of v) e))
-    facts_released kind true false e d = let no : false ≡ true = sym d ∙ released_stays x.mode (is_kind (kind_certified c) kind) (is_certified past kind) e in absurd (cc)
-    facts_released kind false true e d = sym (released_map x past event kind e d refl (one_selected kind e d))
-    facts_released kind false false e d = refl
+    one_selected : (kind : Kind) → is_kind (kind_certified c) kind ≡ true → has_proposals kind ≡ true → is_some (selected_proposal x (event ∷ past)) ≡ true
+    one_selected kind this has =
+        selected_some (fixed_proposal past) (proposal_in (subject_certified c)) (leaders_proposal x (event ∷ past)) (certificate_has_proposal c (ap has_proposals (is_kind-true _ _ this) ∙ has))
 
     moves_kind : (kind : Kind) → MovesKind x past event new kind
     moves_kind kind =
-        record {
-          certified_is = fixed.certified_is kind;
-          compacted_is = compacted_is kind;
-          kept_are =
-              (step.releases kind).kept
-              ∙ (ap (λ b. cond b [] (of_kind old.tracked.kept kind)) (compacted_is kind)
-              ∙ (ap (cond (is_released x (event ∷ past) kind) []) (stands.each_kind kind).kept_are
-              ∙ kept_still (is_released x past kind) (is_released x (event ∷ past) kind) (first_by_signer x past kind) (released_stays x.mode (is_kind (kind_certified c) kind) (is_certified past kind))));
-          facts_are =
-              (step.releases kind).facts
-              ∙ (ap (λ b. cond b (of_kind old.tracked.facts kind) (cond (of_kind new.tracked.compacted kind) (map (facts_of_kept x.same_digest (proposal_of new.buffered.selection)) (of_kind old.tracked.kept kind)) [])) (stands.each_kind kind).compacted_is
-              ∙ (ap (λ b. cond (is_released x past kind) (of_kind old.tracked.facts kind) (cond b (map (facts_of_kept x.same_digest (proposal_of new.buffered.selection)) (of_kind old.tracked.kept kind)) [])) (compacted_is kind)
-              ∙ (ap (λ s. cond (is_released x past kind) (of_kind old.tracked.facts kind) (cond (is_released x (event ∷ past) kind) (map (facts_of_kept x.same_digest (proposal_of s)) (of_kind old.tracked.kept kind)) [])) fixed.selection_is
-              ∙ (held_by (is_released x past kind) refl
-              ∙ facts_released kind (is_released x past kind) (is_released x (event ∷ past) kind) refl refl))));
-        }
-      where
-        held_by : (was : Bool) → is_released x past kind ≡ was →
-            cond was (of_kind old.tracked.facts kind) (cond (is_released x (event ∷ past) kind) (map (facts_of_kept x.same_digest (selected_proposal x (event ∷ past))) (of_kind old.tracked.kept kind)) [])
-            ≡ cond was (map (λ v. facts_of x past kind (signer_of v)) (first_by_signer x past kind)) (cond (is_released x (event ∷ past) kind) (map (facts_of_kept x.same_digest (selected_proposal x (event ∷ past))) (first_by_signer x past kind)) [])
-        held_by true e = (stands.each_kind kind).facts_are ∙ ap (λ b. cond b (map (λ v. facts_of x past kind (signer_of v)) (first_by_signer x past kind)) []) e
-        held_by false e =
-            ap (λ vs. cond (is_released x (event ∷ past) kind) (map (facts_of_kept x.same_digest (selected_proposal x (event ∷ past))) vs) [])
-            ((stands.each_kind kind).kept_are ∙ ap (λ b. cond b [] (first_by_signer x past kind)) e)
+        moves_tracked x past event new kind (fixed.certified_is kind)
+        (tracks_release x past event refl old stands new.tracked (proposal_of new.buffered.selection) (is_kind (kind_certified c) kind) kind refl (step.releases kind)
+        (λ this has. (one_selected kind this has, ap proposal_of fixed.selection_is)))
 
     answer_named : answer ≡ certificate_answer x past c
     answer_named =
@@ -266,9 +170,7 @@ module _ {D K G C : Type 0} (x : Setting D K G C) (lawful : HasLaws x) where
         by_kind : (d : Certificate C D) → d ≡ c → (is_kind Notarization (kind_certified d) && not (same_selected x.same_digest (selected_proposal x past) (selected_proposal x (event ∷ past)))) ≡ certificate_answer x past d
         by_kind (NotarizationCertificate d) e =
             ap (λ s. not (same_selected x.same_digest (selected_proposal x past) (proposal_of s)))
-            (ap (λ (f : Certificate C D). selection_by (option_or (fixed_proposal past) (proposal_in (subject_certified f))) (leaders_proposal x (event ∷ past))) (sym e)
-            ∙ (ap (selection_by (option_or (fixed_proposal past) (Some d.proposal))) leaders_stay
-            ∙ sym (fixes_by x (fixed_proposal past) (Some d.proposal) (leaders_proposal x past))))
+            (selection_fixes x past event (Some d.proposal) leaders_stay (ap (λ (f : Certificate C D). proposal_in (subject_certified f)) (sym e)))
             ∙ changed_by (selection x past) d.proposal
         by_kind (NullificationCertificate d) e = refl
         by_kind (FinalizationCertificate d) e = refl

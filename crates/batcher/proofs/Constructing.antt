@@ -68,7 +68,7 @@ module _ {D : Type 0} (same : D → D → Bool) (identical : (a b : D) → same 
         sym (subject_is subject (subject_of v) there)
 
     -- the subject is known, so all that may stand are about it
-    known : (proposal : Option (Proposal D)) (kind : Kind) (xs : List (Vote G D)) → subject_from kind number proposal ≡ Some subject → AllPass (may_stand same number proposal kind) xs → All (λ v. subject_of v ≡ subject) xs
+    pub known : (proposal : Option (Proposal D)) (kind : Kind) (xs : List (Vote G D)) → subject_from kind number proposal ≡ Some subject → AllPass (may_stand same number proposal kind) xs → All (λ v. subject_of v ≡ subject) xs
     known proposal kind xs e h = λ k d below. about_of proposal kind _ (h k d below) e
 
     all_alike : (s : Subject D) (xs : List (Vote G D)) → s ≡ subject → list_all (λ v. same_subject same s (subject_of v)) xs ≡ true → All (λ v. subject_of v ≡ subject) xs
@@ -162,10 +162,10 @@ module _ {D : Type 0} (same : D → D → Bool) (reflexive : (d : D) → same d 
   same_rounds : (r : Round) → same_round r r ≡ true
   same_rounds r = all_true (r.epoch.0 == r.epoch.0) (r.view.0 == r.view.0) (number_is r.epoch.0) (number_is r.view.0)
 
-  same_proposals : (p : Proposal D) → same_proposal same p p ≡ true
+  pub same_proposals : (p : Proposal D) → same_proposal same p p ≡ true
   same_proposals p = all_true _ _ (same_rounds p.round) (all_true _ _ (number_is p.parent.0) (reflexive p.payload))
 
-  same_subjects : (s : Subject D) → same_subject same s s ≡ true
+  pub same_subjects : (s : Subject D) → same_subject same s s ≡ true
   same_subjects (NotarizeSubject p) = same_proposals p
   same_subjects (NullifySubject r) = same_rounds r
   same_subjects (FinalizeSubject p) = same_proposals p

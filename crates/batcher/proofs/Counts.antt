@@ -1,6 +1,9 @@
--- Counts over lists, and lists in which no number comes twice.
-use Rattle.std.proofs.Common.{◌≡◌, ◌≤◌, ◌+◌, ◌==◌, ℕ, Bool, true, false, not, cond, List, [], ◌∷◌, ◌++◌, length, map, filter, refl, ap, sym, ◌∙◌, arith}
-use Rattle.std.specs.List.{list_any, list_all}
+-- Lists: counts, filters and maps, and lists in which no number comes twice.
+use Rattle.std.proofs.Common.{◌≡◌, ◌≤◌, ◌+◌, ◌==◌, ℕ, Bool, true, false, not, cond, List, [], ◌∷◌, ◌++◌, length, map, filter, refl, ap, sym, ◌∙◌, arith, ◌&&◌, ◌||◌, ⊎_elim}
+use Rattle.std.specs.List.{list_all}
+use Rattle.std.proofs.lemmas.Bool.{cases_Bool, and_left, and_right}
+use Rattle.std.proofs.lemmas.List.Elements.{filter_agree, filter-append}
+use Rattle.std.proofs.lemmas.List.{append-nil}
 use Rattle.batcher.specs.Lists.{count, EachOnce, SameElements}
 
 module _ {X : Type 0} (test : X → Bool) where
@@ -53,10 +56,6 @@ pub count_same : {X : Type 0} (p q : X → Bool) (xs : List X) → ((v : X) → 
 count_same p q [] same = refl
 count_same p q (x ∷ xs) same = rw (same x, count_same p q xs same) refl
 
-pub none_counts : {X : Type 0} (p : X → Bool) (xs : List X) → list_any p xs ≡ false → count p xs ≡ 0
-none_counts p [] h = refl
-none_counts p (x ∷ xs) h = grind (arith, none_counts p xs)
-
 pub all_count : {X : Type 0} (p : X → Bool) (xs : List X) → count (λ v. not (p v)) xs ≡ 0 → list_all p xs ≡ true
 all_count p [] h = refl
 all_count p (x ∷ xs) h = grind (arith, all_count p xs)
@@ -72,13 +71,62 @@ filter_all p (x ∷ xs) h =
     let both = keeps_all (p x) (count (λ v. not (p v)) xs) h in
     rw (both.0, filter_all p xs both.1) refl
 
-pub empty_of_length : {X : Type 0} (xs : List X) → length xs ≡ 0 → xs ≡ []
-empty_of_length [] h = refl
-empty_of_length (x ∷ xs) h = absurd (omega arith)
-
 pub length_same : {X : Type 0} (xs ys : List X) → SameElements xs ys → length xs ≡ length ys
 length_same xs ys same = sym (count-true xs) ∙ (same (λ _. true) ∙ count-true ys)
 
-pub append_nil : {X : Type 0} (xs : List X) → xs ++ [] ≡ xs
-append_nil [] = refl
-append_nil {X = X} (x ∷ xs) = ap (λ (ys : List X). x ∷ ys) (append_nil xs)
+-- two filters are one
+pub filter_twice : {X : Type 0} (p q : X → Bool) (xs : List X) → filter p (filter q xs) ≡ filter (λ v. q v && p v) xs
+filter_twice p q [] = refl
+filter_twice {X = X} p q (x ∷ xs) =
+    ⊎_elim
+    (λ e.
+    let kept : filter q (x ∷ xs) ≡ x ∷ filter q xs = rw e refl in
+    ap (filter p) kept ∙ (ap (λ (ys : List X). cond (p x) (x ∷ ys) ys) (filter_twice p q xs) ∙ ap (λ b. cond (b && p x) (x ∷ filter (λ v. q v && p v) xs) (filter (λ v. q v && p v) xs)) (sym e)))
+    (λ e.
+    let gone : filter q (x ∷ xs) ≡ filter q xs = rw e refl in
+    ap (filter p) gone ∙ (filter_twice p q xs ∙ ap (λ b. cond (b && p x) (x ∷ filter (λ v. q v && p v) xs) (filter (λ v. q v && p v) xs)) (sym e)))
+    (cases_Bool (q x))
+
+-- a test that none passes
+pub filter_none : {X : Type 0} (p : X → Bool) (xs : List X) → ((v : X) → p v ≡ false) → filter p xs ≡ []
+filter_none p [] none = refl
+filter_none p (x ∷ xs) none = rw (none x) (filter_none p xs none)
+
+both_within : (a b : Bool) → (b ≡ true → a ≡ true) → (a && b) ≡ b
+both_within true b within = refl
+both_within false true within = within refl
+both_within false false within = refl
+
+-- a filter behind a wider one,
+pub filter_again : {X : Type 0} (p q : X → Bool) (xs : List X) → ((v : X) → p v ≡ true → q v ≡ true) → filter p (filter q xs) ≡ filter p xs
+filter_again p q xs within = filter_twice p q xs ∙ filter_agree (λ v. q v && p v) p (λ v. both_within (q v) (p v) (within v)) xs
+
+never_both : (a b : Bool) → (b ≡ true → a ≡ false) → (a && b) ≡ false
+never_both a true apart = and_left a true (apart refl)
+never_both a false apart = and_right a false refl
+
+-- and behind one that passes nothing of it
+pub none_both : {X : Type 0} (p q : X → Bool) (xs : List X) → ((v : X) → p v ≡ true → q v ≡ false) → filter p (filter q xs) ≡ []
+none_both p q xs apart = filter_twice p q xs ∙ filter_none (λ v. q v && p v) xs (λ v. never_both (q v) (p v) (apart v))
+
+pub map_same : {X Y : Type 0} (f g : X → Y) (xs : List X) → ((v : X) → f v ≡ g v) → map f xs ≡ map g xs
+map_same f g [] same = refl
+map_same f g (x ∷ xs) same = rw (same x, map_same f g xs same) refl
+
+pub either_same : {X : Type 0} (b : Bool) (v : X) → cond b v v ≡ v
+either_same true v = refl
+either_same false v = refl
+
+-- where nothing waits in a second case, that of the first decides
+pub open_or_closed : {X : Type 0} (p : X → Bool) (c s : Bool) (xs ys : List X) → (s ≡ true → xs ≡ []) → (s ≡ false → c ≡ false → filter p xs ≡ filter p ys) →
+    cond c [] (filter p xs) ≡ cond (c || s) [] (filter p ys)
+open_or_closed p true s xs ys none alike = refl
+open_or_closed p false true xs ys none alike = ap (filter p) (none refl)
+open_or_closed p false false xs ys none alike = alike refl refl
+
+-- a list alone, and lists behind others of which the same pass
+pub first_only : {X : Type 0} (xs ys : List X) → ys ≡ [] → (xs ++ ys) ++ [] ≡ xs
+first_only xs ys none = append-nil (xs ++ ys) ∙ (ap (λ zs. xs ++ zs) none ∙ append-nil xs)
+
+pub filter_behind : {X : Type 0} (p : X → Bool) (xs ys zs : List X) → filter p ys ≡ filter p zs → filter p (xs ++ ys) ≡ filter p (xs ++ zs)
+filter_behind p xs ys zs same = filter-append p xs ys ∙ (ap (λ vs. filter p xs ++ vs) same ∙ sym (filter-append p xs zs))

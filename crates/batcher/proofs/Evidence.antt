@@ -1,7 +1,6 @@
 -- What a certificate that is given selects: its proposal was the selected one, or none was, so it takes the place of none.
 use Rattle.std.proofs.Common.{inl, inr, ◌≡◌, true, false, not, cond, ◌⊎◌, Option, Some, None, refl, ap, sym, ◌∙◌, subst}
 use Rattle.std.specs.Prelude.{is_none, option_and_then}
-use Rattle.std.specs.Option.{option_or}
 use Rattle.batcher.specs.declared.positions.Round.{Round}
 use Rattle.batcher.specs.declared.messages.Proposal.{Proposal}
 use Rattle.batcher.specs.declared.messages.Subject.{Subject}
@@ -16,9 +15,10 @@ use Rattle.batcher.specs.Votes.{has_proposals, proposal_in, same_proposal}
 use Rattle.batcher.specs.Selected.{proposal_of, updated, replaces}
 use Rattle.batcher.specs.Buffering.{subject_from}
 use Rattle.batcher.specs.History.{Event, History}
-use Rattle.batcher.specs.Selection.{selection_by, selection, selected_proposal, fixing_evidence, replacement, comes_back}
+use Rattle.batcher.specs.Selection.{selection, selected_proposal, fixing_evidence, replacement, comes_back}
 use Rattle.batcher.proofs.Laws.{HasLaws}
-use Rattle.batcher.proofs.Selecting.{proposals_same}
+use Rattle.batcher.proofs.Constructing.{same_proposals}
+use Rattle.batcher.proofs.Selecting.{unreplaced}
 
 module _ {D : Type 0} where
   -- the proposal of what is tried, where its kind has proposals
@@ -34,12 +34,6 @@ module _ {D : Type 0} where
   pub tried_selected : (selected first : Option (Proposal D)) (p : Proposal D) → cond (is_none selected) first selected ≡ Some p → (selected ≡ None) ⊎ (selected ≡ Some p)
   tried_selected None first p h = inl refl
   tried_selected (Some q) first p h = inr h
-
-  -- Evidence goes before what is selected.
-  pub updated_by : (fixed leaders : Option (Proposal D)) (p : Proposal D) → updated (selection_by fixed leaders) (FixedProposal p) ≡ selection_by (option_or fixed (Some p)) leaders
-  updated_by None None p = refl
-  updated_by None (Some q) p = refl
-  updated_by (Some f) leaders p = refl
 
   pub selected_then : (s : ProposalState D) (p : Proposal D) → (proposal_of s ≡ None) ⊎ (proposal_of s ≡ Some p) → proposal_of (updated s (FixedProposal p)) ≡ Some p
   selected_then Unknown p h = refl
@@ -58,7 +52,7 @@ module _ {D K G C : Type 0} (x : Setting D K G C) (lawful : HasLaws x) where
   not_replaced (LeadersProposal q) p (inl h) = absurd (cc)
   not_replaced (LeadersProposal q) p (inr h) =
       let same : q ≡ p = cc in
-      ap not (subst (λ (r : Proposal D). same_proposal x.same_digest q r ≡ true) same (proposals_same x lawful q))
+      ap not (subst (λ (r : Proposal D). same_proposal x.same_digest q r ≡ true) same (same_proposals x.same_digest lawful.digests_same q))
   not_replaced (FixedProposal q) p h = refl
 
   no_replacement : (past : History D K G C) (event : Event D K G C) (e : Option (Proposal D)) → fixing_evidence event ≡ e → IsEvidence x past e → replacement x past event ≡ None
@@ -69,4 +63,4 @@ module _ {D K G C : Type 0} (x : Setting D K G C) (lawful : HasLaws x) where
 
   -- Then no vote comes back.
   pub none_comes_back : (past : History D K G C) (event : Event D K G C) (e : Option (Proposal D)) → fixing_evidence event ≡ e → IsEvidence x past e → (v : Vote G D) → comes_back x past event v ≡ false
-  none_comes_back past event e is evidence v = let none = no_replacement past event e is evidence in rw none refl
+  none_comes_back past event e is evidence v = unreplaced x past event v (no_replacement past event e is evidence)

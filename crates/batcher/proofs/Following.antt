@@ -1,10 +1,11 @@
 -- How what a history names goes on with one more event, piece by piece, and that a call which moves what is held so is followed.
 use Rattle.std.proofs.Common.{◌≡◌, ℕ, Bool, true, false, not, cond, ◌&&◌, ◌||◌, List, [], ◌∷◌, ◌++◌, length, map, Option, Some, None, refl, ap, sym, ◌∙◌, ⊎_elim}
-use Rattle.std.specs.Prelude.{filter, option_and_then}
+use Rattle.std.specs.Prelude.{filter, option_and_then, find}
 use Rattle.std.specs.List.{list_any}
 use Rattle.std.specs.Option.{option_or}
-use Rattle.std.proofs.lemmas.Bool.{cases_Bool, and_parts, false_from_ne_true}
+use Rattle.std.proofs.lemmas.Bool.{cases_Bool, and_parts}
 use Rattle.std.proofs.lemmas.List.Elements.{filter-append}
+use Rattle.std.proofs.lemmas.List.{nil_from_length, append-nil}
 use Rattle.batcher.specs.declared.messages.Proposal.{Proposal}
 use Rattle.batcher.specs.declared.messages.Vote.{Vote}
 use Rattle.batcher.specs.declared.messages.Kind.{Kind}
@@ -12,23 +13,25 @@ use Rattle.batcher.specs.declared.run.Call.{Call}
 use Rattle.batcher.specs.declared.run.Answer.{Answer}
 use Rattle.batcher.specs.Setting.{Setting}
 use Rattle.batcher.specs.Lists.{count, SameElements, is_some_and, is_empty}
-use Rattle.batcher.specs.Votes.{is_kind, kind_of, signer_of, has_proposals, kind_certified, subject_certified, proposal_in, is_of_kind, is_vote_of, is_for, waits}
+use Rattle.batcher.specs.Votes.{is_kind, kind_of, signer_of, has_proposals, kind_certified, subject_certified, proposal_in, is_of_kind, is_vote_of, is_for, waits, subject_of}
 use Rattle.batcher.specs.Selected.{proposal_of}
-use Rattle.batcher.specs.Held.{of_kind, Held}
+use Rattle.batcher.specs.Held.{of_kind, Held, Buffered}
 use Rattle.batcher.specs.Tracking.{is_skipped, is_released_in}
 use Rattle.batcher.specs.Runs.{MayCall}
 use Rattle.batcher.specs.History.{Event, History, is_made, cast_votes}
-use Rattle.batcher.specs.FirstVotes.{is_free, first_votes}
+use Rattle.batcher.specs.FirstVotes.{is_free, first_votes, first_vote}
 use Rattle.batcher.specs.Selection.{selection_by, selection, selected_proposal, leader_of, leader_named, is_certified, certificate_of, finalized_by, fixed_proposal, fixing_evidence, leaders_proposal, was_forwarded, comes_back, is_released}
-use Rattle.batcher.specs.Comparison.{compared_votes, compared_votes_of, is_compared, is_compared_at_release}
+use Rattle.batcher.specs.Comparison.{compared_votes, compared_votes_of, is_compared, is_compared_at_release, is_matched}
 use Rattle.batcher.specs.Standing.{waiting_votes, is_trusted, stood_before, was_invalid, trials, fresh_votes, proven_votes}
 use Rattle.batcher.specs.Answers.{MayAnswer}
 use Rattle.batcher.specs.Stands.{Stands, Follows, TriesBuffers, first_by_signer, facts_of, pending_after, verified_after}
-use Rattle.batcher.proofs.Apart.{is_kind-true}
-use Rattle.batcher.proofs.Counts.{count-false, count_same, filter_all, empty_of_length, length_same}
-use Rattle.batcher.proofs.Naming.{compared_if_fixed}
-use Rattle.batcher.proofs.Past.{count_fresh, count_proven, closed_is_empty}
-use Rattle.batcher.proofs.Attempting.{option_cases}
+use Rattle.batcher.specs.Buffering.{still_waiting}
+use Rattle.batcher.specs.Ascending.{ordered_by}
+use Rattle.batcher.specs.declared.messages.Kind.TheVariants.{Notarization}
+use Rattle.batcher.proofs.Apart.{is_kind-true, option_cases}
+use Rattle.batcher.proofs.Counts.{count-false, count_same, filter_all, length_same, none_both, open_or_closed, filter_behind}
+use Rattle.batcher.proofs.Naming.{compared_if_fixed, always_released}
+use Rattle.batcher.proofs.Past.{count_fresh, count_proven, closed_is_empty, nothing_waits, open_waits}
 use Rattle.batcher.proofs.Laws.{HasLaws}
 use Rattle.batcher.proofs.Buffers.{pending_follow, verified_follow}
 
@@ -47,23 +50,11 @@ no_change true true s e = refl
 no_change true false s e = e
 no_change false r s e = refl
 
-pub same_where_none : {X : Type 0} (o o' : Option X) → is_some_and o (λ v. false) ≡ is_some_and o' (λ v. false)
+same_where_none : {X : Type 0} (o o' : Option X) → is_some_and o (λ v. false) ≡ is_some_and o' (λ v. false)
 same_where_none None None = refl
 same_where_none None (Some b) = refl
 same_where_none (Some a) None = refl
 same_where_none (Some a) (Some b) = refl
-
-pub none_both : {X : Type 0} (p q : X → Bool) (xs : List X) → ((v : X) → p v ≡ true → q v ≡ false) → filter p (filter q xs) ≡ []
-none_both p q [] apart = refl
-none_both {X = X} p q (x ∷ xs) apart =
-    ⊎_elim
-    (λ e.
-    let other : p x ≡ false = false_from_ne_true _ (λ h. let no : false ≡ true = sym (apart x h) ∙ e in cc) in
-    let kept : filter q (x ∷ xs) ≡ x ∷ filter q xs = rw e refl in
-    let dropped : filter p (x ∷ filter q xs) ≡ filter p (filter q xs) = rw other refl in
-    ap (filter p) kept ∙ (dropped ∙ none_both p q xs apart))
-    (λ e. let gone : filter q (x ∷ xs) ≡ filter q xs = rw e refl in ap (filter p) gone ∙ none_both p q xs apart)
-    (cases_Bool (q x))
 
 module _ {D K G C : Type 0} (x : Setting D K G C) where
   -- WHAT IS BUFFERED WAITS
@@ -73,12 +64,10 @@ module _ {D K G C : Type 0} (x : Setting D K G C) where
       → waiting_votes x past kind votes ≡ votes
   waiting_buffer past kind votes model same closed_is open_is =
       ⊎_elim
-      (λ closed.
-      let none : votes ≡ [] = empty_of_length votes (length_same votes model same ∙ ap length (closed_is closed)) in
-      let all : waiting_votes x past kind votes ≡ [] = rw closed refl in all ∙ sym none)
+      (λ closed. nothing_waits x past kind votes closed ∙ sym (nil_from_length votes (length_same votes model same ∙ ap length (closed_is closed))))
       (λ still.
-      let all : waiting_votes x past kind votes ≡ filter (waits x.same_digest (selected_proposal x past)) votes = rw still refl in
-      all ∙ filter_all (waits x.same_digest (selected_proposal x past)) votes (same (λ v. not (waits x.same_digest (selected_proposal x past) v)) ∙ open_is still))
+      open_waits x past kind votes still
+      ∙ filter_all (waits x.same_digest (selected_proposal x past)) votes (same (λ v. not (waits x.same_digest (selected_proposal x past) v)) ∙ open_is still))
       (cases_Bool (is_certified past kind || is_skipped x.mode))
 
   pub pending_wait : (past : History D K G C) (held : Held G D) (kind : Kind) → Stands x past held → waiting_votes x past kind (of_kind held.buffered.pending kind) ≡ of_kind held.buffered.pending kind
@@ -96,11 +85,46 @@ module _ {D K G C : Type 0} (x : Setting D K G C) where
   -- of a kind that is closed nothing is held
   pub closed_pending : (past : History D K G C) (held : Held G D) (kind : Kind) → Stands x past held → (is_certified past kind || is_skipped x.mode) ≡ true → of_kind held.buffered.pending kind ≡ []
   closed_pending past held kind stands closed =
-      empty_of_length _ (length_same _ (fresh_votes x past kind) (stands.each_kind kind).pending_are ∙ ap length (closed_is_empty x past kind closed).0)
+      nil_from_length _ (length_same _ (fresh_votes x past kind) (stands.each_kind kind).pending_are ∙ ap length (closed_is_empty x past kind closed).0)
 
   pub closed_verified : (past : History D K G C) (held : Held G D) (kind : Kind) → Stands x past held → (is_certified past kind || is_skipped x.mode) ≡ true → of_kind held.buffered.verified kind ≡ []
   closed_verified past held kind stands closed =
-      empty_of_length _ (length_same _ (proven_votes x past kind) (stands.each_kind kind).verified_are ∙ ap length (closed_is_empty x past kind closed).1)
+      nil_from_length _ (length_same _ (proven_votes x past kind) (stands.each_kind kind).verified_are ∙ ap length (closed_is_empty x past kind closed).1)
+
+  -- in a skipped round nothing is kept
+  pub none_kept : (past : History D K G C) (held : Held G D) (kind : Kind) → Stands x past held → is_skipped x.mode ≡ true → of_kind held.tracked.kept kind ≡ []
+  none_kept past held kind stands skips =
+      (stands.each_kind kind).kept_are ∙ ap (λ r. cond r [] (first_by_signer x past kind)) (always_released x.mode (is_certified past kind) skips)
+
+  -- what waits does so after an event that changes nothing of it
+  pub still_waits : (past : History D K G C) (event : Event D K G C) (kind : Kind) (votes : List (Vote G D)) → is_certified (event ∷ past) kind ≡ is_certified past kind → selected_proposal x (event ∷ past) ≡ selected_proposal x past →
+      waiting_votes x past kind votes ≡ votes → waiting_votes x (event ∷ past) kind votes ≡ votes
+  still_waits past event kind votes certified selected h =
+      ap (λ c. cond (c || is_skipped x.mode) [] (filter (waits x.same_digest (selected_proposal x (event ∷ past))) votes)) certified
+      ∙ (ap (λ o. cond (is_certified past kind || is_skipped x.mode) [] (filter (waits x.same_digest o) votes)) selected ∙ h)
+
+  -- votes behind others, of which the same wait
+  pub waiting_behind : (now : History D K G C) (kind : Kind) (votes more others : List (Vote G D)) →
+      filter (waits x.same_digest (selected_proposal x now)) more ≡ filter (waits x.same_digest (selected_proposal x now)) others
+      → waiting_votes x now kind (votes ++ more) ≡ waiting_votes x now kind (votes ++ others)
+  waiting_behind now kind votes more others same =
+      ap (cond (is_certified now kind || is_skipped x.mode) []) (filter_behind (waits x.same_digest (selected_proposal x now)) votes more others same)
+
+  -- What still waits by what is held is what waits by the history, where they agree; in a skipped round nothing does.
+  pub still_is_waiting : (now : History D K G C) (held : Buffered G D) (kind : Kind) (votes : List (Vote G D)) →
+      of_kind held.certified kind ≡ is_certified now kind → proposal_of held.selection ≡ selected_proposal x now → (is_skipped x.mode ≡ true → votes ≡ [])
+      → still_waiting x.same_digest held kind votes ≡ waiting_votes x now kind votes
+  still_is_waiting now held kind votes certified selected none =
+      ap (λ b. cond b [] (filter (waits x.same_digest (proposal_of held.selection)) votes)) certified
+      ∙ (ap (λ o. cond (is_certified now kind) [] (filter (waits x.same_digest o) votes)) selected
+      ∙ open_or_closed (waits x.same_digest (selected_proposal x now)) (is_certified now kind) (is_skipped x.mode) votes votes none (λ by_new still. refl))
+
+  -- the same of a buffer that no vote joins
+  pub fixed_waits : (now : History D K G C) (held : Buffered G D) (kind : Kind) (votes : List (Vote G D)) →
+      of_kind held.certified kind ≡ is_certified now kind → proposal_of held.selection ≡ selected_proposal x now → (is_skipped x.mode ≡ true → votes ≡ [])
+      → still_waiting x.same_digest held kind (votes ++ []) ≡ waiting_votes x now kind votes
+  fixed_waits now held kind votes certified selected none =
+      ap (still_waiting x.same_digest held kind) (append-nil votes) ∙ still_is_waiting now held kind votes certified selected none
 
   module _ (past : History D K G C) (event : Event D K G C) where
     -- WHAT GOES ON
@@ -114,9 +138,6 @@ module _ {D K G C : Type 0} (x : Setting D K G C) where
     no_evidence finalized none =
         ap (λ o. option_or o (option_and_then (λ c. proposal_in (subject_certified c)) (certificate_of event))) finalized ∙ ap (λ o. option_and_then (λ c. proposal_in (subject_certified c)) o) none
 
-    pub fixed_same : fixing_evidence event ≡ None → fixed_proposal (event ∷ past) ≡ fixed_proposal past
-    fixed_same none = ap (option_or (fixed_proposal past)) none ∙ or_nothing (fixed_proposal past)
-
     pub leader_same : leader_named event.0 ≡ None → leader_of (event ∷ past) ≡ leader_of past
     leader_same none = ap (option_or (leader_of past)) none ∙ or_nothing (leader_of past)
 
@@ -126,9 +147,13 @@ module _ {D K G C : Type 0} (x : Setting D K G C) where
     pub no_firsts : cast_votes x event.0 ≡ [] → first_votes x (event ∷ past) ≡ first_votes x past
     no_firsts casts = ap (λ votes. filter (is_free (first_votes x past)) votes ++ first_votes x past) casts
 
-    -- what is selected goes on with the leader, the first votes and the evidence
-    pub selection_goes : fixed_proposal (event ∷ past) ≡ fixed_proposal past → leaders_proposal x (event ∷ past) ≡ leaders_proposal x past → selection x (event ∷ past) ≡ selection x past
-    selection_goes fixed leaders = ap (λ f. selection_by f (leaders_proposal x (event ∷ past))) fixed ∙ ap (selection_by (fixed_proposal past)) leaders
+    pub first_by_same : cast_votes x event.0 ≡ [] → (kind : Kind) → first_by_signer x (event ∷ past) kind ≡ first_by_signer x past kind
+    first_by_same casts kind = ap (λ votes. ordered_by signer_of (filter (is_of_kind kind) votes)) (no_firsts casts)
+
+    pub leaders_same : first_votes x (event ∷ past) ≡ first_votes x past → leader_of (event ∷ past) ≡ leader_of past → leaders_proposal x (event ∷ past) ≡ leaders_proposal x past
+    leaders_same firsts leader =
+        ap (λ votes. cond (is_skipped x.mode) None (option_and_then (λ v. proposal_in (subject_of v)) (option_and_then (λ i. find (is_vote_of Notarization i.0) votes) (leader_of (event ∷ past))))) firsts
+        ∙ ap (λ l. cond (is_skipped x.mode) None (option_and_then (λ v. proposal_in (subject_of v)) (option_and_then (λ i. first_vote x past Notarization i.0) l))) leader
 
     -- Where a proposal was fixed before, it stays the selected one.
     pub fixed_stays : (p : Proposal D) → fixed_proposal past ≡ Some p → selection x (event ∷ past) ≡ selection x past
@@ -143,28 +168,44 @@ module _ {D K G C : Type 0} (x : Setting D K G C) where
         no_change (has_proposals (kind_of v)) (is_released x past (kind_of v)) (is_released x (event ∷ past) (kind_of v))
         (ap (is_released x (event ∷ past)) k ∙ (same ∙ ap (is_released x past) (sym k))))
 
-    -- the compared votes of a kind and signer, where the event brings none
-    pub compared_goes : (kind : Kind) (i : ℕ) → filter (is_vote_of kind i) (filter (is_compared x past event) (cast_votes x event.0)) ≡ [] →
-        is_released x (event ∷ past) kind ≡ is_released x past kind → compared_votes_of x (event ∷ past) kind i ≡ compared_votes_of x past kind i
-    compared_goes kind i none same =
+    -- the compared votes of a kind and signer: of the call, of those that it releases, and those from before
+    pub compared_parts : (kind : Kind) (i : ℕ) → compared_votes_of x (event ∷ past) kind i
+        ≡ filter (is_vote_of kind i) (filter (is_compared x past event) (cast_votes x event.0))
+        ++ (filter (is_vote_of kind i) (filter (is_compared_at_release x past event) (first_votes x past)) ++ compared_votes_of x past kind i)
+    compared_parts kind i =
         filter-append (is_vote_of kind i) (filter (is_compared x past event) (cast_votes x event.0)) (filter (is_compared_at_release x past event) (first_votes x past) ++ compared_votes x past)
-        ∙ (ap (λ vs. vs ++ filter (is_vote_of kind i) (filter (is_compared_at_release x past event) (first_votes x past) ++ compared_votes x past)) none
-        ∙ (filter-append (is_vote_of kind i) (filter (is_compared_at_release x past event) (first_votes x past)) (compared_votes x past)
-        ∙ ap (λ vs. vs ++ compared_votes_of x past kind i) (nothing_released kind i same)))
+        ∙ ap (λ vs. filter (is_vote_of kind i) (filter (is_compared x past event) (cast_votes x event.0)) ++ vs)
+        (filter-append (is_vote_of kind i) (filter (is_compared_at_release x past event) (first_votes x past)) (compared_votes x past))
 
-    -- facts stay where the compared votes do, whatever the event selects
-    pub facts_stay : (kind : Kind) (i : ℕ) → compared_votes_of x (event ∷ past) kind i ≡ compared_votes_of x past kind i → facts_of x (event ∷ past) kind i ≡ facts_of x past kind i
-    facts_stay kind i same =
-        ap (λ votes. record { signer = i; has_compared = not (is_empty votes); has_matched = is_some_and (selected_proposal x (event ∷ past)) (λ p. list_any (is_for x.same_digest p) votes) }) same
-        ∙ ap (λ m. record { signer = i; has_compared = not (is_empty (compared_votes_of x past kind i)); has_matched = m })
-        (⊎_elim
+    -- where the kind isn't released now, those of the call are all that is new
+    pub compared_goes : (kind : Kind) (i : ℕ) → is_released x (event ∷ past) kind ≡ is_released x past kind →
+        compared_votes_of x (event ∷ past) kind i ≡ filter (is_vote_of kind i) (filter (is_compared x past event) (cast_votes x event.0)) ++ compared_votes_of x past kind i
+    compared_goes kind i same =
+        compared_parts kind i
+        ∙ ap (λ vs. filter (is_vote_of kind i) (filter (is_compared x past event) (cast_votes x event.0)) ++ (vs ++ compared_votes_of x past kind i)) (nothing_released kind i same)
+
+    -- whether one of the votes compared before is for the selected proposal stays
+    pub matched_stays : (kind : Kind) (i : ℕ) → is_some_and (selected_proposal x (event ∷ past)) (λ p. list_any (is_for x.same_digest p) (compared_votes_of x past kind i)) ≡ is_matched x past kind i
+    matched_stays kind i =
+        ⊎_elim
         (λ unfixed.
         ap (λ votes. is_some_and (selected_proposal x (event ∷ past)) (λ p. list_any (is_for x.same_digest p) (filter (is_vote_of kind i) votes))) (compared_if_fixed x past unfixed)
         ∙ (same_where_none (selected_proposal x (event ∷ past)) (selected_proposal x past)
         ∙ ap (λ votes. is_some_and (selected_proposal x past) (λ p. list_any (is_for x.same_digest p) (filter (is_vote_of kind i) votes))) (sym (compared_if_fixed x past unfixed))))
         (λ (fixed : (p : Proposal D) × (fixed_proposal past ≡ Some p)).
         ap (λ s. is_some_and (proposal_of s) (λ p. list_any (is_for x.same_digest p) (compared_votes_of x past kind i))) (fixed_stays fixed.0 fixed.1))
-        (option_cases x (fixed_proposal past)))
+        (option_cases (fixed_proposal past))
+
+    -- facts stay where the compared votes do, whatever the event selects
+    pub facts_stay : (kind : Kind) (i : ℕ) → compared_votes_of x (event ∷ past) kind i ≡ compared_votes_of x past kind i → facts_of x (event ∷ past) kind i ≡ facts_of x past kind i
+    facts_stay kind i same =
+        ap (λ votes. record { signer = i; has_compared = not (is_empty votes); has_matched = is_some_and (selected_proposal x (event ∷ past)) (λ p. list_any (is_for x.same_digest p) votes) }) same
+        ∙ ap (λ m. record { signer = i; has_compared = not (is_empty (compared_votes_of x past kind i)); has_matched = m }) (matched_stays kind i)
+
+    -- as they do where no vote is cast
+    pub facts_same : cast_votes x event.0 ≡ [] → (kind : Kind) (i : ℕ) → is_released x (event ∷ past) kind ≡ is_released x past kind → facts_of x (event ∷ past) kind i ≡ facts_of x past kind i
+    facts_same casts kind i same =
+        facts_stay kind i (compared_goes kind i same ∙ ap (λ vs. filter (is_vote_of kind i) (filter (is_compared x past event) vs) ++ compared_votes_of x past kind i) casts)
 
 -- WHAT A CALL MOVES
 module _ {D K G C : Type 0} (x : Setting D K G C) where

@@ -52,3 +52,4 @@ pub mod Settling
 pub mod Staying
 pub mod Batching
 pub mod Needing
+pub mod Joining

@@ -1,42 +1,37 @@
 -- Calls that take no memory, by the history.
-use Rattle.std.proofs.Common.{◌≡◌, ℕ, ◌+◌, Bool, true, false, cond, ◌&&◌, ◌||◌, List, [], ◌∷◌, length, Option, Some, None, refl, ap, sym, ◌∙◌, arith}
-use Rattle.std.specs.Prelude.{filter, option_and_then}
-use Rattle.std.specs.Option.{option_or}
+use Rattle.std.proofs.Common.{◌≡◌, Bool, true, false, cond, ◌&&◌, ◌||◌, List, [], ◌∷◌, length, Option, Some, None, refl, ap, sym, ◌∙◌, arith}
+use Rattle.std.specs.Prelude.{filter}
+use Rattle.std.proofs.lemmas.List.{nil_from_length}
+use Rattle.std.proofs.Math.Bool.{and-true}
 use Rattle.batcher.specs.declared.messages.Proposal.{Proposal}
 use Rattle.batcher.specs.declared.messages.Kind.{Kind}
-use Rattle.batcher.specs.declared.messages.Kind.TheVariants.{Notarization}
 use Rattle.batcher.specs.declared.messages.Certificate.{Certificate}
 use Rattle.batcher.specs.declared.run.Call.TheVariants.{Certificate as CertificateCall}
 use Rattle.batcher.specs.declared.run.Answer.TheVariants.{Certificate as CertificateAnswer}
 use Rattle.batcher.specs.Setting.{Setting}
 use Rattle.batcher.specs.Lists.{count, is_empty}
-use Rattle.batcher.specs.Votes.{is_kind, is_of_kind, has_proposals, kind_certified, subject_of, subject_certified, proposal_in, signer_of, waits}
+use Rattle.batcher.specs.Votes.{is_kind, is_of_kind, has_proposals, kind_certified, subject_certified, proposal_in, signer_of, waits}
 use Rattle.batcher.specs.Selected.{proposal_of, replaces, fixes}
 use Rattle.batcher.specs.Held.{of_kind, Held}
-use Rattle.batcher.specs.Tracking.{is_skipped}
 use Rattle.batcher.specs.Buffering.{coming_back}
 use Rattle.batcher.specs.Steps.{restored_by, restored_with}
 use Rattle.batcher.specs.History.{Event, History}
-use Rattle.batcher.specs.FirstVotes.{first_votes, first_vote}
-use Rattle.batcher.specs.Selection.{selection_by, selected_proposal, leader_of, is_certified, fixed_proposal, leaders_proposal, comes_back, votes_restored_by, is_released}
+use Rattle.batcher.specs.FirstVotes.{first_votes}
+use Rattle.batcher.specs.Selection.{selected_proposal, leader_of, is_certified, leaders_proposal, comes_back, votes_restored_by, is_released}
 use Rattle.batcher.specs.Stands.{Stands, first_by_signer}
-use Rattle.batcher.proofs.Counts.{count-filter_le, empty_of_length}
-use Rattle.batcher.proofs.Apart.{is_kind-refl, is_kind-true}
+use Rattle.batcher.proofs.Counts.{count-filter_le, count_same, count-true}
+use Rattle.batcher.proofs.Apart.{is_kind-refl, is_kind-true, count-filter}
 use Rattle.batcher.proofs.Buffers.{count_ordered}
-use Rattle.batcher.proofs.Following.{or_nothing}
-use Rattle.batcher.proofs.Returning.{returned, replaced_is, fixes_by}
+use Rattle.batcher.proofs.Following.{or_nothing, leaders_same}
+use Rattle.batcher.proofs.Returning.{returned, replaced_is}
+use Rattle.batcher.proofs.Selecting.{selection_fixes}
 
 empty_is : {X : Type 0} (xs : List X) → is_empty xs ≡ true → xs ≡ []
 empty_is [] h = refl
 empty_is (x ∷ xs) h = absurd (cc)
 
-one_counted : {X : Type 0} (b : Bool) (x : X) (n : ℕ) (xs : List X) → n ≡ length xs → cond b 1 0 + n ≡ length (cond b (x ∷ xs) xs)
-one_counted true x n xs h = omega (arith, h)
-one_counted false x n xs h = omega (arith, h)
-
 counted : {X : Type 0} (p : X → Bool) (xs : List X) → count p xs ≡ length (filter p xs)
-counted p [] = refl
-counted p (x ∷ xs) = one_counted (p x) x (count p xs) (filter p xs) (counted p xs)
+counted p xs = count_same p (λ v. p v && true) xs (λ v. sym (and-true (p v))) ∙ (sym (count-filter (λ v. true) p xs) ∙ count-true (filter p xs))
 
 either_empty : {X : Type 0} (b : Bool) (xs : List X) → (b ≡ false → xs ≡ []) → cond b [] xs ≡ []
 either_empty true xs h = refl
@@ -54,7 +49,7 @@ module _ {D K G C : Type 0} (x : Setting D K G C) where
   none_kept_back : (past : History D K G C) (event : Event D K G C) (held : Held G D) (kind : Kind) → Stands x past held → is_empty (votes_restored_by x past event) ≡ true →
       filter (comes_back x past event) (of_kind held.tracked.kept kind) ≡ []
   none_kept_back past event held kind stands none =
-      empty_of_length (filter (comes_back x past event) (of_kind held.tracked.kept kind))
+      nil_from_length (filter (comes_back x past event) (of_kind held.tracked.kept kind))
       (sym (counted (comes_back x past event) (of_kind held.tracked.kept kind)) ∙ ap (count (comes_back x past event)) (stands.each_kind kind).kept_are ∙ by_released (is_released x past kind))
     where
       none_first : count (comes_back x past event) (first_votes x past) ≡ 0
@@ -72,8 +67,7 @@ module _ {D K G C : Type 0} (x : Setting D K G C) where
   nothing_restored past held c answer stands none kind = either_empty (is_kind kind (kind_certified c)) _ (λ other. by_proposal other (proposal_in (subject_certified c)) refl)
     where
       leaders_stay : leaders_proposal x ((CertificateCall c, CertificateAnswer answer) ∷ past) ≡ leaders_proposal x past
-      leaders_stay =
-          ap (λ l. cond (is_skipped x.mode) None (option_and_then (λ v. proposal_in (subject_of v)) (option_and_then (λ i. first_vote x past Notarization i.0) l))) (or_nothing (leader_of past))
+      leaders_stay = leaders_same x past (CertificateCall c, CertificateAnswer answer) refl (or_nothing (leader_of past))
 
       by_proposal : is_kind kind (kind_certified c) ≡ false → (o : Option (Proposal D)) → proposal_in (subject_certified c) ≡ o → restored_by x held o kind ≡ []
       by_proposal other None is = refl
@@ -91,7 +85,5 @@ module _ {D K G C : Type 0} (x : Setting D K G C) where
 
               selected : selected_proposal x ((CertificateCall c, CertificateAnswer answer) ∷ past) ≡ Some p
               selected =
-                  ap (λ o. proposal_of (selection_by (option_or (fixed_proposal past) o) (leaders_proposal x ((CertificateCall c, CertificateAnswer answer) ∷ past)))) is
-                  ∙ (ap (λ l. proposal_of (selection_by (option_or (fixed_proposal past) (Some p)) l)) leaders_stay
-                  ∙ (ap proposal_of (sym (fixes_by x (fixed_proposal past) (Some p) (leaders_proposal x past)))
-                  ∙ (ap (λ s. proposal_of (fixes s (Some p))) (sym stands.selection_is) ∙ replaced_is x held.buffered.selection p e)))
+                  ap proposal_of (selection_fixes x past (CertificateCall c, CertificateAnswer answer) (Some p) leaders_stay is)
+                  ∙ (ap (λ s. proposal_of (fixes s (Some p))) (sym stands.selection_is) ∙ replaced_is x held.buffered.selection p e)

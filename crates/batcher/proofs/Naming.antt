@@ -3,7 +3,8 @@ use Rattle.std.proofs.Common.{◌≡◌, ℕ, Bool, true, false, not, cond, ◌&
 use Rattle.std.specs.Prelude.{filter, find, is_some, option_and_then}
 use Rattle.std.specs.Option.{option_or}
 use Rattle.std.specs.List.{list_any}
-use Rattle.std.proofs.lemmas.Bool.{cases_Bool, and_parts, false_from_ne_true}
+use Rattle.std.proofs.lemmas.Bool.{cases_Bool, and_parts, false_from_ne_true, and_right, and_left}
+use Rattle.std.proofs.Math.Bool.{and-true}
 use Rattle.batcher.specs.declared.positions.Participant.{Participant}
 use Rattle.batcher.specs.declared.messages.Proposal.{Proposal}
 use Rattle.batcher.specs.declared.messages.Vote.{Vote}
@@ -31,74 +32,53 @@ use Rattle.batcher.specs.Comparison.{compared_votes, compared_votes_of, is_compa
 use Rattle.batcher.specs.Answers.{network_answer, admission_sent_by, admission_against, admission_by_first, outcome_by_first, own_answer, own_answer_against, forward_after}
 use Rattle.batcher.specs.Stands.{Stands, facts_of}
 use Rattle.batcher.proofs.Apart.{found_is_of, is_kind-true}
-use Rattle.batcher.proofs.Observing.{filter_same, observed_is}
+use Rattle.batcher.proofs.Observing.{observed_is}
+use Rattle.batcher.proofs.Counts.{filter_none}
 
 pub or_none : {X : Type 0} (a b : Option X) → option_or a b ≡ None → (a ≡ None) × (b ≡ None)
 or_none None b h = (refl, h)
 or_none (Some v) b h = cc
 
-pub filter_false : {X : Type 0} (xs : List X) → filter (λ x. false) xs ≡ []
-filter_false [] = refl
-filter_false (x ∷ xs) = filter_false xs
-
-pub find_same : {X : Type 0} (p q : X → Bool) (xs : List X) → ((v : X) → p v ≡ q v) → find p xs ≡ find q xs
+find_same : {X : Type 0} (p q : X → Bool) (xs : List X) → ((v : X) → p v ≡ q v) → find p xs ≡ find q xs
 find_same p q [] same = refl
 find_same p q (x ∷ xs) same = rw (same x, find_same p q xs same) refl
 
-pub find_never : {X : Type 0} (xs : List X) → find (λ x. false) xs ≡ None
+find_never : {X : Type 0} (xs : List X) → find (λ x. false) xs ≡ None
 find_never [] = refl
 find_never (x ∷ xs) = find_never xs
 
-pub and_swap : (a b c : Bool) → b ≡ c → (a && b) ≡ (c && a)
-and_swap true true c h = h ∙ and_true c
-  where
-    and_true : (b : Bool) → b ≡ (b && true)
-    and_true true = refl
-    and_true false = refl
-and_swap true false c h = h ∙ and_true c
-  where
-    and_true : (b : Bool) → b ≡ (b && true)
-    and_true true = refl
-    and_true false = refl
-and_swap false b true h = refl
-and_swap false b false h = refl
+and_swap : (a b c : Bool) → b ≡ c → (a && b) ≡ (c && a)
+and_swap true b c h = h ∙ sym (and-true c)
+and_swap false b c h = sym (and_right c false refl)
 
-pub against_nullify : (k : Kind) → are_opposite k Nullification ≡ is_kind k Finalization
+against_nullify : (k : Kind) → are_opposite k Nullification ≡ is_kind k Finalization
 against_nullify Notarization = refl
 against_nullify Nullification = refl
 against_nullify Finalization = refl
 
-pub against_finalize : (k : Kind) → are_opposite k Finalization ≡ is_kind k Nullification
+against_finalize : (k : Kind) → are_opposite k Finalization ≡ is_kind k Nullification
 against_finalize Notarization = refl
 against_finalize Nullification = refl
 against_finalize Finalization = refl
 
-pub against_notarize : (k : Kind) → are_opposite k Notarization ≡ false
+against_notarize : (k : Kind) → are_opposite k Notarization ≡ false
 against_notarize Notarization = refl
 against_notarize Nullification = refl
 against_notarize Finalization = refl
 
-and_never : (a b : Bool) → b ≡ false → (a && b) ≡ false
-and_never true b h = h
-and_never false b h = refl
-
-certificate_has_proposal : {C D : Type 0} (c : Certificate C D) → has_proposals (kind_certified c) ≡ true → is_some (proposal_in (subject_certified c)) ≡ true
+pub certificate_has_proposal : {C D : Type 0} (c : Certificate C D) → has_proposals (kind_certified c) ≡ true → is_some (proposal_in (subject_certified c)) ≡ true
 certificate_has_proposal (NotarizationCertificate c) h = refl
 certificate_has_proposal (NullificationCertificate c) h = cc
 certificate_has_proposal (FinalizationCertificate c) h = refl
 
-unreleased_pair : (h r s : Bool) → (h ≡ true → s ≡ false) → (h && (r && s)) ≡ false
+pub unreleased_pair : (h r s : Bool) → (h ≡ true → s ≡ false) → (h && (r && s)) ≡ false
 unreleased_pair true true s f = f refl
 unreleased_pair true false s f = refl
 unreleased_pair false r s f = refl
 
-uncompared_pair : (h r s o : Bool) → (h ≡ true → r ≡ false) → ((h && r) && (s && o)) ≡ false
+pub uncompared_pair : (h r s o : Bool) → (h ≡ true → r ≡ false) → ((h && r) && (s && o)) ≡ false
 uncompared_pair true r s o f = rw (f refl) refl
 uncompared_pair false r s o f = refl
-
-unselected_pair : (a s o : Bool) → s ≡ false → (a && (s && o)) ≡ false
-unselected_pair true s o h = rw h refl
-unselected_pair false s o h = refl
 
 pub released_where : (mode : Mode) (certified : Bool) → is_skipped mode ≡ false → certified ≡ false → is_released_in mode certified ≡ false
 released_where Retaining certified by_new h = refl
@@ -134,9 +114,9 @@ module _ {D K G C : Type 0} (x : Setting D K G C) where
   compared_if_fixed [] unfixed = refl
   compared_if_fixed (event ∷ past) unfixed =
       ap (λ votes. votes ++ (filter (is_compared_at_release x past event) (first_votes x past) ++ compared_votes x past))
-      (filter_same (is_compared x past event) (λ v. false) (cast_votes x event.0) not_compared ∙ filter_false (cast_votes x event.0))
+      (filter_none (is_compared x past event) (cast_votes x event.0) not_compared)
       ∙ (ap (λ votes. votes ++ compared_votes x past)
-      (filter_same (is_compared_at_release x past event) (λ v. false) (first_votes x past) not_released ∙ filter_false (first_votes x past))
+      (filter_none (is_compared_at_release x past event) (first_votes x past) not_released)
       ∙ compared_if_fixed past before)
     where
       before : fixed_proposal past ≡ None
@@ -148,26 +128,26 @@ module _ {D K G C : Type 0} (x : Setting D K G C) where
           (λ skips.
           let no_leaders : leaders_proposal x (event ∷ past) ≡ None = rw skips refl in
           let none : selected_proposal x (event ∷ past) ≡ None = ap (λ f. proposal_of (selection_by f (leaders_proposal x (event ∷ past)))) unfixed ∙ ap (λ l. proposal_of (selection_by None l)) no_leaders in
-          unselected_pair (has_proposals (kind_of v) && is_released x past (kind_of v)) (is_some (selected_proposal x (event ∷ past))) _ (ap is_some none))
+          and_right (has_proposals (kind_of v) && is_released x past (kind_of v)) _ (and_left (is_some (selected_proposal x (event ∷ past))) _ (ap is_some none)))
           (λ by_new. uncompared_pair (has_proposals (kind_of v)) (is_released x past (kind_of v)) (is_some (selected_proposal x (event ∷ past))) _ (unreleased_before past (kind_of v) by_new before))
           (cases_Bool (is_skipped x.mode))
 
       not_released : (v : Vote G D) → is_compared_at_release x past event v ≡ false
       not_released v =
           ⊎_elim
-          (λ skips. and_never (has_proposals (kind_of v)) _ (ap (λ r. not r && is_released x (event ∷ past) (kind_of v)) (always_released x.mode (is_certified past (kind_of v)) skips)))
+          (λ skips. and_right (has_proposals (kind_of v)) _ (ap (λ r. not r && is_released x (event ∷ past) (kind_of v)) (always_released x.mode (is_certified past (kind_of v)) skips)))
           (λ by_new. unreleased_pair (has_proposals (kind_of v)) (not (is_released x past (kind_of v))) (is_released x (event ∷ past) (kind_of v)) (unreleased_before (event ∷ past) (kind_of v) by_new unfixed))
           (cases_Bool (is_skipped x.mode))
 
-  opposite_first : History D K G C → Vote G D → Option (Vote G D)
+  -- the opposite vote, by kind
+  abbrev pub opposite_first : History D K G C → Vote G D → Option (Vote G D)
   opposite_first past (NotarizeVote v) = None
   opposite_first past (NullifyVote v) = first_vote x past Finalization v.attestation.signer.0
   opposite_first past (FinalizeVote v) = first_vote x past Nullification v.attestation.signer.0
 
-  opposite_is : (past : History D K G C) (vote : Vote G D) → opposite_vote x past vote ≡ opposite_first past vote
-  unfolding opposite_first
+  pub opposite_is : (past : History D K G C) (vote : Vote G D) → opposite_vote x past vote ≡ opposite_first past vote
   opposite_is past (NotarizeVote v) =
-      find_same (λ w. opposes w (NotarizeVote v)) (λ w. false) (first_votes x past) (λ w. and_never (eqb (signer_of w) v.attestation.signer.0) _ (against_notarize (kind_of w))) ∙ find_never (first_votes x past)
+      find_same (λ w. opposes w (NotarizeVote v)) (λ w. false) (first_votes x past) (λ w. and_right (eqb (signer_of w) v.attestation.signer.0) _ (against_notarize (kind_of w))) ∙ find_never (first_votes x past)
   opposite_is past (NullifyVote v) =
       find_same (λ w. opposes w (NullifyVote v)) (is_vote_of Finalization v.attestation.signer.0) (first_votes x past) (λ w. and_swap (eqb (signer_of w) v.attestation.signer.0) _ _ (against_nullify (kind_of w)))
   opposite_is past (FinalizeVote v) =
@@ -176,7 +156,7 @@ module _ {D K G C : Type 0} (x : Setting D K G C) where
   conflict_by : (i : ℕ) (vote : Vote G D) (selected : Option (Proposal D)) (others : List (Vote G D)) →
       conflicts_with x.same_digest selected vote (record { signer = i; has_compared = not (is_empty others); has_matched = is_some_and selected (λ q. list_any (is_for x.same_digest q) others) })
       ≡ is_some_and selected (differs_from x others vote)
-  conflict_by i vote None others = and_never (not (is_empty others)) false refl
+  conflict_by i vote None others = and_right (not (is_empty others)) false refl
   conflict_by i vote (Some p) others = refl
 
   -- whether a vote conflicts with the facts of its signer
@@ -216,7 +196,6 @@ module _ {D K G C : Type 0} (x : Setting D K G C) where
   first_kind past kind i earlier e = is_kind-true _ _ (and_parts _ _ (found_is_of (first_votes x past) kind i earlier e)).0
 
   against_same : (past : History D K G C) (held : Held G D) (vote : Vote G D) → Stands x past held → admission_named x held (observed_opposite held.tracked vote) vote ≡ admission_against x past (opposite_vote x past vote) vote
-  unfolding opposite_first
   against_same past held (NotarizeVote v) stands =
       named_same past held (NotarizeVote v) stands ∙ ap (λ o. admission_against x past o (NotarizeVote v)) (sym (opposite_is past (NotarizeVote v)))
   against_same past held (NullifyVote v) stands =
@@ -286,7 +265,6 @@ module _ {D K G C : Type 0} (x : Setting D K G C) where
 
   own_opposed : (past : History D K G C) (held : Held G D) (vote : Vote G D) (outcome : Outcome) → Stands x past held → outcome ≡ outcome_by_first x (first_like x past vote) (is_released x past (kind_of vote)) (conflicts x past vote) →
       own_result_by (observed_opposite held.tracked vote) (kind_of vote) outcome ≡ own_answer_against x past (opposite_vote x past vote) vote
-  unfolding opposite_first
   own_opposed past held (NotarizeVote v) outcome stands e =
       ap (unopposed_result Notarization) e ∙ ap (λ o. own_answer_against x past o (NotarizeVote v)) (sym (opposite_is past (NotarizeVote v)))
   own_opposed past held (NullifyVote v) outcome stands e =
@@ -308,4 +286,3 @@ module _ {D K G C : Type 0} (x : Setting D K G C) where
       ap (λ b. cond (b || is_participant held.buffered.leader me) None (selected_in held)) stands.forwarded_is
       ∙ (ap (λ l. cond (was_forwarded past || is_participant l me) None (selected_in held)) stands.leader_is
       ∙ ap (λ s. cond (was_forwarded past || is_participant (leader_of past) me) None (proposal_of s)) stands.selection_is)
--- x

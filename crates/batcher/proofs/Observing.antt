@@ -2,7 +2,8 @@
 use Rattle.std.proofs.Common.{inl, inr, ◌≡◌, ◌<◌, ℕ, Bool, true, false, not, cond, ◌&&◌, ◌||◌, ◌⊎◌, List, [], ◌∷◌, ◌++◌, map, Option, Some, None, refl, ap, sym, ◌∙◌, arith, ⊎_elim, eqb, leb, subst}
 use Rattle.std.specs.Prelude.{filter, find, is_some, is_none, option_and_then}
 use Rattle.std.specs.List.{list_any, range_with_len}
-use Rattle.std.proofs.lemmas.Bool.{cases_Bool, and_parts, or_cases, or_parts, not-false, false_from_ne_true, eqb-true, leb-false}
+use Rattle.std.proofs.lemmas.Bool.{cases_Bool, and_parts, or_cases, or_parts, not-false, false_from_ne_true, eqb-true, leb-false, or_right}
+use Rattle.std.proofs.lemmas.List.Folds.{list_any-append}
 use Rattle.batcher.specs.declared.messages.Proposal.{Proposal}
 use Rattle.batcher.specs.declared.messages.Vote.{Vote}
 use Rattle.batcher.specs.declared.messages.Kind.{Kind}
@@ -23,7 +24,7 @@ use Rattle.batcher.specs.Selection.{is_released, selected_proposal}
 use Rattle.batcher.specs.Comparison.{compared_votes, compared_votes_of, is_matched, is_compared, is_compared_at_release, shows_block, has_block}
 use Rattle.batcher.specs.Answers.{missing_after, keeps_nullify}
 use Rattle.batcher.specs.Stands.{Stands, first_by_signer, facts_of}
-use Rattle.batcher.proofs.Apart.{any-append, any_filtered, any_is_found, found_is_of, is_itself, is_kind-true, new_votes, firsts_apart, filled_stays, filter_one}
+use Rattle.batcher.proofs.Apart.{any_filtered, any_is_found, found_is_of, is_itself, is_kind-true, new_votes, firsts_apart, filled_stays, filter_one, some_where}
 
 pub filter_same : {X : Type 0} (p q : X → Bool) (xs : List X) → ((v : X) → p v ≡ q v) → filter p xs ≡ filter q xs
 filter_same p q [] same = refl
@@ -84,10 +85,6 @@ none_filtered : {X : Type 0} (p : X → Bool) (xs : List X) → list_any p xs �
 none_filtered p [] h = refl
 none_filtered p (x ∷ xs) h = let both = or_parts (p x) (list_any p xs) h in rw (both.0, none_filtered p xs both.1) refl
 
-some_where : {X : Type 0} (test : X → Bool) (o : Option X) → is_some_and o test ≡ true → is_some o ≡ true
-some_where test None h = h
-some_where test (Some v) h = refl
-
 excluding : (s k o : Bool) → (s && (k || o)) ≡ true → (s && o) ≡ false → (k && s) ≡ true
 excluding true true o h l = refl
 excluding true false true h l = cc
@@ -105,13 +102,9 @@ excluded_by {G = G} {D = D} (v ∷ vs) w h none =
     let rest : find (λ u. opposes u w) vs ≡ None = subst (λ (b : Bool). cond b (Some v) (find (λ u. opposes u w) vs) ≡ None) not_opposed none in
     ⊎_elim
     (λ here. ap (λ b. b || list_any (is_vote_of (kind_of w) (signer_of w)) vs) (excluding (eqb (signer_of v) (signer_of w)) (is_kind (kind_of v) (kind_of w)) (are_opposite (kind_of v) (kind_of w)) here not_opposed))
-    (λ later. ap (λ b. is_vote_of (kind_of w) (signer_of w) v || b) (excluded_by vs w later rest) ∙ or_last (is_vote_of (kind_of w) (signer_of w) v))
+    (λ later. ap (λ b. is_vote_of (kind_of w) (signer_of w) v || b) (excluded_by vs w later rest) ∙ or_right (is_vote_of (kind_of w) (signer_of w) v) true refl)
     (or_cases (excludes v w) (list_any (λ u. excludes u w) vs) h))
     (cases_Bool (opposes v w))
-  where
-    or_last : (b : Bool) → (b || true) ≡ true
-    or_last true = refl
-    or_last false = refl
 
 module _ {D K G C : Type 0} (x : Setting D K G C) where
   -- the kept vote of a kind that isn't released is the first vote
@@ -125,7 +118,7 @@ module _ {D K G C : Type 0} (x : Setting D K G C) where
   cast_filled : (past : History D K G C) (event : Event D K G C) (w : Vote G D) (votes : List (Vote G D)) → cast_votes x event.0 ≡ votes → votes ≡ w ∷ [] → opposite_vote x past w ≡ None →
       list_any (is_vote_of (kind_of w) (signer_of w)) (first_votes x (event ∷ past)) ≡ true
   cast_filled past event w votes casts one none =
-      any-append (is_vote_of (kind_of w) (signer_of w)) (new_votes x past event) (first_votes x past)
+      list_any-append (is_vote_of (kind_of w) (signer_of w)) (new_votes x past event) (first_votes x past)
       ∙ ⊎_elim
       (λ free.
       let new : new_votes x past event ≡ w ∷ [] = ap (filter (is_free (first_votes x past))) (casts ∙ one) ∙ rw free refl in
@@ -133,12 +126,8 @@ module _ {D K G C : Type 0} (x : Setting D K G C) where
       ∙ ap (λ b. (b || false) || list_any (is_vote_of (kind_of w) (signer_of w)) (first_votes x past)) (is_itself w))
       (λ taken.
       ap (λ b. list_any (is_vote_of (kind_of w) (signer_of w)) (new_votes x past event) || b) (excluded_by (first_votes x past) w (not-false (list_any (λ v. excludes v w) (first_votes x past)) taken) none)
-      ∙ or_last (list_any (is_vote_of (kind_of w) (signer_of w)) (new_votes x past event)))
+      ∙ or_right (list_any (is_vote_of (kind_of w) (signer_of w)) (new_votes x past event)) true refl)
       (cases_Bool (is_free (first_votes x past) w))
-    where
-      or_last : (b : Bool) → (b || true) ≡ true
-      or_last true = refl
-      or_last false = refl
 
   -- the votes that a call casts: one at most
   cast_cases : (call : Call K G C D) → (cast_votes x call ≡ []) ⊎ ((w : Vote G D) × (cast_votes x call ≡ w ∷ []))
@@ -169,8 +158,8 @@ module _ {D K G C : Type 0} (x : Setting D K G C) where
       (⊎_elim
       (λ released. some_where (is_compared_at_release x past event) _ (sym (any_filtered (is_compared_at_release x past event) (first_votes x past) kind i (firsts_apart x past)) ∙ released))
       (λ before. compared_filled past kind i before)
-      (or_cases _ _ (sym (any-append (is_vote_of kind i) (filter (is_compared_at_release x past event) (first_votes x past)) (compared_votes x past)) ∙ others))))
-      (or_cases _ _ (sym (any-append (is_vote_of kind i) (filter (is_compared x past event) (cast_votes x event.0)) (filter (is_compared_at_release x past event) (first_votes x past) ++ compared_votes x past)) ∙ h))
+      (or_cases _ _ (sym (list_any-append (is_vote_of kind i) (filter (is_compared_at_release x past event) (first_votes x past)) (compared_votes x past)) ∙ others))))
+      (or_cases _ _ (sym (list_any-append (is_vote_of kind i) (filter (is_compared x past event) (cast_votes x event.0)) (filter (is_compared_at_release x past event) (first_votes x past) ++ compared_votes x past)) ∙ h))
     where
       now : list_any (is_vote_of kind i) (filter (is_compared x past event) (cast_votes x event.0)) ≡ true → is_some (first_vote x (event ∷ past) kind i) ≡ true
       now some =

@@ -24,14 +24,13 @@ use Rattle.batcher.specs.Setting.{Setting, quorum_in, participants_in}
 use Rattle.batcher.specs.Votes.{signer_of, subject_of, attestation_of, subject_certified, same_subject}
 use Rattle.batcher.specs.Attempts.{Tried, checked, one_by_one, at_once, tried_with, attempt_of}
 use Rattle.batcher.specs.Buffering.{attestations_of, vote_for, subject_from, is_enough, certificate_for, batch_of}
-use Rattle.batcher.specs.Sound.{attests_itself, is_about, may_stand}
+use Rattle.batcher.specs.Sound.{attests_itself, may_stand}
 use Rattle.batcher.specs.Verifiers.{certifies_itself}
 use Rattle.batcher.specs.Standing.{is_valid}
 use Rattle.batcher.specs.Trying.{Attempt, GivenAtOnce, FellBack, OnlyVerified, votes_checked, bad_signers, are_of, certifies_subject, left_verified}
 use Rattle.batcher.proofs.Laws.{HasLaws}
 use Rattle.batcher.proofs.Quorums.{IsQuorum-checked}
-use Rattle.batcher.proofs.Constructing.{attested_about, once_attestations, votes_again, subject_is}
-use Rattle.batcher.proofs.Ready.{subjects_same}
+use Rattle.batcher.proofs.Constructing.{attested_about, once_attestations, votes_again, known, same_subjects}
 
 -- THE WAY THAT AN ATTEMPT GOES, with the pending attestations that it checks
 module _ {D K G C : Type 0} (m : Meaning D K G C) (subject : Subject D) (q : ℕ) (verified pending : List (Attestation G)) (stream : Stream) where
@@ -77,16 +76,6 @@ module _ {D K G C : Type 0} (m : Meaning D K G C) (subject : Subject D) (q : ℕ
 
 -- WHAT AN ATTEMPT LOOKS AT
 module _ {D : Type 0} (same : D → D → Bool) (identical : (a b : D) → same a b ≡ true → a ≡ b) {G : Type 0} (number : Round) (subject : Subject D) where
-  about_subject : (proposal : Option (Proposal D)) (kind : Kind) (v : Vote G D) → subject_from kind number proposal ≡ Some subject → may_stand same number proposal kind v ≡ true → subject_of v ≡ subject
-  about_subject proposal kind v e h =
-      let about : is_about same (subject_from kind number proposal) (subject_of v) ≡ true = (and_parts _ _ h).1 in
-      let there : is_about same (Some subject) (subject_of v) ≡ true = subst (λ o. is_about same o (subject_of v) ≡ true) e about in
-      sym (subject_is same identical subject (subject_of v) there)
-
-  -- where the subject is known, what may stand is about it
-  all_about : (proposal : Option (Proposal D)) (kind : Kind) (xs : List (Vote G D)) → subject_from kind number proposal ≡ Some subject → AllPass (may_stand same number proposal kind) xs → All (λ v. subject_of v ≡ subject) xs
-  all_about proposal kind xs e h = λ k d below. about_subject proposal kind _ e (h k d below)
-
   some_checked : (b : Bool) (xs : List (Vote G D)) → All (λ v. subject_of v ≡ subject) xs → All (λ v. subject_of v ≡ subject) (cond b [] xs)
   some_checked true xs h = All-nil (λ v. subject_of v ≡ subject)
   some_checked false xs h = h
@@ -100,8 +89,8 @@ module _ {D : Type 0} (same : D → D → Bool) (identical : (a b : D) → same 
       (batchable : Bool) (q : ℕ) (proposal other : Option (Proposal D)) (kind : Kind) (verified pending : List (Vote G D))
       → is_enough same batchable q kind proposal verified pending ≡ true → subject_from kind number (cond (is_none proposal) other proposal) ≡ Some subject
       → AllPass (may_stand same number proposal kind) pending → All (λ v. subject_of v ≡ subject) (votes_checked q verified pending)
-  checked_about batchable q (Some p) other kind verified pending h e stand = some_checked _ pending (all_about (Some p) kind pending e stand)
-  checked_about batchable q None other Nullification verified pending h e stand = some_checked _ pending (all_about None Nullification pending e stand)
+  checked_about batchable q (Some p) other kind verified pending h e stand = some_checked _ pending (known same identical number subject (Some p) kind pending e stand)
+  checked_about batchable q None other Nullification verified pending h e stand = some_checked _ pending (known same identical number subject None Nullification pending e stand)
   checked_about batchable q None other Notarization verified pending h e stand = none_checked _ pending (and_parts _ _ h).0
   checked_about batchable q None other Finalization verified pending h e stand = none_checked _ pending (and_parts _ _ h).0
 
@@ -166,9 +155,6 @@ pub some_mapped : {X Y : Type 0} (f : X → Y) (o : Option X) → is_some (optio
 some_mapped f None = refl
 some_mapped f (Some v) = refl
 
-at_most_itself : (n : ℕ) → n ≤ n
-at_most_itself n = omega arith
-
 -- THE ATTEMPT, with the votes of a kind's buffers that are about its subject
 module _ {D K G C : Type 0} (x : Setting D K G C) (lawful : HasLaws x) (subject : Subject D) (verified pending : List (Vote G D)) (before : Stream) (about : All (λ v. subject_of v ≡ subject) verified) (checked_are : All (λ v. subject_of v ≡ subject) (votes_checked (quorum_in x) verified pending)) (attested : AllPass (attests_itself x.meaning x.same_digest x.number) verified) (once : EachOnce signer_of (verified ++ pending)) where
   abbrev looked : List (Vote G D)
@@ -189,13 +175,13 @@ module _ {D K G C : Type 0} (x : Setting D K G C) (lawful : HasLaws x) (subject 
   all_of : (votes : List (Vote G D)) → All (λ v. subject_of v ≡ subject) votes → are_of x subject votes ≡ true
   all_of [] h = refl
   all_of (v ∷ vs) h =
-      and_from _ _ (subst (λ s. same_subject x.same_digest subject s ≡ true) (sym (All-head (λ u. subject_of u ≡ subject) v vs h)) (subjects_same x lawful subject))
+      and_from _ _ (subst (λ s. same_subject x.same_digest subject s ≡ true) (sym (All-head (λ u. subject_of u ≡ subject) v vs h)) (same_subjects x.same_digest lawful.digests_same subject))
       (all_of vs (All-tail (λ u. subject_of u ≡ subject) v vs h))
 
   certifies_by : (o : Option C) → IfSome (option_map (certificate_for subject) o) (λ c. certifies_itself x.meaning c ≡ true) → IfSome (option_map (certificate_for subject) o) (λ c. certifies_subject x subject c ≡ true)
   certifies_by None h = tt
   certifies_by (Some c) h =
-      and_from _ _ (subst (λ s. same_subject x.same_digest subject s ≡ true) (sym (certified_subject subject c)) (subjects_same x lawful subject)) h
+      and_from _ _ (subst (λ s. same_subject x.same_digest subject s ≡ true) (sym (certified_subject subject c)) (same_subjects x.same_digest lawful.digests_same subject)) h
 
   -- Where none were bad, a certificate would have been given at once.
   none_refused : quorum_in x ≤ length (attestations_of verified) + length (attestations_of looked) → (x.meaning.assembled_at_once subject (attestations_of looked) (attestations_of verified) before).0 ≡ None → bad_signers x looked ≡ [] → ⊥
@@ -204,7 +190,7 @@ module _ {D K G C : Type 0} (x : Setting D K G C) (lawful : HasLaws x) (subject 
       let all = attested_about m x.same_digest x.number subject looked checked_are (none_bad x subject looked none) in
       let same = checked_attestations (quorum_in x) verified pending in
       let once_all = once_attestations verified pending once in
-      let quorum = IsQuorum-checked (participants_in x) (quorum_in x) (at_most_itself (quorum_in x)) (attestations_of verified) (attestations_of pending) once_all (subst (λ ones. quorum_in x ≤ length (attestations_of verified) + length ones) (sym same) reached) in
+      let quorum = IsQuorum-checked (participants_in x) (quorum_in x) (omega arith) (attestations_of verified) (attestations_of pending) once_all (subst (λ ones. quorum_in x ≤ length (attestations_of verified) + length ones) (sym same) reached) in
       let may : MayTry m subject (attestations_of looked) (attestations_of verified) = record {
         some = lawful.some_participant;
         quorum = subst (λ ones. IsQuorum (participants_in x) (attestations_of verified ++ ones)) same quorum;

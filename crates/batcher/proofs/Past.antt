@@ -3,14 +3,13 @@ use Rattle.std.proofs.Common.{◌≡◌, ℕ, Bool, true, false, not, ◌&&◌, 
 use Rattle.std.specs.Prelude.{filter, is_some}
 use Rattle.std.specs.List.{list_any}
 use Rattle.std.proofs.lemmas.Bool.{cases_Bool, and_parts, or_cases, false_from_ne_true}
-use Rattle.batcher.proofs.Apart.{free_apart, new_votes, new_cases, firsts_apart, filled_stays, IsAt, any-append, any_count, any_filtered, any_is_found, count-filter, count_at, is_kind-true, positive}
-use Rattle.batcher.proofs.Counts.{count-map, count_same}
+use Rattle.std.proofs.lemmas.List.Folds.{list_any-append}
 use Rattle.batcher.specs.FirstVotes.{first_vote, first_votes, is_free, own_first_votes}
 use Rattle.batcher.specs.History.{Event, History, batch_given, own_votes}
 use Rattle.batcher.specs.Lists.{count, is_some_and}
 use Rattle.batcher.specs.Selection.{comes_back, is_certified, restored_votes, selected_proposal, votes_restored_by}
 use Rattle.batcher.specs.Setting.{Setting}
-use Rattle.batcher.specs.Standing.{fresh_votes, holds_vote, is_among, is_trusted, proven_votes, ready_kind, standing_votes, stood_before, trials, was_invalid, with_batch}
+use Rattle.batcher.specs.Standing.{fresh_votes, holds_vote, is_among, is_trusted, proven_votes, ready_kind, standing_votes, stood_before, trials, was_invalid, with_batch, waiting_votes}
 use Rattle.batcher.specs.Stands.{tries_kind}
 use Rattle.batcher.specs.Tracking.{is_skipped}
 use Rattle.batcher.specs.Votes.{is_kind, is_of_kind, is_vote_of, kind_of, signer_of, waits}
@@ -19,6 +18,8 @@ use Rattle.batcher.specs.declared.messages.Kind.{Kind}
 use Rattle.batcher.specs.declared.messages.Vote.{Vote}
 use Rattle.batcher.specs.declared.run.Call.TheVariants.{Certificate as CertificateCall, Construct as ConstructCall, Forward as ForwardCall, Leader as LeaderCall, Missing as MissingCall, Network as NetworkCall, Own as OwnCall}
 use Rattle.batcher.specs.declared.verifier.Batch.{Batch}
+use Rattle.batcher.proofs.Apart.{free_apart, new_votes, new_cases, firsts_apart, filled_stays, IsAt, any_count, any_filtered, any_is_found, count-filter, count_at, is_kind-true, positive, some_where}
+use Rattle.batcher.proofs.Counts.{count-map, count_same}
 
 module _ {D K G C : Type 0} (x : Setting D K G C) where
   -- the standing votes of a kind, by signer
@@ -85,10 +86,6 @@ module _ {D K G C : Type 0} (x : Setting D K G C) where
       ≡ ((tries_kind x past event.1 (kind_of v) && is_among (signer_of v) (invalid_in (batch_given event.1))) || was_invalid (trials x past) v)
   invalid_after past event v = invalid_with past (batch_given event.1) (ready_kind x past) v refl
 
-  some_where : {X : Type 0} (test : X → Bool) (o : Option X) → is_some_and o test ≡ true → is_some o ≡ true
-  some_where test None h = h
-  some_where test (Some v) h = refl
-
   -- what was tried has a first vote
   pub tried_filled : (past : History D K G C) (v : Vote G D) → stood_before (trials x past) v ≡ true → is_some (first_vote x past (kind_of v) (signer_of v)) ≡ true
   tried_filled [] v h = cc
@@ -114,9 +111,9 @@ module _ {D K G C : Type 0} (x : Setting D K G C) where
   own_filled [] v h = cc
   own_filled (event ∷ past) v h =
       ⊎_elim
-      (λ now. sym (any_is_found (first_votes x (event ∷ past)) (kind_of v) (signer_of v)) ∙ (any-append (is_vote_of (kind_of v) (signer_of v)) (new_votes x past event) (first_votes x past) ∙ ap (λ b. b || list_any (is_vote_of (kind_of v) (signer_of v)) (first_votes x past)) (own_is_new past event (is_vote_of (kind_of v) (signer_of v)) now)))
+      (λ now. sym (any_is_found (first_votes x (event ∷ past)) (kind_of v) (signer_of v)) ∙ (list_any-append (is_vote_of (kind_of v) (signer_of v)) (new_votes x past event) (first_votes x past) ∙ ap (λ b. b || list_any (is_vote_of (kind_of v) (signer_of v)) (first_votes x past)) (own_is_new past event (is_vote_of (kind_of v) (signer_of v)) now)))
       (λ before. filled_stays x past event (kind_of v) (signer_of v) (own_filled past v before))
-      (or_cases _ _ (sym (any-append (is_vote_of (kind_of v) (signer_of v)) (filter (is_free (first_votes x past)) (own_votes event.0)) (own_first_votes x past)) ∙ h))
+      (or_cases _ _ (sym (list_any-append (is_vote_of (kind_of v) (signer_of v)) (filter (is_free (first_votes x past)) (own_votes event.0)) (own_first_votes x past)) ∙ h))
 
   pub restored_filled : (past : History D K G C) (v : Vote G D) → holds_vote (restored_votes x past) v ≡ true → is_some (first_vote x past (kind_of v) (signer_of v)) ≡ true
   restored_filled [] v h = cc
@@ -125,7 +122,7 @@ module _ {D K G C : Type 0} (x : Setting D K G C) where
       (⊎_elim
       (λ now. some_where (comes_back x past event) _ (sym (any_filtered (comes_back x past event) (first_votes x past) (kind_of v) (signer_of v) (firsts_apart x past)) ∙ now))
       (λ before. restored_filled past v before)
-      (or_cases _ _ (sym (any-append (is_vote_of (kind_of v) (signer_of v)) (votes_restored_by x past event) (restored_votes x past)) ∙ h)))
+      (or_cases _ _ (sym (list_any-append (is_vote_of (kind_of v) (signer_of v)) (votes_restored_by x past event) (restored_votes x past)) ∙ h)))
 
   -- whether a first vote is trusted, after one more event
   no_new_own : (past : History D K G C) (event : Event D K G C) (v : Vote G D) → IsAt (first_votes x past) v →
@@ -144,15 +141,23 @@ module _ {D K G C : Type 0} (x : Setting D K G C) where
   pub own_stays : (past : History D K G C) (event : Event D K G C) (v : Vote G D) → IsAt (first_votes x past) v →
       holds_vote (own_first_votes x (event ∷ past)) v ≡ holds_vote (own_first_votes x past) v
   own_stays past event v found =
-      any-append (is_vote_of (kind_of v) (signer_of v)) (filter (is_free (first_votes x past)) (own_votes event.0)) (own_first_votes x past)
+      list_any-append (is_vote_of (kind_of v) (signer_of v)) (filter (is_free (first_votes x past)) (own_votes event.0)) (own_first_votes x past)
       ∙ ap (λ b. b || holds_vote (own_first_votes x past) v) (no_new_own past event v found)
 
   pub restored_after : (past : History D K G C) (event : Event D K G C) (v : Vote G D) → IsAt (first_votes x past) v →
       holds_vote (restored_votes x (event ∷ past)) v ≡ (comes_back x past event v || holds_vote (restored_votes x past) v)
   restored_after past event v found =
-      any-append (is_vote_of (kind_of v) (signer_of v)) (votes_restored_by x past event) (restored_votes x past)
+      list_any-append (is_vote_of (kind_of v) (signer_of v)) (votes_restored_by x past event) (restored_votes x past)
       ∙ ap (λ b. b || holds_vote (restored_votes x past) v)
       (any_filtered (comes_back x past event) (first_votes x past) (kind_of v) (signer_of v) (firsts_apart x past) ∙ ap (λ o. is_some_and o (comes_back x past event)) found)
+
+  -- of a kind that is closed nothing waits
+  pub nothing_waits : (past : History D K G C) (kind : Kind) (votes : List (Vote G D)) → (is_certified past kind || is_skipped x.mode) ≡ true → waiting_votes x past kind votes ≡ []
+  nothing_waits past kind votes closed = rw closed refl
+
+  pub open_waits : (past : History D K G C) (kind : Kind) (votes : List (Vote G D)) → (is_certified past kind || is_skipped x.mode) ≡ false →
+      waiting_votes x past kind votes ≡ filter (waits x.same_digest (selected_proposal x past)) votes
+  open_waits past kind votes still = rw still refl
 
   -- the fresh and the proven votes by counts over the first votes
   pub closed_is_empty : (past : History D K G C) (kind : Kind) → (is_certified past kind || is_skipped x.mode) ≡ true →
@@ -162,7 +167,7 @@ module _ {D K G C : Type 0} (x : Setting D K G C) where
   pub count_passed : (past : History D K G C) (kind : Kind) (test : Vote G D → Bool) → (is_certified past kind || is_skipped x.mode) ≡ false →
       count test (standing_votes x past kind) ≡ count (λ v. is_of_kind kind v && (waits x.same_digest (selected_proposal x past) v && test v)) (first_votes x past)
   count_passed past kind test still =
-      ap (count test) (rw still refl)
+      ap (count test) (open_waits past kind (filter (is_of_kind kind) (first_votes x past)) still)
       ∙ (count-filter test (waits x.same_digest (selected_proposal x past)) (filter (is_of_kind kind) (first_votes x past))
       ∙ count-filter (λ v. waits x.same_digest (selected_proposal x past) v && test v) (is_of_kind kind) (first_votes x past))
 

@@ -1,17 +1,16 @@
 -- Which kind is ready by what is held is what the history names: the order of the buffers makes no difference.
-use Rattle.std.proofs.Common.{◌≡◌, ◌+◌, Bool, true, false, not, cond, ◌&&◌, ◌||◌, nat_le, nat_lt, List, [], ◌∷◌, length, Option, Some, None, is_none, refl, ap, sym, ◌∙◌, arith, subst}
+use Rattle.std.proofs.Common.{◌≡◌, ◌+◌, Bool, true, not, cond, ◌&&◌, ◌||◌, nat_le, nat_lt, List, [], ◌∷◌, length, Option, Some, None, is_none, refl, ap, sym, ◌∙◌, arith, subst}
 use Rattle.std.specs.List.{list_all}
-use Rattle.std.proofs.lemmas.Bool.{and_parts, and_from, eq-eqb}
-use Rattle.batcher.specs.declared.positions.Round.{Round}
+use Rattle.std.proofs.lemmas.Bool.{and_parts, and_from}
+use Rattle.std.specs.Cmp.{both_ways}
 use Rattle.batcher.specs.declared.messages.Proposal.{Proposal}
 use Rattle.batcher.specs.declared.messages.Subject.{Subject}
-use Rattle.batcher.specs.declared.messages.Subject.TheVariants.{Notarize as NotarizeSubject, Nullify as NullifySubject, Finalize as FinalizeSubject}
 use Rattle.batcher.specs.declared.messages.Vote.{Vote}
 use Rattle.batcher.specs.declared.messages.Kind.{Kind}
 use Rattle.batcher.specs.declared.messages.Kind.TheVariants.{Notarization, Nullification, Finalization}
 use Rattle.batcher.specs.Setting.{Setting, quorum_in}
 use Rattle.batcher.specs.Lists.{count, SameElements}
-use Rattle.batcher.specs.Votes.{subject_of, has_proposals, same_round, same_subject}
+use Rattle.batcher.specs.Votes.{subject_of, has_proposals, same_subject}
 use Rattle.batcher.specs.Selected.{proposal_of}
 use Rattle.batcher.specs.Held.{of_kind, Held}
 use Rattle.batcher.specs.Buffering.{have_one_subject, is_enough}
@@ -22,14 +21,8 @@ use Rattle.batcher.specs.Standing.{is_ready_by, trials, proven_votes, fresh_vote
 use Rattle.batcher.specs.Stands.{Stands}
 use Rattle.batcher.proofs.Counts.{all_count, length_same}
 use Rattle.batcher.proofs.Laws.{HasLaws}
-use Rattle.batcher.proofs.Constructing.{subject_is}
-use Rattle.batcher.proofs.Selecting.{proposals_same}
-
--- two tests that are true where the other is
-pub same_tests : (a b : Bool) → (a ≡ true → b ≡ true) → (b ≡ true → a ≡ true) → a ≡ b
-same_tests true b f g = sym (f refl)
-same_tests false true f g = g refl
-same_tests false false f g = refl
+use Rattle.batcher.proofs.Constructing.{subject_is, same_subjects}
+use Rattle.batcher.proofs.Attempting.{chosen}
 
 none_fails : {X : Type 0} (p : X → Bool) (xs : List X) → list_all p xs ≡ true → count (λ v. not (p v)) xs ≡ 0
 none_fails p [] h = refl
@@ -41,19 +34,11 @@ all_same : {X : Type 0} (p : X → Bool) (xs ys : List X) → SameElements xs ys
 all_same p xs ys same h = all_count p ys (sym (same (λ v. not (p v))) ∙ none_fails p xs h)
 
 module _ {D K G C : Type 0} (x : Setting D K G C) (lawful : HasLaws x) where
-  rounds_same : (r : Round) → same_round r r ≡ true
-  rounds_same r = and_from _ _ (eq-eqb r.epoch.0 r.epoch.0 refl) (eq-eqb r.view.0 r.view.0 refl)
-
-  pub subjects_same : (s : Subject D) → same_subject x.same_digest s s ≡ true
-  subjects_same (NotarizeSubject p) = proposals_same x lawful p
-  subjects_same (NullifySubject r) = rounds_same r
-  subjects_same (FinalizeSubject p) = proposals_same x lawful p
-
   one_subject_of : (xs ys : List (Vote G D)) → SameElements xs ys → have_one_subject x.same_digest xs ≡ true → have_one_subject x.same_digest ys ≡ true
   one_subject_of xs [] same h = refl
   one_subject_of [] (w ∷ ws) same h = absurd (omega (arith, length_same [] (w ∷ ws) same))
   one_subject_of (v ∷ vs) (w ∷ ws) same h =
-      let all_v : list_all (λ u. same_subject x.same_digest (subject_of v) (subject_of u)) (v ∷ vs) ≡ true = and_from _ _ (subjects_same (subject_of v)) h in
+      let all_v : list_all (λ u. same_subject x.same_digest (subject_of v) (subject_of u)) (v ∷ vs) ≡ true = and_from _ _ (same_subjects x.same_digest lawful.digests_same (subject_of v)) h in
       let all_w : list_all (λ u. same_subject x.same_digest (subject_of v) (subject_of u)) (w ∷ ws) ≡ true = all_same (λ u. same_subject x.same_digest (subject_of v) (subject_of u)) (v ∷ vs) (w ∷ ws) same all_v in
       let parts = and_parts (same_subject x.same_digest (subject_of v) (subject_of w)) (list_all (λ u. same_subject x.same_digest (subject_of v) (subject_of u)) ws) all_w in
       let e : subject_of v ≡ subject_of w = subject_is x.same_digest lawful.digests_equal (subject_of v) (subject_of w) parts.0 in
@@ -61,7 +46,7 @@ module _ {D K G C : Type 0} (x : Setting D K G C) (lawful : HasLaws x) where
 
   -- whether votes are of one subject doesn't depend on their order,
   pub one_subject_same : (xs ys : List (Vote G D)) → SameElements xs ys → have_one_subject x.same_digest xs ≡ have_one_subject x.same_digest ys
-  one_subject_same xs ys same = same_tests _ _ (one_subject_of xs ys same) (one_subject_of ys xs (λ test. sym (same test)))
+  one_subject_same xs ys same = both_ways _ _ (one_subject_of xs ys same) (one_subject_of ys xs (λ test. sym (same test)))
 
   -- nor whether they are enough
   pub enough_same : (kind : Kind) (proposal : Option (Proposal D)) (vs ws ps qs : List (Vote G D)) → SameElements vs ws → SameElements ps qs →
@@ -86,14 +71,6 @@ module _ {D K G C : Type 0} (x : Setting D K G C) (lawful : HasLaws x) where
   pub tried_is_ready : (past : History D K G C) (held : Held G D) → Stands x past held → kind_tried x held ≡ ready_kind x past
   tried_is_ready past held stands =
       first_ready _ _ _ _ _ _ (ready_same past held Notarization stands) (ready_same past held Nullification stands) (ready_same past held Finalization stands)
-
--- the kind that is tried is ready
-pub chosen : (r : Kind → Bool) (a b c : Bool) (k : Kind) → r Notarization ≡ a → r Nullification ≡ b → r Finalization ≡ c →
-    cond a (Some Notarization) (cond b (Some Nullification) (cond c (Some Finalization) None)) ≡ Some k → r k ≡ true
-chosen r true b c k ea eb ec h = let e : Notarization ≡ k = cc in subst (λ (l : Kind). r l ≡ true) e ea
-chosen r false true c k ea eb ec h = let e : Nullification ≡ k = cc in subst (λ (l : Kind). r l ≡ true) e eb
-chosen r false false true k ea eb ec h = let e : Finalization ≡ k = cc in subst (λ (l : Kind). r l ≡ true) e ec
-chosen r false false false k ea eb ec h = cc
 
 pub tried_ready : {D K G C : Type 0} (x : Setting D K G C) (held : Held G D) (kind : Kind) → kind_tried x held ≡ Some kind → is_ready_in x held kind ≡ true
 tried_ready x held kind h = chosen (is_ready_in x held) _ _ _ kind refl refl refl h

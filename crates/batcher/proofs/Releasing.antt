@@ -7,15 +7,15 @@
 use Rattle.std.proofs.Common.{◌≡◌, ℕ, Bool, true, false, not, cond, ◌&&◌, ◌||◌, List, [], ◌∷◌, ◌++◌, map, Option, Some, None, refl, ap, sym, ◌∙◌, ⊎_elim, subst}
 use Rattle.std.specs.Prelude.{filter, is_some, is_none}
 use Rattle.std.specs.List.{All, list_any}
-use Rattle.std.proofs.lemmas.Bool.{cases_Bool, and_parts, eqb-true, false_from_ne_true}
-use Rattle.std.proofs.lemmas.List.Elements.{All-nil, All-cons, All-head, All-tail, All-weaker, filter_passes, filter-append}
+use Rattle.std.proofs.lemmas.Bool.{cases_Bool, and_parts, eqb-true}
+use Rattle.std.proofs.lemmas.List.Elements.{All-nil, All-cons, All-head, All-tail, All-weaker, filter_passes}
+use Rattle.std.proofs.lemmas.List.{append-nil}
 use Rattle.batcher.specs.declared.messages.Proposal.{Proposal}
 use Rattle.batcher.specs.declared.messages.Vote.{Vote}
 use Rattle.batcher.specs.declared.messages.Kind.{Kind}
 use Rattle.batcher.specs.declared.votes.Mode.{Mode}
 use Rattle.batcher.specs.declared.votes.Mode.TheVariants.{Retaining, Releasing, Skipped}
 use Rattle.batcher.specs.Setting.{Setting}
-use Rattle.batcher.specs.Ascending.{ordered_by}
 use Rattle.batcher.specs.Ordered.{All-ordered}
 use Rattle.batcher.specs.Lists.{is_some_and, is_empty}
 use Rattle.batcher.specs.Votes.{kind_of, signer_of, has_proposals, is_of_kind, is_vote_of, is_for}
@@ -24,11 +24,12 @@ use Rattle.batcher.specs.Tracking.{is_released_in, no_facts, facts_of_kept, Rele
 use Rattle.batcher.specs.History.{Event, History, cast_votes}
 use Rattle.batcher.specs.FirstVotes.{first_votes, first_vote, opposite_vote}
 use Rattle.batcher.specs.Selection.{selected_proposal, is_certified, is_released}
-use Rattle.batcher.specs.Comparison.{compared_votes, compared_votes_of, is_compared, is_compared_at_release}
+use Rattle.batcher.specs.Comparison.{compared_votes_of, is_compared, is_compared_at_release}
 use Rattle.batcher.specs.Stands.{Stands, first_by_signer, facts_of}
-use Rattle.batcher.proofs.Apart.{AreApart, IsAt, vote_at, found_behind, found_is_of, firsts_apart, is_itself, is_kind-true}
-use Rattle.batcher.proofs.Counts.{append_nil}
-use Rattle.batcher.proofs.Following.{none_both, no_firsts, released_same, compared_goes, facts_stay}
+use Rattle.batcher.proofs.Apart.{AreApart, IsAt, vote_at, found_behind, found_is_of, firsts_apart, is_kind-true, found_here}
+use Rattle.batcher.proofs.Following.{released_same, MovesKind, compared_parts, facts_same, first_by_same}
+use Rattle.batcher.proofs.Counts.{none_both, filter_again, map_same}
+use Rattle.batcher.proofs.Naming.{uncompared_pair, unreleased_pair}
 
 -- what releases a kind stays
 released_less : (mode : Mode) (now before : Bool) → is_released_in mode (now || before) ≡ false → is_released_in mode before ≡ false
@@ -37,31 +38,9 @@ released_less Releasing true before h = absurd (cc)
 released_less Releasing false before h = h
 released_less Skipped now before h = h
 
-not_compared : (h r s o : Bool) → r ≡ false → ((h && r) && (s && o)) ≡ false
-not_compared true r s o e = rw e refl
-not_compared false r s o e = refl
-
-not_at_release : (h r s : Bool) → s ≡ false → (h && (not r && s)) ≡ false
-not_at_release true true s e = refl
-not_at_release true false s e = e
-not_at_release false r s e = refl
-
 at_release : (h r s : Bool) → r ≡ false → s ≡ true → (h && (not r && s)) ≡ h
 at_release true r s e f = rw (e, f) refl
 at_release false r s e f = refl
-
--- tests that agree where another holds
-filter_where : {X : Type 0} (p q : X → Bool) (xs : List X) → ((v : X) → p v ≡ true → q v ≡ true) → filter p (filter q xs) ≡ filter p xs
-filter_where p q [] within = refl
-filter_where {X = X} p q (x ∷ xs) within =
-    ⊎_elim
-    (λ e. let kept : filter q (x ∷ xs) ≡ x ∷ filter q xs = rw e refl in ap (filter p) kept ∙ ap (λ (ys : List X). cond (p x) (x ∷ ys) ys) (filter_where p q xs within))
-    (λ e.
-    let other : p x ≡ false = false_from_ne_true _ (λ h. let no : false ≡ true = sym e ∙ within x h in cc) in
-    let dropped : filter q (x ∷ xs) ≡ filter q xs = rw e refl in
-    let gone : filter p (x ∷ xs) ≡ filter p xs = rw other refl in
-    ap (filter p) dropped ∙ (filter_where p q xs within ∙ sym gone))
-    (cases_Bool (q x))
 
 map_where : {X Y : Type 0} (f g : X → Y) (xs : List X) → All (λ v. f v ≡ g v) xs → map f xs ≡ map g xs
 map_where f g [] same = refl
@@ -103,7 +82,7 @@ module _ {G D : Type 0} where
   each_found : (vs : List (Vote G D)) → AreApart vs → All (IsAt vs) vs
   each_found [] apart = All-nil (IsAt [])
   each_found (v ∷ vs) apart =
-      All-cons (IsAt (v ∷ vs)) v vs (rw (is_itself v) refl)
+      All-cons (IsAt (v ∷ vs)) v vs (found_here v vs)
       (All-weaker (IsAt vs) (IsAt (v ∷ vs)) (λ w found. found_behind v vs w apart.0 found) vs (each_found vs apart.1))
 
 module _ {D K G C : Type 0} (x : Setting D K G C) where
@@ -111,10 +90,9 @@ module _ {D K G C : Type 0} (x : Setting D K G C) where
   pub none_released : (past : History D K G C) (kind : Kind) (i : ℕ) → is_released x past kind ≡ false → compared_votes_of x past kind i ≡ []
   none_released [] kind i unreleased = refl
   none_released (event ∷ past) kind i unreleased =
-      filter-append (is_vote_of kind i) (filter (is_compared x past event) (cast_votes x event.0)) (filter (is_compared_at_release x past event) (first_votes x past) ++ compared_votes x past)
-      ∙ (ap (λ vs. vs ++ filter (is_vote_of kind i) (filter (is_compared_at_release x past event) (first_votes x past) ++ compared_votes x past)) none_cast
-      ∙ (filter-append (is_vote_of kind i) (filter (is_compared_at_release x past event) (first_votes x past)) (compared_votes x past)
-      ∙ (ap (λ vs. vs ++ compared_votes_of x past kind i) none_now ∙ none_released past kind i before)))
+      compared_parts x past event kind i
+      ∙ (ap (λ vs. vs ++ (filter (is_vote_of kind i) (filter (is_compared_at_release x past event) (first_votes x past)) ++ compared_votes_of x past kind i)) none_cast
+      ∙ (ap (λ vs. vs ++ compared_votes_of x past kind i) none_now ∙ none_released past kind i before))
     where
       before : is_released x past kind ≡ false
       before = released_less x.mode _ (is_certified past kind) unreleased
@@ -124,23 +102,22 @@ module _ {D K G C : Type 0} (x : Setting D K G C) where
           none_both (is_vote_of kind i) (is_compared x past event) (cast_votes x event.0)
           (λ v of.
           let k : kind_of v ≡ kind = is_kind-true _ _ (and_parts _ _ of).0 in
-          not_compared (has_proposals (kind_of v)) (is_released x past (kind_of v)) (is_some (selected_proposal x (event ∷ past))) (is_none (opposite_vote x past v)) (ap (is_released x past) k ∙ before))
+          uncompared_pair (has_proposals (kind_of v)) (is_released x past (kind_of v)) (is_some (selected_proposal x (event ∷ past))) (is_none (opposite_vote x past v)) (λ _. ap (is_released x past) k ∙ before))
 
       none_now : filter (is_vote_of kind i) (filter (is_compared_at_release x past event) (first_votes x past)) ≡ []
       none_now =
           none_both (is_vote_of kind i) (is_compared_at_release x past event) (first_votes x past)
           (λ v of.
           let k : kind_of v ≡ kind = is_kind-true _ _ (and_parts _ _ of).0 in
-          not_at_release (has_proposals (kind_of v)) (is_released x past (kind_of v)) (is_released x (event ∷ past) (kind_of v)) (ap (is_released x (event ∷ past)) k ∙ unreleased))
+          unreleased_pair (has_proposals (kind_of v)) (not (is_released x past (kind_of v))) (is_released x (event ∷ past) (kind_of v)) (λ _. ap (is_released x (event ∷ past)) k ∙ unreleased))
 
 module _ {D K G C : Type 0} (x : Setting D K G C) (past : History D K G C) (event : Event D K G C) (kind : Kind) (unreleased : is_released x past kind ≡ false) (released : is_released x (event ∷ past) kind ≡ true) (casts : cast_votes x event.0 ≡ []) where
   released_only : (i : ℕ) → compared_votes_of x (event ∷ past) kind i ≡ filter (is_vote_of kind i) (filter (is_compared_at_release x past event) (first_votes x past))
   released_only i =
-      filter-append (is_vote_of kind i) (filter (is_compared x past event) (cast_votes x event.0)) (filter (is_compared_at_release x past event) (first_votes x past) ++ compared_votes x past)
-      ∙ (ap (λ vs. filter (is_vote_of kind i) (filter (is_compared x past event) vs) ++ filter (is_vote_of kind i) (filter (is_compared_at_release x past event) (first_votes x past) ++ compared_votes x past)) casts
-      ∙ (filter-append (is_vote_of kind i) (filter (is_compared_at_release x past event) (first_votes x past)) (compared_votes x past)
+      compared_parts x past event kind i
+      ∙ (ap (λ vs. filter (is_vote_of kind i) (filter (is_compared x past event) vs) ++ (filter (is_vote_of kind i) (filter (is_compared_at_release x past event) (first_votes x past)) ++ compared_votes_of x past kind i)) casts
       ∙ (ap (λ vs. filter (is_vote_of kind i) (filter (is_compared_at_release x past event) (first_votes x past)) ++ vs) (none_released x past kind i unreleased)
-      ∙ append_nil (filter (is_vote_of kind i) (filter (is_compared_at_release x past event) (first_votes x past))))))
+      ∙ append-nil (filter (is_vote_of kind i) (filter (is_compared_at_release x past event) (first_votes x past)))))
 
   compares : (v : Vote G D) → kind_of v ≡ kind → is_compared_at_release x past event v ≡ has_proposals kind
   compares v k =
@@ -151,7 +128,7 @@ module _ {D K G C : Type 0} (x : Setting D K G C) (past : History D K G C) (even
   compared_now : (v : Vote G D) → has_proposals kind ≡ true → first_vote x past kind (signer_of v) ≡ Some v → compared_votes_of x (event ∷ past) kind (signer_of v) ≡ v ∷ []
   compared_now v has found =
       released_only (signer_of v)
-      ∙ (filter_where (is_vote_of kind (signer_of v)) (is_compared_at_release x past event) (first_votes x past) (λ w of. compares w (is_kind-true _ _ (and_parts _ _ of).0) ∙ has)
+      ∙ (filter_again (is_vote_of kind (signer_of v)) (is_compared_at_release x past event) (first_votes x past) (λ w of. compares w (is_kind-true _ _ (and_parts _ _ of).0) ∙ has)
       ∙ one_at (first_votes x past) kind (signer_of v) v (firsts_apart x past) found)
 
   compared_never : (i : ℕ) → has_proposals kind ≡ false → compared_votes_of x (event ∷ past) kind i ≡ []
@@ -234,10 +211,6 @@ kept_once true before xs stays = refl
 kept_once false true xs stays = absurd (let no : false ≡ true = stays refl in cc)
 kept_once false false xs stays = refl
 
-map_each : {X Y : Type 0} (f g : X → Y) (xs : List X) → ((v : X) → f v ≡ g v) → map f xs ≡ map g xs
-map_each f g [] same = refl
-map_each {Y = Y} f g (x ∷ xs) same = ap (λ (y : Y). y ∷ map f xs) (same x) ∙ ap (λ (ys : List Y). g x ∷ ys) (map_each f g xs same)
-
 unproposed_facts : {G D : Type 0} (same : D → D → Bool) (selected : Option (Proposal D)) (v : Vote G D) → has_proposals (kind_of v) ≡ false → facts_of_kept same selected v ≡ no_facts (signer_of v)
 unproposed_facts same None v h = refl
 unproposed_facts same (Some p) v h =
@@ -251,6 +224,16 @@ module _ {D K G C : Type 0} (x : Setting D K G C) where
     pub facts_are :
         of_kind new.facts kind
         ≡ cond (is_released x (event ∷ past) kind) (map (λ v. facts_of x (event ∷ past) kind (signer_of v)) (first_by_signer x (event ∷ past) kind)) []
+
+  pub moves_tracked : (past : History D K G C) (event : Event D K G C) (new : Held G D) (kind : Kind) → of_kind new.buffered.certified kind ≡ is_certified (event ∷ past) kind → TracksKind past event new.tracked kind →
+      MovesKind x past event new kind
+  moves_tracked past event new kind certified tracks =
+      record {
+        certified_is = certified;
+        compacted_is = tracks.compacted_is;
+        kept_are = tracks.kept_are;
+        facts_are = tracks.facts_are;
+      }
 
   -- of a kind without proposals any selection gives the same facts
   unproposed_map : (past : History D K G C) (kind : Kind) (a b : Option (Proposal D)) → has_proposals kind ≡ false →
@@ -278,16 +261,13 @@ module _ {D K G C : Type 0} (x : Setting D K G C) (past : History D K G C) (even
       ∙ (ap (λ c. (now && is_released_in x.mode true) || c) (stands.each_kind kind).compacted_is
       ∙ (released_either x.mode now (is_certified past kind) ∙ sym released_is))
 
-  firsts_stay : first_by_signer x (event ∷ past) kind ≡ first_by_signer x past kind
-  firsts_stay = ap (λ vs. ordered_by signer_of (filter (is_of_kind kind) vs)) (no_firsts x past event casts)
-
   keeps : of_kind new.kept kind ≡ cond (is_released x (event ∷ past) kind) [] (first_by_signer x (event ∷ past) kind)
   keeps =
       releases.kept
       ∙ (ap (λ c. cond c [] (of_kind old.tracked.kept kind)) compacts
       ∙ (ap (λ vs. cond (is_released x (event ∷ past) kind) [] vs) (stands.each_kind kind).kept_are
       ∙ (kept_once (is_released x (event ∷ past) kind) (is_released x past kind) (first_by_signer x past kind) released_stays
-      ∙ ap (λ vs. cond (is_released x (event ∷ past) kind) [] vs) (sym firsts_stay))))
+      ∙ ap (λ vs. cond (is_released x (event ∷ past) kind) [] vs) (sym (first_by_same x past event casts kind)))))
 
   abbrev facts_now : List Facts
   facts_now = map (λ v. facts_of x (event ∷ past) kind (signer_of v)) (first_by_signer x past kind)
@@ -298,9 +278,8 @@ module _ {D K G C : Type 0} (x : Setting D K G C) (past : History D K G C) (even
       ∙ (ap (λ c. cond c (of_kind old.tracked.facts kind) (cond (of_kind new.compacted kind) (map (facts_of_kept x.same_digest proposal) (of_kind old.tracked.kept kind)) [])) ((stands.each_kind kind).compacted_is ∙ was)
       ∙ ((stands.each_kind kind).facts_are
       ∙ (ap (λ c. cond c (map (λ v. facts_of x past kind (signer_of v)) (first_by_signer x past kind)) []) was
-      ∙ (map_each (λ v. facts_of x past kind (signer_of v)) (λ v. facts_of x (event ∷ past) kind (signer_of v)) (first_by_signer x past kind)
-      (λ v. sym (facts_stay x past event kind (signer_of v)
-      (compared_goes x past event kind (signer_of v) (ap (λ vs. filter (is_vote_of kind (signer_of v)) (filter (is_compared x past event) vs)) casts) (released_stays was ∙ sym was))))
+      ∙ (map_same (λ v. facts_of x past kind (signer_of v)) (λ v. facts_of x (event ∷ past) kind (signer_of v)) (first_by_signer x past kind)
+      (λ v. sym (facts_same x past event casts kind (signer_of v) (released_stays was ∙ sym was)))
       ∙ ap (λ c. cond c facts_now []) (sym (released_stays was))))))
 
   kept_facts : is_released x past kind ≡ false → is_released x (event ∷ past) kind ≡ true → map (facts_of_kept x.same_digest proposal) (first_by_signer x past kind) ≡ facts_now
@@ -332,7 +311,7 @@ module _ {D K G C : Type 0} (x : Setting D K G C) (past : History D K G C) (even
         kept_are = keeps;
         facts_are =
             ⊎_elim facts_before facts_after (cases_Bool (is_released x past kind))
-            ∙ ap (λ vs. cond (is_released x (event ∷ past) kind) (map (λ v. facts_of x (event ∷ past) kind (signer_of v)) vs) []) (sym firsts_stay);
+            ∙ ap (λ vs. cond (is_released x (event ∷ past) kind) (map (λ v. facts_of x (event ∷ past) kind (signer_of v)) vs) []) (sym (first_by_same x past event casts kind));
       }
 
 -- An event that casts nothing and doesn't certify the kind leaves what is tracked of it.
@@ -340,15 +319,11 @@ module _ {D K G C : Type 0} (x : Setting D K G C) (past : History D K G C) (even
   released_alike : is_released x past kind ≡ is_released x (event ∷ past) kind
   released_alike = sym (released_same x past event kind certified)
 
-  firsts_alike : first_by_signer x past kind ≡ first_by_signer x (event ∷ past) kind
-  firsts_alike = ap (λ vs. ordered_by signer_of (filter (is_of_kind kind) vs)) (sym (no_firsts x past event casts))
-
   facts_alike : map (λ v. facts_of x past kind (signer_of v)) (first_by_signer x past kind) ≡ map (λ v. facts_of x (event ∷ past) kind (signer_of v)) (first_by_signer x (event ∷ past) kind)
   facts_alike =
-      map_each (λ v. facts_of x past kind (signer_of v)) (λ v. facts_of x (event ∷ past) kind (signer_of v)) (first_by_signer x past kind)
-      (λ v. sym (facts_stay x past event kind (signer_of v)
-      (compared_goes x past event kind (signer_of v) (ap (λ vs. filter (is_vote_of kind (signer_of v)) (filter (is_compared x past event) vs)) casts) (released_same x past event kind certified))))
-      ∙ ap (map (λ v. facts_of x (event ∷ past) kind (signer_of v))) firsts_alike
+      map_same (λ v. facts_of x past kind (signer_of v)) (λ v. facts_of x (event ∷ past) kind (signer_of v)) (first_by_signer x past kind)
+      (λ v. sym (facts_same x past event casts kind (signer_of v) (released_same x past event kind certified)))
+      ∙ ap (map (λ v. facts_of x (event ∷ past) kind (signer_of v))) (sym (first_by_same x past event casts kind))
 
   pub tracks_stay : TracksKind x past event old.tracked kind
   tracks_stay =
@@ -356,7 +331,7 @@ module _ {D K G C : Type 0} (x : Setting D K G C) (past : History D K G C) (even
         compacted_is = (stands.each_kind kind).compacted_is ∙ released_alike;
         kept_are =
             (stands.each_kind kind).kept_are
-            ∙ (ap (λ b. cond b [] (first_by_signer x past kind)) released_alike ∙ ap (λ vs. cond (is_released x (event ∷ past) kind) [] vs) firsts_alike);
+            ∙ (ap (λ b. cond b [] (first_by_signer x past kind)) released_alike ∙ ap (λ vs. cond (is_released x (event ∷ past) kind) [] vs) (sym (first_by_same x past event casts kind)));
         facts_are =
             (stands.each_kind kind).facts_are
             ∙ (ap (λ b. cond b (map (λ v. facts_of x past kind (signer_of v)) (first_by_signer x past kind)) []) released_alike

@@ -1,12 +1,13 @@
 -- Calls that cast no vote and bring no certificate: a leader, a proposal that is handed on, and a question.
-use Rattle.std.proofs.Common.{◌≡◌, ℕ, Bool, true, false, cond, ◌&&◌, ◌||◌, List, [], ◌∷◌, ◌++◌, map, Option, Some, None, refl, ap, sym, ◌∙◌, subst}
+use Rattle.std.proofs.Common.{◌≡◌, Bool, true, false, cond, ◌&&◌, ◌||◌, List, [], ◌∷◌, ◌++◌, Option, Some, None, refl, ap, sym, ◌∙◌, subst}
+use Rattle.std.specs.Option.{option_map, option_or}
+use Rattle.std.specs.Prelude.{Err, Result, OnOk, OnErr, filter, find, is_some, IfSome, option_and_then, Ok, MatchBool}
+use Rattle.std.proofs.lemmas.List.{append-nil}
+use Rattle.std.proofs.lemmas.Bool.{or_right}
 use Rattle.batcher.specs.declared.messages.Notarize.{Notarize}
 use Rattle.batcher.specs.declared.messages.Vote.TheVariants.{Notarize as NotarizeVote}
 use Rattle.batcher.specs.declared.verifier.LeaderFault.{LeaderFault}
-use Rattle.batcher.specs.Held.{Buffered}
-use Rattle.std.specs.Option.{option_map}
-use Rattle.std.specs.Prelude.{Err, Result, OnOk, OnErr, filter, find, is_some, IfSome, option_and_then, Ok, MatchBool}
-use Rattle.std.specs.Option.{option_or}
+use Rattle.batcher.specs.Held.{Buffered, Tracked, of_kind, Held}
 use Rattle.batcher.specs.declared.positions.Participant.{Participant}
 use Rattle.batcher.specs.declared.messages.Proposal.{Proposal}
 use Rattle.batcher.specs.declared.messages.Vote.{Vote}
@@ -20,59 +21,28 @@ use Rattle.batcher.specs.declared.run.Answer.{Answer}
 use Rattle.batcher.specs.declared.run.Answer.TheVariants.{Leader as LeaderAnswer, Forward as ForwardAnswer, Missing as MissingAnswer}
 use Rattle.batcher.specs.Setting.{Setting, participants_in}
 use Rattle.batcher.specs.Lists.{is_some_and}
-use Rattle.batcher.specs.Votes.{is_kind, signer_of, subject_of, proposal_in, is_of_kind, is_vote_of, waits}
+use Rattle.batcher.specs.Votes.{is_kind, subject_of, proposal_in, is_vote_of}
 use Rattle.batcher.specs.Selected.{proposal_of, selects}
-use Rattle.batcher.specs.Held.{of_kind, Held}
 use Rattle.batcher.specs.Tracking.{is_skipped, kept_vote}
-use Rattle.batcher.specs.Buffering.{still_waiting, SetsLeader}
+use Rattle.batcher.specs.Buffering.{SetsLeader}
 use Rattle.batcher.specs.Steps.{option_proposal, forward_answer, leader_set_answer, missing_in, AfterLeader}
 use Rattle.batcher.specs.Runs.{MayCall}
 use Rattle.batcher.specs.History.{Event, History, is_made, own_votes, sent_votes, cast_votes, batch_given}
 use Rattle.batcher.specs.FirstVotes.{first_vote}
-use Rattle.batcher.specs.Selection.{selection_by, selection, selected_proposal, leader_of, is_certified, certificate_of, finalized_by, fixed_proposal, leaders_proposal, was_forwarded, comes_back, is_released}
-use Rattle.batcher.specs.Comparison.{is_compared}
+use Rattle.batcher.specs.Selection.{selection_by, selection, leader_of, is_certified, certificate_of, finalized_by, fixed_proposal, leaders_proposal, was_forwarded, comes_back}
 use Rattle.batcher.specs.Standing.{waiting_votes, ready_kind}
 use Rattle.batcher.specs.Trying.{Attempt, left_verified}
 use Rattle.batcher.specs.Answers.{MayAnswer}
-use Rattle.batcher.specs.Stands.{Meets, Stands, Follows, TriesBuffers, first_by_signer, facts_of, arrivals, pending_after, verified_after}
-use Rattle.batcher.specs.Ascending.{ordered_by}
-use Rattle.batcher.proofs.Counts.{append_nil}
-use Rattle.batcher.proofs.Observing.{filter_same, kept_is_first, missing_same}
-use Rattle.batcher.proofs.Naming.{filter_false, forward_same, certified_fixes, released_where, always_released}
+use Rattle.batcher.specs.Stands.{Meets, Stands, Follows, TriesBuffers, arrivals, pending_after, verified_after}
+use Rattle.batcher.proofs.Observing.{kept_is_first, missing_same}
+use Rattle.batcher.proofs.Naming.{forward_same, certified_fixes, released_where}
 use Rattle.batcher.proofs.Laws.{HasLaws}
-use Rattle.batcher.proofs.Following.{or_nothing, pending_wait, verified_wait, closed_pending, closed_verified, certified_same, released_same, no_evidence, fixed_same, none_back, no_firsts, selection_goes, compared_goes, facts_stay, MovesKind, followed}
-
-pub map_same : {X Y : Type 0} (f g : X → Y) (xs : List X) → ((v : X) → f v ≡ g v) → map f xs ≡ map g xs
-map_same f g [] same = refl
-map_same f g (x ∷ xs) same = rw (same x, map_same f g xs same) refl
-
-pub or_last : (a b : Bool) → b ≡ true → (a || b) ≡ true
-or_last true b h = refl
-or_last false b h = h
+use Rattle.batcher.proofs.Following.{or_nothing, pending_wait, verified_wait, closed_pending, closed_verified, certified_same, no_evidence, none_back, MovesKind, followed, leaders_same, still_waits, fixed_waits, none_kept, no_firsts}
+use Rattle.batcher.proofs.Counts.{either_same, filter_none, first_only}
+use Rattle.batcher.proofs.Releasing.{TracksKind, tracks_stay, moves_tracked}
+use Rattle.batcher.proofs.Selecting.{selection_fixes}
 
 module _ {D K G C : Type 0} (x : Setting D K G C) where
-  -- What still waits by what is held is what waits by the history, where they agree; in a skipped round nothing does.
-  pub still_is_waiting : (now : History D K G C) (held : Held G D) (kind : Kind) (votes : List (Vote G D)) →
-      of_kind held.buffered.certified kind ≡ is_certified now kind → held.buffered.selection ≡ selection x now → (is_skipped x.mode ≡ true → votes ≡ [])
-      → still_waiting x.same_digest held.buffered kind votes ≡ waiting_votes x now kind votes
-  still_is_waiting now held kind votes certified selected none =
-      ap (λ b. cond b [] (filter (waits x.same_digest (proposal_of held.buffered.selection)) votes)) certified
-      ∙ (ap (λ s. cond (is_certified now kind) [] (filter (waits x.same_digest (proposal_of s)) votes)) selected
-      ∙ by_mode (is_certified now kind) (is_skipped x.mode) none)
-    where
-      by_mode : (c s : Bool) → (s ≡ true → votes ≡ []) →
-          cond c [] (filter (waits x.same_digest (selected_proposal x now)) votes) ≡ cond (c || s) [] (filter (waits x.same_digest (selected_proposal x now)) votes)
-      by_mode true s h = refl
-      by_mode false false h = refl
-      by_mode false true h = ap (filter (waits x.same_digest (selected_proposal x now))) (h refl)
-
-  -- what waits goes on with the marks and the selection
-  pub waiting_same : (past : History D K G C) (event : Event D K G C) (kind : Kind) (votes : List (Vote G D)) →
-      is_certified (event ∷ past) kind ≡ is_certified past kind → selection x (event ∷ past) ≡ selection x past → waiting_votes x past kind votes ≡ waiting_votes x (event ∷ past) kind votes
-  waiting_same past event kind votes certified selected =
-      ap (λ b. cond (b || is_skipped x.mode) [] (filter (waits x.same_digest (selected_proposal x past)) votes)) (sym certified)
-      ∙ ap (λ s. cond (is_certified (event ∷ past) kind || is_skipped x.mode) [] (filter (waits x.same_digest (proposal_of s)) votes)) (sym selected)
-
   -- A call that casts no vote, and brings no evidence and no batch.
   pub record IsQuiet (event : Event D K G C) : Type 0 where
     pub casts : cast_votes x event.0 ≡ []
@@ -87,69 +57,41 @@ module _ {D K G C : Type 0} (x : Setting D K G C) where
     quiet_pending old kind =
         ap (waiting_votes x (event ∷ past) kind)
         (ap (λ (b : Option (Batch (Certificate C D))). cond (is_some b && is_some_and (ready_kind x past) (λ k. is_kind k kind)) [] (of_kind old.buffered.pending kind) ++ filter (comes_back x past event) (of_kind old.tracked.kept kind) ++ arrivals x past kind (sent_votes x event.0)) q.batch
-        ∙ (ap (λ votes. of_kind old.buffered.pending kind ++ votes ++ arrivals x past kind (sent_votes x event.0)) (filter_same (comes_back x past event) (λ v. false) (of_kind old.tracked.kept kind) (none_back x past event (no_evidence x past event q.finalized q.certificate)) ∙ filter_false (of_kind old.tracked.kept kind))
-        ∙ (ap (λ votes. of_kind old.buffered.pending kind ++ [] ++ arrivals x past kind votes) q.sends
-        ∙ (append_nil (of_kind old.buffered.pending kind ++ []) ∙ append_nil (of_kind old.buffered.pending kind)))))
+        ∙ (ap (λ votes. of_kind old.buffered.pending kind ++ filter (comes_back x past event) (of_kind old.tracked.kept kind) ++ arrivals x past kind votes) q.sends
+        ∙ first_only (of_kind old.buffered.pending kind) _ (filter_none (comes_back x past event) (of_kind old.tracked.kept kind) (none_back x past event (no_evidence x past event q.finalized q.certificate)))))
 
     pub quiet_verified : (old : Held G D) (kind : Kind) → verified_after x past old event kind ≡ waiting_votes x (event ∷ past) kind (of_kind old.buffered.verified kind)
     quiet_verified old kind =
         ap (waiting_votes x (event ∷ past) kind)
         (ap (λ (b : Option (Batch (Certificate C D))). cond (is_some b && is_some_and (ready_kind x past) (λ k. is_kind k kind)) (left_verified x (of_kind old.buffered.verified kind) (of_kind old.buffered.pending kind)) (of_kind old.buffered.verified kind) ++ arrivals x past kind (own_votes event.0)) q.batch
-        ∙ (ap (λ votes. of_kind old.buffered.verified kind ++ arrivals x past kind votes) q.owns ∙ append_nil (of_kind old.buffered.verified kind)))
-
-    pub quiet_fixed : fixed_proposal (event ∷ past) ≡ fixed_proposal past
-    quiet_fixed = fixed_same x past event (no_evidence x past event q.finalized q.certificate)
-
-    quiet_facts : (kind : Kind) (i : ℕ) → facts_of x (event ∷ past) kind i ≡ facts_of x past kind i
-    quiet_facts kind i =
-        facts_stay x past event kind i
-        (compared_goes x past event kind i (ap (λ vs. filter (is_vote_of kind i) (filter (is_compared x past event) vs)) q.casts) (released_same x past event kind (certified_same x past event q.certificate kind)))
-
-    quiet_first_by : (kind : Kind) → first_by_signer x (event ∷ past) kind ≡ first_by_signer x past kind
-    quiet_first_by kind = ap (λ votes. ordered_by signer_of (filter (is_of_kind kind) votes)) (no_firsts x past event q.casts)
+        ∙ (ap (λ votes. of_kind old.buffered.verified kind ++ arrivals x past kind votes) q.owns ∙ append-nil (of_kind old.buffered.verified kind)))
 
     -- what is tracked stands for the longer history too
     pub quiet_kind : (old new : Held G D) (kind : Kind) → Stands x past old → new.tracked ≡ old.tracked → of_kind new.buffered.certified kind ≡ of_kind old.buffered.certified kind → MovesKind x past event new kind
     quiet_kind old new kind stands tracked certified =
-        record {
-          certified_is = certified ∙ ((stands.each_kind kind).certified_is ∙ sym (certified_same x past event q.certificate kind));
-          compacted_is = ap (λ t. of_kind t.compacted kind) tracked ∙ ((stands.each_kind kind).compacted_is ∙ sym released);
-          kept_are = ap (λ t. of_kind t.kept kind) tracked ∙ ((stands.each_kind kind).kept_are
-              ∙ (ap (λ b. cond b [] (first_by_signer x past kind)) (sym released) ∙ ap (λ votes. cond (is_released x (event ∷ past) kind) [] votes) (sym (quiet_first_by kind))));
-          facts_are = ap (λ t. of_kind t.facts kind) tracked ∙ ((stands.each_kind kind).facts_are
-              ∙ (ap (λ fs. cond (is_released x past kind) fs []) (map_same _ _ (first_by_signer x past kind) (λ v. sym (quiet_facts kind (signer_of v))))
-              ∙ (ap (λ b. cond b (map (λ v. facts_of x (event ∷ past) kind (signer_of v)) (first_by_signer x past kind)) []) (sym released)
-              ∙ ap (λ votes. cond (is_released x (event ∷ past) kind) (map (λ v. facts_of x (event ∷ past) kind (signer_of v)) votes) []) (sym (quiet_first_by kind)))));
-        }
-      where
-        released : is_released x (event ∷ past) kind ≡ is_released x past kind
-        released = released_same x past event kind (certified_same x past event q.certificate kind)
+        moves_tracked x past event new kind (certified ∙ ((stands.each_kind kind).certified_is ∙ sym (certified_same x past event q.certificate kind)))
+        (subst (λ (t : Tracked G D). TracksKind x past event t kind) (sym tracked) (tracks_stay x past event q.casts old stands kind (certified_same x past event q.certificate kind)))
 
     no_attempt : (old : Held G D) → TriesBuffers x past old event
     no_attempt old = subst (λ (o : Option (Batch (Certificate C D))). IfSome o (λ batch. (k : Kind) × ((ready_kind x past ≡ Some k) × Attempt x (of_kind old.buffered.verified k) (of_kind old.buffered.pending k) batch))) (sym q.batch) tt
 
     -- where no leader is named, the selection stays too
     pub quiet_selection : leader_of (event ∷ past) ≡ leader_of past → selection x (event ∷ past) ≡ selection x past
-    quiet_selection leader =
-        selection_goes x past event quiet_fixed
-        (ap (λ votes. cond (is_skipped x.mode) None (option_and_then (λ v. proposal_in (subject_of v)) (option_and_then (λ i. find (is_vote_of Notarization i.0) votes) (leader_of (event ∷ past))))) (no_firsts x past event q.casts)
-        ∙ ap (λ l. cond (is_skipped x.mode) None (option_and_then (λ v. proposal_in (subject_of v)) (option_and_then (λ i. first_vote x past Notarization i.0) l))) leader)
+    quiet_selection leader = selection_fixes x past event None (leaders_same x past event (no_firsts x past event q.casts) leader) (no_evidence x past event q.finalized q.certificate)
 
 module _ {D K G C : Type 0} (x : Setting D K G C) (lawful : HasLaws x) where
   -- the buffers of a call that changes none of the selection, the marks and the buffers
   rests_pending : (past : History D K G C) (event : Event D K G C) (old new : Held G D) (kind : Kind) → IsQuiet x event → leader_of (event ∷ past) ≡ leader_of past → Stands x past old →
       of_kind new.buffered.pending kind ≡ of_kind old.buffered.pending kind → of_kind new.buffered.pending kind ≡ pending_after x past old event kind
   rests_pending past event old new kind q leader stands same =
-      same ∙ (sym (pending_wait x past old kind stands)
-      ∙ (waiting_same x past event kind (of_kind old.buffered.pending kind) (certified_same x past event q.certificate kind) (quiet_selection x past event q leader)
-      ∙ sym (quiet_pending x past event q old kind)))
+      same ∙ sym (quiet_pending x past event q old kind
+      ∙ still_waits x past event kind (of_kind old.buffered.pending kind) (certified_same x past event q.certificate kind) (ap proposal_of (quiet_selection x past event q leader)) (pending_wait x past old kind stands))
 
   rests_verified : (past : History D K G C) (event : Event D K G C) (old new : Held G D) (kind : Kind) → IsQuiet x event → leader_of (event ∷ past) ≡ leader_of past → Stands x past old →
       of_kind new.buffered.verified kind ≡ of_kind old.buffered.verified kind → of_kind new.buffered.verified kind ≡ verified_after x past old event kind
   rests_verified past event old new kind q leader stands same =
-      same ∙ (sym (verified_wait x past old kind stands)
-      ∙ (waiting_same x past event kind (of_kind old.buffered.verified kind) (certified_same x past event q.certificate kind) (quiet_selection x past event q leader)
-      ∙ sym (quiet_verified x past event q old kind)))
+      same ∙ sym (quiet_verified x past event q old kind
+      ∙ still_waits x past event kind (of_kind old.buffered.verified kind) (certified_same x past event q.certificate kind) (ap proposal_of (quiet_selection x past event q leader)) (verified_wait x past old kind stands))
 
   -- Such a call, which names no leader either, moves nothing but the mark of a proposal that was handed on.
   rests : (past : History D K G C) (old : Held G D) (call : Call K G C D) (answer : Answer G C D) (new : Held G D) → Stands x past old →
@@ -187,10 +129,6 @@ module _ {D K G C : Type 0} (x : Setting D K G C) (lawful : HasLaws x) where
       (ap (λ h. h.tracked) held) (ap (λ h. h.buffered) held) (ap (λ h. h.forwarded) held ∙ stands.forwarded_is)
 
   -- LEADER
-  either_none : {X : Type 0} (b : Bool) → cond {A = Option X} b None None ≡ None
-  either_none true = refl
-  either_none false = refl
-
   proposal_kept : (o : Option (Vote G D)) → option_proposal o ≡ option_and_then (λ v. proposal_in (subject_of v)) o
   proposal_kept None = refl
   proposal_kept (Some v) = refl
@@ -218,13 +156,12 @@ module _ {D K G C : Type 0} (x : Setting D K G C) (lawful : HasLaws x) where
       ap option_proposal (kept_is_first x past held Notarization leader.0 stands (released_where x.mode (is_certified past Notarization) still (certified_fixes x past Notarization unfixed refl)))
       ∙ proposal_kept (first_vote x past Notarization leader.0))
       (λ unfixed skips.
-      ap (λ votes. option_proposal (find (is_vote_of Notarization leader.0) votes))
-      ((stands.each_kind Notarization).kept_are ∙ ap (λ b. cond b [] (first_by_signer x past Notarization)) (always_released x.mode (is_certified past Notarization) skips)))
+      ap (λ votes. option_proposal (find (is_vote_of Notarization leader.0) votes)) (none_kept x past held Notarization stands skips))
       ∙ (ap (λ l. selection_by (fixed_proposal past) (cond (is_skipped x.mode) None (option_and_then (λ v. proposal_in (subject_of v)) (option_and_then (λ i. first_vote x past Notarization i.0) l)))) (sym (ap (λ l. option_or l (Some leader)) none))
       ∙ ap (λ f. selection_by f (leaders_proposal x ((LeaderCall leader, LeaderAnswer (Ok tt)) ∷ past))) (sym (or_nothing (fixed_proposal past))))))
     where
       no_leaders : leaders_proposal x past ≡ None
-      no_leaders = ap (λ l. cond (is_skipped x.mode) None (option_and_then (λ v. proposal_in (subject_of v)) (option_and_then (λ i. first_vote x past Notarization i.0) l))) none ∙ either_none (is_skipped x.mode)
+      no_leaders = ap (λ l. cond (is_skipped x.mode) None (option_and_then (λ v. proposal_in (subject_of v)) (option_and_then (λ i. first_vote x past Notarization i.0) l))) none ∙ either_same (is_skipped x.mode) None
 
   pub leader_follows : (past : History D K G C) (old new : Held G D) (leader : Participant) → Stands x past old → Ok tt ≡ leader_set_answer old.buffered.leader leader →
       AfterLeader x old leader new → Follows x past old (LeaderCall leader, LeaderAnswer (Ok tt)) new
@@ -259,15 +196,13 @@ module _ {D K G C : Type 0} (x : Setting D K G C) (lawful : HasLaws x) where
                 forwarded_is = step.forwarded ∙ stands.forwarded_is;
                 kinds = λ kind. quiet_kind x past (LeaderCall leader, LeaderAnswer (Ok tt)) quiet old new kind stands step.tracked (s.buffers kind).certified;
                 pending_are = λ kind.
-                (s.buffers kind).pending
-                ∙ (ap (still_waiting x.same_digest new.buffered kind) (append_nil (of_kind old.buffered.pending kind))
-                ∙ (still_is_waiting x ((LeaderCall leader, LeaderAnswer (Ok tt)) ∷ past) new kind (of_kind old.buffered.pending kind) (certified kind) selected (λ skips. closed_pending x past old kind stands (or_last (is_certified past kind) _ skips))
-                ∙ sym (quiet_pending x past (LeaderCall leader, LeaderAnswer (Ok tt)) quiet old kind)));
+                    (s.buffers kind).pending
+                    ∙ (fixed_waits x ((LeaderCall leader, LeaderAnswer (Ok tt)) ∷ past) new.buffered kind (of_kind old.buffered.pending kind) (certified kind) (ap proposal_of selected) (λ skips. closed_pending x past old kind stands (or_right (is_certified past kind) _ skips))
+                    ∙ sym (quiet_pending x past (LeaderCall leader, LeaderAnswer (Ok tt)) quiet old kind));
                 verified_are = λ kind.
-                (s.buffers kind).verified
-                ∙ (ap (still_waiting x.same_digest new.buffered kind) (append_nil (of_kind old.buffered.verified kind))
-                ∙ (still_is_waiting x ((LeaderCall leader, LeaderAnswer (Ok tt)) ∷ past) new kind (of_kind old.buffered.verified kind) (certified kind) selected (λ skips. closed_verified x past old kind stands (or_last (is_certified past kind) _ skips))
-                ∙ sym (quiet_verified x past (LeaderCall leader, LeaderAnswer (Ok tt)) quiet old kind)));
+                    (s.buffers kind).verified
+                    ∙ (fixed_waits x ((LeaderCall leader, LeaderAnswer (Ok tt)) ∷ past) new.buffered kind (of_kind old.buffered.verified kind) (certified kind) (ap proposal_of selected) (λ skips. closed_verified x past old kind stands (or_right (is_certified past kind) _ skips))
+                    ∙ sym (quiet_verified x past (LeaderCall leader, LeaderAnswer (Ok tt)) quiet old kind));
                 attempt = no_attempt x past (LeaderCall leader, LeaderAnswer (Ok tt)) quiet old;
               })
             where

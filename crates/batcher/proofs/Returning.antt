@@ -1,8 +1,7 @@
 -- Which kept votes wait again where a proposal is fixed: by what is held, and by what a history names.
-use Rattle.std.proofs.Common.{◌≡◌, Bool, true, false, not, cond, ◌&&◌, ◌||◌, List, [], ◌∷◌, Option, Some, None, refl, ap, sym, ◌∙◌, ⊎_elim}
+use Rattle.std.proofs.Common.{◌≡◌, Bool, true, false, not, cond, ◌&&◌, ◌||◌, List, [], ◌∷◌, Some, None, refl, ap, sym, ◌∙◌, ⊎_elim, ◌++◌}
 use Rattle.std.specs.Prelude.{filter, option_and_then}
-use Rattle.std.specs.Option.{option_or}
-use Rattle.std.proofs.lemmas.Bool.{cases_Bool}
+use Rattle.std.proofs.lemmas.Bool.{cases_Bool, or_right}
 use Rattle.batcher.specs.declared.messages.Proposal.{Proposal}
 use Rattle.batcher.specs.declared.messages.Vote.{Vote}
 use Rattle.batcher.specs.declared.messages.Vote.TheVariants.{Notarize as NotarizeVote, Nullify as NullifyVote, Finalize as FinalizeVote}
@@ -17,31 +16,21 @@ use Rattle.batcher.specs.Held.{of_kind, Buffered, Held}
 use Rattle.batcher.specs.Buffering.{coming_back}
 use Rattle.batcher.specs.History.{Event, History}
 use Rattle.batcher.specs.FirstVotes.{first_votes}
-use Rattle.batcher.specs.Selection.{selection_by, selection, selected_proposal, is_certified, fixed_proposal, fixing_evidence, leaders_proposal, comes_back, is_released}
+use Rattle.batcher.specs.Selection.{selection, selected_proposal, is_certified, fixing_evidence, leaders_proposal, comes_back, is_released}
 use Rattle.batcher.specs.Stands.{Stands, first_by_signer}
-use Rattle.batcher.proofs.Counts.{keeps_all, count-false, count_same}
+use Rattle.batcher.specs.Tracking.{is_skipped}
+use Rattle.batcher.proofs.Counts.{keeps_all, count-false, count_same, filter_twice, filter_none, either_same}
 use Rattle.batcher.proofs.Apart.{count-filter, is_kind-true}
-use Rattle.batcher.proofs.Naming.{filter_false}
 use Rattle.batcher.proofs.Buffers.{count_ordered}
+use Rattle.batcher.proofs.Selecting.{selection_fixes}
+use Rattle.batcher.proofs.Following.{closed_pending, none_kept}
 
 -- Tests that agree on all votes that pass another test keep the same of these.
-pub filter_agree : {X : Type 0} (t p q : X → Bool) (xs : List X) → count (λ v. not (t v)) xs ≡ 0 → ((v : X) → t v ≡ true → p v ≡ q v) → filter p xs ≡ filter q xs
-filter_agree t p q [] all agree = refl
-filter_agree t p q (x ∷ xs) all agree =
+filter_where : {X : Type 0} (t p q : X → Bool) (xs : List X) → count (λ v. not (t v)) xs ≡ 0 → ((v : X) → t v ≡ true → p v ≡ q v) → filter p xs ≡ filter q xs
+filter_where t p q [] all agree = refl
+filter_where t p q (x ∷ xs) all agree =
     let both = keeps_all (t x) (count (λ v. not (t v)) xs) all in
-    rw (agree x both.0, filter_agree t p q xs both.1 agree) refl
-
-pub filter_twice : {X : Type 0} (p q : X → Bool) (xs : List X) → filter p (filter q xs) ≡ filter (λ v. q v && p v) xs
-filter_twice p q [] = refl
-filter_twice {X = X} p q (x ∷ xs) =
-    ⊎_elim
-    (λ e.
-    let kept : filter q (x ∷ xs) ≡ x ∷ filter q xs = rw e refl in
-    ap (filter p) kept ∙ (ap (λ (ys : List X). cond (p x) (x ∷ ys) ys) (filter_twice p q xs) ∙ ap (λ b. cond (b && p x) (x ∷ filter (λ v. q v && p v) xs) (filter (λ v. q v && p v) xs)) (sym e)))
-    (λ e.
-    let gone : filter q (x ∷ xs) ≡ filter q xs = rw e refl in
-    ap (filter p) gone ∙ (filter_twice p q xs ∙ ap (λ b. cond (b && p x) (x ∷ filter (λ v. q v && p v) xs) (filter (λ v. q v && p v) xs)) (sym e)))
-    (cases_Bool (q x))
+    rw (agree x both.0, filter_where t p q xs both.1 agree) refl
 
 not_itself : (b : Bool) → (b && not b) ≡ false
 not_itself true = refl
@@ -54,14 +43,6 @@ twice true false e = e
 twice false true e = refl
 
 module _ {D K G C : Type 0} (x : Setting D K G C) where
-  -- what is selected once evidence is there
-  pub fixes_by : (fixed evidence leaders : Option (Proposal D)) → fixes (selection_by fixed leaders) evidence ≡ selection_by (option_or fixed evidence) leaders
-  fixes_by (Some f) None leaders = refl
-  fixes_by (Some f) (Some p) leaders = refl
-  fixes_by None None leaders = refl
-  fixes_by None (Some p) None = refl
-  fixes_by None (Some p) (Some l) = refl
-
   -- the first votes of a kind are of that kind
   pub firsts_of_kind : (past : History D K G C) (kind : Kind) → count (λ v. not (is_of_kind kind v)) (first_by_signer x past kind) ≡ 0
   firsts_of_kind past kind =
@@ -98,18 +79,18 @@ module _ {D K G C : Type 0} (x : Setting D K G C) where
       ⊎_elim
       (λ has.
       ap (λ b. filter (waits x.same_digest (proposal_of (fixes s (Some p)))) (cond b votes [])) (ap (λ b. b && has_proposals kind) replaced ∙ has)
-      ∙ (filter_agree (is_of_kind kind) (waits x.same_digest (proposal_of (fixes s (Some p)))) (λ v. back v && waits x.same_digest (proposal_of (fixes s (Some p))) v) votes all
+      ∙ (filter_where (is_of_kind kind) (waits x.same_digest (proposal_of (fixes s (Some p)))) (λ v. back v && waits x.same_digest (proposal_of (fixes s (Some p))) v) votes all
       (λ v of. twice (waits x.same_digest (proposal_of (fixes s (Some p))) v) (back v) (waits_for v of replaced has))
       ∙ sym (filter_twice (waits x.same_digest (proposal_of (fixes s (Some p)))) back votes)))
       (λ has_none.
       ap (λ b. filter (waits x.same_digest (proposal_of (fixes s (Some p)))) (cond b votes [])) (ap (λ b. b && has_proposals kind) replaced ∙ has_none)
       ∙ sym (ap (filter (waits x.same_digest (proposal_of (fixes s (Some p)))))
-      (filter_agree (is_of_kind kind) back (λ v. false) votes all (λ v of. is v of ∙ (ap (λ b. b && is_for x.same_digest p v) replaced ∙ nullify_for_none kind p v of has_none)) ∙ filter_false votes)))
+      (filter_where (is_of_kind kind) back (λ v. false) votes all (λ v of. is v of ∙ (ap (λ b. b && is_for x.same_digest p v) replaced ∙ nullify_for_none kind p v of has_none)) ∙ filter_none (λ v. false) votes (λ v. refl))))
       (cases_Bool (has_proposals kind)))
       (λ same.
       ap (λ b. filter (waits x.same_digest (proposal_of (fixes s (Some p)))) (cond (b && has_proposals kind) votes [])) same
       ∙ sym (ap (filter (waits x.same_digest (proposal_of (fixes s (Some p)))))
-      (filter_agree (is_of_kind kind) back (λ v. false) votes all (λ v of. is v of ∙ ap (λ b. b && is_for x.same_digest p v) same) ∙ filter_false votes)))
+      (filter_where (is_of_kind kind) back (λ v. false) votes all (λ v of. is v of ∙ ap (λ b. b && is_for x.same_digest p v) same) ∙ filter_none (λ v. false) votes (λ v. refl))))
       (cases_Bool (replaces x.same_digest s p))
     where
       waits_for : (v : Vote G D) → is_of_kind kind v ≡ true → replaces x.same_digest s p ≡ true → has_proposals kind ≡ true → waits x.same_digest (proposal_of (fixes s (Some p))) v ≡ back v
@@ -129,21 +110,34 @@ module _ {D K G C : Type 0} (x : Setting D K G C) where
   and_open true c e = ap not e
   and_open false c e = refl
 
-  -- Of a kind that isn't certified by then, the kept votes that wait again are those that come back.
+  -- Of a kind that isn't certified by then, the kept votes that wait again are those that come back:
+  pub returned_fixed : (past : History D K G C) (event : Event D K G C) (held : Held G D) (kind : Kind) (p : Proposal D) (b : Buffered G D) → Stands x past held → b.selection ≡ held.buffered.selection →
+      fixing_evidence event ≡ Some p → is_certified (event ∷ past) kind ≡ false
+      → filter (waits x.same_digest (proposal_of (fixes (selection x past) (Some p)))) (coming_back x.same_digest b held.tracked.kept p kind)
+      ≡ filter (waits x.same_digest (proposal_of (fixes (selection x past) (Some p)))) (filter (comes_back x past event) (of_kind held.tracked.kept kind))
+  returned_fixed past event held kind p b stands same evidence still =
+      ap (λ s. filter (waits x.same_digest (proposal_of (fixes (selection x past) (Some p)))) (cond (replaces x.same_digest s p && has_proposals kind) (of_kind held.tracked.kept kind) [])) (same ∙ stands.selection_is)
+      ∙ returned_by kind (selection x past) p (of_kind held.tracked.kept kind) (comes_back x past event) (kept_of_kind past held kind stands)
+      (λ v of.
+      ap (λ o. is_some_and (option_and_then (λ q. cond (replaces x.same_digest (selection x past) q) (Some q) None) o) (λ q. is_for x.same_digest q v) && not (is_certified (event ∷ past) (kind_of v))) evidence
+      ∙ (and_open _ (is_certified (event ∷ past) (kind_of v)) (ap (is_certified (event ∷ past)) (is_kind-true _ _ of) ∙ still)
+      ∙ back_is (selection x past) p v))
+
+  -- and so by the selected proposal, where the leader's stays.
   pub returned : (past : History D K G C) (event : Event D K G C) (held : Held G D) (kind : Kind) (p : Proposal D) (b : Buffered G D) → Stands x past held → b.selection ≡ held.buffered.selection →
       fixing_evidence event ≡ Some p → leaders_proposal x (event ∷ past) ≡ leaders_proposal x past → is_certified (event ∷ past) kind ≡ false
       → filter (waits x.same_digest (selected_proposal x (event ∷ past))) (coming_back x.same_digest b held.tracked.kept p kind)
       ≡ filter (waits x.same_digest (selected_proposal x (event ∷ past))) (filter (comes_back x past event) (of_kind held.tracked.kept kind))
   returned past event held kind p b stands same evidence leaders still =
+      let selected = selection_fixes x past event (Some p) leaders evidence in
       ap (λ s. filter (waits x.same_digest (proposal_of s)) (coming_back x.same_digest b held.tracked.kept p kind)) selected
-      ∙ (ap (λ s. filter (waits x.same_digest (proposal_of (fixes (selection x past) (Some p)))) (cond (replaces x.same_digest s p && has_proposals kind) (of_kind held.tracked.kept kind) [])) (same ∙ stands.selection_is)
-      ∙ (returned_by kind (selection x past) p (of_kind held.tracked.kept kind) (comes_back x past event) (kept_of_kind past held kind stands)
-      (λ v of.
-      ap (λ o. is_some_and (option_and_then (λ q. cond (replaces x.same_digest (selection x past) q) (Some q) None) o) (λ q. is_for x.same_digest q v) && not (is_certified (event ∷ past) (kind_of v))) evidence
-      ∙ (and_open _ (is_certified (event ∷ past) (kind_of v)) (ap (is_certified (event ∷ past)) (is_kind-true _ _ of) ∙ still)
-      ∙ back_is (selection x past) p v))
-      ∙ ap (λ s. filter (waits x.same_digest (proposal_of s)) (filter (comes_back x past event) (of_kind held.tracked.kept kind))) (sym selected)))
-    where
-      selected : selection x (event ∷ past) ≡ fixes (selection x past) (Some p)
-      selected = ap (λ o. selection_by (option_or (fixed_proposal past) o) (leaders_proposal x (event ∷ past))) evidence
-          ∙ (ap (selection_by (option_or (fixed_proposal past) (Some p))) leaders ∙ sym (fixes_by (fixed_proposal past) (Some p) (leaders_proposal x past)))
+      ∙ (returned_fixed past event held kind p b stands same evidence still
+      ∙ ap (λ s. filter (waits x.same_digest (proposal_of s)) (filter (comes_back x past event) (of_kind held.tracked.kept kind))) (sym selected))
+
+  -- in a skipped round nothing waits or comes back
+  pub nothing_comes : (past : History D K G C) (held : Held G D) (kind : Kind) (p : Proposal D) (b : Buffered G D) → Stands x past held → is_skipped x.mode ≡ true →
+      of_kind held.buffered.pending kind ++ coming_back x.same_digest b held.tracked.kept p kind ≡ []
+  nothing_comes past held kind p b stands skips =
+      ap (λ vs. vs ++ coming_back x.same_digest b held.tracked.kept p kind) (closed_pending x past held kind stands (or_right (is_certified past kind) (is_skipped x.mode) skips))
+      ∙ (ap (λ vs. cond (replaces x.same_digest b.selection p && has_proposals kind) vs []) (none_kept x past held kind stands skips)
+      ∙ either_same (replaces x.same_digest b.selection p && has_proposals kind) [])

@@ -1,43 +1,55 @@
 -- How the selection goes on, and which votes a replacement restores.
-use Rattle.std.proofs.Common.{inl, inr, ◌≡◌, ℕ, Bool, true, false, not, cond, ◌&&◌, ◌||◌, ◌⊎◌, ◌∷◌, Option, Some, None, refl, ap, sym, ◌∙◌, ⊎_elim, eqb, subst}
+use Rattle.std.proofs.Common.{inl, inr, ◌≡◌, Bool, true, false, not, cond, ◌&&◌, ◌||◌, ◌⊎◌, ◌∷◌, Option, Some, None, refl, ap, sym, ◌∙◌, ⊎_elim, subst}
 use Rattle.std.specs.Prelude.{option_and_then}
 use Rattle.std.specs.Option.{option_or}
-use Rattle.std.proofs.lemmas.Bool.{cases_Bool, eqb-true, eq-eqb, and_parts, and_from, or_parts, not-true, false_from_ne_true}
-use Rattle.batcher.proofs.Apart.{first_stays}
-use Rattle.batcher.proofs.Laws.{HasLaws}
+use Rattle.std.proofs.lemmas.Bool.{cases_Bool, and_parts, or_parts, not-true, false_from_ne_true, or_right}
+use Rattle.std.proofs.Math.Bool.{and-true}
 use Rattle.batcher.specs.FirstVotes.{first_vote}
 use Rattle.batcher.specs.History.{Event, History}
 use Rattle.batcher.specs.Lists.{is_some_and}
-use Rattle.batcher.specs.Selected.{proposal_of, replaces}
-use Rattle.batcher.specs.Selection.{comes_back, fixed_proposal, fixing_evidence, is_certified, leader_of, leaders_proposal, replacement, selected_proposal, selection_by}
+use Rattle.batcher.specs.Selected.{proposal_of, replaces, fixes}
+use Rattle.batcher.specs.Selection.{comes_back, fixed_proposal, fixing_evidence, is_certified, leader_of, leaders_proposal, replacement, selected_proposal, selection_by, selection}
 use Rattle.batcher.specs.Setting.{Setting}
 use Rattle.batcher.specs.Standing.{is_counted}
 use Rattle.batcher.specs.Tracking.{is_skipped}
-use Rattle.batcher.specs.Votes.{has_proposals, is_for, kind_of, proposal_in, same_proposal, same_round, subject_of, waits}
+use Rattle.batcher.specs.Votes.{has_proposals, is_for, kind_of, proposal_in, same_proposal, subject_of, waits}
 use Rattle.batcher.specs.declared.messages.Kind.{Kind}
 use Rattle.batcher.specs.declared.messages.Kind.TheVariants.{Notarization}
 use Rattle.batcher.specs.declared.messages.Proposal.{Proposal}
 use Rattle.batcher.specs.declared.messages.Vote.{Vote}
 use Rattle.batcher.specs.declared.messages.Vote.TheVariants.{Finalize as FinalizeVote, Notarize as NotarizeVote, Nullify as NullifyVote}
 use Rattle.batcher.specs.declared.positions.Participant.{Participant}
+use Rattle.batcher.proofs.Apart.{first_stays}
+use Rattle.batcher.proofs.Laws.{HasLaws}
+use Rattle.batcher.proofs.Waits.{proposal_is}
+use Rattle.batcher.proofs.Constructing.{same_proposals}
 
 pub mapped_some : {X Y : Type 0} (f : X → Option Y) (o : Option X) (p : Y) → option_and_then f o ≡ Some p → (a : X) × (o ≡ Some a) × (f a ≡ Some p)
 mapped_some f None p h = cc
 mapped_some f (Some a) p h = (a, refl, h)
 
-pub and_true : (b : Bool) → (b && true) ≡ b
-and_true true = refl
-and_true false = refl
-
 -- a kind that is certified stays so
 pub certified_before : {D K G C : Type 0} (past : History D K G C) (event : Event D K G C) (kind : Kind) → is_certified (event ∷ past) kind ≡ false → is_certified past kind ≡ false
 certified_before past event kind h = (or_parts _ _ h).1
 
-abbrev rebuilt : {D : Type 0} → ℕ → ℕ → ℕ → D → Proposal D
-rebuilt epoch view parent payload = record { round = record { epoch = record { 0 = epoch }; view = record { 0 = view } }; parent = record { 0 = parent }; payload = payload }
+-- where nothing is replaced nothing comes back
+pub unreplaced : {D K G C : Type 0} (x : Setting D K G C) (past : History D K G C) (event : Event D K G C) (v : Vote G D) → replacement x past event ≡ None → comes_back x past event v ≡ false
+unreplaced x past event v h = rw h refl
 
-rebuilt_same : {D : Type 0} (a b : ℕ) (c d : ℕ) (e f : ℕ) (g h : D) → a ≡ b → c ≡ d → e ≡ f → g ≡ h → rebuilt a c e g ≡ rebuilt b d f h
-rebuilt_same a b c d e f g h p q r s = ap (λ n. rebuilt n c e g) p ∙ (ap (λ n. rebuilt b n e g) q ∙ (ap (λ n. rebuilt b d n g) r ∙ ap (λ n. rebuilt b d f n) s))
+-- evidence goes before what is selected
+pub fixes_by : {D : Type 0} (fixed evidence leaders : Option (Proposal D)) → fixes (selection_by fixed leaders) evidence ≡ selection_by (option_or fixed evidence) leaders
+fixes_by (Some f) None leaders = refl
+fixes_by (Some f) (Some p) leaders = refl
+fixes_by None None leaders = refl
+fixes_by None (Some p) None = refl
+fixes_by None (Some p) (Some l) = refl
+
+-- where the leader's proposal stays, the evidence of an event alone changes the selection
+pub selection_fixes : {D K G C : Type 0} (x : Setting D K G C) (past : History D K G C) (event : Event D K G C) (evidence : Option (Proposal D)) → leaders_proposal x (event ∷ past) ≡ leaders_proposal x past →
+    fixing_evidence event ≡ evidence → selection x (event ∷ past) ≡ fixes (selection x past) evidence
+selection_fixes x past event evidence leaders is =
+    ap (selection_by (option_or (fixed_proposal past) (fixing_evidence event))) leaders
+    ∙ (ap (λ o. selection_by (option_or (fixed_proposal past) o) (leaders_proposal x past)) is ∙ sym (fixes_by (fixed_proposal past) evidence (leaders_proposal x past)))
 
 -- a vote for a proposal is of a kind with proposals
 pub for_has_proposals : {G D : Type 0} (same : D → D → Bool) (p : Proposal D) (v : Vote G D) → is_for same p v ≡ true → has_proposals (kind_of v) ≡ true
@@ -46,22 +58,11 @@ for_has_proposals same p (NullifyVote v) h = absurd (cc)
 for_has_proposals same p (FinalizeVote v) h = refl
 
 module _ {D K G C : Type 0} (x : Setting D K G C) (lawful : HasLaws x) where
-  -- the same proposal is an equal one
-  pub proposals_equal : (p q : Proposal D) → same_proposal x.same_digest p q ≡ true → p ≡ q
-  proposals_equal p q h =
-      let parts = and_parts (same_round p.round q.round) (eqb p.parent.0 q.parent.0 && x.same_digest p.payload q.payload) h in
-      let rounds = and_parts (eqb p.round.epoch.0 q.round.epoch.0) (eqb p.round.view.0 q.round.view.0) parts.0 in
-      let others = and_parts (eqb p.parent.0 q.parent.0) (x.same_digest p.payload q.payload) parts.1 in
-      rebuilt_same _ _ _ _ _ _ _ _ (eqb-true _ _ rounds.0) (eqb-true _ _ rounds.1) (eqb-true _ _ others.0) (lawful.digests_equal _ _ others.1)
-
-  pub proposals_same : (p : Proposal D) → same_proposal x.same_digest p p ≡ true
-  proposals_same p = and_from _ _ (and_from _ _ (eq-eqb p.round.epoch.0 p.round.epoch.0 refl) (eq-eqb p.round.view.0 p.round.view.0 refl)) (and_from _ _ (eq-eqb p.parent.0 p.parent.0 refl) (lawful.digests_same p.payload))
-
   -- a vote is for one proposal at most
   pub for_one : (p q : Proposal D) (v : Vote G D) → is_for x.same_digest p v ≡ true → is_for x.same_digest q v ≡ true → p ≡ q
-  for_one p q (NotarizeVote v) h k = proposals_equal p v.proposal h ∙ sym (proposals_equal q v.proposal k)
+  for_one p q (NotarizeVote v) h k = proposal_is x.same_digest lawful.digests_equal p v.proposal h ∙ sym (proposal_is x.same_digest lawful.digests_equal q v.proposal k)
   for_one p q (NullifyVote v) h k = cc
-  for_one p q (FinalizeVote v) h k = proposals_equal p v.proposal h ∙ sym (proposals_equal q v.proposal k)
+  for_one p q (FinalizeVote v) h k = proposal_is x.same_digest lawful.digests_equal p v.proposal h ∙ sym (proposal_is x.same_digest lawful.digests_equal q v.proposal k)
 
   -- the leader's proposal stays
   pub leaders_stays : (past : History D K G C) (event : Event D K G C) (p : Proposal D) → leaders_proposal x past ≡ Some p → leaders_proposal x (event ∷ past) ≡ Some p
@@ -103,7 +104,7 @@ module _ {D K G C : Type 0} (x : Setting D K G C) (lawful : HasLaws x) where
   goes_on_by None (Some q) None l' stays = inl (refl, refl)
   goes_on_by None (Some q) (Some p) l' stays =
       ⊎_elim
-      (λ same. inr (inl (ap Some (sym (proposals_equal p q same)), rw same refl)))
+      (λ same. inr (inl (ap Some (sym (proposal_is x.same_digest lawful.digests_equal p q same)), rw same refl)))
       (λ differs. inr (inr (record { earlier = p; later = q; unfixed = refl; was = refl; differs = differs; becomes = refl; replaced = rw differs refl })))
       (cases_Bool (same_proposal x.same_digest p q))
 
@@ -116,9 +117,6 @@ module _ {D K G C : Type 0} (x : Setting D K G C) (lawful : HasLaws x) where
       GoesOnBy (fixed_proposal past) (fixing_evidence event) (leaders_proposal x past) (leaders_proposal x (event ∷ past))
   goes_on past event = goes_on_by _ _ _ _ (leaders_stays past event)
 
-  none_back : (past : History D K G C) (event : Event D K G C) (v : Vote G D) → replacement x past event ≡ None → comes_back x past event v ≡ false
-  none_back past event v h = rw h refl
-
   -- What comes back is for the new proposal, and was for no other before.
   pub record ComesBack (past : History D K G C) (event : Event D K G C) (v : Vote G D) : Type 0 where
     pub replaced : Replaced past event
@@ -128,29 +126,25 @@ module _ {D K G C : Type 0} (x : Setting D K G C) (lawful : HasLaws x) where
   pub comes_back_by : (past : History D K G C) (event : Event D K G C) (v : Vote G D) → comes_back x past event v ≡ true → ComesBack past event v
   comes_back_by past event v h =
       ⊎_elim
-      (λ unknown. let no : false ≡ true = sym (none_back past event v unknown.1) ∙ h in cc)
+      (λ unknown. let no : false ≡ true = sym (unreplaced x past event v unknown.1) ∙ h in cc)
       (⊎_elim
-      (λ same. let no : false ≡ true = sym (none_back past event v same.1) ∙ h in cc)
+      (λ same. let no : false ≡ true = sym (unreplaced x past event v same.1) ∙ h in cc)
       (λ (r : Replaced past event).
       let k : (is_for x.same_digest r.later v && not (is_certified (event ∷ past) (kind_of v))) ≡ true = subst (λ (o : Option (Proposal D)). (is_some_and o (λ p. is_for x.same_digest p v) && not (is_certified (event ∷ past) (kind_of v))) ≡ true) r.replaced h in
       let parts = and_parts (is_for x.same_digest r.later v) (not (is_certified (event ∷ past) (kind_of v))) k in
       record { replaced = r; is_new = parts.0; still = not-true (is_certified (event ∷ past) (kind_of v)) parts.1 }))
       (goes_on past event)
 
-  or_second : (a b : Bool) → b ≡ true → (a || b) ≡ true
-  or_second true b h = refl
-  or_second false b h = h
-
   pub back_waits_after : (past : History D K G C) (event : Event D K G C) (v : Vote G D) → comes_back x past event v ≡ true → waits x.same_digest (selected_proposal x (event ∷ past)) v ≡ true
   back_waits_after past event v h =
       let c = comes_back_by past event v h in
-      ap (λ o. waits x.same_digest o v) c.replaced.becomes ∙ or_second (not (has_proposals (kind_of v))) (is_for x.same_digest c.replaced.later v) c.is_new
+      ap (λ o. waits x.same_digest o v) c.replaced.becomes ∙ or_right (not (has_proposals (kind_of v))) (is_for x.same_digest c.replaced.later v) c.is_new
 
   not_for_both : (p q : Proposal D) (v : Vote G D) → same_proposal x.same_digest p q ≡ false → is_for x.same_digest q v ≡ true → is_for x.same_digest p v ≡ false
   not_for_both p q v differs for_q =
       false_from_ne_true _ (λ for_p.
       let e : p ≡ q = for_one p q v for_p for_q in
-      let same : same_proposal x.same_digest p q ≡ true = subst (λ (r : Proposal D). same_proposal x.same_digest p r ≡ true) e (proposals_same p) in
+      let same : same_proposal x.same_digest p q ≡ true = subst (λ (r : Proposal D). same_proposal x.same_digest p r ≡ true) e (same_proposals x.same_digest lawful.digests_same p) in
       let no : false ≡ true = sym differs ∙ same in cc)
 
   -- nor is it counted for the earlier proposal
@@ -181,7 +175,7 @@ module _ {D K G C : Type 0} (x : Setting D K G C) (lawful : HasLaws x) where
       (λ same. ap (λ o. waits x.same_digest o v) (sym same.0) ∙ h)
       (λ (r : Replaced past event).
       let k : (is_for x.same_digest r.later v && not (is_certified (event ∷ past) (kind_of v))) ≡ false = subst (λ (o : Option (Proposal D)). (is_some_and o (λ p. is_for x.same_digest p v) && not (is_certified (event ∷ past) (kind_of v))) ≡ false) r.replaced not_back in
-      let other : is_for x.same_digest r.later v ≡ false = sym (and_true (is_for x.same_digest r.later v)) ∙ (ap (λ b. is_for x.same_digest r.later v && not b) (sym still) ∙ k) in
+      let other : is_for x.same_digest r.later v ≡ false = sym (and-true (is_for x.same_digest r.later v)) ∙ (ap (λ b. is_for x.same_digest r.later v && not b) (sym still) ∙ k) in
       let l : (not (has_proposals (kind_of v)) || is_for x.same_digest r.later v) ≡ true = ap (λ o. waits x.same_digest o v) (sym r.becomes) ∙ h in
       ap (λ f. waits x.same_digest (proposal_of (selection_by f (leaders_proposal x past))) v) r.unfixed
       ∙ (ap (λ m. waits x.same_digest (proposal_of (selection_by None m)) v) r.was ∙ forced (not (has_proposals (kind_of v))) (is_for x.same_digest r.later v) (is_for x.same_digest r.earlier v) l other)))
