@@ -17,11 +17,8 @@ bench: crates/batcher_bench/out/batcher_bench
 crates/batcher_bench/out/batcher_bench: $(wildcard crates/batcher/src/*.rt crates/batcher/src/*/*.rt crates/batcher_bench/src/*.rt)
 	cd crates/batcher_bench && rt run > /dev/null
 
-# What tools/refuse runs. The gate has built both by then.
-crates/batcher/out/batcher_tests: $(wildcard crates/batcher/src/*.rt crates/batcher/src/*/*.rt)
-	cd crates/batcher && rt test > /dev/null
-
-crates/batcher_script/out/batcher_script_tests: $(wildcard crates/batcher/src/*.rt crates/batcher/src/*/*.rt crates/batcher_script/src/*.rt crates/batcher_script/src/*/*.rt)
+# What tools/refuse runs. The gate has built it by then.
+crates/batcher_script/out/batcher_script_tests: $(wildcard crates/batcher/src/*.rt crates/batcher/src/*/*.rt crates/batcher_script/src/*.rt crates/batcher_script/src/*/*.rt crates/batcher_script/src/*/*/*.rt)
 	cd crates/batcher_script && rt test > /dev/null
 
 test:

@@ -34,7 +34,6 @@ module _ {D K G C : Type 0} (x : Setting D K G C) where
   answered-push past (c ∷ calls) [] call answer before now = absurd before
   answered-push past (c ∷ calls) (a ∷ answers) call answer before now = (before.0, answered-push (history_after past c a) calls answers call answer before.1 now)
 
-
 module _ {D K G C : Type 0} (x : Setting D K G C) where
   -- A call that is followed is answered as the history names.
   pub named : {past : History D K G C} {old : Held G D} {call : Call K G C D} {answer : Answer G C D} {new : Held G D} → Follows x past old (call, answer) new →

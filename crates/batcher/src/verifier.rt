@@ -231,14 +231,14 @@ impl<S: Scheme<D>, D: Digest> Verifier<S, D> {
     }
 
     /// Whether a certificate of the kind is there.
-    pub(crate) fn has_certificate(&self, kind: Kind) -> bool
+    pub fn has_certificate(&self, kind: Kind) -> bool
         ensures { result ≡ of_kind self.now.holds.certified kind }
     {
         self.state.buffers(kind).complete
     }
 
     /// The round of which the votes are.
-    pub(crate) fn round(&self) -> Round
+    pub fn round(&self) -> Round
         ensures { result ≡ self.now.number }
     {
         self.round
@@ -257,7 +257,7 @@ impl<S: Scheme<D>, D: Digest> Verifier<S, D> {
     }
 
     /// How many votes of the kind are pending, and how many verified.
-    pub(crate) fn lengths(&self, kind: Kind) -> (usize, usize)
+    pub fn lengths(&self, kind: Kind) -> (usize, usize)
         ensures pending { result.0 ≡ length (of_kind self.now.holds.pending kind) }
         ensures verified { result.1 ≡ length (of_kind self.now.holds.verified kind) }
     {

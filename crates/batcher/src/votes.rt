@@ -552,6 +552,3 @@ impl<'a, G: Copy, D: Digest> Iterator for KeptVotes<'a, G, D> {
         None
     }
 }
-
-#[cfg(test)]
-mod tests;

@@ -5,6 +5,8 @@ mod calls;
 mod play;
 mod print;
 mod script;
+#[cfg(test)]
+mod tests;
 
 use std::process::ExitCode;
 

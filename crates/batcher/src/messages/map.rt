@@ -110,7 +110,7 @@ impl<T: Attributable> AttributableMap<T> {
     }
 
     /// Makes room for one insert, and changes nothing else. Where there is room it takes no memory.
-    pub(crate) fn make_room(&mut self) -> Result<(), AllocError>
+    pub fn make_room(&mut self) -> Result<(), AllocError>
         ensures room { OnOk result (1 ≤ self.new.room) }
         ensures items { self.new.items ≡ self.old.items }
         ensures participants { self.new.participants ≡ self.old.participants }
@@ -120,7 +120,7 @@ impl<T: Attributable> AttributableMap<T> {
     }
 
     /// Puts the item in the place of its signer's, and answers that one. It takes no memory.
-    pub(crate) fn replace(&mut self, item: T) -> Option<T>
+    pub fn replace(&mut self, item: T) -> Option<T>
         ensures before { result ≡ item_of (λ x. (T.signed_by x).0) self.old.items (T.signed_by item).0 }
         ensures items { self.new.items ≡ replace_by (λ x. (T.signed_by x).0) item self.old.items }
         ensures participants { self.new.participants ≡ self.old.participants }
@@ -183,7 +183,7 @@ impl<T: Attributable> AttributableMap<T> {
     }
 
     /// The item at a place in the order of the signers. It takes no memory.
-    pub(crate) fn at(&self, i: usize) -> Option<&T>
+    pub fn at(&self, i: usize) -> Option<&T>
         ensures { option_copied result ≡ slice_get self.now.items i }
     {
         self.items.get(i)

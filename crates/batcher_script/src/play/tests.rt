@@ -1,3 +1,5 @@
+mod keeping;
+
 use super::*;
 use std::alloc::AllocError;
 use std::io;
@@ -154,10 +156,11 @@ impl Write for FailingWriter<'_> {
     }
 }
 
-fn first_run(alloc: Global) -> Result<(String, String), AllocError> {
+/// A script of these lines, and what is printed for it.
+fn written(alloc: Global, lines: &[(&str, &str)]) -> Result<(String, String), AllocError> {
     let mut script = String::new(alloc);
     let mut output = String::new(alloc);
-    for (line, answer) in FIRST_RUN {
+    for (line, answer) in lines {
         writeln!(script, "{line}")?;
         writeln!(output, "{answer}")?;
     }
@@ -166,7 +169,7 @@ fn first_run(alloc: Global) -> Result<(String, String), AllocError> {
 
 #[test]
 fn stops_where_a_read_fails(rt: HostRuntime) -> Result<(), Fail> {
-    let (script, output) = first_run(rt.alloc())?;
+    let (script, output) = written(rt.alloc(), &FIRST_RUN)?;
     for reads in 0..u8::MAX {
         let mut written = Vec::new(rt.alloc());
         let reader = FailingReader {
@@ -187,7 +190,7 @@ fn stops_where_a_read_fails(rt: HostRuntime) -> Result<(), Fail> {
 
 #[test]
 fn stops_where_a_write_fails(rt: HostRuntime) -> Result<(), Fail> {
-    let (script, output) = first_run(rt.alloc())?;
+    let (script, output) = written(rt.alloc(), &FIRST_RUN)?;
     for writes in 0..u8::MAX {
         let mut written = Vec::new(rt.alloc());
         let writer = FailingWriter {

@@ -19,16 +19,16 @@ loop-call-init g c =
     let round = c.args.round in
     let x = setting (g.S.Scheme.meaning round.scheme) g.S.PublicKey.Ord.cmp g.S.Signature.PartialEq.eq g.D.PartialEq.eq round.number round.mode in
     record {
-  stands = subst (Stands x []) (sym c.requires.fresh) (fresh_stands x);
-  answered = rw c.in_ok-answers.ensures.items tt;
-  runs = rw c.in_ok-answers.ensures.items (refl, refl);
-  certifies = rw c.in_ok-answers.ensures.items (λ k d below. absurd (omega arith));
-  told = rw c.in_ok-answers.ensures.items refl;
-  room = c.in_ok-answers.ensures.capacity;
-  scheme = refl;
-  number = refl;
-  mode = refl;
-}
+      stands = subst (Stands x []) (sym c.requires.fresh) (fresh_stands x);
+      answered = rw c.in_ok-answers.ensures.items tt;
+      runs = rw c.in_ok-answers.ensures.items (refl, refl);
+      certifies = rw c.in_ok-answers.ensures.items (λ k d below. absurd (omega arith));
+      told = rw c.in_ok-answers.ensures.items refl;
+      room = c.in_ok-answers.ensures.capacity;
+      scheme = refl;
+      number = refl;
+      mode = refl;
+    }
 
 pub loop-call-preserved : goal.loop-call-preserved
 loop-call-preserved g c =

@@ -1,7 +1,7 @@
 //! Worked examples of a verifier by itself, with their values typed from outside.
 
 use super::*;
-use crate::verifier::{LeaderFault, ProposalState, Verifier};
+use batcher::verifier::{LeaderFault, Verifier};
 
 type TestVerifier = Verifier<Keyed<true>, Digest>;
 
@@ -183,25 +183,5 @@ fn a_leader_has_its_own_notarize(rt: HostRuntime) -> Result<(), Fail> {
     let answer = verifier.set_leader(Participant::new(0), Some(&other));
     assert_eq!(rt; answer, Err(LeaderFault::NotFromLeader));
     assert_eq!(rt; verifier.leader(), None);
-    Ok(())
-}
-
-// Whether fixing the proposal changed the selected one, and whether it took another's place.
-fn fixes(verifier: &mut TestVerifier, byte: u8) -> (bool, bool) {
-    let update = verifier.set_proposal(ProposalState::Certificate(proposal(byte)));
-    (update.changed, update.replaced)
-}
-
-#[test]
-fn a_fixed_proposal_stays(rt: HostRuntime) -> Result<(), Fail> {
-    let scheme = keyed(rt.alloc(), 5)?;
-    let mut verifier = verifier_of_five(&rt, rt.alloc())?;
-    let leaders = signed_notarize(&scheme, 0);
-    let answer = verifier.set_leader(Participant::new(0), Some(&leaders));
-    assert!(rt; answer.is_ok());
-    assert_eq!(rt; fixes(&mut verifier, 2), (true, true));
-    assert_eq!(rt; fixes(&mut verifier, 2), (false, false));
-    assert_eq!(rt; fixes(&mut verifier, 3), (false, false));
-    assert!(rt; verifier.proposal().copied() == Some(proposal(2)));
     Ok(())
 }

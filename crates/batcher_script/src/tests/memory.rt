@@ -5,10 +5,10 @@
 //! for memory refused, then their second, and so on.
 
 use super::*;
-use crate::messages::{AttributableMap, Finalization};
-use crate::round::OwnFault;
-use crate::run::{Call, run};
-use crate::scheme::{Sealed, Verification};
+use batcher::messages::{AttributableMap, Finalization};
+use batcher::round::OwnFault;
+use batcher::run::{Call, run};
+use batcher::scheme::{Sealed, Verification};
 
 // What comes of a second try, where the first was refused.
 fn twice<T: Drop, E: Drop, F: Fn() -> Result<T, E>>(make: F) -> Result<T, E>

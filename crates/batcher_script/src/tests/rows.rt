@@ -1,11 +1,11 @@
 //! Worked examples, with their values typed from outside.
 
 use super::*;
-use crate::messages::{Attributable, AttributableMap};
-use crate::positions::{SetFault, quorum};
-use crate::round::{Admission, BlockReason};
-use crate::run::{Answer, Call, blocked, run};
-use crate::verifier::LeaderFault;
+use batcher::messages::{Attributable, AttributableMap};
+use batcher::positions::{SetFault, quorum};
+use batcher::round::{Admission, BlockReason};
+use batcher::run::{Answer, Call, blocked, run};
+use batcher::verifier::LeaderFault;
 use std::fmt::Display;
 
 #[test]

@@ -1,4 +1,4 @@
-//! The test schemes, and one that is written as from outside the crate.
+//! The test schemes, and one that is written outside the library.
 
 ghost use Rattle.std.specs.Prelude.{◌≡◌, ◌&&◌, true, Option, Some, nat_lt, length, IfOk, IfErr, OnOk};
 ghost use Rattle.std.specs.Result.{result_ok};
@@ -6,7 +6,7 @@ ghost use Rattle.rand_core.specs.Stream.{Stream};
 ghost use Rattle.batcher.specs.Attestations.{Sorts};
 
 use super::*;
-use crate::scheme::{Sealed, Verification};
+use batcher::scheme::{Sealed, Verification};
 use rand_core::CryptoRng;
 
 fn hex(alloc: Global, bytes: &[u8]) -> Result<String, Fail> {

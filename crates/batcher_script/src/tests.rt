@@ -1,6 +1,6 @@
-//! Tests of what no clause says: values from outside, and that a call succeeds where memory is
-//! there, and again where it was refused once. What rounds answer is shown by the scripts of
-//! `vectors/`.
+//! Tests of the library, of what no clause says: values from outside, and that a call succeeds
+//! where memory is there, and again where it was refused once. What rounds answer is shown by the
+//! scripts of `vectors/`.
 //!
 //! A test is proved safe before it runs, and what its calls promise is carried to its end. So the
 //! calls of a round stand in functions that promise nothing.
@@ -10,14 +10,14 @@ mod rows;
 mod schemes;
 mod verifiers;
 
-use crate::messages::{
+use batcher::messages::{
     Attestation, Certificate, Finalize, Kind, Notarize, Nullify, Proposal, Sha256Digest, Subject,
     Vote,
 };
-use crate::positions::{self, Epoch, Participant, Set, View};
-use crate::round::Round;
-use crate::scheme::{AttestationList, Counter, Keyed, Name, Scheme};
-use crate::verifier::Batch;
+use batcher::positions::{self, Epoch, Participant, Set, View};
+use batcher::round::Round;
+use batcher::scheme::{AttestationList, Counter, Keyed, Name, Scheme};
+use batcher::verifier::Batch;
 use std::alloc::{AllocError, Global};
 use std::process::Abort;
 use std::rc::Rc;
