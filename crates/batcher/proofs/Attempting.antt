@@ -1,7 +1,8 @@
 -- Whom an attempt names, what it leaves, and what has been tried.
 use Rattle.std.proofs.Common.{inl, inr, ◌≡◌, ℕ, ◌+◌, ◌≤◌, Bool, true, false, not, cond, ◌&&◌, ◌||◌, ◌⊎◌, List, [], ◌∷◌, ◌++◌, length, map, Option, Some, None, refl, ap, sym, ◌∙◌, arith, ⊎_elim, eqb, ltb, leb, subst, length-append}
 use Rattle.std.specs.Prelude.{filter, is_some, IfSome}
-use Rattle.std.proofs.lemmas.Bool.{cases_Bool, and_parts, and_from, or_cases, cond_both, false_from_ne_true, leb-true, le-leb, or_right}
+use Rattle.std.proofs.lemmas.Bool.{cases_Bool, and_parts, and_from, or_cases, cond_both, false_from_ne_true, leb-true, le-leb, or_right, true≢false}
+use Rattle.std.proofs.lemmas.Option.{same_Some}
 use Rattle.batcher.specs.Answers.{IsPossible, MayAnswer}
 use Rattle.batcher.specs.Buffering.{have_one_subject, is_enough}
 use Rattle.batcher.specs.FirstVotes.{first_vote, first_votes}
@@ -108,6 +109,12 @@ pub counted_grows : {X : Type 0} (counted : Option X → Bool) (l l' : Option X)
     (counted None ≡ true → counted l' ≡ true) → counted l ≡ true → counted l' ≡ true
 counted_grows counted None l' stays unknown h = unknown h
 counted_grows counted (Some p) l' stays unknown h = ap counted (stays p refl) ∙ h
+
+-- a choice of two that both go on
+or_weaker : (l r a b a' b' : Bool) → l ≡ (a || b) → r ≡ (a' || b') → (a ≡ true → a' ≡ true) → (b ≡ true → b' ≡ true) → l ≡ true → r ≡ true
+or_weaker l r true b a' b' is now first second h = rw (now, first refl) refl
+or_weaker l r false true a' b' is now first second h = rw (now, second refl) (or_right a' true refl)
+or_weaker l r false false a' b' is now first second h = absurd (true≢false (sym h ∙ is))
 
 or_first : (a b : Bool) → (a || false) ≡ true → (a || b) ≡ true
 or_first true b h = refl
@@ -238,11 +245,9 @@ module _ {D K G C : Type 0} (x : Setting D K G C) where
   pub invalid_tried : (past : History D K G C) → IsPossible x past → (v : Vote G D) → was_invalid (trials x past) v ≡ true → stood_before (trials x past) v ≡ true
   invalid_tried [] possible v h = cc
   invalid_tried (event ∷ past) possible v h =
-      tried_after x past event v
-      ∙ ⊎_elim
-      (λ now. ap (λ b. b || stood_before (trials x past) v) (and_from _ _ (and_parts _ _ now).0 (tried_now (and_parts _ _ now).0 (and_parts _ _ now).1)))
-      (λ before. ap (λ b. (tries_kind x past event.1 (kind_of v) && is_among (signer_of v) (map signer_of (standing_votes x past (kind_of v)))) || b) (invalid_tried past possible.1.1.1 v before) ∙ or_right _ true refl)
-      (or_cases _ _ (sym (invalid_after x past event v) ∙ h))
+      or_weaker _ _ _ _ _ _ (invalid_after x past event v) (tried_after x past event v)
+      (λ now. and_from _ _ (and_parts _ _ now).0 (tried_now (and_parts _ _ now).0 (and_parts _ _ now).1))
+      (invalid_tried past possible.1.1.1 v) h
     where
       waits_if_bad : (o : Option (Vote G D)) → is_some_and o (is_fresh_bad past) ≡ true → is_some_and o (waits x.same_digest (selected_proposal x past)) ≡ true
       waits_if_bad None e = e
@@ -300,6 +305,32 @@ module _ {D K G C : Type 0} (x : Setting D K G C) where
     pub kind_is : kind_of vote ≡ kind
     pub certified_kind : kind_certified c ≡ kind
 
+  -- by the first of the votes that it looked at
+  witnessed_by : HasLaws x → (past : History D K G C) (kind : Kind) (verified pending : List (Vote G D)) (batch : Batch (Certificate C D)) (c : Certificate C D) (v : Vote G D) (rest : List (Vote G D)) →
+      verified ++ votes_checked (quorum_in x) verified pending ≡ v ∷ rest →
+      Attempt x verified pending batch → SameElements verified (proven_votes x past kind) → SameElements pending (fresh_votes x past kind) → batch.certificate ≡ Some c →
+      Witnessed verified pending batch kind c
+  witnessed_by lawful past kind verified pending batch c v rest is tried verified_are pending_are given =
+      let none_other : count (λ w. not (is_of_kind kind w)) (verified ++ votes_checked (quorum_in x) verified pending) ≡ 0 =
+      count-append (λ w. not (is_of_kind kind w)) verified (votes_checked (quorum_in x) verified pending)
+      ∙ (ap (λ n. n + count (λ w. not (is_of_kind kind w)) (votes_checked (quorum_in x) verified pending)) (verified_are (λ w. not (is_of_kind kind w)) ∙ proven_of_kind past kind)
+      ∙ ap (λ n. 0 + n) (tried_none (λ w. not (is_of_kind kind w)) verified pending (pending_are (λ w. not (is_of_kind kind w)) ∙ fresh_of_kind past kind))) in
+      let all_of : are_of x tried.subject (v ∷ rest) ≡ true = subst (λ (vs : List (Vote G D)). are_of x tried.subject vs ≡ true) is tried.one_subject in
+      let of_vote = (and_parts _ _ all_of).0 in
+      let certifies : certifies_subject x tried.subject c ≡ true = subst (λ (o : Option (Certificate C D)). IfSome o (λ d. certifies_subject x tried.subject d ≡ true)) given tried.certified in
+      let of_certificate = (and_parts _ _ certifies).0 in
+      let is_kind_now : kind_of v ≡ kind = is_kind-true _ _ (first_of_kind kind (verified ++ votes_checked (quorum_in x) verified pending) v rest is none_other) in
+      record {
+        vote = v;
+        rest = rest;
+        looked_at = is;
+        subject = tried.subject;
+        of_vote = of_vote;
+        of_certificate = of_certificate;
+        kind_is = is_kind_now;
+        certified_kind = sym (kind_of_certificate c) ∙ (sym (ap kind_in (subject_is x.same_digest lawful.digests_equal tried.subject (subject_certified c) of_certificate)) ∙ (ap kind_in (subject_is x.same_digest lawful.digests_equal tried.subject (subject_of v) of_vote) ∙ (kind_of_vote v ∙ is_kind_now)));
+      }
+
   pub witnessed : HasLaws x → (past : History D K G C) (kind : Kind) (verified pending : List (Vote G D)) (batch : Batch (Certificate C D)) (c : Certificate C D) →
       Attempt x verified pending batch → SameElements verified (proven_votes x past kind) → SameElements pending (fresh_votes x past kind) → batch.certificate ≡ Some c →
       Witnessed verified pending batch kind c
@@ -307,26 +338,7 @@ module _ {D K G C : Type 0} (x : Setting D K G C) where
       let reached : quorum_in x ≤ length verified + length (votes_checked (quorum_in x) verified pending) = reached_by x verified pending batch tried (ap is_some given) in
       let some : 1 ≤ length (verified ++ votes_checked (quorum_in x) verified pending) = omega (arith, quorum_positive lawful, length-append verified (votes_checked (quorum_in x) verified pending), reached) in
       let head = head_of (verified ++ votes_checked (quorum_in x) verified pending) some in
-      let none_other : count (λ v. not (is_of_kind kind v)) (verified ++ votes_checked (quorum_in x) verified pending) ≡ 0 =
-      count-append (λ v. not (is_of_kind kind v)) verified (votes_checked (quorum_in x) verified pending)
-      ∙ (ap (λ n. n + count (λ v. not (is_of_kind kind v)) (votes_checked (quorum_in x) verified pending)) (verified_are (λ v. not (is_of_kind kind v)) ∙ proven_of_kind past kind)
-      ∙ ap (λ n. 0 + n) (tried_none (λ v. not (is_of_kind kind v)) verified pending (pending_are (λ v. not (is_of_kind kind v)) ∙ fresh_of_kind past kind))) in
-      let of_kind = first_of_kind kind (verified ++ votes_checked (quorum_in x) verified pending) head.0 head.1 head.2 none_other in
-      let all_of : are_of x tried.subject (head.0 ∷ head.1) ≡ true = subst (λ (vs : List (Vote G D)). are_of x tried.subject vs ≡ true) head.2 tried.one_subject in
-      let of_vote = (and_parts _ _ all_of).0 in
-      let certifies : certifies_subject x tried.subject c ≡ true = subst (λ (o : Option (Certificate C D)). IfSome o (λ c. certifies_subject x tried.subject c ≡ true)) given tried.certified in
-      let of_certificate = (and_parts _ _ certifies).0 in
-      let is_kind_now : kind_of head.0 ≡ kind = is_kind-true _ _ of_kind in
-      record {
-        vote = head.0;
-        rest = head.1;
-        looked_at = head.2;
-        subject = tried.subject;
-        of_vote = of_vote;
-        of_certificate = of_certificate;
-        kind_is = is_kind_now;
-        certified_kind = sym (kind_of_certificate c) ∙ (sym (ap kind_in (subject_is x.same_digest lawful.digests_equal tried.subject (subject_certified c) of_certificate)) ∙ (ap kind_in (subject_is x.same_digest lawful.digests_equal tried.subject (subject_of head.0) of_vote) ∙ (kind_of_vote head.0 ∙ is_kind_now)));
-      }
+      witnessed_by lawful past kind verified pending batch c head.0 head.1 head.2 tried verified_are pending_are given
 
   -- with a certificate it certifies the kind that was tried
   pub given_certified : HasLaws x → (past : History D K G C) (call : Call K G C D) (answer : Answer G C D) (kind : Kind) (verified pending : List (Vote G D)) (batch : Batch (Certificate C D)) →
@@ -365,11 +377,7 @@ module _ {D K G C : Type 0} (x : Setting D K G C) where
       counted_grows (λ o. is_counted x o v) (leaders_proposal x past) (leaders_proposal x (event ∷ past)) (leaders_stays x lawful past event) (or_first (not (has_proposals (kind_of v))) (is_some_and (leaders_proposal x (event ∷ past)) (λ p. is_for x.same_digest p v)))
       (⊎_elim
       (λ now. tried_now (and_parts _ _ now).0 (and_parts _ _ now).1)
-      (λ before.
-      let w = some_of (first_vote x past (kind_of v) (signer_of v)) (tried_filled x past v before) in
-      let stays : first_vote x (event ∷ past) (kind_of v) (signer_of v) ≡ Some w.0 = first_stays x past event (kind_of v) (signer_of v) w.0 w.1 in
-      let same : w.0 ≡ v = cc in
-      tried_counts lawful past possible.1.1.1 v (w.1 ∙ ap Some same) unfixed_before before still_before)
+      (λ before. tried_counts lawful past possible.1.1.1 v (found_before before) unfixed_before before still_before)
       (or_cases _ _ (sym (tried_after x past event v) ∙ h)))
     where
       unfixed_before : fixed_proposal past ≡ None
@@ -378,19 +386,23 @@ module _ {D K G C : Type 0} (x : Setting D K G C) where
       still_before : is_certified past (kind_of v) ≡ false
       still_before = certified_before past event (kind_of v) still
 
+      found_before : stood_before (trials x past) v ≡ true → IsAt (first_votes x past) v
+      found_before before =
+          let w = some_of (first_vote x past (kind_of v) (signer_of v)) (tried_filled x past v before) in
+          w.1 ∙ ap Some (same_Some w.0 v (sym (first_stays x past event (kind_of v) (signer_of v) w.0 w.1) ∙ found))
+
       selected_is : selected_proposal x past ≡ leaders_proposal x past
       selected_is = ap (λ f. proposal_of (selection_by f (leaders_proposal x past))) unfixed_before ∙ unfixed_selects (leaders_proposal x past)
 
       tried_now : tries_kind x past event.1 (kind_of v) ≡ true → is_among (signer_of v) (map signer_of (standing_votes x past (kind_of v))) ≡ true → is_counted x (leaders_proposal x past) v ≡ true
       tried_now tries among =
           let w = where_holds (waits x.same_digest (selected_proposal x past)) (first_vote x past (kind_of v) (signer_of v)) (and_parts (not (is_certified past (kind_of v) || is_skipped x.mode)) (is_some_and (first_vote x past (kind_of v) (signer_of v)) (waits x.same_digest (selected_proposal x past))) (sym (among_standing x past (kind_of v) (signer_of v)) ∙ among)).1 in
-          let stays : first_vote x (event ∷ past) (kind_of v) (signer_of v) ≡ Some w.0 = first_stays x past event (kind_of v) (signer_of v) w.0 w.1 in
-          let same : w.0 ≡ v = cc in
+          let same = same_Some w.0 v (sym (first_stays x past event (kind_of v) (signer_of v) w.0 w.1) ∙ found) in
           let waited : waits x.same_digest (selected_proposal x past) v ≡ true = subst (λ (u : Vote G D). waits x.same_digest (selected_proposal x past) u ≡ true) same w.2 in
           ⊎_elim
           (λ none.
           ⊎_elim
-          (λ has. let no : true ≡ false = sym (unselected_gives lawful past event.0 event.1 (kind_of v) possible.1.1.0 tries (selected_is ∙ none) has) ∙ still in cc)
+          (λ has. absurd (true≢false (sym (unselected_gives lawful past event.0 event.1 (kind_of v) possible.1.1.0 tries (selected_is ∙ none) has) ∙ still)))
           (λ has_none. rw has_none refl)
           (cases_Bool (has_proposals (kind_of v))))
           (λ (some : (p : Proposal D) × (leaders_proposal x past ≡ Some p)).

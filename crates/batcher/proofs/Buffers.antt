@@ -95,6 +95,9 @@ pub count_ordered : {X : Type 0} (test : X → Bool) (number : X → ℕ) (vs : 
 count_ordered test number [] = refl
 count_ordered test number (v ∷ vs) = count_inserted test number v (ordered_by number vs) ∙ ap (λ n. cond (test v) 1 0 + n) (count_ordered test number vs)
 
+count-three : {X : Type 0} (test : X → Bool) (xs ys zs : List X) → count test (xs ++ ys ++ zs) ≡ (count test xs + count test ys) + count test zs
+count-three test xs ys zs = count-append test (xs ++ ys) zs ∙ ap (λ n. n + count test zs) (count-append test xs ys)
+
 module _ {D K G C : Type 0} (x : Setting D K G C) where
   -- the tests of the fresh votes after an event
   abbrev passes_after : History D K G C → Event D K G C → (Vote G D → Bool) → Vote G D → Bool
@@ -369,32 +372,47 @@ module _ {D K G C : Type 0} (x : Setting D K G C) (lawful : HasLaws x) where
       ∙ (count_ordered (λ v. comes_back x past event v && test v) signer_of (filter (is_of_kind kind) (first_votes x past))
       ∙ count-filter (λ v. comes_back x past event v && test v) (is_of_kind kind) (first_votes x past)))
 
+  -- what is left, what comes back and what is new
+  pending_counted : (past : History D K G C) (old : Held G D) (event : Event D K G C) (kind : Kind) (test : Vote G D → Bool) → (is_certified (event ∷ past) kind || is_skipped x.mode) ≡ false →
+      count test (pending_after x past old event kind)
+      ≡ (count (passes_after x past event test) (cond (tries_kind x past event.1 kind) [] (of_kind old.buffered.pending kind))
+      + count (passes_after x past event test) (filter (comes_back x past event) (of_kind old.tracked.kept kind)))
+      + count (passes_after x past event test) (arrivals x past kind (sent_votes x event.0))
+  pending_counted past old event kind test still =
+      count_waiting past event kind (cond (tries_kind x past event.1 kind) [] (of_kind old.buffered.pending kind) ++ filter (comes_back x past event) (of_kind old.tracked.kept kind) ++ arrivals x past kind (sent_votes x event.0)) test still
+      ∙ count-three (passes_after x past event test) (cond (tries_kind x past event.1 kind) [] (of_kind old.buffered.pending kind)) (filter (comes_back x past event) (of_kind old.tracked.kept kind)) (arrivals x past kind (sent_votes x event.0))
+
+  fresh_counted : (past : History D K G C) (event : Event D K G C) (kind : Kind) (test : Vote G D → Bool) → (is_certified (event ∷ past) kind || is_skipped x.mode) ≡ false →
+      count test (fresh_votes x (event ∷ past) kind) ≡ count (is_fresh x (event ∷ past) kind test) (new_votes x past event) + count (is_fresh x (event ∷ past) kind test) (first_votes x past)
+  fresh_counted past event kind test still =
+      count_fresh x (event ∷ past) kind test still ∙ count-append (is_fresh x (event ∷ past) kind test) (new_votes x past event) (first_votes x past)
+
+  pending_open : (past : History D K G C) (old : Held G D) (call : Call K G C D) (answer : Answer G C D) (kind : Kind) (test : Vote G D → Bool) → Stands x past old → MayAnswer x past call answer →
+      (is_certified ((call, answer) ∷ past) kind || is_skipped x.mode) ≡ false →
+      count test (pending_after x past old (call, answer) kind) ≡ count test (fresh_votes x ((call, answer) ∷ past) kind)
+  pending_open past old call answer kind test stands may still =
+      let before = open_before x past (call, answer) kind still in
+      sums (pending_counted past old (call, answer) kind test still)
+      (left_fresh past old (call, answer) kind (passes_after x past (call, answer) test) stands before)
+      (restored_count past old (call, answer) kind (passes_after x past (call, answer) test) stands before)
+      (new_are_fresh x past call answer kind test may)
+      (old_fresh past (call, answer) kind test stands.possible still)
+      (fresh_counted past (call, answer) kind test still)
+    where
+      sums : {all l r n m f g h now : ℕ} → all ≡ (l + r) + m → l ≡ f → r ≡ g → n ≡ m → f + g ≡ h → now ≡ n + h → all ≡ now
+      sums is a b c d e = omega (arith, is, a, b, c, d, e)
+
+  pending_closed : (past : History D K G C) (old : Held G D) (event : Event D K G C) (kind : Kind) (test : Vote G D → Bool) → (is_certified (event ∷ past) kind || is_skipped x.mode) ≡ true →
+      count test (pending_after x past old event kind) ≡ count test (fresh_votes x (event ∷ past) kind)
+  pending_closed past old event kind test closed =
+      ap (count test) (nothing_waits x (event ∷ past) kind (cond (tries_kind x past event.1 kind) [] (of_kind old.buffered.pending kind) ++ filter (comes_back x past event) (of_kind old.tracked.kept kind) ++ arrivals x past kind (sent_votes x event.0)) closed
+      ∙ sym (closed_is_empty x (event ∷ past) kind closed).0)
+
   -- The pending votes of a kind after a call are the fresh ones.
   pub pending_follow : (past : History D K G C) (old : Held G D) (call : Call K G C D) (answer : Answer G C D) (kind : Kind) → Stands x past old → MayAnswer x past call answer →
       SameElements (pending_after x past old (call, answer) kind) (fresh_votes x ((call, answer) ∷ past) kind)
   pending_follow past old call answer kind stands may test =
-      ⊎_elim
-      (λ closed. ap (count test) (nothing_waits x ((call, answer) ∷ past) kind _ closed ∙ sym (closed_is_empty x ((call, answer) ∷ past) kind closed).0))
-      (λ still.
-      let before = open_before x past (call, answer) kind still in
-      let W = passes_after x past (call, answer) test in
-      let left = cond (tries_kind x past answer kind) [] (of_kind old.buffered.pending kind) in
-      let restored = filter (comes_back x past (call, answer)) (of_kind old.tracked.kept kind) in
-      let arriving = arrivals x past kind (sent_votes x call) in
-      let all : count test (pending_after x past old (call, answer) kind) ≡ count W (left ++ restored ++ arriving) = count_waiting past (call, answer) kind (left ++ restored ++ arriving) test still in
-      let parts : count W (left ++ restored ++ arriving) ≡ (count W left + count W restored) + count W arriving = count-append W (left ++ restored) arriving ∙ ap (λ n. n + count W arriving) (count-append W left restored) in
-      let a : count W left ≡ count (λ v. not (tries_kind x past answer kind) && is_fresh x past kind W v) (first_votes x past) = left_fresh past old (call, answer) kind W stands before in
-      let b : count W restored ≡ count (λ v. is_of_kind kind v && (comes_back x past (call, answer) v && W v)) (first_votes x past) = restored_count past old (call, answer) kind W stands before in
-      let c : count (is_fresh x ((call, answer) ∷ past) kind test) (new_votes x past (call, answer)) ≡ count W arriving = new_are_fresh x past call answer kind test may in
-      let d : count (λ v. not (tries_kind x past answer kind) && is_fresh x past kind W v) (first_votes x past) + count (λ v. is_of_kind kind v && (comes_back x past (call, answer) v && W v)) (first_votes x past)
-      ≡ count (is_fresh x ((call, answer) ∷ past) kind test) (first_votes x past) = old_fresh past (call, answer) kind test stands.possible still in
-      let e : count test (fresh_votes x ((call, answer) ∷ past) kind) ≡ count (is_fresh x ((call, answer) ∷ past) kind test) (new_votes x past (call, answer)) + count (is_fresh x ((call, answer) ∷ past) kind test) (first_votes x past) =
-      count_fresh x ((call, answer) ∷ past) kind test still ∙ count-append (is_fresh x ((call, answer) ∷ past) kind test) (new_votes x past (call, answer)) (first_votes x past) in
-      all ∙ (parts ∙ (sums _ _ _ _ _ _ _ a b c d ∙ sym e)))
-      (cases_Bool (is_certified ((call, answer) ∷ past) kind || is_skipped x.mode))
-    where
-      sums : (l r n m f g h : ℕ) → l ≡ f → r ≡ g → n ≡ m → f + g ≡ h → (l + r) + m ≡ n + h
-      sums l r n m f g h a b c d = omega arith
+      ⊎_elim (pending_closed past old (call, answer) kind test) (pending_open past old call answer kind test stands may) (cases_Bool (is_certified ((call, answer) ∷ past) kind || is_skipped x.mode))
 
   -- THE VERIFIED VOTES
 
@@ -464,27 +482,40 @@ module _ {D K G C : Type 0} (x : Setting D K G C) (lawful : HasLaws x) where
       plus_none : (n m : ℕ) → m ≡ 0 → n ≡ n + m
       plus_none n m h = omega arith
 
+  verified_counted : (past : History D K G C) (old : Held G D) (event : Event D K G C) (kind : Kind) (test : Vote G D → Bool) → (is_certified (event ∷ past) kind || is_skipped x.mode) ≡ false →
+      count test (verified_after x past old event kind)
+      ≡ count (passes_after x past event test) (cond (tries_kind x past event.1 kind) (left_verified x (of_kind old.buffered.verified kind) (of_kind old.buffered.pending kind)) (of_kind old.buffered.verified kind))
+      + count (passes_after x past event test) (arrivals x past kind (own_votes event.0))
+  verified_counted past old event kind test still =
+      count_waiting past event kind (cond (tries_kind x past event.1 kind) (left_verified x (of_kind old.buffered.verified kind) (of_kind old.buffered.pending kind)) (of_kind old.buffered.verified kind) ++ arrivals x past kind (own_votes event.0)) test still
+      ∙ count-append (passes_after x past event test) (cond (tries_kind x past event.1 kind) (left_verified x (of_kind old.buffered.verified kind) (of_kind old.buffered.pending kind)) (of_kind old.buffered.verified kind)) (arrivals x past kind (own_votes event.0))
+
+  proven_counted : (past : History D K G C) (event : Event D K G C) (kind : Kind) (test : Vote G D → Bool) → (is_certified (event ∷ past) kind || is_skipped x.mode) ≡ false →
+      count test (proven_votes x (event ∷ past) kind) ≡ count (is_proven x (event ∷ past) kind test) (new_votes x past event) + count (is_proven x (event ∷ past) kind test) (first_votes x past)
+  proven_counted past event kind test still =
+      count_proven x (event ∷ past) kind test still ∙ count-append (is_proven x (event ∷ past) kind test) (new_votes x past event) (first_votes x past)
+
+  verified_open : (past : History D K G C) (old : Held G D) (call : Call K G C D) (answer : Answer G C D) (kind : Kind) (test : Vote G D → Bool) → Stands x past old → MayAnswer x past call answer → TriesBuffers x past old (call, answer) →
+      (is_certified ((call, answer) ∷ past) kind || is_skipped x.mode) ≡ false →
+      count test (verified_after x past old (call, answer) kind) ≡ count test (proven_votes x ((call, answer) ∷ past) kind)
+  verified_open past old call answer kind test stands may buffers still =
+      sums (verified_counted past old (call, answer) kind test still)
+      (left_proven past old (call, answer) kind (passes_after x past (call, answer) test) stands may buffers (or_parts _ _ still).0 (open_before x past (call, answer) kind still))
+      (new_are_proven x past call answer kind test stands.possible may)
+      (old_proven past old (call, answer) kind test stands may buffers still)
+      (proven_counted past (call, answer) kind test still)
+    where
+      sums : {all l n m f h now : ℕ} → all ≡ l + m → l ≡ f → n ≡ m → f ≡ h → now ≡ n + h → all ≡ now
+      sums is a c d e = omega (arith, is, a, c, d, e)
+
+  verified_closed : (past : History D K G C) (old : Held G D) (event : Event D K G C) (kind : Kind) (test : Vote G D → Bool) → (is_certified (event ∷ past) kind || is_skipped x.mode) ≡ true →
+      count test (verified_after x past old event kind) ≡ count test (proven_votes x (event ∷ past) kind)
+  verified_closed past old event kind test closed =
+      ap (count test) (nothing_waits x (event ∷ past) kind (cond (tries_kind x past event.1 kind) (left_verified x (of_kind old.buffered.verified kind) (of_kind old.buffered.pending kind)) (of_kind old.buffered.verified kind) ++ arrivals x past kind (own_votes event.0)) closed
+      ∙ sym (closed_is_empty x (event ∷ past) kind closed).1)
+
   -- The verified votes of a kind after a call are the proven ones.
   pub verified_follow : (past : History D K G C) (old : Held G D) (call : Call K G C D) (answer : Answer G C D) (kind : Kind) → Stands x past old → MayAnswer x past call answer → TriesBuffers x past old (call, answer) →
       SameElements (verified_after x past old (call, answer) kind) (proven_votes x ((call, answer) ∷ past) kind)
   verified_follow past old call answer kind stands may buffers test =
-      ⊎_elim
-      (λ closed. ap (count test) (nothing_waits x ((call, answer) ∷ past) kind _ closed ∙ sym (closed_is_empty x ((call, answer) ∷ past) kind closed).1))
-      (λ still.
-      let before = open_before x past (call, answer) kind still in
-      let W = passes_after x past (call, answer) test in
-      let left = cond (tries_kind x past answer kind) (left_verified x (of_kind old.buffered.verified kind) (of_kind old.buffered.pending kind)) (of_kind old.buffered.verified kind) in
-      let arriving = arrivals x past kind (own_votes call) in
-      let all : count test (verified_after x past old (call, answer) kind) ≡ count W (left ++ arriving) = count_waiting past (call, answer) kind (left ++ arriving) test still in
-      let parts : count W (left ++ arriving) ≡ count W left + count W arriving = count-append W left arriving in
-      let a : count W left ≡ count (is_proven x past kind W) (first_votes x past) + count (λ v. tries_kind x past answer kind && is_fresh x past kind (λ u. is_valid x u && W u) v) (first_votes x past) = left_proven past old (call, answer) kind W stands may buffers (or_parts _ _ still).0 before in
-      let c : count (is_proven x ((call, answer) ∷ past) kind test) (new_votes x past (call, answer)) ≡ count W arriving = new_are_proven x past call answer kind test stands.possible may in
-      let d : count (is_proven x past kind W) (first_votes x past) + count (λ v. tries_kind x past answer kind && is_fresh x past kind (λ u. is_valid x u && W u) v) (first_votes x past)
-      ≡ count (is_proven x ((call, answer) ∷ past) kind test) (first_votes x past) = old_proven past old (call, answer) kind test stands may buffers still in
-      let e : count test (proven_votes x ((call, answer) ∷ past) kind) ≡ count (is_proven x ((call, answer) ∷ past) kind test) (new_votes x past (call, answer)) + count (is_proven x ((call, answer) ∷ past) kind test) (first_votes x past) =
-      count_proven x ((call, answer) ∷ past) kind test still ∙ count-append (is_proven x ((call, answer) ∷ past) kind test) (new_votes x past (call, answer)) (first_votes x past) in
-      all ∙ (parts ∙ (sums _ _ _ _ _ a c d ∙ sym e)))
-      (cases_Bool (is_certified ((call, answer) ∷ past) kind || is_skipped x.mode))
-    where
-      sums : (l n m f h : ℕ) → l ≡ f → n ≡ m → f ≡ h → l + m ≡ n + h
-      sums l n m f h a c d = omega arith
+      ⊎_elim (verified_closed past old (call, answer) kind test) (verified_open past old call answer kind test stands may buffers) (cases_Bool (is_certified ((call, answer) ∷ past) kind || is_skipped x.mode))
