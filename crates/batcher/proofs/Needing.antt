@@ -1,7 +1,8 @@
 -- A call is refused for memory only where the history says that it may need some.
-use Rattle.std.proofs.Common.{◌≡◌, Bool, true, false, not, [], Option, Some, None, refl, ap, sym, ◌∙◌}
+use Rattle.std.proofs.Common.{◌≡◌, Bool, true, false, [], Option, Some, None, refl, ap, sym, ◌∙◌}
 use Rattle.std.specs.Prelude.{Result, Ok, Err, is_some, is_ok, IsOk, OnErr}
 use Rattle.std.specs.Result.{result_ok}
+use Rattle.std.proofs.lemmas.Bool.{not-false}
 use Rattle.batcher.specs.declared.messages.Vote.{Vote}
 use Rattle.batcher.specs.declared.messages.Kind.{Kind}
 use Rattle.batcher.specs.declared.messages.Certificate.{Certificate}
@@ -34,10 +35,6 @@ only_if false h = h refl
 none_if : {X : Type 0} (o : Option X) → is_some o ≡ false → o ≡ None
 none_if None h = refl
 none_if (Some v) h = absurd (cc)
-
-empty_if : (b : Bool) → not b ≡ false → b ≡ true
-empty_if true h = refl
-empty_if false h = absurd (cc)
 
 -- No own vote is at fault for memory.
 told_ok : (kind : Kind) (outcome : Outcome) → OutOfMemory ≡ fault_or_memory (unopposed_result kind outcome) → is_ok (unopposed_result kind outcome) ≡ true
@@ -73,7 +70,7 @@ module _ {D K G C : Type 0} (x : Setting D K G C) where
 
   pub certificate_needs : (past : History D K G C) (held : Held G D) (c : Certificate C D) → Stands x past held → (((kind : Kind) → restored_with x held c kind ≡ []) → false ≡ true) → needs_memory x past (CertificateCall c) ≡ true
   certificate_needs past held c stands refused =
-      only_if _ (λ none. refused (nothing_restored x past held c (certificate_answer x past c) stands (empty_if (is_empty (votes_restored_by x past (CertificateCall c, CertificateAnswer (certificate_answer x past c)))) none)))
+      only_if _ (λ none. refused (nothing_restored x past held c (certificate_answer x past c) stands (not-false (is_empty (votes_restored_by x past (CertificateCall c, CertificateAnswer (certificate_answer x past c)))) none)))
 
   pub construct_needs : HasLaws x → (past : History D K G C) (held : Held G D) → Stands x past held → (kind_tried x held ≡ None → false ≡ true) → needs_memory x past ConstructCall ≡ true
   construct_needs lawful past held stands refused =

@@ -30,4 +30,9 @@ worked =
       own_notarizes_come_back = refl;
       own_votes_apart = refl;
       second_leader = refl;
+      memory = refl;
+      memory_for_votes_that_come_back = refl;
+      memory_for_a_batch = refl;
+      votes_come_back_in_order = refl;
+      batch_leaves_the_good_ones = refl;
     }

@@ -11,7 +11,7 @@ use Rattle.batcher.specs.declared.messages.Attestation.{Attestation}
 use Rattle.batcher.specs.declared.messages.Vote.{Vote}
 use Rattle.batcher.specs.declared.messages.Vote.TheVariants.{Notarize as NotarizeVote, Nullify as NullifyVote, Finalize as FinalizeVote}
 use Rattle.batcher.specs.declared.messages.Kind.{Kind}
-use Rattle.batcher.specs.declared.messages.Kind.TheVariants.{Notarization, Finalization}
+use Rattle.batcher.specs.declared.messages.Kind.TheVariants.{Notarization, Nullification, Finalization}
 use Rattle.batcher.specs.declared.messages.Certificate.{Certificate}
 use Rattle.batcher.specs.declared.messages.Certificate.TheVariants.{Notarization as NotarizationCertificate, Nullification as NullificationCertificate, Finalization as FinalizationCertificate}
 use Rattle.batcher.specs.declared.messages.Activity.{Activity}
@@ -38,11 +38,13 @@ use Rattle.batcher.specs.Votes.{subject_of}
 use Rattle.batcher.specs.Attempts.{attempt_of}
 use Rattle.batcher.specs.Buffering.{attestations_of, batch_of}
 use Rattle.batcher.specs.Admissions.{addition, block_for, refusal, report_of}
+use Rattle.batcher.specs.Held.{PerKind, Held, for_each}
 use Rattle.batcher.specs.Steps.{leader_set_answer, report_by}
 use Rattle.batcher.specs.History.{History, history_after, history}
 use Rattle.batcher.specs.Selection.{leader_of, selection}
 use Rattle.batcher.specs.Standing.{proven_votes, fresh_votes, ready_kind}
-use Rattle.batcher.specs.Answers.{network_answer, own_answer, certificate_answer, forward_after, missing_after}
+use Rattle.batcher.specs.Stands.{pending_after, verified_after}
+use Rattle.batcher.specs.Answers.{network_answer, own_answer, certificate_answer, forward_after, missing_after, needs_memory}
 
 abbrev pub TinySetting : Type 0
 TinySetting = Setting ℕ ℕ ℕ ℕ
@@ -143,6 +145,20 @@ forward i = ForwardCall (participant i)
 abbrev pub missing : ℕ → TinyCall
 missing v = MissingCall (p v)
 
+-- a round that holds votes of one kind alone: those kept, the pending and the verified ones
+abbrev pub only : Kind → List TinyVote → PerKind (List TinyVote)
+only Notarization votes = record { notarize = votes; nullify = []; finalize = [] }
+only Nullification votes = record { notarize = []; nullify = votes; finalize = [] }
+only Finalization votes = record { notarize = []; nullify = []; finalize = votes }
+
+abbrev pub holding : Kind → List TinyVote → List TinyVote → List TinyVote → Held ℕ ℕ
+holding kind kept pending verified =
+    record {
+      tracked = record { compacted = for_each false; kept = only kind kept; facts = for_each [] };
+      buffered = record { leader = None; selection = Unknown; certified = for_each false; pending = only kind pending; verified = only kind verified };
+      forwarded = false;
+    }
+
 -- answers
 abbrev pub added : TinyVote → TinyAnswer
 added vote = NetworkAnswer (addition vote)
@@ -214,6 +230,14 @@ module _ (x : TinySetting) where
 
   abbrev pub lengths : List TinyCall → Kind → ℕ × ℕ
   lengths calls kind = (length (fresh_votes x (played calls) kind), length (proven_votes x (played calls) kind))
+
+  -- which of some calls may need memory after others, and the pending and the verified votes that one more call leaves
+  abbrev pub needs : List TinyCall → List TinyCall → List Bool
+  needs calls next = map (needs_memory x (played calls)) next
+
+  abbrev pub buffers_after : List TinyCall → Held ℕ ℕ → TinyCall → Kind → List TinyVote × List TinyVote
+  buffers_after calls held call kind =
+      (pending_after x (played calls) held (call, answer (played calls) call) kind, verified_after x (played calls) held (call, answer (played calls) call) kind)
 
 pub record WorkedExamples : Type 0 where
   -- An equal repeat is refused, another proposal is blocked and reported.
@@ -293,3 +317,19 @@ pub record WorkedExamples : Type 0 where
       ≡ OwnAnswer (Added false) (Some (report_of (finalize 2 1))) ∷ OwnRefused NullifyAfterFinalizeFault ∷ added (nullify 1) ∷ OwnRefused FinalizeAfterNullifyFault ∷ []
   -- Another leader than the first is refused.
   pub second_leader : answers (four Retaining) (lead 0 ∷ lead 0 ∷ lead 1 ∷ []) ≡ leads ∷ leads ∷ LeaderAnswer (Err LeaderChanged) ∷ []
+  -- A vote that is added, a certificate with which votes come back, a batch and a list of participants may need memory; nothing else does.
+  pub memory :
+      needs (four Retaining) (net 1 (notarize 1 1) ∷ []) (net 1 (notarize 1 1) ∷ net 2 (notarize 2 1) ∷ cert (notarization 1) ∷ lead 0 ∷ construct ∷ forward 3 ∷ missing 1 ∷ [])
+      ≡ false ∷ true ∷ false ∷ false ∷ false ∷ false ∷ true ∷ []
+  pub memory_for_votes_that_come_back :
+      needs (four Retaining) (lead 0 ∷ net 0 (notarize 0 1) ∷ net 1 (finalize 1 2) ∷ []) (cert (notarization 1) ∷ cert (notarization 2) ∷ own (finalize 1 1) ∷ own (finalize 2 1) ∷ [])
+      ≡ false ∷ true ∷ false ∷ true ∷ []
+  pub memory_for_a_batch : needs (round_of 1 Retaining) (own (notarize 0 1) ∷ []) (construct ∷ []) ≡ true ∷ []
+  -- Votes that come back stand in the order of their signers, behind what was pending; an own one is verified.
+  pub votes_come_back_in_order :
+      buffers_after (four Retaining) (lead 0 ∷ net 0 (notarize 0 1) ∷ net 2 (finalize 2 2) ∷ net 1 (finalize 1 2) ∷ []) (holding Finalization (finalize 1 2 ∷ finalize 2 2 ∷ []) [] []) (own (finalize 3 2)) Finalization
+      ≡ (finalize 1 2 ∷ finalize 2 2 ∷ [], finalize 3 2 ∷ [])
+  -- A batch without a certificate leaves none pending, and the good ones verified in the order in which they were pending.
+  pub batch_leaves_the_good_ones :
+      buffers_after (four Retaining) (net 2 (nullify 2) ∷ net 1 (bad_nullify 1) ∷ net 0 (nullify 0) ∷ []) (holding Nullification [] (nullify 2 ∷ bad_nullify 1 ∷ nullify 0 ∷ []) []) construct Nullification
+      ≡ ([], nullify 2 ∷ nullify 0 ∷ [])

@@ -33,6 +33,7 @@ pub struct Proposal<D> {
 }
 
 impl<D> Proposal<D> {
+    /// The proposal of a payload for a round. Nothing says that the parent is an earlier view.
     pub fn new(round: Round, parent: View, payload: D) -> Self
         ensures round { result.round ≡ round }
         ensures parent { result.parent ≡ parent }
@@ -129,6 +130,7 @@ impl<G, D> Vote<G, D> {
         }
     }
 
+    /// The kind of certificate that it is for.
     pub fn kind(&self) -> Kind
         ensures { result ≡ kind_of self.now }
     {
@@ -195,6 +197,7 @@ pub enum Kind {
 impl<C, D> Certificate<C, D> {
     ghost use Rattle.batcher.specs.Votes.{kind_certified};
 
+    /// The kind of votes that it is made of.
     pub fn kind(&self) -> Kind
         ensures { result ≡ kind_certified self.now }
     {

@@ -14,18 +14,21 @@ pub use list::Participants;
 pub struct Epoch(pub u64);
 
 impl Epoch {
+    /// The epoch of this number, the first being 0.
     pub const fn new(epoch: u64) -> Self
         ensures { result.0 ≡ epoch }
     {
         Epoch(epoch)
     }
 
+    /// The first epoch.
     pub const fn zero() -> Self
         ensures { result.0 ≡ 0 }
     {
         Epoch(0)
     }
 
+    /// The number of the epoch.
     pub const fn get(self) -> u64
         ensures { result ≡ self.0 }
     {
@@ -38,18 +41,21 @@ impl Epoch {
 pub struct View(pub u64);
 
 impl View {
+    /// The view of this number, the first being 0.
     pub const fn new(view: u64) -> Self
         ensures { result.0 ≡ view }
     {
         View(view)
     }
 
+    /// The first view of an epoch.
     pub const fn zero() -> Self
         ensures { result.0 ≡ 0 }
     {
         View(0)
     }
 
+    /// The number of the view.
     pub const fn get(self) -> u64
         ensures { result ≡ self.0 }
     {
@@ -65,6 +71,7 @@ pub struct Round {
 }
 
 impl Round {
+    /// The round of a view in an epoch.
     pub const fn new(epoch: Epoch, view: View) -> Self
         ensures epoch { result.epoch ≡ epoch }
         ensures view { result.view ≡ view }
@@ -72,12 +79,14 @@ impl Round {
         Round { epoch, view }
     }
 
+    /// The epoch that the round is in.
     pub const fn epoch(self) -> Epoch
         ensures { result ≡ self.epoch }
     {
         self.epoch
     }
 
+    /// The view that the round is of.
     pub const fn view(self) -> View
         ensures { result ≡ self.view }
     {
@@ -90,6 +99,7 @@ impl Round {
 pub struct Participant(pub u32);
 
 impl Participant {
+    /// The participant at this place, the first being 0. Whether there is one a round tells.
     pub const fn new(index: u32) -> Self
         ensures { result.0 ≡ index }
     {
@@ -103,6 +113,7 @@ impl Participant {
         Participant(index as u32)
     }
 
+    /// The participant's place, the first being 0.
     pub const fn get(self) -> u32
         ensures { result ≡ self.0 }
     {

@@ -198,7 +198,7 @@ impl<T: Attributable> AttributableMap<T> {
         ensures absent { IfErr result (λ i. (i ≤ length self.now.items) × (item_of (λ x. (T.signed_by x).0) self.now.items signer.0 ≡ None) × ((x : T) → (T.signed_by x).0 ≡ signer.0 → insert self.now.items i x ≡ insert_by (λ x. (T.signed_by x).0) x self.now.items)) }
     {
         if self.is_below(signer) {
-            Err(self.len())
+            Err(self.items.len())
         } else {
             self.searched_place(signer)
         }

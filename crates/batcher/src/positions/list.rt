@@ -21,6 +21,7 @@ impl Model for Participants {
 }
 
 impl Participants {
+    /// The participants, in the order that the answer has them.
     pub fn as_slice(&self) -> &[Participant]
         ensures { result.now ≡ self.now }
     {

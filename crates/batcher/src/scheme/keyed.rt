@@ -44,6 +44,7 @@ impl AttestationList {
         AttestationList { attestations }
     }
 
+    /// The attestations, in the order that they were listed.
     pub fn attestations(&self) -> &[Attestation<[u8; 32]>]
         ensures { result.now ≡ self.now }
     {

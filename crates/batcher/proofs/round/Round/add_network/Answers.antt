@@ -1,6 +1,7 @@
-use Rattle.std.proofs.Common.{None, rules, ◌==◌, Bool, ℕ, not, true, false, ◌≡◌, ◌∙◌, Some, ap, sym, refl}
+use Rattle.std.proofs.Common.{None, rules, ◌==◌, ◌≡◌, ◌∙◌, Some, ap, sym, refl}
 use Rattle.batcher.specs.Setting.{setting, sender_in}
 use Rattle.batcher.proofs.Admitting.{mismatched, objected, same_number, unopposed_admission, unopposed_step}
+use Rattle.std.proofs.lemmas.Bool.{not-true}
 use Rattle.std.proofs.lemmas.Result.{IfOk-weaker}
 use Rattle.batcher.specs.declared.run.Call.TheVariants.{Network as NetworkCall}
 use Rattle.batcher.specs.declared.run.Answer.TheVariants.{Network as NetworkAnswer}
@@ -11,13 +12,6 @@ use Rattle.batcher.specs.Stands.{Follows}
 use Rattle.batcher.proofs.Laws.{HasLaws}
 use Rattle.batcher.proofs.Arriving.{network_follows}
 use Rattle.batcher.proofs.round.Round.add_network.Goals as goal
-
-not_same : (a b : ℕ) → not (a == b) ≡ true → (a == b) ≡ false
-not_same a b h = by (a == b) h
-  where
-    by : (t : Bool) → not t ≡ true → t ≡ false
-    by true h = absurd (cc)
-    by false h = refl
 
 pub returns-in-Some-objection-clause-step : goal.returns-in-Some-objection-clause-step
 returns-in-Some-objection-clause-step g c =
@@ -52,7 +46,7 @@ returns-in-None-clause-step g c = search rules
 
 pub returns-then-ne-clause-step : goal.returns-then-ne-clause-step
 returns-then-ne-clause-step g c =
-    let other = not_same c.in-Some.index.0 c.signer.result.0 (sym c.ne.ensures ∙ c.if-ne.true) in
+    let other = not-true (c.in-Some.index.0 == c.signer.result.0) (sym c.ne.ensures ∙ c.if-ne.true) in
     rw (← c.self.view_is)
     (mismatched _ _ c.args.sender c.in-Some.index c.args.vote _ (rw (← c.participants.ensures, ← c.in-Some.is) (sym c.index.ensures.index)) (ap (λ n. c.in-Some.index.0 == n) (ap (λ p. p.0) (sym c.signer.ensures)) ∙ other)
     (c.blocked-then-ne.ensures ∙ ap (λ r. block_for r None) (c.mismatch_reason.ensures ∙ ap mismatch_reason c.kind.ensures)))
