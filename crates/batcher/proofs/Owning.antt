@@ -1,8 +1,9 @@
 -- What comes of own votes, and what certificates from outside keep right.
-use Rattle.std.specs.Prelude.{find, IsErrAnd, IfErr}
+use Rattle.std.specs.Prelude.{find, IsErrAnd, IfErr, MatchBool}
 use Rattle.std.proofs.Common.{◌≡◌, ◌∙◌, ◌≤◌, ◌==◌, ◌&&◌, ◌||◌, ◌++◌, [], ℕ, Bool, true, false, not, cond, nat_lt, List, filter, Option, Some, None, is_some, Result, Ok, Err, refl, sym, ap, subst, arith}
 use Rattle.batcher.specs.declared.messages.Proposal.{Proposal}
 use Rattle.batcher.specs.declared.messages.Vote.{Vote}
+use Rattle.batcher.specs.declared.messages.Activity.{Activity}
 use Rattle.batcher.specs.declared.messages.Kind.{Kind}
 use Rattle.batcher.specs.declared.messages.Kind.TheVariants.{Notarization, Nullification, Finalization}
 use Rattle.batcher.specs.declared.verifier.ProposalState.{ProposalState}
@@ -18,10 +19,10 @@ use Rattle.batcher.specs.Votes.{is_kind, kind_of, signer_of, is_vote_of, waits}
 use Rattle.batcher.specs.Selected.{proposal_of, updated, fixes, is_fixed}
 use Rattle.batcher.specs.Admissions.{admission_of, block_for, refusal, conflict_reason}
 use Rattle.std.proofs.lemmas.Option.{none-some}
-use Rattle.batcher.specs.Held.{PerKind, of_kind, Tracked, Buffered, Tracker}
-use Rattle.batcher.specs.Tracking.{Observed, unseen, in_full, as_facts, shown, observed, is_seen, is_known, kept_vote, conflicts_with, outcome_by, outcome_of, is_released_in, ReleasesKind, SameTracked}
-use Rattle.batcher.specs.Buffering.{MayFix, CompletesKind, coming_back}
-use Rattle.batcher.specs.Steps.{IsRight, WaitsWhereKept, objection_by, admission_by, opposite_fault, unopposed_result, duplicate_result, own_result_by, is_added, is_kept}
+use Rattle.batcher.specs.Held.{PerKind, of_kind, Tracked, Buffered, Tracker, Held}
+use Rattle.batcher.specs.Tracking.{Observed, unseen, in_full, as_facts, shown, observed, observed_opposite, is_seen, is_known, kept_vote, conflicts_with, outcome_by, outcome_of, is_released_in, RecordsKind, ReleasesKind, SameTracked}
+use Rattle.batcher.specs.Buffering.{AddsVote, MayFix, CompletesKind, coming_back}
+use Rattle.batcher.specs.Steps.{IsRight, WaitsWhereKept, AfterOwn, fixed_by, objection_by, admission_by, opposite_fault, unopposed_result, duplicate_result, own_result, own_result_by, report_by, is_added, is_kept}
 use Rattle.batcher.proofs.Fixing.{fixes_fixed, fixes_any}
 
 pub ok_is : {A B : Type 0} (a b : A) → ◌≡◌ {A = Result A B} (Ok a) (Ok b) → a ≡ b
@@ -215,3 +216,28 @@ module _ {D K G C : Type 0} (m : Meaning D K G C) (same : D → D → Bool) (tra
           compacted = λ kind. compacted_by kind (is_kind certified kind) refl;
           fixed = still_fixed for (is_kind certified Finalization) refl;
         }
+
+-- The step at an own vote, by what is done in turn: its proposal is fixed, and then it is recorded and waits.
+module _ {D K G C : Type 0} (x : Setting D K G C) (old new : Held G D) (vote : Vote G D) (outcome taken : Outcome) (fixed : Buffered G D) (participants : ℕ) where
+  pub own_step : (before : Tracked G D) (report : Option (Activity G D)) → own_result x old vote ≡ Ok outcome → report ≡ report_by outcome vote → new.forwarded ≡ old.forwarded →
+      MayFix x.same_digest old.buffered old.tracked.kept (fixed_by vote) fixed → before ≡ old.tracked → nat_lt (signer_of vote) participants ≡ true →
+      taken ≡ outcome_of x.same_digest participants before (proposal_of fixed.selection) vote →
+      ((kind : Kind) → RecordsKind x.same_digest before new.tracked (proposal_of fixed.selection) true vote kind) →
+      MatchBool (is_kept taken) (AddsVote x.same_digest fixed vote true new.buffered) (new.buffered ≡ fixed) →
+      AfterOwn x old vote outcome report new
+  own_step before report result report_is forwarded fixes_it same below took tracked waits_then =
+      let selects : proposal_of fixed.selection ≡ proposal_of (fixes old.buffered.selection (fixed_by vote)) = ap proposal_of (may_fix_selects x.same_digest old.buffered old.tracked.kept (fixed_by vote) fixed fixes_it) in
+      let recorded : taken ≡ outcome_by x.same_digest (proposal_of fixed.selection) (of_kind old.tracked.compacted (kind_of vote)) (observed old.tracked (kind_of vote) (signer_of vote)) vote =
+      took ∙ in_range x.same_digest participants before (proposal_of fixed.selection) vote below ∙ ap (λ h. outcome_by x.same_digest (proposal_of fixed.selection) (of_kind h.compacted (kind_of vote)) (observed h (kind_of vote) (signer_of vote)) vote) same in
+      let is : taken ≡ outcome = recorded
+      ∙ ap (λ s. outcome_by x.same_digest s (of_kind old.tracked.compacted (kind_of vote)) (observed old.tracked (kind_of vote) (signer_of vote)) vote) selects
+      ∙ sym (result_is (observed_opposite old.tracked vote) (kind_of vote) _ _ result) in
+      record {
+        outcome_is = result;
+        report_is = report_is;
+        forwarded = forwarded;
+        fixed = fixed;
+        fixes = fixes_it;
+        tracked = λ kind. subst (λ s. RecordsKind x.same_digest old.tracked new.tracked s true vote kind) selects (subst (λ h. RecordsKind x.same_digest h new.tracked (proposal_of fixed.selection) true vote kind) same (tracked kind));
+        buffered = subst (λ o. MatchBool (is_kept o) (AddsVote x.same_digest fixed vote true new.buffered) (new.buffered ≡ fixed)) is waits_then;
+      }

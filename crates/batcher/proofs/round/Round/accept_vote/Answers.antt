@@ -16,7 +16,7 @@ use Rattle.batcher.proofs.Laws.{HasLaws}
 use Rattle.batcher.proofs.Naming.{own_same}
 use Rattle.batcher.proofs.Casting.{own_follows}
 use Rattle.batcher.proofs.Rooms.{fixes_no_more}
-use Rattle.batcher.proofs.Owning.{err_only, ok_is, in_range, result_is, may_fix_selects, known_signer}
+use Rattle.batcher.proofs.Owning.{err_only, known_signer, ok_is, own_step, result_is}
 use Rattle.batcher.proofs.round.Round.accept_vote.Goals as goal
 
 pub returns-in_err-make_room_to_accept-clause-fault : goal.returns-in_err-make_room_to_accept-clause-fault
@@ -27,36 +27,14 @@ returns-in_err-make_room_to_accept-clause-fault g c =
 pub returns-clause-step : goal.returns-clause-step
 returns-clause-step g c =
     let b = c.self.inside in
-    let same = g.D.PartialEq.eq in
-    let vote = c.args.vote in
-    let held = b.votes.holds in
-    let old = b.verifier.holds in
-    let kind = kind_of vote in
-    let fixed = c.may_fix.new.verifier.holds in
-    let selected = proposal_of (fixes old.selection (fixed_by vote)) in
-    let outcome_at : Option (Proposal g.row.D.Denot) → Outcome = λ s. outcome_by same s (of_kind held.compacted kind) (observed held kind (signer_of vote)) vote in
     let result = sym c.own_result.ensures ∙ c.in_ok-outcome.was in
-    let fixes_it : MayFix same old held.kept (fixed_by vote) fixed = rw (c.in_ok-make_room_to_accept.ensures.holds, c.in_ok-make_room_to_accept.ensures.votes, c.fixed_by.ensures) at c.may_fix.ensures.fixes in
-    let selects : proposal_of fixed.selection ≡ selected = ap proposal_of (may_fix_selects same old held.kept (fixed_by vote) fixed fixes_it) in
-    let range = g.met.S.Scheme.lawful b.verifier.scheme in
-    let signer = range.signers_in_range (subject_of vote) (attestation_of vote) (rw (← c.self.view_is) at c.requires.attests) in
-    let below : nat_lt (signer_of vote) b.votes.participants ≡ true = rw c.self.invariant.bound (grind (arith, nat_tests, signer)) in
-    let took : c.in_ok-take_in.field-0 ≡ outcome_at selected =
-    (rw (c.in_ok-make_room_to_accept.ensures.votes, c.in_ok-make_room_to_accept.ensures.mode.1) at c.in_ok-take_in.ensures.outcome) ∙ in_range same b.votes.participants held _ vote below ∙ ap outcome_at selects in
-    let same_outcome : c.in_ok-take_in.field-0 ≡ c.in_ok-outcome.outcome = took ∙ sym (result_is (observed_opposite held vote) kind _ _ result) in
-    let tracked = λ (k : Kind).
-    subst (λ s. RecordsKind same held c.take_in.new.votes.holds s true vote k) selects
-    (subst (λ h. RecordsKind same h c.take_in.new.votes.holds (proposal_of fixed.selection) true vote k) c.in_ok-make_room_to_accept.ensures.votes (c.in_ok-take_in.ensures.tracked k)) in
+    let fixes_it = rw (c.in_ok-make_room_to_accept.ensures.holds, c.in_ok-make_room_to_accept.ensures.votes, c.fixed_by.ensures) at c.may_fix.ensures.fixes in
+    let signer = (g.met.S.Scheme.lawful b.verifier.scheme).signers_in_range (subject_of c.args.vote) (attestation_of c.args.vote) (rw (← c.self.view_is) at c.requires.attests) in
+    let below : nat_lt (signer_of c.args.vote) b.votes.participants ≡ true = rw c.self.invariant.bound (grind (arith, nat_tests, signer)) in
+    let took = rw c.in_ok-make_room_to_accept.ensures.mode.1 at c.in_ok-take_in.ensures.outcome in
     rw (← c.self.view_is)
-    (record {
-      outcome_is = result;
-      report_is = c.report_by.ensures;
-      forwarded = refl;
-      fixed = fixed;
-      fixes = fixes_it;
-      tracked = tracked;
-      buffered = subst (λ o. MatchBool (is_kept o) (AddsVote same fixed vote true c.take_in.new.verifier.holds) (c.take_in.new.verifier.holds ≡ fixed)) same_outcome c.in_ok-take_in.ensures.buffered;
-    })
+    (own_step _ _ _ c.args.vote _ c.in_ok-take_in.field-0 c.may_fix.new.verifier.holds b.votes.participants c.make_room_to_accept.new.votes.holds _ result c.report_by.ensures refl fixes_it
+    c.in_ok-make_room_to_accept.ensures.votes below took c.in_ok-take_in.ensures.tracked c.in_ok-take_in.ensures.buffered)
 
 pub returns-in_err-make_room_to_accept-clause-no_memory : goal.returns-in_err-make_room_to_accept-clause-no_memory
 returns-in_err-make_room_to_accept-clause-no_memory g c =
