@@ -1,4 +1,4 @@
-use Rattle.std.proofs.Common.{◌<◌, ◌∙◌, ap, arith}
+use Rattle.std.proofs.Common.{◌<◌, ap, arith}
 use Rattle.batcher.proofs.Orders.{insert_new, All-insert_by}
 use Rattle.batcher.proofs.Places.{place_absent, place_insert, place_within}
 use Rattle.batcher.proofs.messages.map.AttributableMap.insert_at.Goals as goal
@@ -13,7 +13,7 @@ pub returns-clause-items : goal.returns-clause-items
 returns-clause-items g c =
     let now = ap (λ v. v.items) c.self.view_is in
     let placed = place_insert (λ x. (g.T.Attributable.signed_by x).0) c.args.item c.self.inside.items.items c.args.place c.self.invariant.0 (rw (← now) at c.requires.place) in
-    rw (← now) (c.in_ok-insert.ensures.items ∙ placed)
+    rw (← now, c.in_ok-insert.ensures.items) placed
 
 pub invariant_of-self-2 : goal.invariant_of-self-2
 invariant_of-self-2 g c =
