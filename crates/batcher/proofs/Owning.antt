@@ -8,6 +8,7 @@ use Rattle.batcher.specs.declared.messages.Kind.{Kind}
 use Rattle.batcher.specs.declared.messages.Kind.TheVariants.{Notarization, Nullification, Finalization}
 use Rattle.batcher.specs.declared.verifier.ProposalState.{ProposalState}
 use Rattle.batcher.specs.declared.verifier.ProposalState.TheVariants.{Certificate as FixedProposal}
+use Rattle.batcher.specs.declared.round.OwnFault.{OwnFault}
 use Rattle.batcher.specs.declared.votes.Mode.{Mode}
 use Rattle.batcher.specs.declared.votes.Mode.TheVariants.{Retaining, Releasing, Skipped}
 use Rattle.batcher.specs.declared.votes.Outcome.{Outcome}
@@ -61,6 +62,14 @@ module _ {G D : Type 0} where
   unopposed unseen kind outcome h = refl
   unopposed (in_full vote) kind outcome h = absurd (cc)
   unopposed (as_facts facts) kind outcome h = absurd (cc)
+
+  pub own_result_of : (same : D → D → Bool) (held : Tracked G D) (vote : Vote G D) (selected s : Option (Proposal D)) (k : Kind) (o : Outcome) (r : Result Outcome OwnFault) → is_some (shown (observed_opposite held vote)) ≡ false → k ≡ kind_of vote →
+      o ≡ outcome_by same s (of_kind held.compacted (kind_of vote)) (observed held (kind_of vote) (signer_of vote)) vote → s ≡ selected → r ≡ unopposed_result k o →
+      r ≡ own_result_by (observed_opposite held vote) (kind_of vote) (outcome_by same selected (of_kind held.compacted (kind_of vote)) (observed held (kind_of vote) (signer_of vote)) vote)
+  own_result_of same held vote selected s k o r none kind_is outcome_is selects is =
+      let outcome : o ≡ outcome_by same selected (of_kind held.compacted (kind_of vote)) (observed held (kind_of vote) (signer_of vote)) vote =
+      outcome_is ∙ ap (λ s. outcome_by same s (of_kind held.compacted (kind_of vote)) (observed held (kind_of vote) (signer_of vote)) vote) selects in
+      is ∙ ap (λ k. unopposed_result k o) kind_is ∙ ap (λ o. unopposed_result (kind_of vote) o) outcome ∙ sym (unopposed (observed_opposite held vote) (kind_of vote) _ none)
 
   pub in_range : (same : D → D → Bool) (participants : ℕ) (held : Tracked G D) (selected : Option (Proposal D)) (vote : Vote G D) → nat_lt (signer_of vote) participants ≡ true
       → outcome_of same participants held selected vote ≡ outcome_by same selected (of_kind held.compacted (kind_of vote)) (observed held (kind_of vote) (signer_of vote)) vote

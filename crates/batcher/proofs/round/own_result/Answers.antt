@@ -1,10 +1,8 @@
 use Rattle.std.proofs.Common.{◌≡◌, ◌∙◌, false, is_some, ap, sym}
-use Rattle.batcher.specs.Votes.{kind_of, signer_of}
 use Rattle.batcher.specs.Selected.{proposal_of, fixes}
-use Rattle.batcher.specs.Held.{of_kind}
-use Rattle.batcher.specs.Tracking.{shown, observed, observed_opposite, outcome_by}
-use Rattle.batcher.specs.Steps.{unopposed_result, fixed_by}
-use Rattle.batcher.proofs.Owning.{unopposed, fixed_some, fixed_none}
+use Rattle.batcher.specs.Tracking.{shown, observed_opposite}
+use Rattle.batcher.specs.Steps.{fixed_by}
+use Rattle.batcher.proofs.Owning.{fixed_some, fixed_none, own_result_of}
 use Rattle.batcher.proofs.round.own_result.Goals as goal
 use Rattle.batcher.proofs.round.own_result.Goals.{in-Some, in-None}
 
@@ -19,5 +17,4 @@ returns g c =
       | in-Some w ↦ w.selected-is ∙ w.selected_with-selected.ensures ∙ fixed_some selection (fixed_by vote) w.in-Some.proposal (sym c.fixed_by.ensures ∙ w.in-Some.is)
       | in-None w ↦ w.selected-is ∙ w.copied-selected.ensures ∙ w.proposal.ensures ∙ fixed_none selection (fixed_by vote) (sym c.fixed_by.ensures ∙ w.in-None.is)
     ] in
-    let outcome = c.outcome_at.ensures ∙ ap (λ s. outcome_by g.D.PartialEq.eq s (of_kind held.compacted (kind_of vote)) (observed held (kind_of vote) (signer_of vote)) vote) selected in
-    c.unopposed_result.ensures ∙ ap (λ k. unopposed_result k c.outcome_at.result) c.kind-2.ensures ∙ ap (λ o. unopposed_result (kind_of vote) o) outcome ∙ sym (unopposed (observed_opposite held vote) (kind_of vote) _ none)
+    own_result_of g.D.PartialEq.eq held vote (proposal_of (fixes selection (fixed_by vote))) c.match-fixed_by.selected _ _ _ none c.kind-2.ensures c.outcome_at.ensures selected c.unopposed_result.ensures
