@@ -53,3 +53,4 @@ pub mod Staying
 pub mod Batching
 pub mod Needing
 pub mod Joining
+pub mod Failing

@@ -1,0 +1,14 @@
+-- What a call that fails, or that cannot, tells of its result.
+use Rattle.std.proofs.Common.{◌≡◌, true, false, Result, Ok, Err, is_err, IfOk, OnErr}
+
+pub so_false : {P : Type 0} → false ≡ true → P
+so_false h = absurd (cc)
+
+module _ {A E : Type 0} where
+  pub no_value : (Q : A → Type 0) (r : Result A E) → is_err r ≡ true → IfOk r Q
+  no_value Q (Ok v) h = so_false h
+  no_value Q (Err e) h = tt
+
+  pub whichever : {P : Type 0} (r : Result A E) → P → OnErr r P
+  whichever (Ok v) h = tt
+  whichever (Err e) h = h
