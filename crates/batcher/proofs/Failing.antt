@@ -1,4 +1,4 @@
--- What a call that fails, or that cannot, tells of its result.
+-- What is told of the result of a call that fails.
 use Rattle.std.proofs.Common.{◌≡◌, true, false, Result, Ok, Err, is_err, IfOk, OnErr}
 
 pub so_false : {P : Type 0} → false ≡ true → P

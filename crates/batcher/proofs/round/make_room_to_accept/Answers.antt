@@ -20,21 +20,6 @@ pub returns-in_err-make_room_to_fix-clause-no_memory : goal.returns-in_err-make_
 returns-in_err-make_room_to_fix-clause-no_memory g c = λ not_added enough.
     so_false (c.in_err-make_room_to_fix.ensures.no_memory (λ fixed is takes kind has own full. enough fixed (sym c.fixed_by.ensures ∙ is) takes kind has full))
 
-pub returns-in_err-make_room_to_fix-clause-holds : goal.returns-in_err-make_room_to_fix-clause-holds
-returns-in_err-make_room_to_fix-clause-holds g c = c.in_err-make_room_to_fix.ensures.holds
-
-pub returns-in_err-make_room_to_fix-clause-same : goal.returns-in_err-make_room_to_fix-clause-same
-returns-in_err-make_room_to_fix-clause-same g c = c.in_err-make_room_to_fix.ensures.same
-
-pub returns-in_err-make_room_to_fix-clause-mode : goal.returns-in_err-make_room_to_fix-clause-mode
-returns-in_err-make_room_to_fix-clause-mode g c = (refl, refl)
-
-pub returns-in_err-make_room_to_fix-clause-votes : goal.returns-in_err-make_room_to_fix-clause-votes
-returns-in_err-make_room_to_fix-clause-votes g c = refl
-
-pub returns-in_err-make_room_to_fix-clause-signers : goal.returns-in_err-make_room_to_fix-clause-signers
-returns-in_err-make_room_to_fix-clause-signers g c = refl
-
 pub returns-in_err-make_room-clause-to_fix : goal.returns-in_err-make_room-clause-to_fix
 returns-in_err-make_room-clause-to_fix g c = no_value _ c.from_residual-in_err-make_room.result c.from_residual-in_err-make_room.ensures.0
 
@@ -47,21 +32,6 @@ returns-in_err-make_room-clause-to_wait g c = no_value _ c.from_residual-in_err-
 pub returns-in_err-make_room-clause-no_memory : goal.returns-in_err-make_room-clause-no_memory
 returns-in_err-make_room-clause-no_memory g c = λ not_added enough.
     so_false (sym not_added ∙ sym c.is_added.ensures ∙ c.if-is_added.true)
-
-pub returns-in_err-make_room-clause-holds : goal.returns-in_err-make_room-clause-holds
-returns-in_err-make_room-clause-holds g c = c.in_ok-make_room_to_fix.ensures.holds
-
-pub returns-in_err-make_room-clause-same : goal.returns-in_err-make_room-clause-same
-returns-in_err-make_room-clause-same g c = c.in_ok-make_room_to_fix.ensures.same
-
-pub returns-in_err-make_room-clause-mode : goal.returns-in_err-make_room-clause-mode
-returns-in_err-make_room-clause-mode g c = (c.in_err-make_room.ensures.mode, c.in_err-make_room.ensures.participants)
-
-pub returns-in_err-make_room-clause-votes : goal.returns-in_err-make_room-clause-votes
-returns-in_err-make_room-clause-votes g c = c.in_err-make_room.ensures.holds
-
-pub returns-in_err-make_room-clause-signers : goal.returns-in_err-make_room-clause-signers
-returns-in_err-make_room-clause-signers g c = c.in_err-make_room.ensures.signers
 
 pub returns-in_err-make_room-2-clause-to_fix : goal.returns-in_err-make_room-2-clause-to_fix
 returns-in_err-make_room-2-clause-to_fix g c = no_value _ c.from_residual-in_err-make_room-2.result c.from_residual-in_err-make_room-2.ensures.0
@@ -123,9 +93,6 @@ returns-in_ok-make_room-2-clause-to_record g c = λ added.
       | else-is_added w ↦ so_false (sym w.if-is_added.false ∙ c.is_added.ensures ∙ added)
     ]
 
-pub returns-in_ok-make_room-2-clause-no_memory : goal.returns-in_ok-make_room-2-clause-no_memory
-returns-in_ok-make_room-2-clause-no_memory g c = λ not_added enough. refl
-
 pub returns-in_ok-make_room-2-clause-votes : goal.returns-in_ok-make_room-2-clause-votes
 returns-in_ok-make_room-2-clause-votes g c =
     elim c.if-is_added.branch [
@@ -153,21 +120,12 @@ returns-else-is_kept-clause-to_fix g c = λ proposal is takes kind has. c.in_ok-
 pub returns-else-is_kept-clause-to_wait : goal.returns-else-is_kept-clause-to_wait
 returns-else-is_kept-clause-to_wait g c = λ kept. so_false (sym c.if-is_kept.false ∙ c.is_kept.ensures ∙ kept)
 
-pub returns-else-is_kept-clause-holds : goal.returns-else-is_kept-clause-holds
-returns-else-is_kept-clause-holds g c = c.in_ok-make_room_to_fix.ensures.holds
-
-pub returns-else-is_kept-clause-same : goal.returns-else-is_kept-clause-same
-returns-else-is_kept-clause-same g c = c.in_ok-make_room_to_fix.ensures.same
-
 pub returns-else-is_kept-clause-to_record : goal.returns-else-is_kept-clause-to_record
 returns-else-is_kept-clause-to_record g c = λ added.
     elim c.if-is_added.branch [
       | then-is_added+in_ok-make_room w ↦ subst (λ v. 1 ≤ v.room) (sym w.votes-is) w.in_ok-make_room.ensures.room
       | else-is_added w ↦ so_false (sym w.if-is_added.false ∙ c.is_added.ensures ∙ added)
     ]
-
-pub returns-else-is_kept-clause-no_memory : goal.returns-else-is_kept-clause-no_memory
-returns-else-is_kept-clause-no_memory g c = λ not_added enough. refl
 
 pub returns-else-is_kept-clause-votes : goal.returns-else-is_kept-clause-votes
 returns-else-is_kept-clause-votes g c =

@@ -46,9 +46,6 @@ pub returns-in_err-outcome-clause-with_room : goal.returns-in_err-outcome-clause
 returns-in_err-outcome-clause-with_room g c = λ h.
     so_false (never_full _ _ c.in_err-outcome.ensures.known c.in_err-outcome.ensures.with_room h)
 
-pub record_at-requires-clause-place : goal.record_at-requires-clause-place
-record_at-requires-clause-place g c = c.requires.place
-
 pub record_at-requires-clause-range : goal.record_at-requires-clause-range
 record_at-requires-clause-range g c = subst (λ n. signer_of c.args.vote < n) (sym c.requires.right.bound) c.requires.range
 
@@ -63,15 +60,6 @@ returns-in_err-outcome-clause-buffered g c = no_value _ c.from_residual.result c
 
 pub returns-in_err-outcome-clause-refused : goal.returns-in_err-outcome-clause-refused
 returns-in_err-outcome-clause-refused g c = whichever c.from_residual.result (refl, c.in_err-outcome.ensures.err)
-
-pub returns-in_err-outcome-clause-same : goal.returns-in_err-outcome-clause-same
-returns-in_err-outcome-clause-same g c = (refl, refl, refl)
-
-pub returns-in_err-outcome-clause-mode : goal.returns-in_err-outcome-clause-mode
-returns-in_err-outcome-clause-mode g c = (c.in_err-outcome.ensures.mode, c.in_err-outcome.ensures.participants)
-
-pub add-requires-clause-attests : goal.add-requires-clause-attests
-add-requires-clause-attests g c = c.requires.attests
 
 pub returns-in_err-add-clause-outcome : goal.returns-in_err-add-clause-outcome
 returns-in_err-add-clause-outcome g c = no_value _ c.from_residual-in_err-add.result c.from_residual-in_err-add.ensures.0
@@ -94,12 +82,6 @@ pub returns-in_err-add-clause-with_room : goal.returns-in_err-add-clause-with_ro
 returns-in_err-add-clause-with_room g c = λ h.
     so_false (c.in_err-add.ensures.no_memory (room_for g.D.PartialEq.eq c.args.votes.now.participants c.args.votes.now.holds c.args.vote _ _ c.in_ok-outcome.outcome c.in_ok-outcome.ensures.outcome c.proposal.ensures (sym c.is_kept.ensures ∙ c.if-is_kept.true) c.requires.room))
 
-pub returns-in_err-add-clause-same : goal.returns-in_err-add-clause-same
-returns-in_err-add-clause-same g c = c.in_err-add.ensures.same
-
-pub returns-in_err-add-clause-mode : goal.returns-in_err-add-clause-mode
-returns-in_err-add-clause-mode g c = (c.in_ok-outcome.ensures.mode, c.in_ok-outcome.ensures.participants)
-
 pub returns-in_ok-add-clause-outcome : goal.returns-in_ok-add-clause-outcome
 returns-in_ok-add-clause-outcome g c =
     c.in_ok-outcome.ensures.outcome ∙ ap (λ s. outcome_of g.D.PartialEq.eq c.args.votes.now.participants c.args.votes.now.holds s c.args.vote) c.proposal.ensures
@@ -115,15 +97,6 @@ returns-in_ok-add-clause-buffered g c =
     let old = c.args.verifier.now.holds in
     subst (λ k. MatchBool k (AddsVote g.D.PartialEq.eq old c.args.vote c.args.verified new) (new ≡ old)) (sym kept) c.in_ok-add.ensures.adds
 
-pub returns-in_ok-add-clause-with_room : goal.returns-in_ok-add-clause-with_room
-returns-in_ok-add-clause-with_room g c = λ h. refl
-
-pub returns-in_ok-add-clause-same : goal.returns-in_ok-add-clause-same
-returns-in_ok-add-clause-same g c = c.in_ok-add.ensures.same
-
-pub returns-in_ok-add-clause-mode : goal.returns-in_ok-add-clause-mode
-returns-in_ok-add-clause-mode g c = (c.in_ok-outcome.ensures.mode, c.in_ok-outcome.ensures.participants)
-
 pub returns-else-is_kept-clause-outcome : goal.returns-else-is_kept-clause-outcome
 returns-else-is_kept-clause-outcome g c =
     c.in_ok-outcome.ensures.outcome ∙ ap (λ s. outcome_of g.D.PartialEq.eq c.args.votes.now.participants c.args.votes.now.holds s c.args.vote) c.proposal.ensures
@@ -137,15 +110,6 @@ returns-else-is_kept-clause-buffered g c =
     let kept = sym c.is_kept.ensures ∙ c.if-is_kept.false in
     let old = c.args.verifier.now.holds in
     subst (λ k. MatchBool k (AddsVote g.D.PartialEq.eq old c.args.vote c.args.verified old) (old ≡ old)) (sym kept) refl
-
-pub returns-else-is_kept-clause-with_room : goal.returns-else-is_kept-clause-with_room
-returns-else-is_kept-clause-with_room g c = λ h. refl
-
-pub returns-else-is_kept-clause-same : goal.returns-else-is_kept-clause-same
-returns-else-is_kept-clause-same g c = (refl, refl, refl)
-
-pub returns-else-is_kept-clause-mode : goal.returns-else-is_kept-clause-mode
-returns-else-is_kept-clause-mode g c = (c.in_ok-outcome.ensures.mode, c.in_ok-outcome.ensures.participants)
 
 pub returns-else-is_kept-clause-right : goal.returns-else-is_kept-clause-right
 returns-else-is_kept-clause-right g c =
