@@ -1,6 +1,21 @@
-use Rattle.std.proofs.Common.{arith, sym, ◌∙◌, ◌<◌, length}
+use Rattle.std.proofs.Common.{arith, sym, refl, ◌∙◌, ◌<◌, length}
 use Rattle.batcher.proofs.Pairing.{keeping_no, keeping_set, kept_all, waits_again}
 use Rattle.batcher.proofs.verifier.buffer.keep.Goals as goal
+
+pub loop-i-init : goal.loop-i-init
+loop-i-init g c = record { long = c.requires; filters = record { front = refl; rest = refl; behind = omega arith; within = omega arith; long = refl } }
+
+pub bounds-subjects-i : goal.bounds-subjects-i
+bounds-subjects-i g c = omega arith
+
+pub bounds-attestations-i : goal.bounds-attestations-i
+bounds-attestations-i g c = omega arith
+
+pub bounds-subjects-kept : goal.bounds-subjects-kept
+bounds-subjects-kept g c = omega (arith, c.loop-i.invariant.filters.behind)
+
+pub bounds-attestations-kept : goal.bounds-attestations-kept
+bounds-attestations-kept g c = omega (arith, c.loop-i.invariant.filters.behind)
 
 pub loop-i-preserved : goal.loop-i-preserved
 loop-i-preserved g c =
@@ -20,3 +35,6 @@ loop-i-preserved g c =
 
 pub returns-clause-votes : goal.returns-clause-votes
 returns-clause-votes g c = kept_all c.loop-i.invariant (omega arith) c.requires
+
+pub returns-clause-within : goal.returns-clause-within
+returns-clause-within g c = omega (arith, c.loop-i.invariant.filters.behind)
