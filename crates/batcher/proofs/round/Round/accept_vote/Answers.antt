@@ -1,15 +1,9 @@
-use Rattle.std.proofs.Common.{rules, ◌≡◌, ◌∙◌, Option, ap, sym, subst, refl, true, nat_lt, arith}
+use Rattle.std.proofs.Common.{◌≡◌, ◌∙◌, ap, sym, subst, refl, true, nat_lt, arith}
 use Rattle.std.proofs.lemmas.Bool.Decides.{nat_tests}
-use Rattle.std.specs.Prelude.{MatchBool, IfErr}
-use Rattle.batcher.specs.declared.messages.Kind.{Kind}
-use Rattle.batcher.specs.declared.messages.Proposal.{Proposal}
-use Rattle.batcher.specs.declared.votes.Outcome.{Outcome}
+use Rattle.std.specs.Prelude.{IfErr}
 use Rattle.batcher.specs.Votes.{kind_of, signer_of, subject_of, attestation_of}
-use Rattle.batcher.specs.Selected.{proposal_of, fixes}
-use Rattle.batcher.specs.Held.{of_kind}
-use Rattle.batcher.specs.Tracking.{observed, observed_opposite, outcome_by, is_known, RecordsKind}
-use Rattle.batcher.specs.Buffering.{MayFix, AddsVote}
-use Rattle.batcher.specs.Steps.{fault_or_memory, fixed_by, is_added, is_kept}
+use Rattle.batcher.specs.Tracking.{observed_opposite, is_known}
+use Rattle.batcher.specs.Steps.{fault_or_memory, is_added}
 use Rattle.batcher.specs.Setting.{setting}
 use Rattle.batcher.specs.Held.{Held}
 use Rattle.batcher.proofs.Laws.{HasLaws}
