@@ -325,7 +325,7 @@ pub record WorkedExamples : Type 0 where
       needs (four Retaining) (lead 0 ∷ net 0 (notarize 0 1) ∷ net 1 (finalize 1 2) ∷ []) (cert (notarization 1) ∷ cert (notarization 2) ∷ own (finalize 1 1) ∷ own (finalize 2 1) ∷ [])
       ≡ false ∷ true ∷ false ∷ true ∷ []
   pub memory_for_a_batch : needs (round_of 1 Retaining) (own (notarize 0 1) ∷ []) (construct ∷ []) ≡ true ∷ []
-  -- Votes that come back stand in the order of their signers, behind what was pending; an own one is verified.
+  -- Votes that come back stand in the order of their signers, and an own one among the verified.
   pub votes_come_back_in_order :
       buffers_after (four Retaining) (lead 0 ∷ net 0 (notarize 0 1) ∷ net 2 (finalize 2 2) ∷ net 1 (finalize 1 2) ∷ []) (holding Finalization (finalize 1 2 ∷ finalize 2 2 ∷ []) [] []) (own (finalize 3 2)) Finalization
       ≡ (finalize 1 2 ∷ finalize 2 2 ∷ [], finalize 3 2 ∷ [])
