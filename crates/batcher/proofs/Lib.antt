@@ -54,3 +54,4 @@ pub mod Batching
 pub mod Needing
 pub mod Joining
 pub mod Failing
+pub mod Promising

@@ -35,4 +35,8 @@ worked =
       memory_for_a_batch = refl;
       votes_come_back_in_order = refl;
       batch_leaves_the_good_ones = refl;
+      innocent = refl;
+      contradictions_give_cause = refl;
+      counted = refl;
+      none_counted = refl;
     }

@@ -1,6 +1,6 @@
 -- Rounds of a tiny scheme: keys and payloads are numbers, the signature 0 is good, and so is the certificate 0. What they answer to
 -- lists of calls is computed from the definitions over histories.
-use Rattle.std.specs.Prelude.{◌≡◌, ℕ, Bool, true, false, cond, ◌&&◌, ◌==◌, nat_lt, List, [], ◌∷◌, ◌++◌, length, map, reverse, Option, Some, None, Result, Ok, Err}
+use Rattle.std.specs.Prelude.{◌≡◌, ℕ, Bool, true, false, cond, ◌&&◌, ◌==◌, nat_lt, List, [], ◌∷◌, ◌++◌, length, filter, map, reverse, Option, Some, None, Result, Ok, Err}
 use Rattle.std.specs.List.{list_all, range_with_len}
 use Rattle.std.specs.declared.cmp.Ordering.{Ordering}
 use Rattle.std.specs.declared.cmp.Ordering.TheVariants.{Less, Equal, Greater}
@@ -42,8 +42,9 @@ use Rattle.batcher.specs.Held.{PerKind, Held, for_each}
 use Rattle.batcher.specs.Steps.{leader_set_answer, report_by}
 use Rattle.batcher.specs.History.{History, history_after, history}
 use Rattle.batcher.specs.Selection.{leader_of, selection}
-use Rattle.batcher.specs.Standing.{proven_votes, fresh_votes, ready_kind}
+use Rattle.batcher.specs.Standing.{counted_votes, valid_votes, proven_votes, fresh_votes, ready_kind}
 use Rattle.batcher.specs.Stands.{pending_after, verified_after}
+use Rattle.batcher.specs.Promises.{gave_cause}
 use Rattle.batcher.specs.Answers.{network_answer, own_answer, certificate_answer, forward_after, missing_after, needs_memory}
 
 abbrev pub TinySetting : Type 0
@@ -228,6 +229,14 @@ module _ (x : TinySetting) where
   abbrev pub selects : List TinyCall → ProposalState ℕ
   selects calls = selection x (played calls)
 
+  -- the participants that have given cause to be blocked
+  abbrev pub with_cause : List TinyCall → List ℕ
+  with_cause calls = filter (gave_cause x (played calls)) (range_with_len 0 4)
+
+  -- how many votes of a kind are counted, and how many of them are valid
+  abbrev pub counts : List TinyCall → Kind → ℕ × ℕ
+  counts calls kind = (length (counted_votes x (played calls) kind), length (valid_votes x (played calls) kind))
+
   abbrev pub lengths : List TinyCall → Kind → ℕ × ℕ
   lengths calls kind = (length (fresh_votes x (played calls) kind), length (proven_votes x (played calls) kind))
 
@@ -333,3 +342,13 @@ pub record WorkedExamples : Type 0 where
   pub batch_leaves_the_good_ones :
       buffers_after (four Retaining) (net 2 (nullify 2) ∷ net 1 (bad_nullify 1) ∷ net 0 (nullify 0) ∷ []) (holding Nullification [] (nullify 2 ∷ bad_nullify 1 ∷ nullify 0 ∷ []) []) construct Nullification
       ≡ ([], nullify 2 ∷ nullify 0 ∷ [])
+  -- A repeat gives no cause to be blocked, nor does a vote that another one sends in its name: that one gives cause.
+  pub innocent : with_cause (four Retaining) (net 1 (notarize 1 1) ∷ net 1 (notarize 1 1) ∷ net 2 (notarize 1 2) ∷ net 0 (finalize 0 1) ∷ []) ≡ 2 ∷ []
+  -- Who contradicts itself gives cause, once with votes of one kind, once with its opposite one, and once with its own vote.
+  pub contradictions_give_cause :
+      with_cause (four Releasing)
+      (net 1 (notarize 1 1) ∷ net 1 (notarize 1 2) ∷ net 2 (finalize 2 1) ∷ net 2 (nullify 2) ∷ net 3 (nullify 3) ∷ net 3 (bad_nullify 3) ∷ own (notarize 0 1) ∷ net 0 (bad_notarize 0 1) ∷ [])
+      ≡ 0 ∷ 1 ∷ 2 ∷ 3 ∷ []
+  -- Votes for the selected proposal count, the bad ones among them too, but no vote does while nothing is selected.
+  pub counted : counts (four Retaining) (lead 0 ∷ net 0 (notarize 0 1) ∷ net 1 (bad_notarize 1 1) ∷ net 2 (notarize 2 2) ∷ []) Notarization ≡ (2, 1)
+  pub none_counted : counts (four Retaining) (net 0 (notarize 0 1) ∷ net 1 (notarize 1 1) ∷ []) Notarization ≡ (0, 0)

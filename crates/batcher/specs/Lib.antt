@@ -34,4 +34,5 @@ pub mod Standing
 pub mod Trying
 pub mod Answers
 pub mod Stands
+pub mod Promises
 pub mod Examples

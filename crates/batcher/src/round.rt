@@ -180,6 +180,13 @@ impl<S: Scheme<D>, D: Digest> Round<S, D> {
         Round::with_votes(alloc, round, scheme, votes)
     }
 
+    // Does nothing. It tells those outside of this module what is true of every round.
+    pub(crate) fn has_participants(&self)
+        ensures { 1 ≤ length (S.meaning self.now.scheme).participants }
+    {
+        let _ = &self.verifier;
+    }
+
     // A round over a tracker in which nothing was recorded.
     fn with_votes(
         alloc: Global,

@@ -9,7 +9,8 @@ ghost use Rattle.batcher.specs.Examples.{WorkedExamples};
 ghost use Rattle.batcher.specs.History.{History, history};
 ghost use Rattle.batcher.specs.Answers.{IsAnswered, AreAnswered};
 ghost use Rattle.batcher.specs.Stands.{Stands, Meets};
-ghost use Rattle.batcher.specs.Runs.{MayCall, Steps, Runs, certifies_answer, blocked_sender, blocked_senders};
+ghost use Rattle.batcher.specs.Promises.{Promises};
+ghost use Rattle.batcher.specs.Runs.{MayCall, Steps, Runs, blocked_sender, blocked_senders};
 
 use crate::messages::{Activity, Certificate, Digest, Proposal, Vote};
 use crate::positions::{Participant, Participants};
@@ -75,9 +76,10 @@ pub fn run<S: Scheme<D>, D: Digest, R: CryptoRng>(
     ensures runs { IfOk result (λ ran. Runs (setting (S.meaning round.scheme) S.PublicKey.cmp S.Signature.eq D.eq round.number round.mode) round.holds (R.stream rng.old) calls.now ran.answers.items ran.round.holds (R.stream rng.new)) }
     ensures stands { IfOk result (λ ran. Stands (setting (S.meaning round.scheme) S.PublicKey.cmp S.Signature.eq D.eq round.number round.mode) (history calls.now ran.answers.items) ran.round.holds) }
     ensures answered { IfOk result (λ ran. AreAnswered (setting (S.meaning round.scheme) S.PublicKey.cmp S.Signature.eq D.eq round.number round.mode) [] calls.now ran.answers.items) }
-    ensures certifies { IfOk result (λ ran. All (certifies_answer (S.meaning round.scheme)) ran.answers.items) }
+    ensures promises { IfOk result (λ ran. Promises (setting (S.meaning round.scheme) S.PublicKey.cmp S.Signature.eq D.eq round.number round.mode) (history calls.now ran.answers.items)) }
     ensures same { IfOk result (λ ran. (ran.round.scheme ≡ round.scheme) × ((ran.round.number ≡ round.number) × (ran.round.mode ≡ round.mode))) }
 {
+    round.has_participants();
     let mut answers = Vec::with_capacity(alloc, calls.len())?;
     for call in calls {
         answers.push_reserved(step(&mut round, rng, call));
@@ -94,7 +96,6 @@ fn step<S: Scheme<D>, D: Digest, R: CryptoRng>(
     requires { MayCall (S.meaning round.old.scheme) round.old.number call.now }
     ensures steps { Steps (setting (S.meaning round.old.scheme) S.PublicKey.cmp S.Signature.eq D.eq round.old.number round.old.mode) round.old.holds (R.stream rng.old) call.now result round.new.holds (R.stream rng.new) }
     ensures meets { (past : History D S.PublicKey S.Signature S.Certificate) → Stands (setting (S.meaning round.old.scheme) S.PublicKey.cmp S.Signature.eq D.eq round.old.number round.old.mode) past round.old.holds → (Meets (setting (S.meaning round.old.scheme) S.PublicKey.cmp S.Signature.eq D.eq round.old.number round.old.mode) past round.old.holds (call.now, result) round.new.holds) × (IsAnswered (setting (S.meaning round.old.scheme) S.PublicKey.cmp S.Signature.eq D.eq round.old.number round.old.mode) past call.now result) }
-    ensures certifies { certifies_answer (S.meaning round.old.scheme) result }
     ensures same { (round.new.scheme ≡ round.old.scheme) × ((round.new.number ≡ round.old.number) × (round.new.mode ≡ round.old.mode)) }
 {
     match call {

@@ -1,13 +1,13 @@
 use Rattle.std.proofs.Common.{subst, ◌≡◌, ◌∙◌, ◌++◌, ◌∷◌, ◌+◌, [], refl, sym, ap, take, arith, length-append}
 use Rattle.std.proofs.lemmas.Grind.{common_steps}
 use Rattle.std.proofs.lemmas.List.{take_more}
-use Rattle.std.proofs.lemmas.List.Elements.{All-push}
 use Rattle.batcher.specs.Setting.{setting}
 use Rattle.batcher.specs.History.{history}
 use Rattle.batcher.specs.Stands.{Stands}
 use Rattle.batcher.proofs.Fresh.{fresh_stands}
 use Rattle.batcher.proofs.Histories.{meets_stands, history-push, answered-push}
-use Rattle.batcher.specs.Runs.{certifies_answer}
+use Rattle.batcher.proofs.Laws.{HasLaws}
+use Rattle.batcher.proofs.Promising.{promised}
 use Rattle.batcher.proofs.Running.{Runs-push}
 use Rattle.batcher.proofs.run.run.Goals as goal
 
@@ -22,7 +22,6 @@ loop-call-init g c =
       stands = subst (Stands x []) (sym c.requires.fresh) (fresh_stands x);
       answered = rw c.in_ok-answers.ensures.items tt;
       runs = rw c.in_ok-answers.ensures.items (refl, refl);
-      certifies = rw c.in_ok-answers.ensures.items (λ k d below. absurd (omega arith));
       told = rw c.in_ok-answers.ensures.items refl;
       room = c.in_ok-answers.ensures.capacity;
       scheme = refl;
@@ -36,7 +35,6 @@ loop-call-preserved g c =
     let more : take (c.loop-call.call-index + 1) c.args.calls.now ≡ take c.loop-call.call-index c.args.calls.now ++ c.call-item.result ∷ []
     = take_more c.args.calls.now c.loop-call.call-index c.call-item.result (omega arith) ∙ ap (λ y. take c.loop-call.call-index c.args.calls.now ++ y ∷ []) (sym c.call-item.is) in
     let stepped = rw (c.loop-call.invariant.scheme, c.loop-call.invariant.number, c.loop-call.invariant.mode) at c.step.ensures.steps in
-    let certified = rw c.loop-call.invariant.scheme at c.step.ensures.certifies in
     let calls = take c.loop-call.call-index c.args.calls.now in
     let past = history calls c.loop-call.answers.items in
     let met = (rw (c.loop-call.invariant.scheme, c.loop-call.invariant.number, c.loop-call.invariant.mode) at c.step.ensures.meets) past c.loop-call.invariant.stands in
@@ -47,7 +45,6 @@ loop-call-preserved g c =
           (meets_stands x past c.loop-call.round.holds c.call-item.result c.step.result c.step.new.round.holds c.loop-call.invariant.stands met.0));
       answered = rw (more, c.push_reserved.ensures.items) (answered-push x [] calls c.loop-call.answers.items c.call-item.result c.step.result c.loop-call.invariant.answered met.1);
       runs = rw (more, c.push_reserved.ensures.items) (Runs-push x c.args.round.holds (g.R.Rng.stream c.args.rng.now) (take c.loop-call.call-index c.args.calls.now) c.loop-call.answers.items c.loop-call.round.holds (g.R.Rng.stream c.loop-call.rng) c.call-item.result c.step.result c.step.new.round.holds (g.R.Rng.stream c.step.new.rng) c.loop-call.invariant.runs stepped);
-      certifies = rw c.push_reserved.ensures.items (All-push (certifies_answer (g.S.Scheme.meaning c.args.round.scheme)) c.loop-call.answers.items c.step.result c.loop-call.invariant.certifies certified);
       told = rw c.push_reserved.ensures.items (omega (arith, length-append c.loop-call.answers.items (c.step.result ∷ []), c.loop-call.invariant.told));
       room = rw c.push_reserved.ensures.capacity c.loop-call.invariant.room;
       scheme = c.step.ensures.same.0 ∙ c.loop-call.invariant.scheme;
@@ -69,3 +66,11 @@ pub returns-clause-answered : goal.returns-clause-answered
 returns-clause-answered g c =
     let all : take c.loop-call.call-index c.args.calls.now ≡ c.args.calls.now = grind (arith, common_steps) in
     rw all at c.loop-call.invariant.answered
+
+pub returns-clause-promises : goal.returns-clause-promises
+returns-clause-promises g c =
+    let round = c.args.round in
+    let x = setting (g.S.Scheme.meaning round.scheme) g.S.PublicKey.Ord.cmp g.S.Signature.PartialEq.eq g.D.PartialEq.eq round.number round.mode in
+    let laws : HasLaws x = record { scheme = g.met.S.Scheme.lawful round.scheme; some_participant = c.has_participants.ensures; digests_equal = g.met.D.Digest.identical; digests_same = g.met.D.Eq.laws.refl } in
+    let all : take c.loop-call.call-index c.args.calls.now ≡ c.args.calls.now = grind (arith, common_steps) in
+    promised x laws (history c.args.calls.now c.loop-call.answers.items) (rw all at c.loop-call.invariant.stands).possible

@@ -29,7 +29,6 @@ returns-in-Err-accept_vote g c =
     record {
       steps = steps;
       meets = rw c.in-Own.is (λ past stands. (ap (λ r. r.holds) c.in-Err-accept_vote.ensures.refused, sym (own_same _ past c.args.round.now.holds c.in-Own.vote stands) ∙ (rw c.in-Own.is at steps).0));
-      certifies = tt;
       same = search rules;
     }
 

@@ -1,0 +1,393 @@
+-- What is promised of each network vote: acceptance is exact, the honest are never blocked, and contradictions are blocked.
+use Rattle.std.proofs.Common.{◌≡◌, ℕ, Bool, true, false, not, cond, ◌&&◌, ◌||◌, List, [], ◌∷◌, ◌++◌, Option, Some, None, refl, ap, sym, ◌∙◌, ⊎_elim, eqb, ltb, arith, subst}
+use Rattle.std.specs.Prelude.{All, IfSome, filter, find, is_some}
+use Rattle.std.specs.List.{list_any}
+use Rattle.std.proofs.lemmas.Bool.{and_parts, and_from, or_left, or_right, or_cases, or_parts, true≢false, false≢true, eqb-true, eq-eqb, false_from_ne_true}
+use Rattle.std.proofs.lemmas.List.Folds.{list_any-append}
+use Rattle.std.proofs.lemmas.List.Elements.{All-cons}
+use Rattle.batcher.specs.declared.positions.Participant.{Participant}
+use Rattle.batcher.specs.declared.messages.Proposal.{Proposal}
+use Rattle.batcher.specs.declared.messages.Vote.{Vote}
+use Rattle.batcher.specs.declared.messages.Vote.TheVariants.{Notarize as NotarizeVote, Nullify as NullifyVote, Finalize as FinalizeVote}
+use Rattle.batcher.specs.declared.messages.Kind.{Kind}
+use Rattle.batcher.specs.declared.messages.Subject.{Subject}
+use Rattle.batcher.specs.declared.messages.Certificate.{Certificate}
+use Rattle.batcher.specs.declared.verifier.Batch.{Batch}
+use Rattle.batcher.specs.declared.run.Call.{Call}
+use Rattle.batcher.specs.declared.round.Admission.{Admission}
+use Rattle.batcher.specs.declared.votes.Mode.TheVariants.{Retaining}
+use Rattle.batcher.specs.declared.run.Call.TheVariants.{Network as NetworkCall, Own as OwnCall, Certificate as CertificateCall, Leader as LeaderCall, Construct as ConstructCall, Forward as ForwardCall, Missing as MissingCall}
+use Rattle.batcher.specs.declared.run.Answer.{Answer}
+use Rattle.batcher.specs.declared.run.Answer.TheVariants.{OutOfMemory, Network as NetworkAnswer, Own as OwnAnswer, OwnRefused, Certificate as CertificateAnswer, Leader as LeaderAnswer, Construct as ConstructAnswer, Forward as ForwardAnswer, Missing as MissingAnswer}
+use Rattle.batcher.specs.Setting.{Setting, sender_in}
+use Rattle.batcher.specs.Lists.{is_some_and, is_empty, exactly_one}
+use Rattle.batcher.specs.Votes.{is_kind, kind_of, signer_of, is_vote_of, are_opposite, excludes, opposes, is_for, same_proposal}
+use Rattle.batcher.specs.Tracking.{is_released_in}
+use Rattle.batcher.specs.Admissions.{same_vote, refusal, mismatch_reason, block_for, admission_after, admission_after_facts, admission_beside}
+use Rattle.batcher.specs.History.{History, names_sender, cast_votes, batch_given}
+use Rattle.batcher.specs.FirstVotes.{first_votes, is_free, contradicts, first_like, opposite_vote}
+use Rattle.batcher.specs.Selection.{is_certified, is_released, selected_proposal}
+use Rattle.batcher.specs.Comparison.{compared_votes, compared_votes_of, is_compared, is_compared_at_release, conflicts, differs_from}
+use Rattle.batcher.specs.Answers.{network_answer, admission_sent_by, admission_against, admission_by_first, MayAnswer, IsPossible}
+use Rattle.batcher.specs.Promises.{AtEachVote, IsAcceptedExactly, votes_cast, contradicts_itself, gave_cause, IsBlockedForCause, IsBlockedIfContradicting, Promises}
+use Rattle.batcher.specs.Runs.{certifies_answer}
+use Rattle.batcher.specs.Trying.{certifies_subject}
+use Rattle.batcher.specs.Verifiers.{certifies_itself}
+use Rattle.batcher.proofs.Attempting.{batch_made}
+use Rattle.batcher.proofs.Laws.{HasLaws}
+use Rattle.batcher.proofs.Waits.{proposal_is}
+use Rattle.batcher.proofs.Right.{found_passes}
+use Rattle.batcher.proofs.Apart.{any_count, count_at, positive, firsts_apart, found_is_of, where_holds}
+use Rattle.batcher.proofs.Arriving.{added_is}
+
+-- ANY OF A LIST
+pub any_more : {X : Type 0} (p q : X → Bool) → ((v : X) → p v ≡ true → q v ≡ true) → (vs : List X) → list_any p vs ≡ true → list_any q vs ≡ true
+any_more p q more [] h = h
+any_more p q more (v ∷ vs) h =
+    ⊎_elim (λ here. or_left (q v) (list_any q vs) (more v here)) (λ rest. or_right (q v) (list_any q vs) (any_more p q more vs rest)) (or_cases (p v) (list_any p vs) h)
+
+any_of_one : {X : Type 0} (p : X → Bool) (v : X) (vs : List X) (b rest : Bool) → (list_any p vs ≡ true → rest ≡ true) → list_any p (cond b (v ∷ vs) vs) ≡ true → ((b && p v) || rest) ≡ true
+any_of_one p v vs true rest more h = ⊎_elim (λ here. or_left (p v) rest here) (λ k. or_right (p v) rest (more k)) (or_cases (p v) (list_any p vs) h)
+any_of_one p v vs false rest more h = more h
+
+pub any_of_filtered : {X : Type 0} (p q : X → Bool) (vs : List X) → list_any p (filter q vs) ≡ true → list_any (λ v. q v && p v) vs ≡ true
+any_of_filtered p q [] h = h
+any_of_filtered p q (v ∷ vs) h = any_of_one p v (filter q vs) (q v) _ (any_of_filtered p q vs) h
+
+pub any_filter : {X : Type 0} (p q : X → Bool) (vs : List X) → list_any p (filter q vs) ≡ true → list_any p vs ≡ true
+any_filter p q vs h = any_more (λ v. q v && p v) p (λ v both. (and_parts _ _ both).1) vs (any_of_filtered p q vs h)
+
+-- what is found is one of them
+pub any_found : {X : Type 0} (p q : X → Bool) (vs : List X) (v : X) → find p vs ≡ Some v → q v ≡ true → list_any q vs ≡ true
+any_found p q [] v h k = cc
+any_found {X = X} p q (w ∷ vs) v h k = by_mark (p w) h (any_found p q vs v)
+  where
+    by_mark : (b : Bool) → cond b (Some w) (find p vs) ≡ Some v → (find p vs ≡ Some v → q v ≡ true → list_any q vs ≡ true) → (q w || list_any q vs) ≡ true
+    by_mark true e rest = let same : w ≡ v = cc in or_left (q w) (list_any q vs) (subst (λ (u : X). q u ≡ true) (sym same) k)
+    by_mark false e rest = or_right (q w) (list_any q vs) (rest e k)
+
+none_found_of : {X : Type 0} (b : Bool) (v : X) (o : Option X) → cond b (Some v) o ≡ None → (b ≡ false) × (o ≡ None)
+none_found_of true v o h = absurd (cc)
+none_found_of false v o h = (refl, h)
+
+pub none_found : {X : Type 0} (p : X → Bool) (vs : List X) → find p vs ≡ None → list_any p vs ≡ false
+none_found p [] h = refl
+none_found p (v ∷ vs) h = let parts = none_found_of (p v) v (find p vs) h in rw (parts.0, none_found p vs parts.1) refl
+
+-- of one of two tests, where none passes the other
+pub any_other : {X : Type 0} (p q : X → Bool) (vs : List X) → list_any (λ v. p v || q v) vs ≡ true → list_any q vs ≡ false → list_any p vs ≡ true
+any_other p q [] h none = h
+any_other p q (v ∷ vs) h none =
+    let parts = or_parts (q v) (list_any q vs) none in
+    ⊎_elim
+    (λ here. ⊎_elim (λ this. or_left (p v) (list_any p vs) this) (λ that. absurd (true≢false (sym that ∙ parts.0))) (or_cases (p v) (q v) here))
+    (λ rest. or_right (p v) (list_any p vs) (any_other p q vs rest parts.1))
+    (or_cases (p v || q v) (list_any (λ w. p w || q w) vs) h)
+
+module _ {G D : Type 0} (same : D → D → Bool) (equal : G → G → Bool) where
+  -- VOTES THAT CONTRADICT EACH OTHER
+  pub opposites_differ : (a b : Vote G D) → opposes a b ≡ true → same_vote same equal a b ≡ false
+  opposites_differ (NotarizeVote a) (NotarizeVote b) h = absurd (true≢false (sym (and_parts _ _ h).1))
+  opposites_differ (NotarizeVote a) (NullifyVote b) h = refl
+  opposites_differ (NotarizeVote a) (FinalizeVote b) h = refl
+  opposites_differ (NullifyVote a) (NotarizeVote b) h = refl
+  opposites_differ (NullifyVote a) (NullifyVote b) h = absurd (true≢false (sym (and_parts _ _ h).1))
+  opposites_differ (NullifyVote a) (FinalizeVote b) h = refl
+  opposites_differ (FinalizeVote a) (NotarizeVote b) h = refl
+  opposites_differ (FinalizeVote a) (NullifyVote b) h = refl
+  opposites_differ (FinalizeVote a) (FinalizeVote b) h = absurd (true≢false (sym (and_parts _ _ h).1))
+
+  block_unless : (p s : Bool) (block other : Admission G D) → is_some block.block ≡ true → is_some other.block ≡ true → is_some (cond p (cond (p && s) refusal block) other).block ≡ not (p && s)
+  block_unless true true block other h k = refl
+  block_unless true false block other h k = h
+  block_unless false s block other h k = k
+
+  block_or_none : (s : Bool) (block : Admission G D) → is_some block.block ≡ true → is_some (cond s refusal block).block ≡ not s
+  block_or_none true block h = refl
+  block_or_none false block h = h
+
+  -- Beside the kept vote of its kind a vote is blocked where it differs.
+  pub beside_blocks : (kept vote : Vote G D) → is_some (admission_beside same equal kept vote).block ≡ (is_kind (kind_of kept) (kind_of vote) && not (same_vote same equal kept vote))
+  beside_blocks (NotarizeVote a) (NotarizeVote b) = block_unless (same_proposal same a.proposal b.proposal) _ _ _ refl refl
+  beside_blocks (NotarizeVote a) (NullifyVote b) = refl
+  beside_blocks (NotarizeVote a) (FinalizeVote b) = refl
+  beside_blocks (NullifyVote a) (NotarizeVote b) = refl
+  beside_blocks (NullifyVote a) (NullifyVote b) = block_or_none (same_vote same equal (NullifyVote a) (NullifyVote b)) _ refl
+  beside_blocks (NullifyVote a) (FinalizeVote b) = refl
+  beside_blocks (FinalizeVote a) (NotarizeVote b) = refl
+  beside_blocks (FinalizeVote a) (NullifyVote b) = refl
+  beside_blocks (FinalizeVote a) (FinalizeVote b) = block_unless (same_proposal same a.proposal b.proposal) _ _ _ refl refl
+
+  -- and after the opposite one always.
+  pub after_blocks : (earlier vote : Vote G D) → is_some (admission_after earlier vote).block ≡ are_opposite (kind_of earlier) (kind_of vote)
+  after_blocks (NotarizeVote a) (NotarizeVote b) = refl
+  after_blocks (NotarizeVote a) (NullifyVote b) = refl
+  after_blocks (NotarizeVote a) (FinalizeVote b) = refl
+  after_blocks (NullifyVote a) (NotarizeVote b) = refl
+  after_blocks (NullifyVote a) (NullifyVote b) = refl
+  after_blocks (NullifyVote a) (FinalizeVote b) = refl
+  after_blocks (FinalizeVote a) (NotarizeVote b) = refl
+  after_blocks (FinalizeVote a) (NullifyVote b) = refl
+  after_blocks (FinalizeVote a) (FinalizeVote b) = refl
+
+  module _ (identical : (a b : D) → same a b ≡ true → a ≡ b) where
+    -- votes that are the same are for the same proposals
+    for_alike : (a b : Vote G D) (p : Proposal D) → same_vote same equal a b ≡ true → is_for same p a ≡ is_for same p b
+    for_alike (NotarizeVote a) (NotarizeVote b) p h = ap (same_proposal same p) (proposal_is same identical a.proposal b.proposal (and_parts _ _ h).0)
+    for_alike (NotarizeVote a) (NullifyVote b) p h = absurd (false≢true h)
+    for_alike (NotarizeVote a) (FinalizeVote b) p h = absurd (false≢true h)
+    for_alike (NullifyVote a) (NotarizeVote b) p h = absurd (false≢true h)
+    for_alike (NullifyVote a) (NullifyVote b) p h = refl
+    for_alike (NullifyVote a) (FinalizeVote b) p h = absurd (false≢true h)
+    for_alike (FinalizeVote a) (NotarizeVote b) p h = absurd (false≢true h)
+    for_alike (FinalizeVote a) (NullifyVote b) p h = absurd (false≢true h)
+    for_alike (FinalizeVote a) (FinalizeVote b) p h = ap (same_proposal same p) (proposal_is same identical a.proposal b.proposal (and_parts _ _ h).0)
+
+    pub differ_by : (a b : Vote G D) (p : Proposal D) (here : Bool) → is_for same p b ≡ here → is_for same p a ≡ not here → not (same_vote same equal a b) ≡ true
+    differ_by a b p here e h = ap not (false_from_ne_true _ (λ alike. other here (sym h ∙ (for_alike a b p alike ∙ e))))
+      where
+        other : (c : Bool) → not c ≡ c → ⊥
+        other true k = false≢true k
+        other false k = true≢false k
+
+module _ {D K G C : Type 0} (x : Setting D K G C) where
+  -- CAST VOTES
+  pub first_is_cast : (p : Vote G D → Bool) (past : History D K G C) → list_any p (first_votes x past) ≡ true → list_any p (votes_cast x past) ≡ true
+  first_is_cast p [] h = h
+  first_is_cast p (event ∷ past) h =
+      list_any-append p (cast_votes x event.0) (votes_cast x past)
+      ∙ ⊎_elim
+      (λ here. or_left _ (list_any p (votes_cast x past)) (any_filter p (is_free (first_votes x past)) (cast_votes x event.0) here))
+      (λ rest. or_right (list_any p (cast_votes x event.0)) _ (first_is_cast p past rest))
+      (or_cases _ _ (sym (list_any-append p (filter (is_free (first_votes x past)) (cast_votes x event.0)) (first_votes x past)) ∙ h))
+
+  pub compared_is_cast : (p : Vote G D → Bool) (past : History D K G C) → list_any p (compared_votes x past) ≡ true → list_any p (votes_cast x past) ≡ true
+  compared_is_cast p [] h = h
+  compared_is_cast p (event ∷ past) h =
+      list_any-append p (cast_votes x event.0) (votes_cast x past)
+      ∙ ⊎_elim
+      (λ here. or_left _ (list_any p (votes_cast x past)) (any_filter p (is_compared x past event) (cast_votes x event.0) here))
+      (λ rest.
+      or_right (list_any p (cast_votes x event.0)) _
+      (⊎_elim
+      (λ released. first_is_cast p past (any_filter p (is_compared_at_release x past event) (first_votes x past) released))
+      (λ before. compared_is_cast p past before)
+      (or_cases _ _ (sym (list_any-append p (filter (is_compared_at_release x past event) (first_votes x past)) (compared_votes x past)) ∙ rest))))
+      (or_cases _ _ (sym (list_any-append p (filter (is_compared x past event) (cast_votes x event.0)) (filter (is_compared_at_release x past event) (first_votes x past) ++ compared_votes x past)) ∙ h))
+
+  alike_excludes : (k s o : Bool) → (k && s) ≡ true → (s && (k || o)) ≡ true
+  alike_excludes true s o h = and_from s true h refl
+  alike_excludes false s o h = absurd (false≢true h)
+
+  opposite_excludes : (s k o : Bool) → (s && o) ≡ true → (s && (k || o)) ≡ true
+  opposite_excludes s k o h = and_from s (k || o) (and_parts _ _ h).0 (or_right k o (and_parts _ _ h).1)
+
+  pub like_excludes : (v vote : Vote G D) → is_vote_of (kind_of vote) (signer_of vote) v ≡ true → excludes v vote ≡ true
+  like_excludes v vote h = alike_excludes (is_kind (kind_of v) (kind_of vote)) (eqb (signer_of v) (signer_of vote)) (are_opposite (kind_of v) (kind_of vote)) h
+
+  -- WHOM A ROUND BLOCKS
+  abbrev differs : Vote G D → Vote G D → Bool
+  differs vote v = not (same_vote x.same_digest x.same_signature v vote)
+
+  differs_by : HasLaws x → (v vote : Vote G D) (p : Proposal D) (here : Bool) → is_for x.same_digest p vote ≡ here → is_for x.same_digest p v ≡ not here → differs vote v ≡ true
+  differs_by laws v vote p here = differ_by x.same_digest x.same_signature laws.digests_equal v vote p here
+
+  one_is_false : (b : Bool) → exactly_one true b ≡ true → b ≡ false
+  one_is_false true h = absurd (false≢true h)
+  one_is_false false h = refl
+
+  first_differs : HasLaws x → (votes : List (Vote G D)) (vote : Vote G D) (p : Proposal D) → is_for x.same_digest p vote ≡ true → not (is_empty votes) ≡ true → list_any (is_for x.same_digest p) votes ≡ false → list_any (differs vote) votes ≡ true
+  first_differs laws [] vote p e some none = absurd (false≢true some)
+  first_differs laws (v ∷ votes) vote p e some none = or_left (differs vote v) _ (differs_by laws v vote p true e (or_parts _ _ none).0)
+
+  -- Among votes that a vote conflicts with there is one that differs from it.
+  conflict_differs : HasLaws x → (votes : List (Vote G D)) (vote : Vote G D) (p : Proposal D) (b : Bool) → is_for x.same_digest p vote ≡ b → not (is_empty votes) ≡ true →
+      exactly_one b (list_any (is_for x.same_digest p) votes) ≡ true → list_any (differs vote) votes ≡ true
+  conflict_differs laws votes vote p true e some one = first_differs laws votes vote p e some (one_is_false _ one)
+  conflict_differs laws votes vote p false e some one = any_more (is_for x.same_digest p) (differs vote) (λ v here. differs_by laws v vote p false e here) votes one
+
+  conflict_contradicts : HasLaws x → (past : History D K G C) (vote : Vote G D) → conflicts x past vote ≡ true → list_any (λ v. contradicts x v vote) (votes_cast x past) ≡ true
+  conflict_contradicts laws past vote h =
+      let there = where_holds (differs_from x (compared_votes_of x past (kind_of vote) (signer_of vote)) vote) (selected_proposal x past) h in
+      compared_is_cast (λ v. contradicts x v vote) past
+      (any_more (λ v. is_vote_of (kind_of vote) (signer_of vote) v && not (same_vote x.same_digest x.same_signature v vote)) (λ v. contradicts x v vote)
+      (λ v both. and_from _ _ (like_excludes v vote (and_parts _ _ both).0) (and_parts _ _ both).1)
+      (compared_votes x past)
+      (any_of_filtered (λ v. not (same_vote x.same_digest x.same_signature v vote)) (is_vote_of (kind_of vote) (signer_of vote)) (compared_votes x past)
+      (conflict_differs laws (compared_votes_of x past (kind_of vote) (signer_of vote)) vote there.0 (is_for x.same_digest there.0 vote) refl (and_parts _ _ there.2).0 (and_parts _ _ there.2).1)))
+
+  by_first_contradicts : HasLaws x → (past : History D K G C) (vote : Vote G D) (first : Option (Vote G D)) (released conflict : Bool) → first_like x past vote ≡ first → conflicts x past vote ≡ conflict →
+      is_some (admission_by_first x first released conflict vote).block ≡ true → list_any (λ v. contradicts x v vote) (votes_cast x past) ≡ true
+  by_first_contradicts laws past vote None released conflict e c h = absurd (false≢true h)
+  by_first_contradicts laws past vote (Some kept) false conflict e c h =
+      let differs = (and_parts _ _ (sym (beside_blocks x.same_digest x.same_signature kept vote) ∙ h)).1 in
+      first_is_cast (λ v. contradicts x v vote) past
+      (any_found (is_vote_of (kind_of vote) (signer_of vote)) (λ v. contradicts x v vote) (first_votes x past) kept e
+      (and_from _ _ (like_excludes kept vote (found_is_of (first_votes x past) (kind_of vote) (signer_of vote) kept e)) differs))
+  by_first_contradicts laws past vote (Some seen) true true e c h = conflict_contradicts laws past vote c
+  by_first_contradicts laws past vote (Some seen) true false e c h = absurd (false≢true h)
+
+  against_contradicts : HasLaws x → (past : History D K G C) (vote : Vote G D) (opposite : Option (Vote G D)) → opposite_vote x past vote ≡ opposite →
+      is_some (admission_against x past opposite vote).block ≡ true → list_any (λ v. contradicts x v vote) (votes_cast x past) ≡ true
+  against_contradicts laws past vote (Some earlier) e h =
+      let opposed : opposes earlier vote ≡ true = found_passes (λ v. opposes v vote) (first_votes x past) earlier e in
+      first_is_cast (λ v. contradicts x v vote) past
+      (any_found (λ v. opposes v vote) (λ v. contradicts x v vote) (first_votes x past) earlier e
+      (and_from _ _ (opposite_excludes (eqb (signer_of earlier) (signer_of vote)) (is_kind (kind_of earlier) (kind_of vote)) (are_opposite (kind_of earlier) (kind_of vote)) opposed)
+      (ap not (opposites_differ x.same_digest x.same_signature earlier vote opposed))))
+  against_contradicts laws past vote None e h =
+      by_first_contradicts laws past vote (first_like x past vote) (is_released x past (kind_of vote)) (conflicts x past vote) refl refl h
+
+  -- who contradicts an earlier vote of its own contradicts itself
+  itself : (vote : Vote G D) (votes : List (Vote G D)) → list_any (λ v. contradicts x v vote) votes ≡ true → contradicts_itself x (vote ∷ votes) (signer_of vote) ≡ true
+  itself vote votes h =
+      or_right _ _
+      (any_more (λ v. contradicts x v vote) (λ v. eqb (signer_of v) (signer_of vote) && list_any (contradicts x v) (vote ∷ votes))
+      (λ v against. and_from _ _ (and_parts _ _ (and_parts _ _ against).0).0 (or_left (contradicts x v vote) _ against)) votes h)
+
+  module _ (laws : HasLaws x) (past : History D K G C) (sender : K) (vote : Vote G D) (i : Participant) (known : sender_in x sender ≡ Some i) where
+    named_by : (b : Bool) → eqb i.0 (signer_of vote) ≡ b → names_sender x sender vote ≡ b
+    named_by b e = ap (λ o. is_some_and o (λ p. eqb p.0 (signer_of vote))) known ∙ e
+
+    by_name : (b : Bool) (answer : Answer G C D) → eqb i.0 (signer_of vote) ≡ b →
+        is_some (cond b (admission_against x past (opposite_vote x past vote) vote) (block_for (mismatch_reason (kind_of vote)) None)).block ≡ true →
+        gave_cause x ((NetworkCall sender vote, answer) ∷ past) i.0 ≡ true
+    by_name true answer e h =
+        or_right _ _
+        (subst (λ (j : ℕ). contradicts_itself x (votes_cast x ((NetworkCall sender vote, answer) ∷ past)) j ≡ true) (sym (eqb-true _ _ e))
+        (subst (λ (named : Bool). contradicts_itself x ((cond named (vote ∷ []) [] ++ []) ++ votes_cast x past) (signer_of vote) ≡ true) (sym (named_by true e))
+        (itself vote (votes_cast x past) (against_contradicts laws past vote (opposite_vote x past vote) refl h))))
+    by_name false answer e h =
+        or_left _ _
+        (or_left _ _
+        (ap (λ o. is_some_and o (λ p. eqb p.0 i.0 && not (eqb p.0 (signer_of vote)))) known ∙ and_from _ _ (eq-eqb i.0 i.0 refl) (ap not e)))
+
+    pub blocked_for_cause : (answer : Answer G C D) → is_some (network_answer x past sender vote).block ≡ true → gave_cause x ((NetworkCall sender vote, answer) ∷ past) i.0 ≡ true
+    blocked_for_cause answer h = by_name (eqb i.0 (signer_of vote)) answer refl (ap (λ o. is_some (admission_sent_by x past o vote).block) (sym known) ∙ h)
+
+module _ {D K G C : Type 0} (x : Setting D K G C) (retains : x.mode ≡ Retaining) where
+  kept_in_full : (past : History D K G C) (kind : Kind) → is_released x past kind ≡ false
+  kept_in_full past kind = ap (λ m. is_released_in m (is_certified past kind)) retains
+
+  -- what contradicts a vote is of its kind and another vote, or its opposite
+  contradicts_by : (k s o d : Bool) → ((s && (k || o)) && d) ≡ true → ((d && (k && s)) || (s && o)) ≡ true
+  contradicts_by true true o true h = refl
+  contradicts_by false true true true h = refl
+  contradicts_by k false o d h = absurd (false≢true h)
+  contradicts_by true true o false h = absurd (false≢true h)
+  contradicts_by false true false d h = absurd (false≢true h)
+  contradicts_by false true true false h = absurd (false≢true h)
+
+  module _ (past : History D K G C) (vote : Vote G D) where
+    abbrev differs_alike : Vote G D → Bool
+    differs_alike v = differs x vote v && is_vote_of (kind_of vote) (signer_of vote) v
+
+    blocked_by_first : (first : Option (Vote G D)) (conflict : Bool) → first_like x past vote ≡ first → is_some_and first (differs x vote) ≡ true →
+        is_some (admission_by_first x first false conflict vote).block ≡ true
+    blocked_by_first None conflict e h = absurd (false≢true h)
+    blocked_by_first (Some kept) conflict e h =
+        beside_blocks x.same_digest x.same_signature kept vote
+        ∙ and_from _ _ (and_parts _ _ (found_is_of (first_votes x past) (kind_of vote) (signer_of vote) kept e)).0 h
+
+    one_alike : list_any differs_alike (first_votes x past) ≡ is_some_and (first_like x past vote) (differs x vote)
+    one_alike =
+        any_count differs_alike (first_votes x past)
+        ∙ (ap (λ n. ltb 0 n) (count_at (differs x vote) (first_votes x past) (kind_of vote) (signer_of vote) (firsts_apart x past))
+        ∙ positive (is_some_and (first_like x past vote) (differs x vote)))
+
+    blocked_against : (opposite : Option (Vote G D)) → opposite_vote x past vote ≡ opposite → list_any (λ v. contradicts x v vote) (first_votes x past) ≡ true →
+        is_some (admission_against x past opposite vote).block ≡ true
+    blocked_against (Some earlier) e h =
+        ap (λ b. is_some (cond b (admission_after_facts vote) (admission_after earlier vote)).block) (kept_in_full past (kind_of earlier))
+        ∙ (after_blocks x.same_digest x.same_signature earlier vote ∙ (and_parts _ _ (found_passes (λ v. opposes v vote) (first_votes x past) earlier e)).1)
+    blocked_against None e h =
+        ap (λ b. is_some (admission_by_first x (first_like x past vote) b (conflicts x past vote) vote).block) (kept_in_full past (kind_of vote))
+        ∙ blocked_by_first (first_like x past vote) (conflicts x past vote) refl
+        (sym one_alike
+        ∙ any_other differs_alike (λ v. opposes v vote) (first_votes x past)
+        (any_more (λ v. contradicts x v vote) (λ v. differs_alike v || opposes v vote)
+        (λ v. contradicts_by (is_kind (kind_of v) (kind_of vote)) (eqb (signer_of v) (signer_of vote)) (are_opposite (kind_of v) (kind_of vote)) (differs x vote v)) (first_votes x past) h)
+        (none_found (λ v. opposes v vote) (first_votes x past) e))
+
+    blocked_of : (index : Option Participant) → is_some_and index (λ p. eqb p.0 (signer_of vote)) ≡ true → list_any (λ v. contradicts x v vote) (first_votes x past) ≡ true →
+        is_some (admission_sent_by x past index vote).block ≡ true
+    blocked_of None named h = absurd (false≢true named)
+    blocked_of (Some i) named h =
+        ap (λ b. is_some (cond b (admission_against x past (opposite_vote x past vote) vote) (block_for (mismatch_reason (kind_of vote)) None)).block) named
+        ∙ blocked_against (opposite_vote x past vote) refl h
+
+  -- In a retaining round whoever contradicts its own first vote is blocked.
+  pub blocked_if_contradicting : (past : History D K G C) (sender : K) (vote : Vote G D) → (names_sender x sender vote && list_any (λ v. contradicts x v vote) (first_votes x past)) ≡ true →
+      is_some (network_answer x past sender vote).block ≡ true
+  blocked_if_contradicting past sender vote h = blocked_of past vote (sender_in x sender) (and_parts _ _ h).0 (and_parts _ _ h).1
+
+-- AT EACH VOTE OF A HISTORY
+module _ {D K G C : Type 0} (x : Setting D K G C) (holds : History D K G C → K → Vote G D → Admission G D → Type 0)
+    (named : (past : History D K G C) (sender : K) (vote : Vote G D) → holds past sender vote (network_answer x past sender vote)) where
+  pub at_each_vote : (past : History D K G C) → IsPossible x past → AtEachVote holds past
+  at_each_vote [] possible = tt
+  at_each_vote ((NetworkCall sender vote, NetworkAnswer admission) ∷ past) possible =
+      (subst (λ (a : Admission G D). holds past sender vote a) (sym possible.1.1.0) (named past sender vote), at_each_vote past possible.1.1.1)
+  at_each_vote ((NetworkCall sender vote, OwnAnswer outcome report) ∷ past) possible = at_each_vote past possible.1.1.1
+  at_each_vote ((NetworkCall sender vote, OwnRefused fault) ∷ past) possible = at_each_vote past possible.1.1.1
+  at_each_vote ((NetworkCall sender vote, CertificateAnswer changed) ∷ past) possible = at_each_vote past possible.1.1.1
+  at_each_vote ((NetworkCall sender vote, LeaderAnswer result) ∷ past) possible = at_each_vote past possible.1.1.1
+  at_each_vote ((NetworkCall sender vote, ConstructAnswer batch) ∷ past) possible = at_each_vote past possible.1.1.1
+  at_each_vote ((NetworkCall sender vote, ForwardAnswer proposal) ∷ past) possible = at_each_vote past possible.1.1.1
+  at_each_vote ((NetworkCall sender vote, MissingAnswer missing) ∷ past) possible = at_each_vote past possible.1.1.1
+  at_each_vote ((NetworkCall sender vote, OutOfMemory) ∷ past) possible = at_each_vote past possible.1.1.1
+  at_each_vote ((OwnCall vote, answer) ∷ past) possible = at_each_vote past possible.1.1.1
+  at_each_vote ((CertificateCall certificate, answer) ∷ past) possible = at_each_vote past possible.1.1.1
+  at_each_vote ((LeaderCall leader, answer) ∷ past) possible = at_each_vote past possible.1.1.1
+  at_each_vote ((ConstructCall, answer) ∷ past) possible = at_each_vote past possible.1.1.1
+  at_each_vote ((ForwardCall me, answer) ∷ past) possible = at_each_vote past possible.1.1.1
+  at_each_vote ((MissingCall p, answer) ∷ past) possible = at_each_vote past possible.1.1.1
+
+module _ {D K G C : Type 0} (x : Setting D K G C) where
+  accepted_exactly : (past : History D K G C) → IsPossible x past → AtEachVote (IsAcceptedExactly x) past
+  accepted_exactly = at_each_vote x (IsAcceptedExactly x) (added_is x)
+
+  honest_not_blocked : HasLaws x → (past : History D K G C) → IsPossible x past → AtEachVote (IsBlockedForCause x) past
+  honest_not_blocked laws =
+      at_each_vote x (IsBlockedForCause x)
+      (λ past sender vote blocked i known. blocked_for_cause x laws past sender vote i known (NetworkAnswer (network_answer x past sender vote)) blocked)
+
+  contradictions_blocked : (past : History D K G C) → IsPossible x past → AtEachVote (IsBlockedIfContradicting x) past
+  contradictions_blocked = at_each_vote x (IsBlockedIfContradicting x) (λ past sender vote retains. blocked_if_contradicting x retains past sender vote)
+
+  -- CERTIFICATES
+  certifies_at_least : (subject : Subject D) (certificate : Option (Certificate C D)) → IfSome certificate (λ c. certifies_subject x subject c ≡ true) → IfSome certificate (λ c. certifies_itself x.meaning c ≡ true)
+  certifies_at_least subject None h = tt
+  certifies_at_least subject (Some c) h = (and_parts _ _ h).1
+
+  certifies_if_given : (past : History D K G C) (call : Call K G C D) (answer : Answer G C D) (batch : Option (Batch (Certificate C D))) → MayAnswer x past call answer → batch_given answer ≡ batch →
+      IfSome batch (λ b. IfSome b.certificate (λ c. certifies_itself x.meaning c ≡ true))
+  certifies_if_given past call answer None may given = tt
+  certifies_if_given past call answer (Some batch) may given =
+      let tried = (batch_made x past call answer batch may given).after.attempt in certifies_at_least tried.subject batch.certificate tried.certified
+
+  gives_verified : (past : History D K G C) (call : Call K G C D) (answer : Answer G C D) → MayAnswer x past call answer → certifies_answer x.meaning answer
+  gives_verified past call (ConstructAnswer batch) may = certifies_if_given past call (ConstructAnswer batch) batch may refl
+  gives_verified past call (NetworkAnswer admission) may = tt
+  gives_verified past call (OwnAnswer outcome report) may = tt
+  gives_verified past call (OwnRefused fault) may = tt
+  gives_verified past call (CertificateAnswer changed) may = tt
+  gives_verified past call (LeaderAnswer result) may = tt
+  gives_verified past call (ForwardAnswer proposal) may = tt
+  gives_verified past call (MissingAnswer missing) may = tt
+  gives_verified past call OutOfMemory may = tt
+
+  certificates_verified : (past : History D K G C) → IsPossible x past → All (λ event. certifies_answer x.meaning event.1) past
+  certificates_verified [] possible = λ k d below. absurd (omega arith)
+  certificates_verified (event ∷ past) possible =
+      All-cons (λ e. certifies_answer x.meaning e.1) event past (gives_verified past event.0 event.1 possible.1.1.0) (certificates_verified past possible.1.1.1)
+
+  -- What is promised holds of each history that is possible.
+  pub promised : HasLaws x → (past : History D K G C) → IsPossible x past → Promises x past
+  promised laws past possible =
+      record {
+        acceptance_is_exact = accepted_exactly past possible;
+        honest_are_never_blocked = honest_not_blocked laws past possible;
+        contradictions_are_blocked = contradictions_blocked past possible;
+        certificates_verify = certificates_verified past possible;
+      }

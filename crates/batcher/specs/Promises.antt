@@ -1,0 +1,65 @@
+-- What the history of a list of calls promises those who rely on it.
+use Rattle.std.specs.Prelude.{◌≡◌, ⊤, ℕ, Bool, true, false, not, ◌&&◌, ◌||◌, ◌==◌, List, [], ◌∷◌, ◌++◌, Some, is_some, All}
+use Rattle.std.specs.List.{list_any}
+use Rattle.batcher.specs.declared.positions.Participant.{Participant}
+use Rattle.batcher.specs.declared.messages.Vote.{Vote}
+use Rattle.batcher.specs.declared.round.Admission.{Admission}
+use Rattle.batcher.specs.declared.votes.Mode.TheVariants.{Retaining}
+use Rattle.batcher.specs.declared.run.Call.{Call}
+use Rattle.batcher.specs.declared.run.Call.TheVariants.{Network as NetworkCall}
+use Rattle.batcher.specs.declared.run.Answer.TheVariants.{Network as NetworkAnswer}
+use Rattle.batcher.specs.Setting.{Setting, sender_in}
+use Rattle.batcher.specs.Lists.{is_some_and}
+use Rattle.batcher.specs.Votes.{signer_of}
+use Rattle.batcher.specs.History.{History, names_sender, cast_votes}
+use Rattle.batcher.specs.FirstVotes.{first_votes, is_free, contradicts}
+use Rattle.batcher.specs.Runs.{certifies_answer}
+
+module _ {D K G C : Type 0} where
+  -- what holds of each network vote, by the history before it, its sender and the admission that it was answered
+  abbrev pub AtEachVote : (History D K G C → K → Vote G D → Admission G D → Type 0) → History D K G C → Type 0
+  AtEachVote holds [] = ⊤
+  AtEachVote holds ((NetworkCall sender vote, NetworkAnswer admission) ∷ past) = holds past sender vote admission × AtEachVote holds past
+  AtEachVote holds (event ∷ past) = AtEachVote holds past
+
+module _ {D K G C : Type 0} (x : Setting D K G C) where
+  -- Acceptance is exact: a network vote is added exactly if it names its sender and no first vote excludes it.
+  abbrev pub IsAcceptedExactly : History D K G C → K → Vote G D → Admission G D → Type 0
+  IsAcceptedExactly past sender vote admission = admission.added ≡ (names_sender x sender vote && is_free (first_votes x past) vote)
+
+  -- whether a call is a participant's vote that names another one
+  abbrev pub names_another : ℕ → Call K G C D → Bool
+  names_another i (NetworkCall sender vote) = is_some_and (sender_in x sender) (λ p. (p.0 == i) && not (p.0 == signer_of vote))
+  names_another i call = false
+
+  -- All votes that were cast, the excluded ones too. What others send in a participant's name isn't cast.
+  abbrev pub votes_cast : History D K G C → List (Vote G D)
+  votes_cast [] = []
+  votes_cast (event ∷ past) = cast_votes x event.0 ++ votes_cast past
+
+  -- whether two votes of the participant contradict each other
+  abbrev pub contradicts_itself : List (Vote G D) → ℕ → Bool
+  contradicts_itself votes i = list_any (λ v. (signer_of v == i) && list_any (contradicts x v) votes) votes
+
+  -- what a participant may be blocked for
+  abbrev pub gave_cause : History D K G C → ℕ → Bool
+  gave_cause past i = list_any (λ event. names_another i event.0) past || contradicts_itself (votes_cast past) i
+
+  -- The honest are never blocked: a participant that is blocked has given cause, with this vote at the latest.
+  abbrev pub IsBlockedForCause : History D K G C → K → Vote G D → Admission G D → Type 0
+  IsBlockedForCause past sender vote admission =
+      is_some admission.block ≡ true → (i : Participant) → sender_in x sender ≡ Some i
+      → gave_cause ((NetworkCall sender vote, NetworkAnswer admission) ∷ past) i.0 ≡ true
+
+  -- Contradictions are blocked in retaining rounds: whoever contradicts its own first vote is blocked.
+  abbrev pub IsBlockedIfContradicting : History D K G C → K → Vote G D → Admission G D → Type 0
+  IsBlockedIfContradicting past sender vote admission =
+      x.mode ≡ Retaining → (names_sender x sender vote && list_any (λ v. contradicts x v vote) (first_votes x past)) ≡ true
+      → is_some admission.block ≡ true
+
+  -- What holds of every list of calls on a fresh round, over its history.
+  pub record Promises (past : History D K G C) : Type 0 where
+    pub acceptance_is_exact : AtEachVote IsAcceptedExactly past
+    pub honest_are_never_blocked : AtEachVote IsBlockedForCause past
+    pub contradictions_are_blocked : AtEachVote IsBlockedIfContradicting past
+    pub certificates_verify : All (λ event. certifies_answer x.meaning event.1) past
