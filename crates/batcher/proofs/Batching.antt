@@ -351,7 +351,7 @@ module _ {D K G C : Type 0} (x : Setting D K G C) (past : History D K G C) (old 
       moves_tracked x past idle old k ((stands.each_kind k).certified_is)
       (tracks_stay x past idle refl old stands k refl)
 
-  idle_moves : Moves x past old ConstructCall (ConstructAnswer None) old
+  pub idle_moves : Moves x past old ConstructCall (ConstructAnswer None) old
   idle_moves =
       record {
         allowed = tt;

@@ -54,4 +54,9 @@ pub mod Batching
 pub mod Needing
 pub mod Joining
 pub mod Failing
+pub mod ValidQuorums
+pub mod Holding
+pub mod Leaving
+pub mod Done
+pub mod Completing
 pub mod Promising

@@ -1,10 +1,9 @@
 -- What is promised of each network vote: acceptance is exact, the honest are never blocked, and contradictions are blocked.
-use Rattle.std.proofs.Common.{◌≡◌, ℕ, Bool, true, false, not, cond, ◌&&◌, ◌||◌, List, [], ◌∷◌, ◌++◌, Option, Some, None, refl, ap, sym, ◌∙◌, ⊎_elim, eqb, ltb, arith, subst}
-use Rattle.std.specs.Prelude.{All, IfSome, filter, find, is_some}
+use Rattle.std.proofs.Common.{◌≡◌, ℕ, Bool, true, false, not, cond, ◌&&◌, ◌||◌, List, [], ◌∷◌, ◌++◌, Option, Some, None, refl, ap, sym, ◌∙◌, ⊎_elim, eqb, ltb, subst}
+use Rattle.std.specs.Prelude.{IfSome, filter, find, is_some}
 use Rattle.std.specs.List.{list_any}
 use Rattle.std.proofs.lemmas.Bool.{and_parts, and_from, or_left, or_right, or_cases, or_parts, true≢false, false≢true, eqb-true, eq-eqb, false_from_ne_true}
 use Rattle.std.proofs.lemmas.List.Folds.{list_any-append}
-use Rattle.std.proofs.lemmas.List.Elements.{All-cons}
 use Rattle.batcher.specs.declared.positions.Participant.{Participant}
 use Rattle.batcher.specs.declared.messages.Proposal.{Proposal}
 use Rattle.batcher.specs.declared.messages.Vote.{Vote}
@@ -24,12 +23,12 @@ use Rattle.batcher.specs.Lists.{is_some_and, is_empty, exactly_one}
 use Rattle.batcher.specs.Votes.{is_kind, kind_of, signer_of, is_vote_of, are_opposite, excludes, opposes, is_for, same_proposal}
 use Rattle.batcher.specs.Tracking.{is_released_in}
 use Rattle.batcher.specs.Admissions.{same_vote, refusal, mismatch_reason, block_for, admission_after, admission_after_facts, admission_beside}
-use Rattle.batcher.specs.History.{History, names_sender, cast_votes, batch_given}
+use Rattle.batcher.specs.History.{Event, History, names_sender, cast_votes, batch_given}
 use Rattle.batcher.specs.FirstVotes.{first_votes, is_free, contradicts, first_like, opposite_vote}
 use Rattle.batcher.specs.Selection.{is_certified, is_released, selected_proposal}
 use Rattle.batcher.specs.Comparison.{compared_votes, compared_votes_of, is_compared, is_compared_at_release, conflicts, differs_from}
 use Rattle.batcher.specs.Answers.{network_answer, admission_sent_by, admission_against, admission_by_first, MayAnswer, IsPossible}
-use Rattle.batcher.specs.Promises.{AtEachVote, IsAcceptedExactly, votes_cast, contradicts_itself, gave_cause, IsBlockedForCause, IsBlockedIfContradicting, Promises}
+use Rattle.batcher.specs.Promises.{AtEachVote, IsAcceptedExactly, votes_cast, contradicts_itself, gave_cause, IsBlockedForCause, IsBlockedIfContradicting, Throughout, IsCertified, CompletesQuorums, Rests, Promises}
 use Rattle.batcher.specs.Runs.{certifies_answer}
 use Rattle.batcher.specs.Trying.{certifies_subject}
 use Rattle.batcher.specs.Verifiers.{certifies_itself}
@@ -39,6 +38,7 @@ use Rattle.batcher.proofs.Waits.{proposal_is}
 use Rattle.batcher.proofs.Right.{found_passes}
 use Rattle.batcher.proofs.Apart.{any_count, count_at, positive, firsts_apart, found_is_of, where_holds}
 use Rattle.batcher.proofs.Arriving.{added_is}
+use Rattle.batcher.proofs.Completing.{completes, rests}
 
 -- ANY OF A LIST
 pub any_more : {X : Type 0} (p q : X → Bool) → ((v : X) → p v ≡ true → q v ≡ true) → (vs : List X) → list_any p vs ≡ true → list_any q vs ≡ true
@@ -377,10 +377,9 @@ module _ {D K G C : Type 0} (x : Setting D K G C) where
   gives_verified past call (MissingAnswer missing) may = tt
   gives_verified past call OutOfMemory may = tt
 
-  certificates_verified : (past : History D K G C) → IsPossible x past → All (λ event. certifies_answer x.meaning event.1) past
-  certificates_verified [] possible = λ k d below. absurd (omega arith)
-  certificates_verified (event ∷ past) possible =
-      All-cons (λ e. certifies_answer x.meaning e.1) event past (gives_verified past event.0 event.1 possible.1.1.0) (certificates_verified past possible.1.1.1)
+  throughout : (holds : Event D K G C → History D K G C → Type 0) → ((event : Event D K G C) (past : History D K G C) → IsPossible x (event ∷ past) → holds event past) → (past : History D K G C) → IsPossible x past → Throughout holds past
+  throughout holds each [] possible = tt
+  throughout holds each (event ∷ past) possible = (each event past possible, throughout holds each past possible.1.1.1)
 
   -- What is promised holds of each history that is possible.
   pub promised : HasLaws x → (past : History D K G C) → IsPossible x past → Promises x past
@@ -389,5 +388,7 @@ module _ {D K G C : Type 0} (x : Setting D K G C) where
         acceptance_is_exact = accepted_exactly past possible;
         honest_are_never_blocked = honest_not_blocked laws past possible;
         contradictions_are_blocked = contradictions_blocked past possible;
-        certificates_verify = certificates_verified past possible;
+        certificates_verify = throughout (IsCertified x) (λ event before made. gives_verified before event.0 event.1 made.1.1.0) past possible;
+        quorums_complete = throughout (CompletesQuorums x) (completes x laws) past possible;
+        constructions_rest = throughout Rests (rests x laws) past possible;
       }

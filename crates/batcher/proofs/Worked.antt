@@ -39,4 +39,5 @@ worked =
       contradictions_give_cause = refl;
       counted = refl;
       none_counted = refl;
+      third_construction = refl;
     }

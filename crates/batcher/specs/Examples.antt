@@ -93,6 +93,10 @@ round_of n mode = setting (listing n) compare (λ a b. a == b) (λ a b. a == b) 
 abbrev pub four : Mode → TinySetting
 four mode = round_of 4 mode
 
+-- of a scheme that verifies votes one by one as they come
+abbrev pub one_by_one : Mode → TinySetting
+one_by_one mode = record (four mode) { meaning = record (listing 4) { batchable = false } }
+
 -- votes and certificates
 abbrev pub p : ℕ → Proposal ℕ
 p v = record { round = the_round; parent = record { 0 = 0 }; payload = v }
@@ -352,3 +356,9 @@ pub record WorkedExamples : Type 0 where
   -- Votes for the selected proposal count, the bad ones among them too, but no vote does while nothing is selected.
   pub counted : counts (four Retaining) (lead 0 ∷ net 0 (notarize 0 1) ∷ net 1 (bad_notarize 1 1) ∷ net 2 (notarize 2 2) ∷ []) Notarization ≡ (2, 1)
   pub none_counted : counts (four Retaining) (net 0 (notarize 0 1) ∷ net 1 (notarize 1 1) ∷ []) Notarization ≡ (0, 0)
+  -- It takes three constructions to come to the last kind, and a fourth gives no batch.
+  pub third_construction :
+      answers (one_by_one Retaining)
+      (lead 0 ∷ net 0 (notarize 0 1) ∷ net 0 (nullify 0) ∷ net 1 (finalize 1 1) ∷ net 2 (finalize 2 1) ∷ net 3 (finalize 3 1) ∷ construct ∷ construct ∷ construct ∷ construct ∷ [])
+      ≡ leads ∷ added (notarize 0 1) ∷ added (nullify 0) ∷ added (finalize 1 1) ∷ added (finalize 2 1) ∷ added (finalize 3 1)
+      ∷ batch 1 [] None false ∷ batch 1 [] None false ∷ batch 3 [] (Some (finalization 1)) false ∷ no_batch ∷ []

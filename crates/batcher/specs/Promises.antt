@@ -1,18 +1,21 @@
 -- What the history of a list of calls promises those who rely on it.
-use Rattle.std.specs.Prelude.{◌≡◌, ⊤, ℕ, Bool, true, false, not, ◌&&◌, ◌||◌, ◌==◌, List, [], ◌∷◌, ◌++◌, Some, is_some, All}
+use Rattle.std.specs.Prelude.{◌≡◌, ◌≤◌, ⊤, ℕ, zero, suc, Bool, true, false, not, ◌&&◌, ◌||◌, ◌==◌, List, [], ◌∷◌, ◌++◌, Some, None, is_some, length}
 use Rattle.std.specs.List.{list_any}
 use Rattle.batcher.specs.declared.positions.Participant.{Participant}
 use Rattle.batcher.specs.declared.messages.Vote.{Vote}
+use Rattle.batcher.specs.declared.messages.Kind.{Kind}
 use Rattle.batcher.specs.declared.round.Admission.{Admission}
 use Rattle.batcher.specs.declared.votes.Mode.TheVariants.{Retaining}
 use Rattle.batcher.specs.declared.run.Call.{Call}
-use Rattle.batcher.specs.declared.run.Call.TheVariants.{Network as NetworkCall}
-use Rattle.batcher.specs.declared.run.Answer.TheVariants.{Network as NetworkAnswer}
-use Rattle.batcher.specs.Setting.{Setting, sender_in}
+use Rattle.batcher.specs.declared.run.Call.TheVariants.{Network as NetworkCall, Construct as ConstructCall}
+use Rattle.batcher.specs.declared.run.Answer.TheVariants.{Network as NetworkAnswer, Construct as ConstructAnswer}
+use Rattle.batcher.specs.Setting.{Setting, sender_in, quorum_in}
 use Rattle.batcher.specs.Lists.{is_some_and}
 use Rattle.batcher.specs.Votes.{signer_of}
-use Rattle.batcher.specs.History.{History, names_sender, cast_votes}
+use Rattle.batcher.specs.History.{Event, History, names_sender, cast_votes}
 use Rattle.batcher.specs.FirstVotes.{first_votes, is_free, contradicts}
+use Rattle.batcher.specs.Selection.{is_certified}
+use Rattle.batcher.specs.Standing.{valid_votes}
 use Rattle.batcher.specs.Runs.{certifies_answer}
 
 module _ {D K G C : Type 0} where
@@ -21,6 +24,21 @@ module _ {D K G C : Type 0} where
   AtEachVote holds [] = ⊤
   AtEachVote holds ((NetworkCall sender vote, NetworkAnswer admission) ∷ past) = holds past sender vote admission × AtEachVote holds past
   AtEachVote holds (event ∷ past) = AtEachVote holds past
+
+  -- what holds of each event, and of the history before it
+  abbrev pub Throughout : (Event D K G C → History D K G C → Type 0) → History D K G C → Type 0
+  Throughout holds [] = ⊤
+  Throughout holds (event ∷ past) = holds event past × Throughout holds past
+
+  -- whether the last so many calls are constructions
+  abbrev pub ends_in_constructions : ℕ → History D K G C → Bool
+  ends_in_constructions zero past = true
+  ends_in_constructions (suc n) ((ConstructCall, answer) ∷ past) = ends_in_constructions n past
+  ends_in_constructions (suc n) past = false
+
+  -- A fourth construction in a row gives no batch.
+  abbrev pub Rests : Event D K G C → History D K G C → Type 0
+  Rests event past = ends_in_constructions 4 (event ∷ past) ≡ true → event.1 ≡ ConstructAnswer None
 
 module _ {D K G C : Type 0} (x : Setting D K G C) where
   -- Acceptance is exact: a network vote is added exactly if it names its sender and no first vote excludes it.
@@ -57,9 +75,21 @@ module _ {D K G C : Type 0} (x : Setting D K G C) where
       x.mode ≡ Retaining → (names_sender x sender vote && list_any (λ v. contradicts x v vote) (first_votes x past)) ≡ true
       → is_some admission.block ≡ true
 
+  -- Certificates verify: the one that a batch gives certifies what it names.
+  abbrev pub IsCertified : Event D K G C → History D K G C → Type 0
+  IsCertified event past = certifies_answer x.meaning event.1
+
+  -- Quorums complete: after three constructions in a row each kind of which a quorum is valid is certified.
+  abbrev pub CompletesQuorums : Event D K G C → History D K G C → Type 0
+  CompletesQuorums event past =
+      ends_in_constructions 3 (event ∷ past) ≡ true
+      → (kind : Kind) → quorum_in x ≤ length (valid_votes x (event ∷ past) kind) → is_certified (event ∷ past) kind ≡ true
+
   -- What holds of every list of calls on a fresh round, over its history.
   pub record Promises (past : History D K G C) : Type 0 where
     pub acceptance_is_exact : AtEachVote IsAcceptedExactly past
     pub honest_are_never_blocked : AtEachVote IsBlockedForCause past
     pub contradictions_are_blocked : AtEachVote IsBlockedIfContradicting past
-    pub certificates_verify : All (λ event. certifies_answer x.meaning event.1) past
+    pub certificates_verify : Throughout IsCertified past
+    pub quorums_complete : Throughout CompletesQuorums past
+    pub constructions_rest : Throughout Rests past
