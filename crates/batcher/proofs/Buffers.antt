@@ -120,7 +120,7 @@ module _ {D K G C : Type 0} (x : Setting D K G C) where
   not_own : (past : History D K G C) (v : Vote G D) → vote_at (first_votes x past) (kind_of v) (signer_of v) ≡ None → holds_vote (own_first_votes x past) v ≡ false
   not_own past v free = false_from_ne_true _ (λ h. let no : false ≡ true = sym (ap is_some free) ∙ own_filled x past v h in cc)
 
-  not_restored : (past : History D K G C) (event : Event D K G C) (v : Vote G D) → vote_at (first_votes x past) (kind_of v) (signer_of v) ≡ None → holds_vote (restored_votes x (event ∷ past)) v ≡ false
+  pub not_restored : (past : History D K G C) (event : Event D K G C) (v : Vote G D) → vote_at (first_votes x past) (kind_of v) (signer_of v) ≡ None → holds_vote (restored_votes x (event ∷ past)) v ≡ false
   not_restored past event v free =
       list_any-append (is_vote_of (kind_of v) (signer_of v)) (votes_restored_by x past event) (restored_votes x past)
       ∙ (ap (λ b. b || holds_vote (restored_votes x past) v) (any_filtered (comes_back x past event) (first_votes x past) (kind_of v) (signer_of v) (firsts_apart x past) ∙ ap (λ o. is_some_and o (comes_back x past event)) free)

@@ -59,4 +59,6 @@ pub mod Holding
 pub mod Leaving
 pub mod Done
 pub mod Completing
+pub mod Finding
+pub mod Working
 pub mod Promising

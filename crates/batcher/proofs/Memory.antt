@@ -30,7 +30,7 @@ empty_is : {X : Type 0} (xs : List X) → is_empty xs ≡ true → xs ≡ []
 empty_is [] h = refl
 empty_is (x ∷ xs) h = absurd (cc)
 
-counted : {X : Type 0} (p : X → Bool) (xs : List X) → count p xs ≡ length (filter p xs)
+pub counted : {X : Type 0} (p : X → Bool) (xs : List X) → count p xs ≡ length (filter p xs)
 counted p xs = count_same p (λ v. p v && true) xs (λ v. sym (and-true (p v))) ∙ (sym (count-filter (λ v. true) p xs) ∙ count-true (filter p xs))
 
 either_empty : {X : Type 0} (b : Bool) (xs : List X) → (b ≡ false → xs ≡ []) → cond b [] xs ≡ []

@@ -1,6 +1,6 @@
 -- What is promised of each network vote: acceptance is exact, the honest are never blocked, and contradictions are blocked.
 use Rattle.std.proofs.Common.{◌≡◌, ℕ, Bool, true, false, not, cond, ◌&&◌, ◌||◌, List, [], ◌∷◌, ◌++◌, Option, Some, None, refl, ap, sym, ◌∙◌, ⊎_elim, eqb, ltb, subst}
-use Rattle.std.specs.Prelude.{IfSome, filter, find, is_some}
+use Rattle.std.specs.Prelude.{IfSome, filter, is_some}
 use Rattle.std.specs.List.{list_any}
 use Rattle.std.proofs.lemmas.Bool.{and_parts, and_from, or_left, or_right, or_cases, or_parts, true≢false, false≢true, eqb-true, eq-eqb, false_from_ne_true}
 use Rattle.std.proofs.lemmas.List.Folds.{list_any-append}
@@ -33,56 +33,14 @@ use Rattle.batcher.specs.Runs.{certifies_answer}
 use Rattle.batcher.specs.Trying.{certifies_subject}
 use Rattle.batcher.specs.Verifiers.{certifies_itself}
 use Rattle.batcher.proofs.Attempting.{batch_made}
+use Rattle.batcher.proofs.Finding.{any_more, any_of_filtered, any_filter, any_found, none_found, any_other}
 use Rattle.batcher.proofs.Laws.{HasLaws}
 use Rattle.batcher.proofs.Waits.{proposal_is}
 use Rattle.batcher.proofs.Right.{found_passes}
 use Rattle.batcher.proofs.Apart.{any_count, count_at, positive, firsts_apart, found_is_of, where_holds}
 use Rattle.batcher.proofs.Arriving.{added_is}
 use Rattle.batcher.proofs.Completing.{completes, rests}
-
--- ANY OF A LIST
-pub any_more : {X : Type 0} (p q : X → Bool) → ((v : X) → p v ≡ true → q v ≡ true) → (vs : List X) → list_any p vs ≡ true → list_any q vs ≡ true
-any_more p q more [] h = h
-any_more p q more (v ∷ vs) h =
-    ⊎_elim (λ here. or_left (q v) (list_any q vs) (more v here)) (λ rest. or_right (q v) (list_any q vs) (any_more p q more vs rest)) (or_cases (p v) (list_any p vs) h)
-
-any_of_one : {X : Type 0} (p : X → Bool) (v : X) (vs : List X) (b rest : Bool) → (list_any p vs ≡ true → rest ≡ true) → list_any p (cond b (v ∷ vs) vs) ≡ true → ((b && p v) || rest) ≡ true
-any_of_one p v vs true rest more h = ⊎_elim (λ here. or_left (p v) rest here) (λ k. or_right (p v) rest (more k)) (or_cases (p v) (list_any p vs) h)
-any_of_one p v vs false rest more h = more h
-
-pub any_of_filtered : {X : Type 0} (p q : X → Bool) (vs : List X) → list_any p (filter q vs) ≡ true → list_any (λ v. q v && p v) vs ≡ true
-any_of_filtered p q [] h = h
-any_of_filtered p q (v ∷ vs) h = any_of_one p v (filter q vs) (q v) _ (any_of_filtered p q vs) h
-
-pub any_filter : {X : Type 0} (p q : X → Bool) (vs : List X) → list_any p (filter q vs) ≡ true → list_any p vs ≡ true
-any_filter p q vs h = any_more (λ v. q v && p v) p (λ v both. (and_parts _ _ both).1) vs (any_of_filtered p q vs h)
-
--- what is found is one of them
-pub any_found : {X : Type 0} (p q : X → Bool) (vs : List X) (v : X) → find p vs ≡ Some v → q v ≡ true → list_any q vs ≡ true
-any_found p q [] v h k = cc
-any_found {X = X} p q (w ∷ vs) v h k = by_mark (p w) h (any_found p q vs v)
-  where
-    by_mark : (b : Bool) → cond b (Some w) (find p vs) ≡ Some v → (find p vs ≡ Some v → q v ≡ true → list_any q vs ≡ true) → (q w || list_any q vs) ≡ true
-    by_mark true e rest = let same : w ≡ v = cc in or_left (q w) (list_any q vs) (subst (λ (u : X). q u ≡ true) (sym same) k)
-    by_mark false e rest = or_right (q w) (list_any q vs) (rest e k)
-
-none_found_of : {X : Type 0} (b : Bool) (v : X) (o : Option X) → cond b (Some v) o ≡ None → (b ≡ false) × (o ≡ None)
-none_found_of true v o h = absurd (cc)
-none_found_of false v o h = (refl, h)
-
-pub none_found : {X : Type 0} (p : X → Bool) (vs : List X) → find p vs ≡ None → list_any p vs ≡ false
-none_found p [] h = refl
-none_found p (v ∷ vs) h = let parts = none_found_of (p v) v (find p vs) h in rw (parts.0, none_found p vs parts.1) refl
-
--- of one of two tests, where none passes the other
-pub any_other : {X : Type 0} (p q : X → Bool) (vs : List X) → list_any (λ v. p v || q v) vs ≡ true → list_any q vs ≡ false → list_any p vs ≡ true
-any_other p q [] h none = h
-any_other p q (v ∷ vs) h none =
-    let parts = or_parts (q v) (list_any q vs) none in
-    ⊎_elim
-    (λ here. ⊎_elim (λ this. or_left (p v) (list_any p vs) this) (λ that. absurd (true≢false (sym that ∙ parts.0))) (or_cases (p v) (q v) here))
-    (λ rest. or_right (p v) (list_any p vs) (any_other p q vs rest parts.1))
-    (or_cases (p v || q v) (list_any (λ w. p w || q w) vs) h)
+use Rattle.batcher.proofs.Working.{worked_once, skipped_works_not}
 
 module _ {G D : Type 0} (same : D → D → Bool) (equal : G → G → Bool) where
   -- VOTES THAT CONTRADICT EACH OTHER
@@ -391,4 +349,6 @@ module _ {D K G C : Type 0} (x : Setting D K G C) where
         certificates_verify = throughout (IsCertified x) (λ event before made. gives_verified before event.0 event.1 made.1.1.0) past possible;
         quorums_complete = throughout (CompletesQuorums x) (completes x laws) past possible;
         constructions_rest = throughout Rests (rests x laws) past possible;
+        no_double_work = worked_once x laws past possible;
+        no_work_when_skipped = λ skipped. skipped_works_not x skipped past possible;
       }

@@ -40,4 +40,6 @@ worked =
       counted = refl;
       none_counted = refl;
       third_construction = refl;
+      work_of_a_round = refl;
+      work_of_own_votes = refl;
     }

@@ -44,6 +44,7 @@ use Rattle.batcher.specs.History.{History, history_after, history}
 use Rattle.batcher.specs.Selection.{leader_of, selection}
 use Rattle.batcher.specs.Standing.{counted_votes, valid_votes, proven_votes, fresh_votes, ready_kind}
 use Rattle.batcher.specs.Stands.{pending_after, verified_after}
+use Rattle.batcher.specs.Work.{processed_total, votes_accepted_open, own_notarizes_restored}
 use Rattle.batcher.specs.Promises.{gave_cause}
 use Rattle.batcher.specs.Answers.{network_answer, own_answer, certificate_answer, forward_after, missing_after, needs_memory}
 
@@ -150,6 +151,15 @@ forward i = ForwardCall (participant i)
 abbrev pub missing : ℕ → TinyCall
 missing v = MissingCall (p v)
 
+-- lists of them
+abbrev pub whole_round : List TinyCall
+whole_round =
+    lead 0 ∷ net 0 (notarize 0 1) ∷ net 1 (notarize 1 1) ∷ net 2 (bad_notarize 2 1) ∷ net 1 (nullify 1) ∷ net 2 (nullify 2) ∷ net 3 (nullify 3) ∷ net 0 (finalize 0 1)
+    ∷ construct ∷ construct ∷ construct ∷ construct ∷ net 3 (notarize 3 1) ∷ construct ∷ []
+
+abbrev pub own_round : List TinyCall
+own_round = lead 0 ∷ own (notarize 0 1) ∷ own (notarize 1 2) ∷ own (notarize 2 2) ∷ own (notarize 3 2) ∷ own (finalize 1 2) ∷ construct ∷ []
+
 -- a round that holds votes of one kind alone: those kept, the pending and the verified ones
 abbrev pub only : Kind → List TinyVote → PerKind (List TinyVote)
 only Notarization votes = record { notarize = votes; nullify = []; finalize = [] }
@@ -241,6 +251,12 @@ module _ (x : TinySetting) where
   abbrev pub counts : List TinyCall → Kind → ℕ × ℕ
   counts calls kind = (length (counted_votes x (played calls) kind), length (valid_votes x (played calls) kind))
 
+  -- how many votes were processed, accepted from the network in time, and restored as own notarizes
+  abbrev pub work : List TinyCall → ℕ × ℕ × ℕ
+  work calls =
+      let past = played calls in
+      (processed_total past, length (votes_accepted_open x past), length (own_notarizes_restored x past))
+
   abbrev pub lengths : List TinyCall → Kind → ℕ × ℕ
   lengths calls kind = (length (fresh_votes x (played calls) kind), length (proven_votes x (played calls) kind))
 
@@ -315,14 +331,12 @@ pub record WorkedExamples : Type 0 where
       ≡ added (finalize 1 1) ∷ own_duplicate ∷ MissingAnswer (map participant (0 ∷ 2 ∷ 3 ∷ [])) ∷ ForwardAnswer (Some (p 1)) ∷ ForwardAnswer None ∷ no_batch ∷ []
   -- A bad vote is verified once, and the good ones are used again.
   pub whole :
-      answers (four Retaining)
-      (lead 0 ∷ net 0 (notarize 0 1) ∷ net 1 (notarize 1 1) ∷ net 2 (bad_notarize 2 1) ∷ net 1 (nullify 1) ∷ net 2 (nullify 2) ∷ net 3 (nullify 3) ∷ net 0 (finalize 0 1)
-      ∷ construct ∷ construct ∷ construct ∷ construct ∷ net 3 (notarize 3 1) ∷ construct ∷ [])
+      answers (four Retaining) whole_round
       ≡ leads ∷ added (notarize 0 1) ∷ added (notarize 1 1) ∷ added (bad_notarize 2 1) ∷ added (nullify 1) ∷ added (nullify 2) ∷ added (nullify 3) ∷ added (finalize 0 1)
       ∷ batch 3 (2 ∷ []) None true ∷ batch 3 [] (Some nullification) false ∷ no_batch ∷ no_batch ∷ added (notarize 3 1) ∷ batch 1 [] (Some (notarization 1)) false ∷ []
   -- Own notarizes that come back are pending, and are tried like others.
   pub own_notarizes_come_back :
-      answers (four Retaining) (lead 0 ∷ own (notarize 0 1) ∷ own (notarize 1 2) ∷ own (notarize 2 2) ∷ own (notarize 3 2) ∷ own (finalize 1 2) ∷ construct ∷ [])
+      answers (four Retaining) own_round
       ≡ leads ∷ own_added (notarize 0 1) ∷ own_added (notarize 1 2) ∷ own_added (notarize 2 2) ∷ own_added (notarize 3 2) ∷ own_added (finalize 1 2) ∷ batch 3 [] (Some (notarization 2)) false ∷ []
   -- Own votes keep nullify and finalize apart.
   pub own_votes_apart :
@@ -362,3 +376,6 @@ pub record WorkedExamples : Type 0 where
       (lead 0 ∷ net 0 (notarize 0 1) ∷ net 0 (nullify 0) ∷ net 1 (finalize 1 1) ∷ net 2 (finalize 2 1) ∷ net 3 (finalize 3 1) ∷ construct ∷ construct ∷ construct ∷ construct ∷ [])
       ≡ leads ∷ added (notarize 0 1) ∷ added (nullify 0) ∷ added (finalize 1 1) ∷ added (finalize 2 1) ∷ added (finalize 3 1)
       ∷ batch 1 [] None false ∷ batch 1 [] None false ∷ batch 3 [] (Some (finalization 1)) false ∷ no_batch ∷ []
+  -- Each vote is processed once at most, and an own notarize once it was restored.
+  pub work_of_a_round : work (four Retaining) whole_round ≡ (7, 8, 0)
+  pub work_of_own_votes : work (four Retaining) own_round ≡ (3, 0, 3)

@@ -34,5 +34,6 @@ pub mod Standing
 pub mod Trying
 pub mod Answers
 pub mod Stands
+pub mod Work
 pub mod Promises
 pub mod Examples

@@ -5,7 +5,7 @@ use Rattle.batcher.specs.declared.positions.Participant.{Participant}
 use Rattle.batcher.specs.declared.messages.Vote.{Vote}
 use Rattle.batcher.specs.declared.messages.Kind.{Kind}
 use Rattle.batcher.specs.declared.round.Admission.{Admission}
-use Rattle.batcher.specs.declared.votes.Mode.TheVariants.{Retaining}
+use Rattle.batcher.specs.declared.votes.Mode.TheVariants.{Retaining, Skipped}
 use Rattle.batcher.specs.declared.run.Call.{Call}
 use Rattle.batcher.specs.declared.run.Call.TheVariants.{Network as NetworkCall, Construct as ConstructCall}
 use Rattle.batcher.specs.declared.run.Answer.TheVariants.{Network as NetworkAnswer, Construct as ConstructAnswer}
@@ -17,6 +17,7 @@ use Rattle.batcher.specs.FirstVotes.{first_votes, is_free, contradicts}
 use Rattle.batcher.specs.Selection.{is_certified}
 use Rattle.batcher.specs.Standing.{valid_votes}
 use Rattle.batcher.specs.Runs.{certifies_answer}
+use Rattle.batcher.specs.Work.{processed_total, IsWorkedOnce}
 
 module _ {D K G C : Type 0} where
   -- what holds of each network vote, by the history before it, its sender and the admission that it was answered
@@ -93,3 +94,5 @@ module _ {D K G C : Type 0} (x : Setting D K G C) where
     pub certificates_verify : Throughout IsCertified past
     pub quorums_complete : Throughout CompletesQuorums past
     pub constructions_rest : Throughout Rests past
+    pub no_double_work : IsWorkedOnce x past
+    pub no_work_when_skipped : x.mode ≡ Skipped → processed_total past ≡ 0
