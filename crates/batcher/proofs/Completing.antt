@@ -95,8 +95,8 @@ module _ {D K G C : Type 0} (x : Setting D K G C) (lawful : HasLaws x) where
   none_given past (Some batch) may none = absurd (none-some may.0 (sym none ∙ may.1.0))
 
   -- So after three constructions in a row each kind with a valid quorum is certified,
-  pub completes : (event : Event D K G C) (past : History D K G C) → IsPossible x (event ∷ past) → CompletesQuorums x event past
-  completes event past possible ends kind reached =
+  pub completes : (past : History D K G C) (event : Event D K G C) → IsPossible x (event ∷ past) → CompletesQuorums x past event
+  completes past event possible ends kind reached =
       ⊎_elim
       (λ certified. certified)
       (λ still.
@@ -105,8 +105,8 @@ module _ {D K G C : Type 0} (x : Setting D K G C) (lawful : HasLaws x) where
       (cases_Bool (is_certified (event ∷ past) kind))
 
   -- and a fourth one gives no batch.
-  pub rests : (event : Event D K G C) (past : History D K G C) → IsPossible x (event ∷ past) → Rests event past
-  rests event past possible ends =
+  pub rests : (past : History D K G C) (event : Event D K G C) → IsPossible x (event ∷ past) → Rests past event
+  rests past event possible ends =
       let last = last_constructs 3 event past ends in
       construct_answered x past event.1 (subst (λ call. MayAnswer x past call event.1) last.0 possible.1.1.0) (λ answer. answer ≡ ConstructAnswer None)
       (λ given may. ap ConstructAnswer (none_given past given may (none_ready past possible.1.1.1 last.1)))

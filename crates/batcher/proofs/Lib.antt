@@ -62,3 +62,5 @@ pub mod Completing
 pub mod Finding
 pub mod Working
 pub mod Promising
+pub mod Attesting
+pub mod Composing

@@ -23,7 +23,7 @@ use Rattle.batcher.proofs.Counts.{count-map, count_same}
 
 module _ {D K G C : Type 0} (x : Setting D K G C) where
   -- the standing votes of a kind, by signer
-  kind_and_signer : (k w s : Bool) → (k && (w && s)) ≡ (w && (k && s))
+  pub kind_and_signer : (k w s : Bool) → (k && (w && s)) ≡ (w && (k && s))
   kind_and_signer true true s = refl
   kind_and_signer true false s = refl
   kind_and_signer false true s = refl

@@ -1,4 +1,5 @@
--- What is promised of each network vote: acceptance is exact, the honest are never blocked, and contradictions are blocked.
+-- What is promised: of each network vote that acceptance is exact, that the honest are never blocked and that contradictions are
+-- blocked; and the rest by the lemmas before.
 use Rattle.std.proofs.Common.{◌≡◌, ℕ, Bool, true, false, not, cond, ◌&&◌, ◌||◌, List, [], ◌∷◌, ◌++◌, Option, Some, None, refl, ap, sym, ◌∙◌, ⊎_elim, eqb, ltb, subst}
 use Rattle.std.specs.Prelude.{IfSome, filter, is_some}
 use Rattle.std.specs.List.{list_any}
@@ -28,7 +29,7 @@ use Rattle.batcher.specs.FirstVotes.{first_votes, is_free, contradicts, first_li
 use Rattle.batcher.specs.Selection.{is_certified, is_released, selected_proposal}
 use Rattle.batcher.specs.Comparison.{compared_votes, compared_votes_of, is_compared, is_compared_at_release, conflicts, differs_from}
 use Rattle.batcher.specs.Answers.{network_answer, admission_sent_by, admission_against, admission_by_first, MayAnswer, IsPossible}
-use Rattle.batcher.specs.Promises.{AtEachVote, IsAcceptedExactly, votes_cast, contradicts_itself, gave_cause, IsBlockedForCause, IsBlockedIfContradicting, Throughout, IsCertified, CompletesQuorums, Rests, Promises}
+use Rattle.batcher.specs.Promises.{AtEachVote, IsAcceptedExactly, votes_cast, contradicts_itself, gave_cause, IsBlockedForCause, IsBlockedIfContradicting, AtEachEvent, IsCertified, CompletesQuorums, Rests, Promises}
 use Rattle.batcher.specs.Runs.{certifies_answer}
 use Rattle.batcher.specs.Trying.{certifies_subject}
 use Rattle.batcher.specs.Verifiers.{certifies_itself}
@@ -279,7 +280,14 @@ module _ {D K G C : Type 0} (x : Setting D K G C) (retains : x.mode ≡ Retainin
       is_some (network_answer x past sender vote).block ≡ true
   blocked_if_contradicting past sender vote h = blocked_of past vote (sender_in x sender) (and_parts _ _ h).0 (and_parts _ _ h).1
 
--- AT EACH VOTE OF A HISTORY
+-- AT EACH EVENT OF A HISTORY
+module _ {D K G C : Type 0} (x : Setting D K G C) (holds : History D K G C → Event D K G C → Type 0)
+    (each : (past : History D K G C) (event : Event D K G C) → IsPossible x (event ∷ past) → holds past event) where
+  pub at_each_event : (past : History D K G C) → IsPossible x past → AtEachEvent holds past
+  at_each_event [] possible = tt
+  at_each_event (event ∷ past) possible = (each past event possible, at_each_event past possible.1.1.1)
+
+-- and at each network vote
 module _ {D K G C : Type 0} (x : Setting D K G C) (holds : History D K G C → K → Vote G D → Admission G D → Type 0)
     (named : (past : History D K G C) (sender : K) (vote : Vote G D) → holds past sender vote (network_answer x past sender vote)) where
   pub at_each_vote : (past : History D K G C) → IsPossible x past → AtEachVote holds past
@@ -335,10 +343,6 @@ module _ {D K G C : Type 0} (x : Setting D K G C) where
   gives_verified past call (MissingAnswer missing) may = tt
   gives_verified past call OutOfMemory may = tt
 
-  throughout : (holds : Event D K G C → History D K G C → Type 0) → ((event : Event D K G C) (past : History D K G C) → IsPossible x (event ∷ past) → holds event past) → (past : History D K G C) → IsPossible x past → Throughout holds past
-  throughout holds each [] possible = tt
-  throughout holds each (event ∷ past) possible = (each event past possible, throughout holds each past possible.1.1.1)
-
   -- What is promised holds of each history that is possible.
   pub promised : HasLaws x → (past : History D K G C) → IsPossible x past → Promises x past
   promised laws past possible =
@@ -346,9 +350,9 @@ module _ {D K G C : Type 0} (x : Setting D K G C) where
         acceptance_is_exact = accepted_exactly past possible;
         honest_are_never_blocked = honest_not_blocked laws past possible;
         contradictions_are_blocked = contradictions_blocked past possible;
-        certificates_verify = throughout (IsCertified x) (λ event before made. gives_verified before event.0 event.1 made.1.1.0) past possible;
-        quorums_complete = throughout (CompletesQuorums x) (completes x laws) past possible;
-        constructions_rest = throughout Rests (rests x laws) past possible;
+        certificates_verify = at_each_event x (IsCertified x) (λ before event made. gives_verified before event.0 event.1 made.1.1.0) past possible;
+        quorums_complete = at_each_event x (CompletesQuorums x) (completes x laws) past possible;
+        constructions_rest = at_each_event x Rests (rests x laws) past possible;
         no_double_work = worked_once x laws past possible;
         no_work_when_skipped = λ skipped. skipped_works_not x skipped past possible;
       }

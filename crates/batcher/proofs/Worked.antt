@@ -42,4 +42,6 @@ worked =
       third_construction = refl;
       work_of_a_round = refl;
       work_of_own_votes = refl;
+      replaced_and_forwarded_once = refl;
+      usable_after_a_bad_vote = refl;
     }

@@ -33,19 +33,21 @@ use Rattle.batcher.specs.declared.run.Answer.{Answer}
 use Rattle.batcher.specs.declared.run.Answer.TheVariants.{Network as NetworkAnswer, Own as OwnAnswer, OwnRefused, Certificate as CertificateAnswer, Leader as LeaderAnswer, Construct as ConstructAnswer, Forward as ForwardAnswer, Missing as MissingAnswer}
 use Rattle.batcher.specs.Meaning.{Meaning}
 use Rattle.batcher.specs.Setting.{Setting, quorum_in, setting}
+use Rattle.batcher.specs.Lists.{count}
 use Rattle.batcher.specs.Keys.{participant}
-use Rattle.batcher.specs.Votes.{subject_of}
+use Rattle.batcher.specs.Votes.{signer_of, subject_of}
 use Rattle.batcher.specs.Attempts.{attempt_of}
 use Rattle.batcher.specs.Buffering.{attestations_of, batch_of}
 use Rattle.batcher.specs.Admissions.{addition, block_for, refusal, report_of}
 use Rattle.batcher.specs.Held.{PerKind, Held, for_each}
 use Rattle.batcher.specs.Steps.{leader_set_answer, report_by}
 use Rattle.batcher.specs.History.{History, history_after, history}
-use Rattle.batcher.specs.Selection.{leader_of, selection}
+use Rattle.batcher.specs.Selection.{leader_of, forwards, selection}
 use Rattle.batcher.specs.Standing.{counted_votes, valid_votes, proven_votes, fresh_votes, ready_kind}
 use Rattle.batcher.specs.Stands.{pending_after, verified_after}
 use Rattle.batcher.specs.Work.{processed_total, votes_accepted_open, own_notarizes_restored}
 use Rattle.batcher.specs.Promises.{gave_cause}
+use Rattle.batcher.specs.Composed.{replacements, usable_votes, has_bad_vote}
 use Rattle.batcher.specs.Answers.{network_answer, own_answer, certificate_answer, forward_after, missing_after, needs_memory}
 
 abbrev pub TinySetting : Type 0
@@ -251,6 +253,15 @@ module _ (x : TinySetting) where
   abbrev pub counts : List TinyCall → Kind → ℕ × ℕ
   counts calls kind = (length (counted_votes x (played calls) kind), length (valid_votes x (played calls) kind))
 
+  -- how often the leader's proposal was replaced, and the selected one handed on
+  abbrev pub changes : List TinyCall → ℕ × ℕ
+  changes calls = (replacements x (played calls), count (λ event. forwards event.1) (played calls))
+
+  -- whose votes of a kind can still make its certificate, and which participants have a bad one
+  abbrev pub usable_and_bad : List TinyCall → Kind → List ℕ × List ℕ
+  usable_and_bad calls kind =
+      (map signer_of (usable_votes x (played calls) kind), filter (λ i. has_bad_vote x (played calls) kind (participant i)) (range_with_len 0 4))
+
   -- how many votes were processed, accepted from the network in time, and restored as own notarizes
   abbrev pub work : List TinyCall → ℕ × ℕ × ℕ
   work calls =
@@ -379,3 +390,10 @@ pub record WorkedExamples : Type 0 where
   -- Each vote is processed once at most, and an own notarize once it was restored.
   pub work_of_a_round : work (four Retaining) whole_round ≡ (7, 8, 0)
   pub work_of_own_votes : work (four Retaining) own_round ≡ (3, 0, 3)
+  -- The leader's proposal is replaced once, and later evidence changes nothing; one forward call is answered a proposal.
+  pub replaced_and_forwarded_once :
+      changes (four Retaining) (lead 0 ∷ net 0 (notarize 0 1) ∷ forward 3 ∷ net 1 (finalize 1 2) ∷ cert (notarization 2) ∷ cert (finalization 3) ∷ forward 3 ∷ forward 2 ∷ []) ≡ (1, 1)
+  -- A vote that a batch found bad is of no more use; those of the others stay so.
+  pub usable_after_a_bad_vote :
+      usable_and_bad (four Retaining) (lead 0 ∷ net 0 (notarize 0 1) ∷ net 1 (notarize 1 1) ∷ net 2 (bad_notarize 2 1) ∷ construct ∷ net 3 (notarize 3 1) ∷ []) Notarization
+      ≡ (3 ∷ 1 ∷ 0 ∷ [], 2 ∷ [])

@@ -36,4 +36,6 @@ pub mod Answers
 pub mod Stands
 pub mod Work
 pub mod Promises
+pub mod Composed
+pub mod Ran
 pub mod Examples

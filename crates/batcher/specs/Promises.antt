@@ -26,10 +26,10 @@ module _ {D K G C : Type 0} where
   AtEachVote holds ((NetworkCall sender vote, NetworkAnswer admission) ∷ past) = holds past sender vote admission × AtEachVote holds past
   AtEachVote holds (event ∷ past) = AtEachVote holds past
 
-  -- what holds of each event, and of the history before it
-  abbrev pub Throughout : (Event D K G C → History D K G C → Type 0) → History D K G C → Type 0
-  Throughout holds [] = ⊤
-  Throughout holds (event ∷ past) = holds event past × Throughout holds past
+  -- what holds of each event, by the history before it
+  abbrev pub AtEachEvent : (History D K G C → Event D K G C → Type 0) → History D K G C → Type 0
+  AtEachEvent holds [] = ⊤
+  AtEachEvent holds (event ∷ past) = holds past event × AtEachEvent holds past
 
   -- whether the last so many calls are constructions
   abbrev pub ends_in_constructions : ℕ → History D K G C → Bool
@@ -38,8 +38,8 @@ module _ {D K G C : Type 0} where
   ends_in_constructions (suc n) past = false
 
   -- A fourth construction in a row gives no batch.
-  abbrev pub Rests : Event D K G C → History D K G C → Type 0
-  Rests event past = ends_in_constructions 4 (event ∷ past) ≡ true → event.1 ≡ ConstructAnswer None
+  abbrev pub Rests : History D K G C → Event D K G C → Type 0
+  Rests past event = ends_in_constructions 4 (event ∷ past) ≡ true → event.1 ≡ ConstructAnswer None
 
 module _ {D K G C : Type 0} (x : Setting D K G C) where
   -- Acceptance is exact: a network vote is added exactly if it names its sender and no first vote excludes it.
@@ -77,12 +77,12 @@ module _ {D K G C : Type 0} (x : Setting D K G C) where
       → is_some admission.block ≡ true
 
   -- Certificates verify: the one that a batch gives certifies what it names.
-  abbrev pub IsCertified : Event D K G C → History D K G C → Type 0
-  IsCertified event past = certifies_answer x.meaning event.1
+  abbrev pub IsCertified : History D K G C → Event D K G C → Type 0
+  IsCertified past event = certifies_answer x.meaning event.1
 
   -- Quorums complete: after three constructions in a row each kind of which a quorum is valid is certified.
-  abbrev pub CompletesQuorums : Event D K G C → History D K G C → Type 0
-  CompletesQuorums event past =
+  abbrev pub CompletesQuorums : History D K G C → Event D K G C → Type 0
+  CompletesQuorums past event =
       ends_in_constructions 3 (event ∷ past) ≡ true
       → (kind : Kind) → quorum_in x ≤ length (valid_votes x (event ∷ past) kind) → is_certified (event ∷ past) kind ≡ true
 
@@ -91,8 +91,8 @@ module _ {D K G C : Type 0} (x : Setting D K G C) where
     pub acceptance_is_exact : AtEachVote IsAcceptedExactly past
     pub honest_are_never_blocked : AtEachVote IsBlockedForCause past
     pub contradictions_are_blocked : AtEachVote IsBlockedIfContradicting past
-    pub certificates_verify : Throughout IsCertified past
-    pub quorums_complete : Throughout CompletesQuorums past
-    pub constructions_rest : Throughout Rests past
+    pub certificates_verify : AtEachEvent IsCertified past
+    pub quorums_complete : AtEachEvent CompletesQuorums past
+    pub constructions_rest : AtEachEvent Rests past
     pub no_double_work : IsWorkedOnce x past
     pub no_work_when_skipped : x.mode ≡ Skipped → processed_total past ≡ 0

@@ -1,16 +1,16 @@
 //! Calls of a round as values, and whole lists of them.
 
-ghost use Rattle.std.specs.Prelude.{◌≡◌, All, IfOk, []};
+ghost use Rattle.std.specs.Prelude.{◌≡◌, All, IfOk};
 ghost use Rattle.std.specs.List.{list_any};
 ghost use Rattle.std.specs.List.Sorted.{IsStrictlySortedBy};
 ghost use Rattle.batcher.specs.Setting.{setting};
 ghost use Rattle.batcher.specs.Steps.{nothing_held};
 ghost use Rattle.batcher.specs.Examples.{WorkedExamples};
-ghost use Rattle.batcher.specs.History.{History, history};
-ghost use Rattle.batcher.specs.Answers.{IsAnswered, AreAnswered};
+ghost use Rattle.batcher.specs.History.{History};
+ghost use Rattle.batcher.specs.Answers.{IsAnswered};
 ghost use Rattle.batcher.specs.Stands.{Stands, Meets};
-ghost use Rattle.batcher.specs.Promises.{Promises};
-ghost use Rattle.batcher.specs.Runs.{MayCall, Steps, Runs, blocked_sender, blocked_senders};
+ghost use Rattle.batcher.specs.Ran.{IsRun};
+ghost use Rattle.batcher.specs.Runs.{MayCall, Steps, blocked_sender, blocked_senders};
 
 use crate::messages::{Activity, Certificate, Digest, Proposal, Vote};
 use crate::positions::{Participant, Participants};
@@ -73,10 +73,7 @@ pub fn run<S: Scheme<D>, D: Digest, R: CryptoRng>(
 ) -> Result<Ran<S, D>, AllocError>
     requires fresh { round.holds ≡ nothing_held round.mode }
     requires calls { All (MayCall (S.meaning round.scheme) round.number) calls.now }
-    ensures runs { IfOk result (λ ran. Runs (setting (S.meaning round.scheme) S.PublicKey.cmp S.Signature.eq D.eq round.number round.mode) round.holds (R.stream rng.old) calls.now ran.answers.items ran.round.holds (R.stream rng.new)) }
-    ensures stands { IfOk result (λ ran. Stands (setting (S.meaning round.scheme) S.PublicKey.cmp S.Signature.eq D.eq round.number round.mode) (history calls.now ran.answers.items) ran.round.holds) }
-    ensures answered { IfOk result (λ ran. AreAnswered (setting (S.meaning round.scheme) S.PublicKey.cmp S.Signature.eq D.eq round.number round.mode) [] calls.now ran.answers.items) }
-    ensures promises { IfOk result (λ ran. Promises (setting (S.meaning round.scheme) S.PublicKey.cmp S.Signature.eq D.eq round.number round.mode) (history calls.now ran.answers.items)) }
+    ensures ran { IfOk result (λ ran. IsRun (setting (S.meaning round.scheme) S.PublicKey.cmp S.Signature.eq D.eq round.number round.mode) (R.stream rng.old) calls.now ran.answers.items ran.round.holds (R.stream rng.new)) }
     ensures same { IfOk result (λ ran. (ran.round.scheme ≡ round.scheme) × ((ran.round.number ≡ round.number) × (ran.round.mode ≡ round.mode))) }
 {
     round.has_participants();

@@ -8,6 +8,7 @@ use Rattle.batcher.proofs.Fresh.{fresh_stands}
 use Rattle.batcher.proofs.Histories.{meets_stands, history-push, answered-push}
 use Rattle.batcher.proofs.Laws.{HasLaws}
 use Rattle.batcher.proofs.Promising.{promised}
+use Rattle.batcher.proofs.Composing.{holds_throughout}
 use Rattle.batcher.proofs.Running.{Runs-push}
 use Rattle.batcher.proofs.run.run.Goals as goal
 
@@ -52,25 +53,18 @@ loop-call-preserved g c =
       mode = c.step.ensures.same.1.1 ∙ c.loop-call.invariant.mode;
     }
 
-pub returns-clause-runs : goal.returns-clause-runs
-returns-clause-runs g c =
-    let all : take c.loop-call.call-index c.args.calls.now ≡ c.args.calls.now = grind (arith, common_steps) in
-    rw all at c.loop-call.invariant.runs
-
-pub returns-clause-stands : goal.returns-clause-stands
-returns-clause-stands g c =
-    let all : take c.loop-call.call-index c.args.calls.now ≡ c.args.calls.now = grind (arith, common_steps) in
-    rw all at c.loop-call.invariant.stands
-
-pub returns-clause-answered : goal.returns-clause-answered
-returns-clause-answered g c =
-    let all : take c.loop-call.call-index c.args.calls.now ≡ c.args.calls.now = grind (arith, common_steps) in
-    rw all at c.loop-call.invariant.answered
-
-pub returns-clause-promises : goal.returns-clause-promises
-returns-clause-promises g c =
+pub returns-clause-ran : goal.returns-clause-ran
+returns-clause-ran g c =
     let round = c.args.round in
     let x = setting (g.S.Scheme.meaning round.scheme) g.S.PublicKey.Ord.cmp g.S.Signature.PartialEq.eq g.D.PartialEq.eq round.number round.mode in
     let laws : HasLaws x = record { scheme = g.met.S.Scheme.lawful round.scheme; some_participant = c.has_participants.ensures; digests_equal = g.met.D.Digest.identical; digests_same = g.met.D.Eq.laws.refl } in
     let all : take c.loop-call.call-index c.args.calls.now ≡ c.args.calls.now = grind (arith, common_steps) in
-    promised x laws (history c.args.calls.now c.loop-call.answers.items) (rw all at c.loop-call.invariant.stands).possible
+    let past = history c.args.calls.now c.loop-call.answers.items in
+    let stands = rw all at c.loop-call.invariant.stands in
+    record {
+      runs = rw c.requires.fresh at (rw all at c.loop-call.invariant.runs);
+      stands = stands;
+      answered = rw all at c.loop-call.invariant.answered;
+      promises = promised x laws past stands.possible;
+      throughout = holds_throughout x laws past stands.possible;
+    }

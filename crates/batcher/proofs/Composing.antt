@@ -1,0 +1,176 @@
+-- What holds of every possible history as a whole.
+use Rattle.std.proofs.Common.{inl, inr, ◌≡◌, ◌≤◌, ◌⊎◌, ℕ, ◌+◌, Bool, true, false, not, cond, ◌&&◌, ◌||◌, List, [], ◌∷◌, Option, Some, None, refl, ap, sym, ◌∙◌, arith, ⊎_elim}
+use Rattle.std.specs.Prelude.{is_some, option_and_then}
+use Rattle.std.specs.List.{list_any}
+use Rattle.std.specs.Option.{option_or}
+use Rattle.std.proofs.lemmas.Bool.{cases_Bool, and_parts, and_from, or_left, or_parts, true≢false, false≢true, false_from_ne_true}
+use Rattle.batcher.specs.declared.messages.Proposal.{Proposal}
+use Rattle.batcher.specs.declared.messages.Vote.{Vote}
+use Rattle.batcher.specs.declared.messages.Vote.TheVariants.{Notarize as NotarizeVote, Nullify as NullifyVote, Finalize as FinalizeVote}
+use Rattle.batcher.specs.declared.verifier.ProposalState.TheVariants.{Leader as LeadersProposal, Certificate as FixedProposal}
+use Rattle.batcher.specs.declared.run.Call.{Call}
+use Rattle.batcher.specs.declared.run.Call.TheVariants.{Network as NetworkCall, Own as OwnCall, Certificate as CertificateCall, Leader as LeaderCall, Construct as ConstructCall, Forward as ForwardCall, Missing as MissingCall}
+use Rattle.batcher.specs.declared.run.Answer.{Answer}
+use Rattle.batcher.specs.declared.run.Answer.TheVariants.{OutOfMemory, Network as NetworkAnswer, Own as OwnAnswer, OwnRefused, Certificate as CertificateAnswer, Leader as LeaderAnswer, Construct as ConstructAnswer, Forward as ForwardAnswer, Missing as MissingAnswer}
+use Rattle.batcher.specs.Setting.{Setting}
+use Rattle.batcher.specs.Lists.{count, is_empty, exactly_one}
+use Rattle.batcher.specs.Votes.{is_kind, kind_of, signer_of, is_vote_of, is_for, same_proposal}
+use Rattle.batcher.specs.Selected.{replaces}
+use Rattle.batcher.specs.History.{Event, History}
+use Rattle.batcher.specs.Selection.{selection_by, selected_proposal, fixed_proposal, fixing_evidence, leaders_proposal, was_forwarded, forwards}
+use Rattle.batcher.specs.Answers.{MayAnswer, IsPossible}
+use Rattle.batcher.specs.Comparison.{compared_votes, compared_votes_of, conflicts, differs_from}
+use Rattle.batcher.specs.Composed.{NamesBadSigners, KeepsFixed, KeepsLeaders, replacements, carry_different, HoldsThroughout}
+use Rattle.batcher.proofs.Soundness.{count_none}
+use Rattle.batcher.proofs.Waits.{proposal_is}
+use Rattle.batcher.proofs.Finding.{any_more, any_of_filtered}
+use Rattle.batcher.proofs.Promising.{at_each_event, compared_is_cast}
+use Rattle.batcher.proofs.Attesting.{proven_attest, names_bad_signers, usable_are, usable_once, usable_for}
+use Rattle.batcher.proofs.Laws.{HasLaws}
+use Rattle.batcher.proofs.Apart.{where_holds}
+use Rattle.batcher.proofs.Selecting.{leaders_stays}
+
+-- ONE FORWARD CALL AT MOST ANSWERS A PROPOSAL
+none_before : {X : Type 0} (was leader : Bool) (o : Option X) → is_some (cond (was || leader) None o) ≡ true → was ≡ false
+none_before true leader o h = absurd (false≢true h)
+none_before false leader o h = refl
+
+module _ {D K G C : Type 0} (x : Setting D K G C) where
+  forwards_first : (past : History D K G C) (call : Call K G C D) (answer : Answer G C D) → MayAnswer x past call answer → forwards answer ≡ true → was_forwarded past ≡ false
+  forwards_first past (ForwardCall me) (ForwardAnswer proposal) may h =
+      none_before (was_forwarded past) _ (selected_proposal x past) (sym (ap is_some may) ∙ h)
+  forwards_first past (NetworkCall sender vote) (ForwardAnswer proposal) may h = absurd may
+  forwards_first past (OwnCall vote) (ForwardAnswer proposal) may h = absurd may
+  forwards_first past (CertificateCall certificate) (ForwardAnswer proposal) may h = absurd may
+  forwards_first past (LeaderCall leader) (ForwardAnswer proposal) may h = absurd may
+  forwards_first past ConstructCall (ForwardAnswer proposal) may h = absurd may
+  forwards_first past (MissingCall p) (ForwardAnswer proposal) may h = absurd may
+  forwards_first past call (NetworkAnswer admission) may h = absurd (false≢true h)
+  forwards_first past call (OwnAnswer outcome report) may h = absurd (false≢true h)
+  forwards_first past call (OwnRefused fault) may h = absurd (false≢true h)
+  forwards_first past call (CertificateAnswer changed) may h = absurd (false≢true h)
+  forwards_first past call (LeaderAnswer result) may h = absurd (false≢true h)
+  forwards_first past call (ConstructAnswer batch) may h = absurd (false≢true h)
+  forwards_first past call (MissingAnswer missing) may h = absurd (false≢true h)
+  forwards_first past call OutOfMemory may h = absurd (false≢true h)
+
+  pub forwarded_once : (past : History D K G C) → IsPossible x past → count (λ event. forwards event.1) past ≤ 1
+  forwarded_once [] possible = omega arith
+  forwarded_once (event ∷ past) possible =
+      ⊎_elim
+      (λ now. let none = count_none (λ e. forwards e.1) past (forwards_first past event.0 event.1 possible.1.1.0 now) in rw now (omega (arith, none)))
+      (λ other. rw other (omega (arith, forwarded_once past possible.1.1.1)))
+      (cases_Bool (forwards event.1))
+
+-- HOW THE SELECTION CHANGES
+module _ {D : Type 0} where
+  fixed_by : (fixed evidence leaders after : Option (Proposal D)) (p : Proposal D) → selection_by fixed leaders ≡ FixedProposal p → selection_by (option_or fixed evidence) after ≡ FixedProposal p
+  fixed_by (Some f) evidence leaders after p h = h
+  fixed_by None evidence (Some l) after p h = absurd (cc)
+  fixed_by None evidence None after p h = absurd (cc)
+
+  leaders_by : (fixed evidence leaders after : Option (Proposal D)) → ((p : Proposal D) → leaders ≡ Some p → after ≡ Some p) → (p : Proposal D) → selection_by fixed leaders ≡ LeadersProposal p →
+      (selection_by (option_or fixed evidence) after ≡ LeadersProposal p) ⊎ ((q : Proposal D) × (selection_by (option_or fixed evidence) after ≡ FixedProposal q))
+  leaders_by (Some f) evidence leaders after stays p h = absurd (cc)
+  leaders_by None evidence None after stays p h = absurd (cc)
+  leaders_by None None (Some l) after stays p h = inl (ap (selection_by None) (stays l refl) ∙ h)
+  leaders_by None (Some e) (Some l) after stays p h = inr (e, refl)
+
+one_at_most : (b : Bool) (n : ℕ) → n ≤ 0 → cond b 1 0 + n ≤ 1
+one_at_most true n h = omega (arith, h)
+one_at_most false n h = omega (arith, h)
+
+module _ {D K G C : Type 0} (x : Setting D K G C) where
+  pub keeps_fixed : (past : History D K G C) (event : Event D K G C) → KeepsFixed x past event
+  keeps_fixed past event p h = fixed_by (fixed_proposal past) (fixing_evidence event) (leaders_proposal x past) (leaders_proposal x (event ∷ past)) p h
+
+  pub keeps_leaders : HasLaws x → (past : History D K G C) (event : Event D K G C) → KeepsLeaders x past event
+  keeps_leaders laws past event p h =
+      leaders_by (fixed_proposal past) (fixing_evidence event) (leaders_proposal x past) (leaders_proposal x (event ∷ past)) (leaders_stays x laws past event) p h
+
+  -- nothing is replaced but by the first evidence that fixes a proposal
+  replaced_by_first : (fixed leaders evidence : Option (Proposal D)) (n : ℕ) → n ≤ cond (is_some fixed) 1 0 →
+      cond (is_some (option_and_then (λ p. cond (replaces x.same_digest (selection_by fixed leaders) p) (Some p) None) evidence)) 1 0 + n ≤ cond (is_some (option_or fixed evidence)) 1 0
+  replaced_by_first (Some f) leaders None n h = omega (arith, h)
+  replaced_by_first (Some f) leaders (Some e) n h = omega (arith, h)
+  replaced_by_first None leaders None n h = omega (arith, h)
+  replaced_by_first None leaders (Some e) n h = one_at_most _ n h
+
+  replaced_if_fixed : (past : History D K G C) → replacements x past ≤ cond (is_some (fixed_proposal past)) 1 0
+  replaced_if_fixed [] = omega arith
+  replaced_if_fixed (event ∷ past) =
+      replaced_by_first (fixed_proposal past) (leaders_proposal x past) (fixing_evidence event) (replacements x past) (replaced_if_fixed past)
+
+  within_one : (b : Bool) (n : ℕ) → n ≤ cond b 1 0 → n ≤ 1
+  within_one true n h = h
+  within_one false n h = omega (arith, h)
+
+  pub replaced_once : (past : History D K G C) → replacements x past ≤ 1
+  replaced_once past = within_one (is_some (fixed_proposal past)) (replacements x past) (replaced_if_fixed past)
+
+-- CONFLICTS
+exactly_other : (a b : Bool) → exactly_one a b ≡ true → b ≡ not a
+exactly_other true true h = absurd (false≢true h)
+exactly_other true false h = refl
+exactly_other false b h = h
+
+not_opposite : (b : Bool) → not b ≡ b → ⊥
+not_opposite true h = false≢true h
+not_opposite false h = true≢false h
+
+-- of votes that aren't empty, one that passes exactly where a mark doesn't hold
+some_other : {X : Type 0} (p : X → Bool) (mark : Bool) (votes : List X) → not (is_empty votes) ≡ true → exactly_one mark (list_any p votes) ≡ true → list_any (λ v. exactly_one mark (p v)) votes ≡ true
+some_other p mark [] some h = absurd (false≢true some)
+some_other p true (v ∷ votes) some h =
+    or_left _ (list_any (λ w. exactly_one true (p w)) votes)
+    (ap (exactly_one true) (or_parts (p v) (list_any p votes) (exactly_other true (list_any p (v ∷ votes)) h)).0)
+some_other p false (v ∷ votes) some h = h
+
+module _ {D : Type 0} (same : D → D → Bool) (identical : (a b : D) → same a b ≡ true → a ≡ b) where
+  -- proposals of which one alone is the same as a third differ
+  proposals_differ : (a b p : Proposal D) (mark : Bool) → same_proposal same p b ≡ mark → same_proposal same p a ≡ not mark → not (same_proposal same a b) ≡ true
+  proposals_differ a b p mark e h =
+      ap not (false_from_ne_true _ (λ alike. not_opposite mark (sym h ∙ (ap (same_proposal same p) (proposal_is same identical a b alike) ∙ e))))
+
+  votes_differ : {G : Type 0} (a b : Vote G D) (p : Proposal D) (mark : Bool) → is_kind (kind_of a) (kind_of b) ≡ true → is_for same p b ≡ mark → is_for same p a ≡ not mark → carry_different same a b ≡ true
+  votes_differ (NotarizeVote a) (NotarizeVote b) p mark k e h = proposals_differ a.proposal b.proposal p mark e h
+  votes_differ (FinalizeVote a) (FinalizeVote b) p mark k e h = proposals_differ a.proposal b.proposal p mark e h
+  votes_differ (NullifyVote a) (NullifyVote b) p mark k e h = absurd (not_opposite mark (sym h ∙ e))
+  votes_differ (NotarizeVote a) (NullifyVote b) p mark k e h = absurd (false≢true k)
+  votes_differ (NotarizeVote a) (FinalizeVote b) p mark k e h = absurd (false≢true k)
+  votes_differ (NullifyVote a) (NotarizeVote b) p mark k e h = absurd (false≢true k)
+  votes_differ (NullifyVote a) (FinalizeVote b) p mark k e h = absurd (false≢true k)
+  votes_differ (FinalizeVote a) (NotarizeVote b) p mark k e h = absurd (false≢true k)
+  votes_differ (FinalizeVote a) (NullifyVote b) p mark k e h = absurd (false≢true k)
+
+module _ {D K G C : Type 0} (x : Setting D K G C) (laws : HasLaws x) where
+  -- A vote that conflicts has a compared one of its kind and signer beside it, with another proposal.
+  pub conflict_with_compared : (past : History D K G C) (vote : Vote G D) → conflicts x past vote ≡ true →
+      list_any (λ v. is_vote_of (kind_of vote) (signer_of vote) v && carry_different x.same_digest v vote) (compared_votes x past) ≡ true
+  conflict_with_compared past vote h =
+      let there = where_holds (differs_from x (compared_votes_of x past (kind_of vote) (signer_of vote)) vote) (selected_proposal x past) h in
+      let mark = is_for x.same_digest there.0 vote in
+      let parts = and_parts (not (is_empty (compared_votes_of x past (kind_of vote) (signer_of vote)))) (exactly_one mark (list_any (is_for x.same_digest there.0) (compared_votes_of x past (kind_of vote) (signer_of vote)))) there.2 in
+      any_more (λ v. is_vote_of (kind_of vote) (signer_of vote) v && exactly_one mark (is_for x.same_digest there.0 v)) (λ v. is_vote_of (kind_of vote) (signer_of vote) v && carry_different x.same_digest v vote)
+      (λ v both.
+      let is = and_parts (is_vote_of (kind_of vote) (signer_of vote) v) (exactly_one mark (is_for x.same_digest there.0 v)) both in
+      and_from _ _ is.0 (votes_differ x.same_digest laws.digests_equal v vote there.0 mark (and_parts _ _ is.0).0 refl (exactly_other mark _ is.1)))
+      (compared_votes x past)
+      (any_of_filtered (λ v. exactly_one mark (is_for x.same_digest there.0 v)) (is_vote_of (kind_of vote) (signer_of vote)) (compared_votes x past)
+      (some_other (is_for x.same_digest there.0) mark (compared_votes_of x past (kind_of vote) (signer_of vote)) parts.0 parts.1))
+
+  -- What holds throughout does so of each history that is possible.
+  pub holds_throughout : (past : History D K G C) → IsPossible x past → HoldsThroughout x past
+  holds_throughout past possible =
+      record {
+        proven_votes_attest = proven_attest x laws past possible;
+        named_signers_are_bad = at_each_event x (NamesBadSigners x) (names_bad_signers x laws) past possible;
+        fixed_stays = at_each_event x (KeepsFixed x) (λ earlier event _. keeps_fixed x earlier event) past possible;
+        leaders_stays_until_fixed = at_each_event x (KeepsLeaders x) (λ earlier event _. keeps_leaders x laws earlier event) past possible;
+        replaced_at_most_once = replaced_once x past;
+        usable_are_standing = usable_are x past possible;
+        usable_once_each = usable_once x past possible;
+        usable_for_selected = usable_for x past possible;
+        forwarded_at_most_once = forwarded_once x past possible;
+        conflicts_have_cause = λ vote h. compared_is_cast x _ past (conflict_with_compared past vote h);
+      }
