@@ -64,3 +64,11 @@ pub mod Working
 pub mod Promising
 pub mod Attesting
 pub mod Composing
+pub mod Going
+pub mod Alike
+pub mod Together
+pub mod Refusing
+pub mod Conflicting
+pub mod BlockedPair
+pub mod BesideEach
+pub mod PairRuns

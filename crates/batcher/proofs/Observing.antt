@@ -130,7 +130,7 @@ module _ {D K G C : Type 0} (x : Setting D K G C) where
       (cases_Bool (is_free (first_votes x past) w))
 
   -- the votes that a call casts: one at most
-  cast_cases : (call : Call K G C D) → (cast_votes x call ≡ []) ⊎ ((w : Vote G D) × (cast_votes x call ≡ w ∷ []))
+  pub cast_cases : (call : Call K G C D) → (cast_votes x call ≡ []) ⊎ ((w : Vote G D) × (cast_votes x call ≡ w ∷ []))
   cast_cases (NetworkCall sender vote) = ⊎_elim (λ e. inr (vote, rw e refl)) (λ e. inl (rw e refl)) (cases_Bool (names_sender x sender vote))
   cast_cases (OwnCall vote) = inr (vote, refl)
   cast_cases (CertificateCall certificate) = inl refl
@@ -139,7 +139,7 @@ module _ {D K G C : Type 0} (x : Setting D K G C) where
   cast_cases (ForwardCall me) = inl refl
   cast_cases (MissingCall p) = inl refl
 
-  none_from : {X : Type 0} (o : Option X) → is_none o ≡ true → o ≡ None
+  pub none_from : {X : Type 0} (o : Option X) → is_none o ≡ true → o ≡ None
   none_from None h = refl
   none_from (Some v) h = cc
 

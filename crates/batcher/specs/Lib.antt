@@ -38,4 +38,5 @@ pub mod Work
 pub mod Promises
 pub mod Composed
 pub mod Ran
+pub mod Pairs
 pub mod Examples

@@ -12,12 +12,15 @@ ghost use Rattle.batcher.specs.Stands.{Stands, Meets};
 ghost use Rattle.batcher.specs.Ran.{IsRun};
 ghost use Rattle.batcher.specs.Runs.{MayCall, Steps, blocked_sender, blocked_senders};
 
+mod pair;
+
 use crate::messages::{Activity, Certificate, Digest, Proposal, Vote};
 use crate::positions::{Participant, Participants};
 use crate::round::{Admission, OwnFault, Round};
 use crate::scheme::Scheme;
 use crate::verifier::{Batch, LeaderFault};
 use crate::votes::Outcome;
+pub use pair::{PairRan, run_pair};
 use rand_core::CryptoRng;
 use std::alloc::{AllocError, Global};
 

@@ -219,4 +219,6 @@ fn print_answer<G: Drop, C: Drop, W: Write>(
 #[cfg(test)]
 mod memory;
 #[cfg(test)]
+mod pairs;
+#[cfg(test)]
 mod tests;

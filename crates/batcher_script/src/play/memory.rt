@@ -4,6 +4,7 @@
 //! As it stands this test refuses nothing. `tools/refuse` runs it with its first request for
 //! memory refused, then its second, and so on.
 
+use super::pairs::told;
 use super::*;
 use std::test::Fail;
 
@@ -54,7 +55,7 @@ construct
 ];
 
 /// What is printed for an answer, and nothing where memory was refused to its call.
-fn printed<G: Drop, C: Drop>(
+pub fn printed<G: Drop, C: Drop>(
     alloc: Global,
     answer: &Answer<G, C, Sha256Digest>,
 ) -> Result<Vec<u8>, AllocError> {
@@ -111,6 +112,48 @@ fn is_as_without(alloc: Global, text: &str) -> Result<bool, AllocError> {
 fn refused_calls_change_nothing(rt: HostRuntime) -> Result<(), Fail> {
     for script in SCRIPTS {
         assert!(rt; is_as_without(rt.alloc(), script)?, "{script}");
+    }
+    Ok(())
+}
+
+/// Whether these are the first of the others, but for the last, which was refused.
+fn is_front(lines: &[Vec<u8>], others: &[Vec<u8>], stopped: usize) -> bool {
+    lines.len() <= others.len()
+        && lines.iter().zip(others).enumerate().all(|(place, (line, other))| line == other
+            || (place == stopped && line.is_empty()))
+}
+
+/// Whether a pair that memory stopped has answered what it answers with ample memory, up to the
+/// call that was refused.
+fn stops_where_refused(alloc: Global, text: &str) -> Result<bool, AllocError> {
+    let first = match told(alloc, text) {
+        Ok(told) => told,
+        Err(_) => told(alloc, text)?,
+    };
+    let whole = told(alloc, text)?;
+    let Some(place) = first.stopped else {
+        return Ok(first.retaining == whole.retaining && first.releasing == whole.releasing);
+    };
+    Ok(
+        first.releasing.len() >= place
+            && first.retaining.len() == place.saturating_add(1)
+            && is_front(
+                first.retaining.as_slice(),
+                whole.retaining.as_slice(),
+                place,
+            )
+            && is_front(
+                first.releasing.as_slice(),
+                whole.releasing.as_slice(),
+                place,
+            ),
+    )
+}
+
+#[test]
+fn refused_calls_stop_pairs(rt: HostRuntime) -> Result<(), Fail> {
+    for script in SCRIPTS {
+        assert!(rt; stops_where_refused(rt.alloc(), script)?, "{script}");
     }
     Ok(())
 }

@@ -2,7 +2,8 @@ use Rattle.std.proofs.Common.{◌≤◌, ◌∙◌, ap, sym, subst, refl}
 use Rattle.std.proofs.Math.Nat.{le_trans}
 use Rattle.batcher.specs.Held.{of_kind}
 use Rattle.batcher.specs.Steps.{is_added}
-use Rattle.batcher.proofs.Failing.{so_false, no_value}
+use Rattle.std.proofs.lemmas.Bool.{false≢true}
+use Rattle.batcher.proofs.Failing.{no_value}
 use Rattle.batcher.proofs.Owning.{kept_outcome}
 use Rattle.batcher.proofs.round.make_room_to_accept.Goals as goal
 use Rattle.batcher.proofs.round.make_room_to_accept.Goals.{then-is_added+in_ok-make_room, else-is_added}
@@ -18,7 +19,7 @@ returns-in_err-make_room_to_fix-clause-to_wait g c = no_value _ c.from_residual.
 
 pub returns-in_err-make_room_to_fix-clause-no_memory : goal.returns-in_err-make_room_to_fix-clause-no_memory
 returns-in_err-make_room_to_fix-clause-no_memory g c = λ not_added enough.
-    so_false (c.in_err-make_room_to_fix.ensures.no_memory (λ fixed is takes kind has own full. enough fixed (sym c.fixed_by.ensures ∙ is) takes kind has full))
+    absurd (false≢true (c.in_err-make_room_to_fix.ensures.no_memory (λ fixed is takes kind has own full. enough fixed (sym c.fixed_by.ensures ∙ is) takes kind has full)))
 
 pub returns-in_err-make_room-clause-to_fix : goal.returns-in_err-make_room-clause-to_fix
 returns-in_err-make_room-clause-to_fix g c = no_value _ c.from_residual-in_err-make_room.result c.from_residual-in_err-make_room.ensures.0
@@ -31,7 +32,7 @@ returns-in_err-make_room-clause-to_wait g c = no_value _ c.from_residual-in_err-
 
 pub returns-in_err-make_room-clause-no_memory : goal.returns-in_err-make_room-clause-no_memory
 returns-in_err-make_room-clause-no_memory g c = λ not_added enough.
-    so_false (sym not_added ∙ sym c.is_added.ensures ∙ c.if-is_added.true)
+    absurd (false≢true (sym not_added ∙ sym c.is_added.ensures ∙ c.if-is_added.true))
 
 pub returns-in_err-make_room-2-clause-to_fix : goal.returns-in_err-make_room-2-clause-to_fix
 returns-in_err-make_room-2-clause-to_fix g c = no_value _ c.from_residual-in_err-make_room-2.result c.from_residual-in_err-make_room-2.ensures.0
@@ -44,7 +45,7 @@ returns-in_err-make_room-2-clause-to_wait g c = no_value _ c.from_residual-in_er
 
 pub returns-in_err-make_room-2-clause-no_memory : goal.returns-in_err-make_room-2-clause-no_memory
 returns-in_err-make_room-2-clause-no_memory g c = λ not_added enough.
-    so_false (sym not_added ∙ ap is_added (kept_outcome c.args.outcome (sym c.is_kept.ensures ∙ c.if-is_kept.true)))
+    absurd (false≢true (sym not_added ∙ ap is_added (kept_outcome c.args.outcome (sym c.is_kept.ensures ∙ c.if-is_kept.true))))
 
 pub returns-in_err-make_room-2-clause-holds : goal.returns-in_err-make_room-2-clause-holds
 returns-in_err-make_room-2-clause-holds g c = c.in_err-make_room-2.ensures.holds ∙ c.in_ok-make_room_to_fix.ensures.holds
@@ -90,7 +91,7 @@ pub returns-in_ok-make_room-2-clause-to_record : goal.returns-in_ok-make_room-2-
 returns-in_ok-make_room-2-clause-to_record g c = λ added.
     elim c.if-is_added.branch [
       | then-is_added+in_ok-make_room w ↦ subst (λ v. 1 ≤ v.room) (sym w.votes-is) w.in_ok-make_room.ensures.room
-      | else-is_added w ↦ so_false (sym w.if-is_added.false ∙ c.is_added.ensures ∙ added)
+      | else-is_added w ↦ absurd (false≢true (sym w.if-is_added.false ∙ c.is_added.ensures ∙ added))
     ]
 
 pub returns-in_ok-make_room-2-clause-votes : goal.returns-in_ok-make_room-2-clause-votes
@@ -118,13 +119,13 @@ pub returns-else-is_kept-clause-to_fix : goal.returns-else-is_kept-clause-to_fix
 returns-else-is_kept-clause-to_fix g c = λ proposal is takes kind has. c.in_ok-make_room_to_fix.ensures.room proposal (c.fixed_by.ensures ∙ is) takes kind has refl
 
 pub returns-else-is_kept-clause-to_wait : goal.returns-else-is_kept-clause-to_wait
-returns-else-is_kept-clause-to_wait g c = λ kept. so_false (sym c.if-is_kept.false ∙ c.is_kept.ensures ∙ kept)
+returns-else-is_kept-clause-to_wait g c = λ kept. absurd (false≢true (sym c.if-is_kept.false ∙ c.is_kept.ensures ∙ kept))
 
 pub returns-else-is_kept-clause-to_record : goal.returns-else-is_kept-clause-to_record
 returns-else-is_kept-clause-to_record g c = λ added.
     elim c.if-is_added.branch [
       | then-is_added+in_ok-make_room w ↦ subst (λ v. 1 ≤ v.room) (sym w.votes-is) w.in_ok-make_room.ensures.room
-      | else-is_added w ↦ so_false (sym w.if-is_added.false ∙ c.is_added.ensures ∙ added)
+      | else-is_added w ↦ absurd (false≢true (sym w.if-is_added.false ∙ c.is_added.ensures ∙ added))
     ]
 
 pub returns-else-is_kept-clause-votes : goal.returns-else-is_kept-clause-votes

@@ -9,7 +9,8 @@ use Rattle.batcher.specs.Buffering.{AddsVote}
 use Rattle.batcher.specs.Tracking.{outcome_of, RecordsKind}
 use Rattle.batcher.specs.Steps.{is_kept}
 use Rattle.batcher.proofs.Admitting.{IsNew, added_new, not_buffered, right_recorded, right_waiting}
-use Rattle.batcher.proofs.Failing.{so_false, no_value, whichever}
+use Rattle.std.proofs.lemmas.Bool.{false≢true}
+use Rattle.batcher.proofs.Failing.{no_value, whichever}
 use Rattle.batcher.proofs.Owning.{kept_outcome, never_full}
 use Rattle.batcher.proofs.round.take_in.Goals as goal
 
@@ -44,7 +45,7 @@ returns-in_ok-add-clause-right g c =
 
 pub returns-in_err-outcome-clause-with_room : goal.returns-in_err-outcome-clause-with_room
 returns-in_err-outcome-clause-with_room g c = λ h.
-    so_false (never_full _ _ c.in_err-outcome.ensures.known c.in_err-outcome.ensures.with_room h)
+    absurd (false≢true (never_full _ _ c.in_err-outcome.ensures.known c.in_err-outcome.ensures.with_room h))
 
 pub record_at-requires-clause-range : goal.record_at-requires-clause-range
 record_at-requires-clause-range g c = subst (λ n. signer_of c.args.vote < n) (sym c.requires.right.bound) c.requires.range
@@ -72,15 +73,15 @@ returns-in_err-add-clause-buffered g c = no_value _ c.from_residual-in_err-add.r
 
 pub returns-in_err-add-clause-refused : goal.returns-in_err-add-clause-refused
 returns-in_err-add-clause-refused g c =
-    so_false (c.in_err-add.ensures.no_memory (room_for g.D.PartialEq.eq c.args.votes.now.participants c.args.votes.now.holds c.args.vote _ _ c.in_ok-outcome.outcome c.in_ok-outcome.ensures.outcome c.proposal.ensures (sym c.is_kept.ensures ∙ c.if-is_kept.true) c.requires.room))
+    absurd (false≢true (c.in_err-add.ensures.no_memory (room_for g.D.PartialEq.eq c.args.votes.now.participants c.args.votes.now.holds c.args.vote _ _ c.in_ok-outcome.outcome c.in_ok-outcome.ensures.outcome c.proposal.ensures (sym c.is_kept.ensures ∙ c.if-is_kept.true) c.requires.room)))
 
 pub returns-in_err-add-clause-right : goal.returns-in_err-add-clause-right
 returns-in_err-add-clause-right g c =
-    so_false (c.in_err-add.ensures.no_memory (room_for g.D.PartialEq.eq c.args.votes.now.participants c.args.votes.now.holds c.args.vote _ _ c.in_ok-outcome.outcome c.in_ok-outcome.ensures.outcome c.proposal.ensures (sym c.is_kept.ensures ∙ c.if-is_kept.true) c.requires.room))
+    absurd (false≢true (c.in_err-add.ensures.no_memory (room_for g.D.PartialEq.eq c.args.votes.now.participants c.args.votes.now.holds c.args.vote _ _ c.in_ok-outcome.outcome c.in_ok-outcome.ensures.outcome c.proposal.ensures (sym c.is_kept.ensures ∙ c.if-is_kept.true) c.requires.room)))
 
 pub returns-in_err-add-clause-with_room : goal.returns-in_err-add-clause-with_room
 returns-in_err-add-clause-with_room g c = λ h.
-    so_false (c.in_err-add.ensures.no_memory (room_for g.D.PartialEq.eq c.args.votes.now.participants c.args.votes.now.holds c.args.vote _ _ c.in_ok-outcome.outcome c.in_ok-outcome.ensures.outcome c.proposal.ensures (sym c.is_kept.ensures ∙ c.if-is_kept.true) c.requires.room))
+    absurd (false≢true (c.in_err-add.ensures.no_memory (room_for g.D.PartialEq.eq c.args.votes.now.participants c.args.votes.now.holds c.args.vote _ _ c.in_ok-outcome.outcome c.in_ok-outcome.ensures.outcome c.proposal.ensures (sym c.is_kept.ensures ∙ c.if-is_kept.true) c.requires.room)))
 
 pub returns-in_ok-add-clause-outcome : goal.returns-in_ok-add-clause-outcome
 returns-in_ok-add-clause-outcome g c =

@@ -3,13 +3,8 @@ use Rattle.std.proofs.lemmas.Grind.{common_steps}
 use Rattle.std.proofs.lemmas.List.{take_more}
 use Rattle.batcher.specs.Setting.{setting}
 use Rattle.batcher.specs.History.{history}
-use Rattle.batcher.specs.Stands.{Stands}
-use Rattle.batcher.proofs.Fresh.{fresh_stands}
-use Rattle.batcher.proofs.Histories.{meets_stands, history-push, answered-push}
 use Rattle.batcher.proofs.Laws.{HasLaws}
-use Rattle.batcher.proofs.Promising.{promised}
-use Rattle.batcher.proofs.Composing.{holds_throughout}
-use Rattle.batcher.proofs.Running.{Runs-push}
+use Rattle.batcher.proofs.Going.{Goes, goes_first, goes_more, goes_to}
 use Rattle.batcher.proofs.run.run.Goals as goal
 
 pub step-requires : goal.step-requires
@@ -19,10 +14,9 @@ pub loop-call-init : goal.loop-call-init
 loop-call-init g c =
     let round = c.args.round in
     let x = setting (g.S.Scheme.meaning round.scheme) g.S.PublicKey.Ord.cmp g.S.Signature.PartialEq.eq g.D.PartialEq.eq round.number round.mode in
+    let stream = g.R.Rng.stream c.args.rng.now in
     record {
-      stands = subst (Stands x []) (sym c.requires.fresh) (fresh_stands x);
-      answered = rw c.in_ok-answers.ensures.items tt;
-      runs = rw c.in_ok-answers.ensures.items (refl, refl);
+      goes = rw c.in_ok-answers.ensures.items (subst (λ held. Goes x stream [] [] held stream) (sym c.requires.fresh) (goes_first x stream));
       told = rw c.in_ok-answers.ensures.items refl;
       room = c.in_ok-answers.ensures.capacity;
       scheme = refl;
@@ -32,21 +26,20 @@ loop-call-init g c =
 
 pub loop-call-preserved : goal.loop-call-preserved
 loop-call-preserved g c =
-    let x = setting (g.S.Scheme.meaning c.args.round.scheme) g.S.PublicKey.Ord.cmp g.S.Signature.PartialEq.eq g.D.PartialEq.eq c.args.round.number c.args.round.mode in
-    let more : take (c.loop-call.call-index + 1) c.args.calls.now ≡ take c.loop-call.call-index c.args.calls.now ++ c.call-item.result ∷ []
-    = take_more c.args.calls.now c.loop-call.call-index c.call-item.result (omega arith) ∙ ap (λ y. take c.loop-call.call-index c.args.calls.now ++ y ∷ []) (sym c.call-item.is) in
-    let stepped = rw (c.loop-call.invariant.scheme, c.loop-call.invariant.number, c.loop-call.invariant.mode) at c.step.ensures.steps in
+    let round = c.args.round in
+    let x = setting (g.S.Scheme.meaning round.scheme) g.S.PublicKey.Ord.cmp g.S.Signature.PartialEq.eq g.D.PartialEq.eq round.number round.mode in
     let calls = take c.loop-call.call-index c.args.calls.now in
-    let past = history calls c.loop-call.answers.items in
-    let met = (rw (c.loop-call.invariant.scheme, c.loop-call.invariant.number, c.loop-call.invariant.mode) at c.step.ensures.meets) past c.loop-call.invariant.stands in
+    let answers = c.loop-call.answers.items in
+    let more : take (c.loop-call.call-index + 1) c.args.calls.now ≡ calls ++ c.call-item.result ∷ []
+    = take_more c.args.calls.now c.loop-call.call-index c.call-item.result (omega arith) ∙ ap (λ y. calls ++ y ∷ []) (sym c.call-item.is) in
+    let stepped = rw (c.loop-call.invariant.scheme, c.loop-call.invariant.number, c.loop-call.invariant.mode) at c.step.ensures.steps in
+    let met = (rw (c.loop-call.invariant.scheme, c.loop-call.invariant.number, c.loop-call.invariant.mode) at c.step.ensures.meets) (history calls answers) c.loop-call.invariant.goes.stands in
     record {
-      stands =
+      goes =
           rw (more, c.push_reserved.ensures.items)
-          (subst (λ h. Stands x h c.step.new.round.holds) (sym (history-push x [] calls c.loop-call.answers.items c.call-item.result c.step.result c.loop-call.invariant.answered))
-          (meets_stands x past c.loop-call.round.holds c.call-item.result c.step.result c.step.new.round.holds c.loop-call.invariant.stands met.0));
-      answered = rw (more, c.push_reserved.ensures.items) (answered-push x [] calls c.loop-call.answers.items c.call-item.result c.step.result c.loop-call.invariant.answered met.1);
-      runs = rw (more, c.push_reserved.ensures.items) (Runs-push x c.args.round.holds (g.R.Rng.stream c.args.rng.now) (take c.loop-call.call-index c.args.calls.now) c.loop-call.answers.items c.loop-call.round.holds (g.R.Rng.stream c.loop-call.rng) c.call-item.result c.step.result c.step.new.round.holds (g.R.Rng.stream c.step.new.rng) c.loop-call.invariant.runs stepped);
-      told = rw c.push_reserved.ensures.items (omega (arith, length-append c.loop-call.answers.items (c.step.result ∷ []), c.loop-call.invariant.told));
+          (goes_more x (g.R.Rng.stream c.args.rng.now) calls answers c.loop-call.round.holds (g.R.Rng.stream c.loop-call.rng) c.call-item.result c.step.result c.step.new.round.holds (g.R.Rng.stream c.step.new.rng)
+          c.loop-call.invariant.goes stepped met.0 met.1);
+      told = rw c.push_reserved.ensures.items (omega (arith, length-append answers (c.step.result ∷ []), c.loop-call.invariant.told));
       room = rw c.push_reserved.ensures.capacity c.loop-call.invariant.room;
       scheme = c.step.ensures.same.0 ∙ c.loop-call.invariant.scheme;
       number = c.step.ensures.same.1.0 ∙ c.loop-call.invariant.number;
@@ -59,12 +52,4 @@ returns-clause-ran g c =
     let x = setting (g.S.Scheme.meaning round.scheme) g.S.PublicKey.Ord.cmp g.S.Signature.PartialEq.eq g.D.PartialEq.eq round.number round.mode in
     let laws : HasLaws x = record { scheme = g.met.S.Scheme.lawful round.scheme; some_participant = c.has_participants.ensures; digests_equal = g.met.D.Digest.identical; digests_same = g.met.D.Eq.laws.refl } in
     let all : take c.loop-call.call-index c.args.calls.now ≡ c.args.calls.now = grind (arith, common_steps) in
-    let past = history c.args.calls.now c.loop-call.answers.items in
-    let stands = rw all at c.loop-call.invariant.stands in
-    record {
-      runs = rw c.requires.fresh at (rw all at c.loop-call.invariant.runs);
-      stands = stands;
-      answered = rw all at c.loop-call.invariant.answered;
-      promises = promised x laws past stands.possible;
-      throughout = holds_throughout x laws past stands.possible;
-    }
+    goes_to x laws (g.R.Rng.stream c.args.rng.now) c.args.calls.now c.loop-call.answers.items c.loop-call.round.holds (g.R.Rng.stream c.loop-call.rng) (rw all at c.loop-call.invariant.goes)

@@ -1,0 +1,51 @@
+-- How a run goes on: by one more call, to what it leaves in the end.
+use Rattle.std.proofs.Common.{◌++◌, ◌∷◌, [], List, refl, sym, subst}
+use Rattle.rand_core.specs.Stream.{Stream}
+use Rattle.batcher.specs.declared.run.Call.{Call}
+use Rattle.batcher.specs.declared.run.Answer.{Answer}
+use Rattle.batcher.specs.Setting.{Setting}
+use Rattle.batcher.specs.Held.{Held}
+use Rattle.batcher.specs.Steps.{nothing_held}
+use Rattle.batcher.specs.Runs.{Steps, Runs}
+use Rattle.batcher.specs.History.{history}
+use Rattle.batcher.specs.Answers.{IsAnswered, AreAnswered}
+use Rattle.batcher.specs.Stands.{Stands, Meets}
+use Rattle.batcher.specs.Ran.{IsRun}
+use Rattle.batcher.proofs.Laws.{HasLaws}
+use Rattle.batcher.proofs.Fresh.{fresh_stands}
+use Rattle.batcher.proofs.Histories.{meets_stands, history-push, answered-push}
+use Rattle.batcher.proofs.Running.{Runs-push}
+use Rattle.batcher.proofs.Promising.{promised}
+use Rattle.batcher.proofs.Composing.{holds_throughout}
+
+-- what stays true of a run while it goes on
+pub record Goes {D K G C : Type 0} (x : Setting D K G C) (before : Stream) (calls : List (Call K G C D)) (answers : List (Answer G C D)) (held : Held G D) (after : Stream) : Type 0 where
+  pub runs : Runs x (nothing_held x.mode) before calls answers held after
+  pub stands : Stands x (history calls answers) held
+  pub answered : AreAnswered x [] calls answers
+
+module _ {D K G C : Type 0} (x : Setting D K G C) where
+  pub goes_first : (before : Stream) → Goes x before [] [] (nothing_held x.mode) before
+  goes_first before = record { runs = (refl, refl); stands = fresh_stands x; answered = tt }
+
+  pub goes_more : (before : Stream) (calls : List (Call K G C D)) (answers : List (Answer G C D)) (held : Held G D) (stream : Stream) (call : Call K G C D) (answer : Answer G C D) (new : Held G D) (after : Stream) →
+      Goes x before calls answers held stream → Steps x held stream call answer new after → Meets x (history calls answers) held (call, answer) new → IsAnswered x (history calls answers) call answer →
+      Goes x before (calls ++ call ∷ []) (answers ++ answer ∷ []) new after
+  goes_more before calls answers held stream call answer new after goes step meets answered =
+      record {
+        runs = Runs-push x (nothing_held x.mode) before calls answers held stream call answer new after goes.runs step;
+        stands =
+            subst (λ past. Stands x past new) (sym (history-push x [] calls answers call answer goes.answered))
+            (meets_stands x (history calls answers) held call answer new goes.stands meets);
+        answered = answered-push x [] calls answers call answer goes.answered answered;
+      }
+
+  pub goes_to : HasLaws x → (before : Stream) (calls : List (Call K G C D)) (answers : List (Answer G C D)) (held : Held G D) (after : Stream) → Goes x before calls answers held after → IsRun x before calls answers held after
+  goes_to laws before calls answers held after goes =
+      record {
+        runs = goes.runs;
+        stands = goes.stands;
+        answered = goes.answered;
+        promises = promised x laws (history calls answers) goes.stands.possible;
+        throughout = holds_throughout x laws (history calls answers) goes.stands.possible;
+      }

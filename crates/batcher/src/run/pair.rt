@@ -1,0 +1,117 @@
+//! Two rounds that take the same calls, one that retains its votes and one that releases them.
+
+ghost use Rattle.std.specs.Prelude.{◌≡◌, ◌≤◌, All, IfOk, [], length, vec_capacity};
+ghost use Rattle.batcher.specs.declared.votes.Mode.{Mode};
+ghost use Rattle.batcher.specs.Setting.{setting};
+ghost use Rattle.batcher.specs.Steps.{nothing_held};
+ghost use Rattle.batcher.specs.Runs.{MayCall};
+ghost use Rattle.batcher.specs.Pairs.{IsPairRun, ends_pair};
+
+use super::{Answer, Call, Ran, step};
+use crate::messages::Digest;
+use crate::round::Round;
+use crate::scheme::Scheme;
+use rand_core::CryptoRng;
+use std::alloc::{AllocError, Global};
+
+/// Two rounds after the same calls, with the answers of each.
+#[derive(Drop)]
+pub struct PairRan<S: Scheme<D>, D: Digest> {
+    pub retaining: Ran<S, D>,
+    pub releasing: Ran<S, D>,
+    /// The place of the call that one of them refused, the first call being at 0.
+    pub stopped: Option<usize>,
+}
+
+/// Makes each call on a round that retains its votes, and then on one that releases them.
+///
+/// The first call that is refused, for want of memory or by the fault of an own vote, stops both:
+/// the refusal is the last answer of the round that refused. Room for both lists of answers is made
+/// first: that growth alone gives the error, and both rounds are then dropped.
+pub fn run_pair<S: Scheme<D>, D: Digest, R: CryptoRng>(
+    alloc: Global,
+    mut retaining: Round<S, D>,
+    mut releasing: Round<S, D>,
+    rng_a: &mut R,
+    rng_b: &mut R,
+    calls: &[Call<S::PublicKey, S::Signature, S::Certificate, D>],
+) -> Result<PairRan<S, D>, AllocError>
+    requires modes { (retaining.mode ≡ Mode.Retaining) × (releasing.mode ≡ Mode.Releasing) }
+    requires same { (releasing.scheme ≡ retaining.scheme) × (releasing.number ≡ retaining.number) }
+    requires fresh { (retaining.holds ≡ nothing_held Mode.Retaining) × (releasing.holds ≡ nothing_held Mode.Releasing) }
+    requires streams { R.stream rng_b.old ≡ R.stream rng_a.old }
+    requires calls { All (MayCall (S.meaning retaining.scheme) retaining.number) calls.now }
+    ensures ran { IfOk result (λ pair. IsPairRun (setting (S.meaning retaining.scheme) S.PublicKey.cmp S.Signature.eq D.eq retaining.number Mode.Retaining) (R.stream rng_a.old) calls.now pair.stopped pair.retaining.answers.items pair.retaining.round.holds (R.stream rng_a.new) pair.releasing.answers.items pair.releasing.round.holds (R.stream rng_b.new)) }
+    ensures kept { IfOk result (λ pair. (pair.retaining.round ≡ record retaining { holds = pair.retaining.round.holds }) × (pair.releasing.round ≡ record releasing { holds = pair.releasing.round.holds })) }
+{
+    let mut retained = Vec::with_capacity(alloc, calls.len())?;
+    let mut released = Vec::with_capacity(alloc, calls.len())?;
+    let stopped = step_both(
+        &mut retaining,
+        &mut releasing,
+        rng_a,
+        rng_b,
+        calls,
+        &mut retained,
+        &mut released,
+    );
+    let retaining = Ran {
+        round: retaining,
+        answers: retained,
+    };
+    let releasing = Ran {
+        round: releasing,
+        answers: released,
+    };
+    Ok(PairRan {
+        retaining,
+        releasing,
+        stopped,
+    })
+}
+
+// Makes the calls up to the first that is refused, and gives its place.
+fn step_both<S: Scheme<D>, D: Digest, R: CryptoRng>(
+    retaining: &mut Round<S, D>,
+    releasing: &mut Round<S, D>,
+    rng_a: &mut R,
+    rng_b: &mut R,
+    calls: &[Call<S::PublicKey, S::Signature, S::Certificate, D>],
+    retained: &mut Vec<Answer<S::Signature, S::Certificate, D>>,
+    released: &mut Vec<Answer<S::Signature, S::Certificate, D>>,
+) -> Option<usize>
+    requires modes { (retaining.old.mode ≡ Mode.Retaining) × (releasing.old.mode ≡ Mode.Releasing) }
+    requires same { (releasing.old.scheme ≡ retaining.old.scheme) × (releasing.old.number ≡ retaining.old.number) }
+    requires fresh { (retaining.old.holds ≡ nothing_held Mode.Retaining) × (releasing.old.holds ≡ nothing_held Mode.Releasing) }
+    requires streams { R.stream rng_b.old ≡ R.stream rng_a.old }
+    requires calls { All (MayCall (S.meaning retaining.old.scheme) retaining.old.number) calls.now }
+    requires empty { (retained.old.items ≡ []) × (released.old.items ≡ []) }
+    requires room { (length calls.now ≤ vec_capacity retained.old) × (length calls.now ≤ vec_capacity released.old) }
+    ensures ran { IsPairRun (setting (S.meaning retaining.old.scheme) S.PublicKey.cmp S.Signature.eq D.eq retaining.old.number Mode.Retaining) (R.stream rng_a.old) calls.now result retained.new.items retaining.new.holds (R.stream rng_a.new) released.new.items releasing.new.holds (R.stream rng_b.new) }
+    ensures kept { (retaining.new ≡ record retaining.old { holds = retaining.new.holds }) × (releasing.new ≡ record releasing.old { holds = releasing.new.holds }) }
+{
+    retaining.has_participants();
+    for call in calls {
+        let place = released.len();
+        let answer = step(retaining, rng_a, call);
+        let is_refused = is_refusal(&answer);
+        retained.push_reserved(answer);
+        if is_refused {
+            return Some(place);
+        }
+        let answer = step(releasing, rng_b, call);
+        let is_refused = is_refusal(&answer);
+        released.push_reserved(answer);
+        if is_refused {
+            return Some(place);
+        }
+    }
+    None
+}
+
+// Whether a call was refused for want of memory, or by the fault of an own vote.
+fn is_refusal<G, C, D>(answer: &Answer<G, C, D>) -> bool
+    ensures { result ≡ ends_pair answer.now }
+{
+    matches!(answer, Answer::OwnRefused(_) | Answer::OutOfMemory)
+}
