@@ -44,4 +44,6 @@ worked =
       work_of_own_votes = refl;
       replaced_and_forwarded_once = refl;
       usable_after_a_bad_vote = refl;
+      facts_tell_nothing = refl;
+      blocked_by_one = refl;
     }

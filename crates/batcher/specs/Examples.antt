@@ -48,6 +48,7 @@ use Rattle.batcher.specs.Stands.{pending_after, verified_after}
 use Rattle.batcher.specs.Work.{processed_total, votes_accepted_open, own_notarizes_restored}
 use Rattle.batcher.specs.Promises.{gave_cause}
 use Rattle.batcher.specs.Composed.{replacements, usable_votes, has_bad_vote}
+use Rattle.batcher.specs.Pairs.{blocks, tells_nothing}
 use Rattle.batcher.specs.Answers.{network_answer, own_answer, certificate_answer, forward_after, missing_after, needs_memory}
 
 abbrev pub TinySetting : Type 0
@@ -162,6 +163,9 @@ whole_round =
 abbrev pub own_round : List TinyCall
 own_round = lead 0 ∷ own (notarize 0 1) ∷ own (notarize 1 2) ∷ own (notarize 2 2) ∷ own (notarize 3 2) ∷ own (finalize 1 2) ∷ construct ∷ []
 
+abbrev pub repeating_round : List TinyCall
+repeating_round = net 1 (notarize 1 1) ∷ net 2 (notarize 2 1) ∷ cert (notarization 1) ∷ net 1 (notarize 1 2) ∷ net 2 (bad_notarize 2 1) ∷ []
+
 -- a round that holds votes of one kind alone: those kept, the pending and the verified ones
 abbrev pub only : Kind → List TinyVote → PerKind (List TinyVote)
 only Notarization votes = record { notarize = votes; nullify = []; finalize = [] }
@@ -270,6 +274,13 @@ module _ (x : TinySetting) where
 
   abbrev pub lengths : List TinyCall → Kind → ℕ × ℕ
   lengths calls kind = (length (fresh_votes x (played calls) kind), length (proven_votes x (played calls) kind))
+
+  -- which answers block the sender, and of which pairs of votes facts tell nothing
+  abbrev pub blocking : List TinyCall → List Bool
+  blocking calls = map blocks (answers calls)
+
+  abbrev pub telling : List TinyCall → List (TinyVote × TinyVote) → List Bool
+  telling calls votes = map (λ pair. tells_nothing x (played calls) pair.0 pair.1) votes
 
   -- which of some calls may need memory after others, and the pending and the verified votes that one more call leaves
   abbrev pub needs : List TinyCall → List TinyCall → List Bool
@@ -397,3 +408,11 @@ pub record WorkedExamples : Type 0 where
   pub usable_after_a_bad_vote :
       usable_and_bad (four Retaining) (lead 0 ∷ net 0 (notarize 0 1) ∷ net 1 (notarize 1 1) ∷ net 2 (bad_notarize 2 1) ∷ construct ∷ net 3 (notarize 3 1) ∷ []) Notarization
       ≡ (3 ∷ 1 ∷ 0 ∷ [], 2 ∷ [])
+  -- Once their kind is released, facts tell nothing of a repeat, nor of two votes that are both for other proposals than the selected one.
+  pub facts_tell_nothing :
+      telling (four Releasing) (lead 0 ∷ net 0 (notarize 0 1) ∷ cert (notarization 1) ∷ []) ((bad_notarize 1 1, notarize 1 1) ∷ (notarize 1 2, notarize 1 1) ∷ (notarize 1 2, notarize 1 3) ∷ [])
+      ≡ true ∷ false ∷ true ∷ []
+  -- A bad repeat of a released vote is blocked by the retaining round alone, another vote by both.
+  pub blocked_by_one :
+      blocking (four Retaining) repeating_round ∷ blocking (four Releasing) repeating_round ∷ []
+      ≡ (false ∷ false ∷ false ∷ true ∷ true ∷ []) ∷ (false ∷ false ∷ false ∷ true ∷ false ∷ []) ∷ []
