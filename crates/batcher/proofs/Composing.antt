@@ -25,6 +25,7 @@ use Rattle.batcher.proofs.Soundness.{count_none}
 use Rattle.batcher.proofs.Waits.{proposal_is}
 use Rattle.batcher.proofs.Finding.{any_more, any_of_filtered}
 use Rattle.batcher.proofs.Promising.{at_each_event, compared_is_cast}
+use Rattle.batcher.proofs.NeverBoth.{never_both}
 use Rattle.batcher.proofs.Attesting.{proven_attest, names_bad_signers, usable_are, usable_once, usable_for}
 use Rattle.batcher.proofs.Laws.{HasLaws}
 use Rattle.batcher.proofs.Apart.{where_holds}
@@ -171,6 +172,7 @@ module _ {D K G C : Type 0} (x : Setting D K G C) (laws : HasLaws x) where
         usable_are_standing = usable_are x past possible;
         usable_once_each = usable_once x past possible;
         usable_for_selected = usable_for x past possible;
+        nullify_or_finalize = never_both x past;
         forwarded_at_most_once = forwarded_once x past possible;
         conflicts_have_cause = λ vote h. compared_is_cast x _ past (conflict_with_compared past vote h);
       }

@@ -63,6 +63,7 @@ pub mod Finding
 pub mod Working
 pub mod Promising
 pub mod Attesting
+pub mod NeverBoth
 pub mod Composing
 pub mod Going
 pub mod Alike
@@ -71,4 +72,5 @@ pub mod Refusing
 pub mod Conflicting
 pub mod BlockedPair
 pub mod BesideEach
+pub mod OwnPair
 pub mod PairRuns

@@ -1,13 +1,14 @@
 -- How a run of a pair goes on, and what it leaves where it stops.
 use Rattle.std.proofs.Common.{inl, inr, ◌≡◌, ◌<◌, ◌+◌, ◌++◌, ◌||◌, ◌∷◌, [], ℕ, true, false, List, length, take, Some, None, refl, ap, sym, ◌∙◌, arith, subst, length-append}
 use Rattle.std.specs.List.{list_any}
-use Rattle.std.proofs.lemmas.Bool.{or_from, or_right}
+use Rattle.std.proofs.lemmas.Bool.{or_from, or_right, false≢true, true≢false, false_from_ne_true}
 use Rattle.std.proofs.lemmas.List.{append-nil}
 use Rattle.std.proofs.lemmas.List.Folds.{list_any-append}
 use Rattle.std.proofs.lemmas.Option.{none-some}
 use Rattle.rand_core.specs.Stream.{Stream}
 use Rattle.batcher.specs.declared.run.Call.{Call}
 use Rattle.batcher.specs.declared.run.Answer.{Answer}
+use Rattle.batcher.specs.declared.run.Answer.TheVariants.{OutOfMemory, Network as NetworkAnswer, Own as OwnAnswer, OwnRefused, Certificate as CertificateAnswer, Leader as LeaderAnswer, Construct as ConstructAnswer, Forward as ForwardAnswer, Missing as MissingAnswer}
 use Rattle.batcher.specs.declared.votes.Mode.{Mode}
 use Rattle.batcher.specs.declared.votes.Mode.TheVariants.{Retaining, Releasing}
 use Rattle.batcher.specs.Setting.{Setting}
@@ -18,11 +19,13 @@ use Rattle.batcher.specs.History.{History, history, history_after}
 use Rattle.batcher.specs.Answers.{IsAnswered}
 use Rattle.batcher.specs.Stands.{Meets}
 use Rattle.batcher.specs.Ran.{IsRun}
-use Rattle.batcher.specs.Pairs.{in_mode, ends_pair, IsBeside, GoesOn, EndsAt, IsPairRun}
+use Rattle.batcher.specs.Pairs.{in_mode, ends_pair, is_own_fault, IsBeside, GoesOn, EndsAt, IsPairRun}
 use Rattle.batcher.proofs.Laws.{HasLaws}
 use Rattle.batcher.proofs.Histories.{history-push}
 use Rattle.batcher.proofs.Going.{Goes, goes_first, goes_more, goes_to}
 use Rattle.batcher.proofs.BesideEach.{beside_of}
+use Rattle.batcher.proofs.Finding.{any_more}
+use Rattle.batcher.proofs.OwnPair.{not_own_fault}
 use Rattle.batcher.proofs.Together.{AreTogether, beside_at_first, stay_beside}
 
 -- the first so many of a list and more
@@ -32,6 +35,17 @@ take_front n xs ys h = subst (λ (m : ℕ). take m (xs ++ ys) ≡ xs) h (front x
     front : (zs : List _) → take (length zs) (zs ++ ys) ≡ zs
     front [] = refl
     front (z ∷ zs) = ap (λ rest. z ∷ rest) (front zs)
+
+fault_ends : {G C D : Type 0} (answer : Answer G C D) → is_own_fault answer ≡ true → ends_pair answer ≡ true
+fault_ends (OwnRefused fault) h = refl
+fault_ends (NetworkAnswer admission) h = absurd (false≢true h)
+fault_ends (OwnAnswer outcome report) h = absurd (false≢true h)
+fault_ends (CertificateAnswer changed) h = absurd (false≢true h)
+fault_ends (LeaderAnswer result) h = absurd (false≢true h)
+fault_ends (ConstructAnswer batch) h = absurd (false≢true h)
+fault_ends (ForwardAnswer proposal) h = absurd (false≢true h)
+fault_ends (MissingAnswer missing) h = absurd (false≢true h)
+fault_ends OutOfMemory h = absurd (false≢true h)
 
 module _ {G C D : Type 0} where
   -- one more answer, which ends the pair or doesn't
@@ -47,6 +61,10 @@ module _ {G C D : Type 0} where
       list_any-append ends_pair answers (answer ∷ []) ∙ or_right (list_any ends_pair answers) _ (ap (λ b. b || false) ends),
     ),
   )
+
+-- where none ends the pair none is a fault of an own vote
+no_fault : {G C D : Type 0} (answers : List (Answer G C D)) → list_any ends_pair answers ≡ false → list_any is_own_fault answers ≡ false
+no_fault answers on = false_from_ne_true _ (λ some. true≢false (sym (any_more is_own_fault ends_pair fault_ends answers some) ∙ on))
 
 -- what stays true of a pair while it goes on
 pub record PairGoes {D K G C : Type 0} (x : Setting D K G C) (before : Stream) (calls : List (Call K G C D)) (retained released : List (Answer G C D)) (retaining releasing : Held G D) (after left : Stream) : Type 0 where
@@ -167,6 +185,10 @@ module _ {D K G C : Type 0} (x : Setting D K G C) (laws : HasLaws x) where
           Takes (in_mode x Releasing) (history calls released) releasing left call b news next → ends_pair a ≡ false → ends_pair b ≡ true →
           IsPairRun x before all (Some place) (retained ++ a ∷ []) new then (released ++ b ∷ []) news next
       pair_stops_later a b new news then next takes taken on ends =
+          let memory_alone : list_any is_own_fault (released ++ b ∷ []) ≡ false =
+            list_any-append is_own_fault released (b ∷ [])
+            ∙ or_from _ _ (no_fault released (goes.released_on.1))
+            (or_from _ _ (not_own_fault x (laws_in Releasing) (history calls retained) (history calls released) goes.together.alike call a b on takes.answered taken.answered) refl) in
           record {
             retaining_run = subst (λ cs. IsRun (in_mode x Retaining) before cs (retained ++ a ∷ []) new then) (sym (made_more retained a (goes.retained_on.0 ∙ told)))
                 (goes_to (in_mode x Retaining) (laws_in Retaining) before (calls ++ call ∷ []) (retained ++ a ∷ []) new then
@@ -174,7 +196,7 @@ module _ {D K G C : Type 0} (x : Setting D K G C) (laws : HasLaws x) where
             releasing_run = subst (λ cs. IsRun (in_mode x Releasing) before cs (released ++ b ∷ []) news next) (sym (made_more released b (goes.released_on.0 ∙ told)))
                 (goes_to (in_mode x Releasing) (laws_in Releasing) before (calls ++ call ∷ []) (released ++ b ∷ []) news next
                 (releases_more x before calls retained released retaining releasing after left goes call b news next taken));
-            stops = (below, inr (goes_on_more place retained a (at_place retained goes.retained_on) on, ends_then place released b (at_place released goes.released_on) ends));
+            stops = (below, inr (goes_on_more place retained a (at_place retained goes.retained_on) on, (ends_then place released b (at_place released goes.released_on) ends, memory_alone)));
             beside = beside_so_far (a ∷ []) (b ∷ []);
             held_alike = λ none. absurd (none-some place (sym none));
           }

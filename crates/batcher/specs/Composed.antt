@@ -1,10 +1,11 @@
 -- What holds of every possible history as a whole, beyond what is said of each of its calls.
-use Rattle.std.specs.Prelude.{◌≡◌, ◌≤◌, ◌+◌, ◌⊎◌, ℕ, Bool, true, not, cond, ◌&&◌, List, [], ◌∷◌, ◌++◌, Some, is_some, IfSome, filter}
+use Rattle.std.specs.Prelude.{◌≡◌, ◌≤◌, ◌+◌, ◌⊎◌, ℕ, Bool, true, false, not, cond, ◌&&◌, List, [], ◌∷◌, ◌++◌, Some, is_some, IfSome, filter}
 use Rattle.std.specs.List.{list_any, AllPass}
 use Rattle.batcher.specs.declared.positions.Participant.{Participant}
 use Rattle.batcher.specs.declared.messages.Proposal.{Proposal}
 use Rattle.batcher.specs.declared.messages.Vote.{Vote}
 use Rattle.batcher.specs.declared.messages.Kind.{Kind}
+use Rattle.batcher.specs.declared.messages.Kind.TheVariants.{Nullification, Finalization}
 use Rattle.batcher.specs.declared.verifier.ProposalState.TheVariants.{Leader as LeadersProposal, Certificate as FixedProposal}
 use Rattle.batcher.specs.Setting.{Setting}
 use Rattle.batcher.specs.Lists.{count, is_some_and, EachOnce, SameElements}
@@ -66,6 +67,8 @@ module _ {D K G C : Type 0} (x : Setting D K G C) where
     pub usable_for_selected :
         (kind : Kind) (p : Proposal D) → has_proposals kind ≡ true → selected_proposal x past ≡ Some p
         → AllPass (is_for x.same_digest p) (usable_votes past kind)
+    -- No participant has both a first nullify and a first finalize.
+    pub nullify_or_finalize : (i : ℕ) → (is_some (first_vote x past Nullification i) && is_some (first_vote x past Finalization i)) ≡ false
     -- One forward call at most answers a proposal.
     pub forwarded_at_most_once : count (λ event. forwards event.1) past ≤ 1
     -- A vote that conflicts has an earlier one of its kind and signer beside it, with another proposal.

@@ -27,6 +27,11 @@ module _ {G C D : Type 0} where
   ends_pair OutOfMemory = true
   ends_pair answer = false
 
+  -- whether an own vote was refused by its fault
+  abbrev pub is_own_fault : Answer G C D → Bool
+  is_own_fault (OwnRefused fault) = true
+  is_own_fault answer = false
+
   -- What both rounds answer alike: whether a network vote is added, and to certificates, leaders, constructions and forwards all.
   abbrev pub IsAlike : Answer G C D → Answer G C D → Type 0
   IsAlike (NetworkAnswer a) (NetworkAnswer b) = a.added ≡ b.added
@@ -110,11 +115,12 @@ module _ {G C D : Type 0} where
   abbrev pub EndsAt : ℕ → List (Answer G C D) → Type 0
   EndsAt n answers = (length answers ≡ n + 1) × ((list_any ends_pair (take n answers) ≡ false) × (list_any ends_pair answers ≡ true))
 
-  -- A pair of so many calls stops nowhere, or at the first call that one of the rounds refuses; the retaining round goes first.
+  -- A pair of so many calls stops nowhere, or at the first call that one of the rounds refuses; the retaining round goes first,
+  -- and what it has made the releasing one refuses for memory alone.
   abbrev pub StopsAt : Option ℕ → ℕ → List (Answer G C D) → List (Answer G C D) → Type 0
   StopsAt None n retained released = GoesOn n retained × GoesOn n released
   StopsAt (Some place) n retained released =
-      (place < n) × ((EndsAt place retained × GoesOn place released) ⊎ (GoesOn (place + 1) retained × EndsAt place released))
+      (place < n) × ((EndsAt place retained × GoesOn place released) ⊎ (GoesOn (place + 1) retained × (EndsAt place released × (list_any is_own_fault released ≡ false))))
 
 -- those of the calls, or of their answers, that both rounds have made
 abbrev pub made_by_both : {X : Type 0} → Option ℕ → List X → List X
