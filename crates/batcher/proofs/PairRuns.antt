@@ -186,9 +186,9 @@ module _ {D K G C : Type 0} (x : Setting D K G C) (laws : HasLaws x) where
           IsPairRun x before all (Some place) (retained ++ a ∷ []) new then (released ++ b ∷ []) news next
       pair_stops_later a b new news then next takes taken on ends =
           let memory_alone : list_any is_own_fault (released ++ b ∷ []) ≡ false =
-            list_any-append is_own_fault released (b ∷ [])
-            ∙ or_from _ _ (no_fault released (goes.released_on.1))
-            (or_from _ _ (not_own_fault x (laws_in Releasing) (history calls retained) (history calls released) goes.together.alike call a b on takes.answered taken.answered) refl) in
+          list_any-append is_own_fault released (b ∷ [])
+          ∙ or_from _ _ (no_fault released (goes.released_on.1))
+          (or_from _ _ (not_own_fault x (laws_in Releasing) (history calls retained) (history calls released) goes.together.alike call a b on takes.answered taken.answered) refl) in
           record {
             retaining_run = subst (λ cs. IsRun (in_mode x Retaining) before cs (retained ++ a ∷ []) new then) (sym (made_more retained a (goes.retained_on.0 ∙ told)))
                 (goes_to (in_mode x Retaining) (laws_in Retaining) before (calls ++ call ∷ []) (retained ++ a ∷ []) new then
