@@ -83,8 +83,8 @@ module _ {D K G C : Type 0} (x : Setting D K G C) where
   -- AT EACH PLACE OF TWO HISTORIES
   pub selects_alike : (retained released : History D K G C) → AreAlike retained released → AtEachPlace (SelectsAlike x) retained released
   selects_alike [] [] alike = tt
-  selects_alike [] (b ∷ released) alike = tt
-  selects_alike (a ∷ retained) [] alike = tt
+  selects_alike [] (b ∷ released) alike = absurd alike
+  selects_alike (a ∷ retained) [] alike = absurd alike
   selects_alike (a ∷ retained) (b ∷ released) alike =
       ((selection_alike x (a ∷ retained) (b ∷ released) alike, certified_alike (a ∷ retained) (b ∷ released) alike), selects_alike retained released alike.1.1)
 
@@ -93,8 +93,8 @@ module _ {D K G C : Type 0} (x : Setting D K G C) where
       → IsPossible (in_mode x Retaining) (a ∷ retained) → IsPossible (in_mode x Releasing) (b ∷ released) → holds a retained b released)
       → (retained released : History D K G C) → AreAlike retained released → IsPossible (in_mode x Retaining) retained → IsPossible (in_mode x Releasing) released → AtEachPlace holds retained released
   at_each_place holds each [] [] alike possible also = tt
-  at_each_place holds each [] (b ∷ released) alike possible also = tt
-  at_each_place holds each (a ∷ retained) [] alike possible also = tt
+  at_each_place holds each [] (b ∷ released) alike possible also = absurd alike
+  at_each_place holds each (a ∷ retained) [] alike possible also = absurd alike
   at_each_place holds each (a ∷ retained) (b ∷ released) alike possible also =
       (each a retained b released alike possible also, at_each_place holds each retained released alike.1.1 possible.1.1.1 also.1.1.1)
 

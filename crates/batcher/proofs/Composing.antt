@@ -20,11 +20,11 @@ use Rattle.batcher.specs.History.{Event, History}
 use Rattle.batcher.specs.Selection.{selection_by, selected_proposal, fixed_proposal, fixing_evidence, leaders_proposal, was_forwarded, forwards}
 use Rattle.batcher.specs.Answers.{MayAnswer, IsPossible}
 use Rattle.batcher.specs.Comparison.{compared_votes, compared_votes_of, conflicts, differs_from}
-use Rattle.batcher.specs.Composed.{NamesBadSigners, KeepsFixed, KeepsLeaders, replacements, carry_different, HoldsThroughout}
+use Rattle.batcher.specs.Composed.{NamesBadSigners, KeepsFixed, KeepsLeaders, replacements, carry_different, HoldsThen, HoldsThroughout}
 use Rattle.batcher.proofs.Soundness.{count_none}
 use Rattle.batcher.proofs.Waits.{proposal_is}
 use Rattle.batcher.proofs.Finding.{any_more, any_of_filtered}
-use Rattle.batcher.proofs.Promising.{at_each_event, compared_is_cast}
+use Rattle.batcher.proofs.Promising.{at_each_event, at_each_time, compared_is_cast}
 use Rattle.batcher.proofs.NeverBoth.{never_both}
 use Rattle.batcher.proofs.Attesting.{proven_attest, names_bad_signers, usable_are, usable_once, usable_for}
 use Rattle.batcher.proofs.Laws.{HasLaws}
@@ -160,19 +160,25 @@ module _ {D K G C : Type 0} (x : Setting D K G C) (laws : HasLaws x) where
       (any_of_filtered (λ v. exactly_one mark (is_for x.same_digest there.0 v)) (is_vote_of (kind_of vote) (signer_of vote)) (compared_votes x past)
       (some_other (is_for x.same_digest there.0) mark (compared_votes_of x past (kind_of vote) (signer_of vote)) parts.0 parts.1))
 
-  -- What holds throughout does so of each history that is possible.
-  pub holds_throughout : (past : History D K G C) → IsPossible x past → HoldsThroughout x past
-  holds_throughout past possible =
+  holds_then : (past : History D K G C) → IsPossible x past → HoldsThen x past
+  holds_then past possible =
       record {
         proven_votes_attest = proven_attest x laws past possible;
-        named_signers_are_bad = at_each_event x (NamesBadSigners x) (names_bad_signers x laws) past possible;
-        fixed_stays = at_each_event x (KeepsFixed x) (λ earlier event _. keeps_fixed x earlier event) past possible;
-        leaders_stays_until_fixed = at_each_event x (KeepsLeaders x) (λ earlier event _. keeps_leaders x laws earlier event) past possible;
-        replaced_at_most_once = replaced_once x past;
         usable_are_standing = usable_are x past possible;
         usable_once_each = usable_once x past possible;
         usable_for_selected = usable_for x past possible;
         nullify_or_finalize = never_both x past;
-        forwarded_at_most_once = forwarded_once x past possible;
         conflicts_have_cause = λ vote h. compared_is_cast x _ past (conflict_with_compared past vote h);
+      }
+
+  -- What holds throughout does so of each history that is possible.
+  pub holds_throughout : (past : History D K G C) → IsPossible x past → HoldsThroughout x past
+  holds_throughout past possible =
+      record {
+        at_each_time = at_each_time x (HoldsThen x) holds_then past possible;
+        named_signers_are_bad = at_each_event x (NamesBadSigners x) (names_bad_signers x laws) past possible;
+        fixed_stays = at_each_event x (KeepsFixed x) (λ earlier event _. keeps_fixed x earlier event) past possible;
+        leaders_stays_until_fixed = at_each_event x (KeepsLeaders x) (λ earlier event _. keeps_leaders x laws earlier event) past possible;
+        replaced_at_most_once = replaced_once x past;
+        forwarded_at_most_once = forwarded_once x past possible;
       }

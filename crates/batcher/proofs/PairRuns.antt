@@ -19,7 +19,7 @@ use Rattle.batcher.specs.History.{History, history, history_after}
 use Rattle.batcher.specs.Answers.{IsAnswered}
 use Rattle.batcher.specs.Stands.{Meets}
 use Rattle.batcher.specs.Ran.{IsRun}
-use Rattle.batcher.specs.Pairs.{in_mode, ends_pair, is_own_fault, IsBeside, GoesOn, EndsAt, IsPairRun}
+use Rattle.batcher.specs.Pairs.{in_mode, ends_pair, is_own_fault, IsAlike, AnsweredAlike, IsBeside, GoesOn, EndsAt, IsPairRun}
 use Rattle.batcher.proofs.Laws.{HasLaws}
 use Rattle.batcher.proofs.Histories.{history-push}
 use Rattle.batcher.proofs.Going.{Goes, goes_first, goes_more, goes_to}
@@ -66,12 +66,20 @@ module _ {G C D : Type 0} where
 no_fault : {G C D : Type 0} (answers : List (Answer G C D)) → list_any ends_pair answers ≡ false → list_any is_own_fault answers ≡ false
 no_fault answers on = false_from_ne_true _ (λ some. true≢false (sym (any_more is_own_fault ends_pair fault_ends answers some) ∙ on))
 
+-- one more answer of each, which are alike
+alike_more : {G C D : Type 0} (retained released : List (Answer G C D)) (a b : Answer G C D) → AnsweredAlike retained released → IsAlike a b → AnsweredAlike (retained ++ a ∷ []) (released ++ b ∷ [])
+alike_more [] [] a b alike now = (now, tt)
+alike_more [] (d ∷ released) a b alike now = absurd alike
+alike_more (c ∷ retained) [] a b alike now = absurd alike
+alike_more (c ∷ retained) (d ∷ released) a b alike now = (alike.0, alike_more retained released a b alike.1 now)
+
 -- what stays true of a pair while it goes on
 pub record PairGoes {D K G C : Type 0} (x : Setting D K G C) (before : Stream) (calls : List (Call K G C D)) (retained released : List (Answer G C D)) (retaining releasing : Held G D) (after left : Stream) : Type 0 where
   pub retains : Goes (in_mode x Retaining) before calls retained retaining after
   pub releases : Goes (in_mode x Releasing) before calls released releasing left
   pub together : AreTogether x (history calls retained) (history calls released) retaining releasing
   pub streams : after ≡ left
+  pub answered_alike : AnsweredAlike retained released
   pub retained_on : GoesOn (length calls) retained
   pub released_on : GoesOn (length calls) released
 
@@ -89,6 +97,7 @@ module _ {D K G C : Type 0} (x : Setting D K G C) where
         releases = goes_first (in_mode x Releasing) before;
         together = beside_at_first x;
         streams = refl;
+        answered_alike = tt;
         retained_on = (refl, refl);
         released_on = (refl, refl);
       }
@@ -119,6 +128,7 @@ module _ {D K G C : Type 0} (x : Setting D K G C) where
               subst (λ past. AreTogether x past (history (calls ++ call ∷ []) (released ++ b ∷ [])) new news) (sym (history-push (in_mode x Retaining) [] calls retained call a goes.retains.answered))
               (subst (λ past. AreTogether x (history_after (history calls retained) call a) past new news) (sym (history-push (in_mode x Releasing) [] calls released call b goes.releases.answered)) stay.beside);
           streams = stay.streams;
+          answered_alike = alike_more retained released a b goes.answered_alike stay.answers;
           retained_on = subst (λ (n : ℕ). GoesOn n (retained ++ a ∷ [])) (sym one_longer) (goes_on_more (length calls) retained a goes.retained_on on);
           released_on = subst (λ (n : ℕ). GoesOn n (released ++ b ∷ [])) (sym one_longer) (goes_on_more (length calls) released b goes.released_on goes_on);
         }
@@ -140,6 +150,7 @@ module _ {D K G C : Type 0} (x : Setting D K G C) (laws : HasLaws x) where
           retaining_run = subst (λ cs. IsRun (in_mode x Retaining) before cs retained retaining after) (sym (take_all retained goes.retained_on.0)) (goes_to (in_mode x Retaining) (laws_in Retaining) before calls retained retaining after goes.retains);
           releasing_run = subst (λ cs. IsRun (in_mode x Releasing) before cs released releasing left) (sym (take_all released goes.released_on.0)) (goes_to (in_mode x Releasing) (laws_in Releasing) before calls released releasing left goes.releases);
           stops = (goes.retained_on, goes.released_on);
+          answered_alike = goes.answered_alike;
           beside = besides;
           held_alike = λ _. (goes.together.buffered, (goes.together.forwarded, goes.streams));
         })
@@ -165,6 +176,11 @@ module _ {D K G C : Type 0} (x : Setting D K G C) (laws : HasLaws x) where
           (subst (λ given. IsBeside x (history calls given) (history calls (take place (released ++ more_released)))) (sym (take_front place retained more_retained (goes.retained_on.0 ∙ told)))
           (subst (λ given. IsBeside x (history calls retained) (history calls given)) (sym (take_front place released more_released (goes.released_on.0 ∙ told))) besides))
 
+      alike_so_far : (more_retained more_released : List (Answer G C D)) → AnsweredAlike (take place (retained ++ more_retained)) (take place (released ++ more_released))
+      alike_so_far more_retained more_released =
+          subst (λ given. AnsweredAlike given (take place (released ++ more_released))) (sym (take_front place retained more_retained (goes.retained_on.0 ∙ told)))
+          (subst (λ given. AnsweredAlike retained given) (sym (take_front place released more_released (goes.released_on.0 ∙ told))) goes.answered_alike)
+
       -- where the retaining round refused one,
       pub pair_stops : (a : Answer G C D) (new : Held G D) (then : Stream) → Takes (in_mode x Retaining) (history calls retained) retaining after call a new then → ends_pair a ≡ true →
           IsPairRun x before all (Some place) (retained ++ a ∷ []) new then released releasing left
@@ -176,6 +192,7 @@ module _ {D K G C : Type 0} (x : Setting D K G C) (laws : HasLaws x) where
             releasing_run = subst (λ cs. IsRun (in_mode x Releasing) before cs released releasing left) (sym (made_so_far released (goes.released_on.0 ∙ told)))
                 (goes_to (in_mode x Releasing) (laws_in Releasing) before calls released releasing left goes.releases);
             stops = (below, inl (ends_then place retained a (at_place retained goes.retained_on) ends, at_place released goes.released_on));
+            answered_alike = subst (λ given. AnsweredAlike (take place (retained ++ a ∷ [])) (take place given)) (append-nil released) (alike_so_far (a ∷ []) []);
             beside = subst (λ given. IsBeside x (history (take place all) (take place (retained ++ a ∷ []))) (history (take place all) (take place given))) (append-nil released) (beside_so_far (a ∷ []) []);
             held_alike = λ none. absurd (none-some place (sym none));
           }
@@ -197,6 +214,7 @@ module _ {D K G C : Type 0} (x : Setting D K G C) (laws : HasLaws x) where
                 (goes_to (in_mode x Releasing) (laws_in Releasing) before (calls ++ call ∷ []) (released ++ b ∷ []) news next
                 (releases_more x before calls retained released retaining releasing after left goes call b news next taken));
             stops = (below, inr (goes_on_more place retained a (at_place retained goes.retained_on) on, (ends_then place released b (at_place released goes.released_on) ends, memory_alone)));
+            answered_alike = alike_so_far (a ∷ []) (b ∷ []);
             beside = beside_so_far (a ∷ []) (b ∷ []);
             held_alike = λ none. absurd (none-some place (sym none));
           }

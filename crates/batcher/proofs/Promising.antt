@@ -29,7 +29,7 @@ use Rattle.batcher.specs.FirstVotes.{first_votes, is_free, contradicts, first_li
 use Rattle.batcher.specs.Selection.{is_certified, is_released, selected_proposal}
 use Rattle.batcher.specs.Comparison.{compared_votes, compared_votes_of, is_compared, is_compared_at_release, conflicts, differs_from}
 use Rattle.batcher.specs.Answers.{network_answer, admission_sent_by, admission_against, admission_by_first, MayAnswer, IsPossible}
-use Rattle.batcher.specs.Promises.{AtEachVote, IsAcceptedExactly, votes_cast, contradicts_itself, gave_cause, IsBlockedForCause, IsBlockedIfContradicting, AtEachEvent, IsCertified, CompletesQuorums, Rests, Promises}
+use Rattle.batcher.specs.Promises.{AtEachVote, IsAcceptedExactly, votes_cast, contradicts_itself, gave_cause, IsBlockedForCause, IsBlockedIfContradicting, AtEachEvent, AtEachTime, IsCertified, CompletesQuorums, Rests, Promises}
 use Rattle.batcher.specs.Runs.{certifies_answer}
 use Rattle.batcher.specs.Trying.{certifies_subject}
 use Rattle.batcher.specs.Verifiers.{certifies_itself}
@@ -41,6 +41,7 @@ use Rattle.batcher.proofs.Right.{found_passes}
 use Rattle.batcher.proofs.Apart.{any_count, count_at, positive, firsts_apart, found_is_of, where_holds}
 use Rattle.batcher.proofs.Arriving.{added_is}
 use Rattle.batcher.proofs.Completing.{completes, rests}
+use Rattle.batcher.specs.Work.{IsWorkedOnce}
 use Rattle.batcher.proofs.Working.{worked_once, skipped_works_not}
 
 module _ {G D : Type 0} (same : D → D → Bool) (equal : G → G → Bool) where
@@ -287,6 +288,12 @@ module _ {D K G C : Type 0} (x : Setting D K G C) (holds : History D K G C → E
   at_each_event [] possible = tt
   at_each_event (event ∷ past) possible = (each past event possible, at_each_event past possible.1.1.1)
 
+-- after each,
+module _ {D K G C : Type 0} (x : Setting D K G C) (holds : History D K G C → Type 0) (each : (past : History D K G C) → IsPossible x past → holds past) where
+  pub at_each_time : (past : History D K G C) → IsPossible x past → AtEachTime holds past
+  at_each_time [] possible = each [] possible
+  at_each_time (event ∷ past) possible = (each (event ∷ past) possible, at_each_time past possible.1.1.1)
+
 -- and at each network vote
 module _ {D K G C : Type 0} (x : Setting D K G C) (holds : History D K G C → K → Vote G D → Admission G D → Type 0)
     (named : (past : History D K G C) (sender : K) (vote : Vote G D) → holds past sender vote (network_answer x past sender vote)) where
@@ -353,6 +360,6 @@ module _ {D K G C : Type 0} (x : Setting D K G C) where
         certificates_verify = at_each_event x (IsCertified x) (λ before event made. gives_verified before event.0 event.1 made.1.1.0) past possible;
         quorums_complete = at_each_event x (CompletesQuorums x) (completes x laws) past possible;
         constructions_rest = at_each_event x Rests (rests x laws) past possible;
-        no_double_work = worked_once x laws past possible;
+        no_double_work = at_each_time x (IsWorkedOnce x) (worked_once x laws) past possible;
         no_work_when_skipped = λ skipped. skipped_works_not x skipped past possible;
       }

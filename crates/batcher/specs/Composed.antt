@@ -15,7 +15,7 @@ use Rattle.batcher.specs.FirstVotes.{first_vote}
 use Rattle.batcher.specs.Selection.{forwards, selection, selected_proposal, replacement}
 use Rattle.batcher.specs.Comparison.{conflicts}
 use Rattle.batcher.specs.Standing.{is_valid, was_invalid, standing_votes, trials, proven_votes, fresh_votes, ready_kind}
-use Rattle.batcher.specs.Promises.{AtEachEvent, votes_cast}
+use Rattle.batcher.specs.Promises.{AtEachEvent, AtEachTime, votes_cast}
 
 -- whether both votes carry proposals, and not the same one
 abbrev pub carry_different : {G D : Type 0} → (D → D → Bool) → Vote G D → Vote G D → Bool
@@ -51,15 +51,9 @@ module _ {D K G C : Type 0} (x : Setting D K G C) where
   replacements [] = 0
   replacements (event ∷ past) = cond (is_some (replacement x past event)) 1 0 + replacements past
 
-  -- What holds of each history that is possible.
-  pub record HoldsThroughout (past : History D K G C) : Type 0 where
-    -- Proven votes attest, and a signer that is named invalid has a vote that doesn't.
+  -- What holds after each call.
+  pub record HoldsThen (past : History D K G C) : Type 0 where
     pub proven_votes_attest : (kind : Kind) → AllPass (is_valid x) (proven_votes x past kind)
-    pub named_signers_are_bad : AtEachEvent NamesBadSigners past
-    -- A fixed proposal is never replaced, and the leader's once at most, by a fixed one.
-    pub fixed_stays : AtEachEvent KeepsFixed past
-    pub leaders_stays_until_fixed : AtEachEvent KeepsLeaders past
-    pub replaced_at_most_once : replacements past ≤ 1
     -- No standing vote is lost but those found invalid, each signer has one at most, and all are for the selected proposal.
     pub usable_are_standing :
         (kind : Kind) → SameElements (usable_votes past kind) (filter (λ v. not (was_invalid (trials x past) v)) (standing_votes x past kind))
@@ -69,9 +63,19 @@ module _ {D K G C : Type 0} (x : Setting D K G C) where
         → AllPass (is_for x.same_digest p) (usable_votes past kind)
     -- No participant has both a first nullify and a first finalize.
     pub nullify_or_finalize : (i : ℕ) → (is_some (first_vote x past Nullification i) && is_some (first_vote x past Finalization i)) ≡ false
-    -- One forward call at most answers a proposal.
-    pub forwarded_at_most_once : count (λ event. forwards event.1) past ≤ 1
     -- A vote that conflicts has an earlier one of its kind and signer beside it, with another proposal.
     pub conflicts_have_cause :
         (vote : Vote G D) → conflicts x past vote ≡ true
         → list_any (λ v. is_vote_of (kind_of vote) (signer_of vote) v && carry_different x.same_digest v vote) (votes_cast x past) ≡ true
+
+  -- What holds of a list of calls on a fresh round, over its history. Much of it follows from the definitions alone: that a round
+  -- holds and answers what they say is what makes it worth something.
+  pub record HoldsThroughout (past : History D K G C) : Type 0 where
+    pub at_each_time : AtEachTime HoldsThen past
+    pub named_signers_are_bad : AtEachEvent NamesBadSigners past
+    -- A fixed proposal is never replaced, and the leader's once at most, by a fixed one.
+    pub fixed_stays : AtEachEvent KeepsFixed past
+    pub leaders_stays_until_fixed : AtEachEvent KeepsLeaders past
+    pub replaced_at_most_once : replacements past ≤ 1
+    -- One forward call at most answers a proposal.
+    pub forwarded_at_most_once : count (λ event. forwards event.1) past ≤ 1

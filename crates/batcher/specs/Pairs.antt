@@ -74,10 +74,17 @@ module _ {D K G C : Type 0} (x : Setting D K G C) where
       same_selected x.same_digest (proposal_in (subject_of vote)) (proposal_in (subject_of first))
       || not (is_some_and (selected_proposal x past) (λ p. is_for x.same_digest p vote || is_for x.same_digest p first))
 
--- what holds of the events of two histories, and of the histories before them
+-- answers that are alike, one by one
+abbrev pub AnsweredAlike : {G C D : Type 0} → List (Answer G C D) → List (Answer G C D) → Type 0
+AnsweredAlike [] [] = ⊤
+AnsweredAlike (a ∷ retained) (b ∷ released) = IsAlike a b × AnsweredAlike retained released
+AnsweredAlike retained released = ⊥
+
+-- what holds of the events of two histories as long, and of the histories before them
 abbrev pub AtEachPlace : {D K G C : Type 0} → (Event D K G C → History D K G C → Event D K G C → History D K G C → Type 0) → History D K G C → History D K G C → Type 0
+AtEachPlace holds [] [] = ⊤
 AtEachPlace holds (a ∷ retained) (b ∷ released) = holds a retained b released × AtEachPlace holds retained released
-AtEachPlace holds retained released = ⊤
+AtEachPlace holds retained released = ⊥
 
 module _ {D K G C : Type 0} (x : Setting D K G C) where
   -- Both select the same proposal by the same source, and have the same kinds certified.
@@ -92,7 +99,8 @@ module _ {D K G C : Type 0} (x : Setting D K G C) where
       blocks answer ≡ true → (blocks a.1 || was_blocked x retained sender) ≡ true
   IsBlockedByBoth a retained b released = ⊤
 
-  -- Whom the retaining round alone blocks, then or before, has sent a vote of a kind that is released, and of which facts tell nothing.
+  -- Whom the retaining round blocks, and the releasing one neither then nor before, has sent a vote of a kind that is released, and
+  -- of which facts tell nothing.
   abbrev pub IsBlockedByOne : Event D K G C → History D K G C → Event D K G C → History D K G C → Type 0
   IsBlockedByOne (NetworkCall sender vote, answer) retained b released =
       blocks answer ≡ true → (blocks b.1 || was_blocked x released sender) ≡ false
@@ -130,9 +138,10 @@ made_by_both (Some place) all = take place all
 module _ {D K G C : Type 0} (x : Setting D K G C) where
   -- What a run of a pair leaves. Each round has run in its own mode, over the calls that it has made; over those that both have
   -- made they are beside each other; and where none was refused they hold the same, but for kept votes and facts.
-  pub record IsPairRun (before : Stream) (calls : List (Call K G C D)) (stopped : Option ℕ) (retained : List (Answer G C D)) (retaining : Held G D) (after : Stream) (released : List (Answer G C D)) (releasing : Held G D) (then : Stream) : Type 0 where
+  pub record IsPairRun (before : Stream) (calls : List (Call K G C D)) (stopped : Option ℕ) (retained : List (Answer G C D)) (retaining : Held G D) (after : Stream) (released : List (Answer G C D)) (releasing : Held G D) (left : Stream) : Type 0 where
     pub retaining_run : IsRun (in_mode x Retaining) before (take (length retained) calls) retained retaining after
-    pub releasing_run : IsRun (in_mode x Releasing) before (take (length released) calls) released releasing then
+    pub releasing_run : IsRun (in_mode x Releasing) before (take (length released) calls) released releasing left
     pub stops : StopsAt stopped (length calls) retained released
+    pub answered_alike : AnsweredAlike (made_by_both stopped retained) (made_by_both stopped released)
     pub beside : IsBeside x (history (made_by_both stopped calls) (made_by_both stopped retained)) (history (made_by_both stopped calls) (made_by_both stopped released))
-    pub held_alike : stopped ≡ None → (retaining.buffered ≡ releasing.buffered) × ((retaining.forwarded ≡ releasing.forwarded) × (after ≡ then))
+    pub held_alike : stopped ≡ None → (retaining.buffered ≡ releasing.buffered) × ((retaining.forwarded ≡ releasing.forwarded) × (after ≡ left))

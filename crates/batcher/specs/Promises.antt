@@ -31,6 +31,11 @@ module _ {D K G C : Type 0} where
   AtEachEvent holds [] = ⊤
   AtEachEvent holds (event ∷ past) = holds past event × AtEachEvent holds past
 
+  -- what holds of a history, and of each before it
+  abbrev pub AtEachTime : (History D K G C → Type 0) → History D K G C → Type 0
+  AtEachTime holds [] = holds []
+  AtEachTime holds (event ∷ past) = holds (event ∷ past) × AtEachTime holds past
+
   -- whether the last so many calls are constructions
   abbrev pub ends_in_constructions : ℕ → History D K G C → Bool
   ends_in_constructions zero past = true
@@ -94,5 +99,5 @@ module _ {D K G C : Type 0} (x : Setting D K G C) where
     pub certificates_verify : AtEachEvent IsCertified past
     pub quorums_complete : AtEachEvent CompletesQuorums past
     pub constructions_rest : AtEachEvent Rests past
-    pub no_double_work : IsWorkedOnce x past
+    pub no_double_work : AtEachTime (IsWorkedOnce x) past
     pub no_work_when_skipped : x.mode ≡ Skipped → processed_total past ≡ 0

@@ -27,7 +27,7 @@ use std::alloc::{AllocError, Global};
 /// A call of a round, with keys `P`, signatures `G`, certificates `C` and digests `D`.
 #[derive(Debug, Drop)]
 pub enum Call<P, G, C, D> {
-    /// A vote that the participant with the key sent.
+    /// A vote that the peer with the key sent. It need not take part.
     Network(P, Vote<G, D>),
     /// A vote of the node's own, which attests.
     Own(Vote<G, D>),

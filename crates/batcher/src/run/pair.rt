@@ -19,15 +19,19 @@ use std::alloc::{AllocError, Global};
 pub struct PairRan<S: Scheme<D>, D: Digest> {
     pub retaining: Ran<S, D>,
     pub releasing: Ran<S, D>,
-    /// The place of the call that one of them refused, the first call being at 0.
+    /// The place of the call that one of them refused, the first call being at 0; `None` where
+    /// none was refused.
     pub stopped: Option<usize>,
 }
 
 /// Makes each call on a round that retains its votes, and then on one that releases them.
 ///
+/// Both rounds are fresh and of one number and scheme, and their generators have the same stream.
 /// The first call that is refused, for want of memory or by the fault of an own vote, stops both:
-/// the refusal is the last answer of the round that refused. Room for both lists of answers is made
-/// first: that growth alone gives the error, and both rounds are then dropped.
+/// the refusal is the last answer of the round that refused. Where that is the retaining round the
+/// other isn't asked; where it is the other, for memory alone, the retaining one has made the call.
+/// Room for both lists of answers is made first: that growth alone gives the error, and both rounds
+/// are then dropped.
 pub fn run_pair<S: Scheme<D>, D: Digest, R: CryptoRng>(
     alloc: Global,
     mut retaining: Round<S, D>,
