@@ -123,30 +123,32 @@ fn is_front(lines: &[Vec<u8>], others: &[Vec<u8>], stopped: usize) -> bool {
             || (place == stopped && line.is_empty()))
 }
 
-/// Whether a pair that memory stopped has answered what it answers with ample memory, up to the
-/// call that was refused.
+/// Whether a call was refused for memory.
+fn is_refused(lines: &[Vec<u8>]) -> bool {
+    lines.iter().any(|line| line.is_empty())
+}
+
+/// Whether a pair that memory stopped, if it did, has answered what it answers with ample memory,
+/// up to the call that was refused.
 fn stops_where_refused(alloc: Global, text: &str) -> Result<bool, AllocError> {
     let first = match told(alloc, text) {
         Ok(told) => told,
         Err(_) => told(alloc, text)?,
     };
-    let whole = told(alloc, text)?;
+    let retaining = first.retaining.as_slice();
+    let releasing = first.releasing.as_slice();
+    if !is_refused(retaining) && !is_refused(releasing) {
+        return Ok(true);
+    }
     let Some(place) = first.stopped else {
-        return Ok(first.retaining == whole.retaining && first.releasing == whole.releasing);
+        return Ok(false);
     };
+    let whole = told(alloc, text)?;
     Ok(
-        first.releasing.len() >= place
-            && first.retaining.len() == place.saturating_add(1)
-            && is_front(
-                first.retaining.as_slice(),
-                whole.retaining.as_slice(),
-                place,
-            )
-            && is_front(
-                first.releasing.as_slice(),
-                whole.releasing.as_slice(),
-                place,
-            ),
+        releasing.len() >= place
+            && retaining.len() == place.saturating_add(1)
+            && is_front(retaining, whole.retaining.as_slice(), place)
+            && is_front(releasing, whole.releasing.as_slice(), place),
     )
 }
 
