@@ -61,6 +61,7 @@ pub mod Done
 pub mod Completing
 pub mod Finding
 pub mod Working
+pub mod Conflicts
 pub mod Promising
 pub mod Attesting
 pub mod NeverBoth

@@ -1,8 +1,8 @@
 -- Own votes of a pair: whatever fault a releasing round finds, the retaining one finds one too.
-use Rattle.std.proofs.Common.{◌≡◌, Bool, true, false, ◌&&◌, List, [], ◌∷◌, Option, Some, None, Err, is_err, refl, ap, sym, ◌∙◌}
+use Rattle.std.proofs.Common.{◌≡◌, Bool, true, false, ◌&&◌, Option, Some, None, Err, is_err, refl, ap, sym, ◌∙◌}
 use Rattle.std.specs.Prelude.{find}
-use Rattle.std.specs.List.{list_any}
 use Rattle.std.proofs.lemmas.Bool.{and_parts, true≢false, false≢true}
+use Rattle.std.proofs.lemmas.List.Folds.{list_any_none}
 use Rattle.batcher.specs.declared.messages.Vote.{Vote}
 use Rattle.batcher.specs.declared.messages.Vote.TheVariants.{Notarize as NotarizeVote, Nullify as NullifyVote, Finalize as FinalizeVote}
 use Rattle.batcher.specs.declared.messages.Kind.{Kind}
@@ -25,12 +25,8 @@ use Rattle.batcher.specs.Answers.{outcome_by_first, own_answer, own_answer_again
 use Rattle.batcher.specs.Pairs.{in_mode, ends_pair, is_own_fault, AreAlike}
 use Rattle.batcher.proofs.Laws.{HasLaws}
 use Rattle.batcher.proofs.Finding.{any_more}
-use Rattle.batcher.proofs.Composing.{conflict_with_compared}
+use Rattle.batcher.proofs.Conflicts.{conflict_with_compared}
 use Rattle.batcher.proofs.Alike.{firsts_alike}
-
-nothing_passes : {X : Type 0} (xs : List X) → list_any (λ x. false) xs ≡ false
-nothing_passes [] = refl
-nothing_passes (x ∷ xs) = nothing_passes xs
 
 duplicate_errs : (kind : Kind) → has_proposals kind ≡ true → is_err (duplicate_result kind) ≡ true
 duplicate_errs Notarization h = refl
@@ -55,7 +51,7 @@ module _ {D K G C : Type 0} (x : Setting D K G C) (laws : HasLaws x) where
       by_kind true e = refl
       by_kind false e =
           absurd (true≢false (sym (any_more (λ v. is_vote_of (kind_of vote) (signer_of vote) v && carry_different x.same_digest v vote) (λ v. false)
-          (λ v both. none_carried x.same_digest v vote e (and_parts _ _ both).1) (compared_votes x past) (conflict_with_compared x laws past vote h)) ∙ nothing_passes (compared_votes x past)))
+          (λ v both. none_carried x.same_digest v vote e (and_parts _ _ both).1) (compared_votes x past) (conflict_with_compared x laws past vote h)) ∙ list_any_none (λ v. false) (compared_votes x past) (λ k d below. refl)))
 
 module _ {D K G C : Type 0} (x : Setting D K G C) (laws : HasLaws (in_mode x Releasing)) (retained released : History D K G C) (alike : AreAlike retained released) (vote : Vote G D) where
   errs_by_first : (first : Option (Vote G D)) (r c conflict : Bool) (fault : OwnFault) → (c ≡ true → has_proposals (kind_of vote) ≡ true) →

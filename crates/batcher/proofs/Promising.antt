@@ -3,10 +3,9 @@
 use Rattle.std.proofs.Common.{◌≡◌, ℕ, Bool, true, false, not, cond, ◌&&◌, ◌||◌, List, [], ◌∷◌, ◌++◌, Option, Some, None, refl, ap, sym, ◌∙◌, ⊎_elim, eqb, ltb, subst}
 use Rattle.std.specs.Prelude.{IfSome, filter, is_some}
 use Rattle.std.specs.List.{list_any}
-use Rattle.std.proofs.lemmas.Bool.{and_parts, and_from, or_left, or_right, or_cases, or_parts, true≢false, false≢true, eqb-true, eq-eqb, false_from_ne_true}
+use Rattle.std.proofs.lemmas.Bool.{and_parts, and_from, or_left, or_right, or_cases, true≢false, false≢true, eqb-true, eq-eqb}
 use Rattle.std.proofs.lemmas.List.Folds.{list_any-append}
 use Rattle.batcher.specs.declared.positions.Participant.{Participant}
-use Rattle.batcher.specs.declared.messages.Proposal.{Proposal}
 use Rattle.batcher.specs.declared.messages.Vote.{Vote}
 use Rattle.batcher.specs.declared.messages.Vote.TheVariants.{Notarize as NotarizeVote, Nullify as NullifyVote, Finalize as FinalizeVote}
 use Rattle.batcher.specs.declared.messages.Kind.{Kind}
@@ -20,25 +19,26 @@ use Rattle.batcher.specs.declared.run.Call.TheVariants.{Network as NetworkCall, 
 use Rattle.batcher.specs.declared.run.Answer.{Answer}
 use Rattle.batcher.specs.declared.run.Answer.TheVariants.{OutOfMemory, Network as NetworkAnswer, Own as OwnAnswer, OwnRefused, Certificate as CertificateAnswer, Leader as LeaderAnswer, Construct as ConstructAnswer, Forward as ForwardAnswer, Missing as MissingAnswer}
 use Rattle.batcher.specs.Setting.{Setting, sender_in}
-use Rattle.batcher.specs.Lists.{is_some_and, is_empty, exactly_one}
-use Rattle.batcher.specs.Votes.{is_kind, kind_of, signer_of, is_vote_of, are_opposite, excludes, opposes, is_for, same_proposal}
+use Rattle.batcher.specs.Lists.{is_some_and}
+use Rattle.batcher.specs.Votes.{is_kind, kind_of, signer_of, is_vote_of, are_opposite, excludes, opposes, same_proposal}
 use Rattle.batcher.specs.Tracking.{is_released_in}
 use Rattle.batcher.specs.Admissions.{same_vote, refusal, mismatch_reason, block_for, admission_after, admission_after_facts, admission_beside}
 use Rattle.batcher.specs.History.{Event, History, names_sender, cast_votes, batch_given}
 use Rattle.batcher.specs.FirstVotes.{first_votes, is_free, contradicts, first_like, opposite_vote}
-use Rattle.batcher.specs.Selection.{is_certified, is_released, selected_proposal}
-use Rattle.batcher.specs.Comparison.{compared_votes, compared_votes_of, is_compared, is_compared_at_release, conflicts, differs_from}
+use Rattle.batcher.specs.Selection.{is_certified, is_released}
+use Rattle.batcher.specs.Comparison.{compared_votes, is_compared, is_compared_at_release, conflicts}
 use Rattle.batcher.specs.Answers.{network_answer, admission_sent_by, admission_against, admission_by_first, MayAnswer, IsPossible}
 use Rattle.batcher.specs.Promises.{AtEachVote, IsAcceptedExactly, votes_cast, contradicts_itself, gave_cause, IsBlockedForCause, IsBlockedIfContradicting, AtEachEvent, AtEachTime, IsCertified, CompletesQuorums, Rests, Promises}
 use Rattle.batcher.specs.Runs.{certifies_answer}
 use Rattle.batcher.specs.Trying.{certifies_subject}
 use Rattle.batcher.specs.Verifiers.{certifies_itself}
 use Rattle.batcher.proofs.Attempting.{batch_made}
-use Rattle.batcher.proofs.Finding.{any_more, any_of_filtered, any_filter, any_found, none_found, any_other}
+use Rattle.batcher.proofs.Finding.{any_more, any_filter, any_found, none_found, any_other}
+use Rattle.batcher.specs.Composed.{carry_different}
+use Rattle.batcher.proofs.Conflicts.{conflict_with_compared, carried_differ}
 use Rattle.batcher.proofs.Laws.{HasLaws}
-use Rattle.batcher.proofs.Waits.{proposal_is}
 use Rattle.batcher.proofs.Right.{found_passes}
-use Rattle.batcher.proofs.Apart.{any_count, count_at, positive, firsts_apart, found_is_of, where_holds}
+use Rattle.batcher.proofs.Apart.{any_count, count_at, positive, firsts_apart, found_is_of}
 use Rattle.batcher.proofs.Arriving.{added_is}
 use Rattle.batcher.proofs.Completing.{completes, rests}
 use Rattle.batcher.specs.Work.{IsWorkedOnce}
@@ -90,26 +90,6 @@ module _ {G D : Type 0} (same : D → D → Bool) (equal : G → G → Bool) whe
   after_blocks (FinalizeVote a) (NullifyVote b) = refl
   after_blocks (FinalizeVote a) (FinalizeVote b) = refl
 
-  module _ (identical : (a b : D) → same a b ≡ true → a ≡ b) where
-    -- votes that are the same are for the same proposals
-    for_alike : (a b : Vote G D) (p : Proposal D) → same_vote same equal a b ≡ true → is_for same p a ≡ is_for same p b
-    for_alike (NotarizeVote a) (NotarizeVote b) p h = ap (same_proposal same p) (proposal_is same identical a.proposal b.proposal (and_parts _ _ h).0)
-    for_alike (NotarizeVote a) (NullifyVote b) p h = absurd (false≢true h)
-    for_alike (NotarizeVote a) (FinalizeVote b) p h = absurd (false≢true h)
-    for_alike (NullifyVote a) (NotarizeVote b) p h = absurd (false≢true h)
-    for_alike (NullifyVote a) (NullifyVote b) p h = refl
-    for_alike (NullifyVote a) (FinalizeVote b) p h = absurd (false≢true h)
-    for_alike (FinalizeVote a) (NotarizeVote b) p h = absurd (false≢true h)
-    for_alike (FinalizeVote a) (NullifyVote b) p h = absurd (false≢true h)
-    for_alike (FinalizeVote a) (FinalizeVote b) p h = ap (same_proposal same p) (proposal_is same identical a.proposal b.proposal (and_parts _ _ h).0)
-
-    pub differ_by : (a b : Vote G D) (p : Proposal D) (here : Bool) → is_for same p b ≡ here → is_for same p a ≡ not here → not (same_vote same equal a b) ≡ true
-    differ_by a b p here e h = ap not (false_from_ne_true _ (λ alike. other here (sym h ∙ (for_alike a b p alike ∙ e))))
-      where
-        other : (c : Bool) → not c ≡ c → ⊥
-        other true k = false≢true k
-        other false k = true≢false k
-
 module _ {D K G C : Type 0} (x : Setting D K G C) where
   -- CAST VOTES
   pub first_is_cast : (p : Vote G D → Bool) (past : History D K G C) → list_any p (first_votes x past) ≡ true → list_any p (votes_cast x past) ≡ true
@@ -149,32 +129,12 @@ module _ {D K G C : Type 0} (x : Setting D K G C) where
   abbrev differs : Vote G D → Vote G D → Bool
   differs vote v = not (same_vote x.same_digest x.same_signature v vote)
 
-  differs_by : HasLaws x → (v vote : Vote G D) (p : Proposal D) (here : Bool) → is_for x.same_digest p vote ≡ here → is_for x.same_digest p v ≡ not here → differs vote v ≡ true
-  differs_by laws v vote p here = differ_by x.same_digest x.same_signature laws.digests_equal v vote p here
-
-  one_is_false : (b : Bool) → exactly_one true b ≡ true → b ≡ false
-  one_is_false true h = absurd (false≢true h)
-  one_is_false false h = refl
-
-  first_differs : HasLaws x → (votes : List (Vote G D)) (vote : Vote G D) (p : Proposal D) → is_for x.same_digest p vote ≡ true → not (is_empty votes) ≡ true → list_any (is_for x.same_digest p) votes ≡ false → list_any (differs vote) votes ≡ true
-  first_differs laws [] vote p e some none = absurd (false≢true some)
-  first_differs laws (v ∷ votes) vote p e some none = or_left (differs vote v) _ (differs_by laws v vote p true e (or_parts _ _ none).0)
-
-  -- Among votes that a vote conflicts with there is one that differs from it.
-  conflict_differs : HasLaws x → (votes : List (Vote G D)) (vote : Vote G D) (p : Proposal D) (b : Bool) → is_for x.same_digest p vote ≡ b → not (is_empty votes) ≡ true →
-      exactly_one b (list_any (is_for x.same_digest p) votes) ≡ true → list_any (differs vote) votes ≡ true
-  conflict_differs laws votes vote p true e some one = first_differs laws votes vote p e some (one_is_false _ one)
-  conflict_differs laws votes vote p false e some one = any_more (is_for x.same_digest p) (differs vote) (λ v here. differs_by laws v vote p false e here) votes one
-
   conflict_contradicts : HasLaws x → (past : History D K G C) (vote : Vote G D) → conflicts x past vote ≡ true → list_any (λ v. contradicts x v vote) (votes_cast x past) ≡ true
   conflict_contradicts laws past vote h =
-      let there = where_holds (differs_from x (compared_votes_of x past (kind_of vote) (signer_of vote)) vote) (selected_proposal x past) h in
       compared_is_cast (λ v. contradicts x v vote) past
-      (any_more (λ v. is_vote_of (kind_of vote) (signer_of vote) v && not (same_vote x.same_digest x.same_signature v vote)) (λ v. contradicts x v vote)
-      (λ v both. and_from _ _ (like_excludes v vote (and_parts _ _ both).0) (and_parts _ _ both).1)
-      (compared_votes x past)
-      (any_of_filtered (λ v. not (same_vote x.same_digest x.same_signature v vote)) (is_vote_of (kind_of vote) (signer_of vote)) (compared_votes x past)
-      (conflict_differs laws (compared_votes_of x past (kind_of vote) (signer_of vote)) vote there.0 (is_for x.same_digest there.0 vote) refl (and_parts _ _ there.2).0 (and_parts _ _ there.2).1)))
+      (any_more (λ v. is_vote_of (kind_of vote) (signer_of vote) v && carry_different x.same_digest v vote) (λ v. contradicts x v vote)
+      (λ v both. and_from _ _ (like_excludes v vote (and_parts _ _ both).0) (carried_differ x.same_digest x.same_signature v vote (and_parts _ _ both).1))
+      (compared_votes x past) (conflict_with_compared x laws past vote h))
 
   by_first_contradicts : HasLaws x → (past : History D K G C) (vote : Vote G D) (first : Option (Vote G D)) (released conflict : Bool) → first_like x past vote ≡ first → conflicts x past vote ≡ conflict →
       is_some (admission_by_first x first released conflict vote).block ≡ true → list_any (λ v. contradicts x v vote) (votes_cast x past) ≡ true

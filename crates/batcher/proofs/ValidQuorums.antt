@@ -25,12 +25,12 @@ use Rattle.batcher.proofs.Laws.{HasLaws}
 use Rattle.batcher.proofs.Past.{count_fresh, count_proven, invalid_after, invalid_in, tried_filled}
 
 -- Of votes apart, no more pass one test than pass two others, where each that passes the one passes one of the two.
-count_within : {G D : Type 0} (p q r : Vote G D → Bool) (vs : List (Vote G D)) → AreApart vs →
+count_covered : {G D : Type 0} (p q r : Vote G D → Bool) (vs : List (Vote G D)) → AreApart vs →
     ((v : Vote G D) → IsAt vs v → cond (p v) 1 0 ≤ cond (q v) 1 0 + cond (r v) 1 0) → count p vs ≤ count q vs + count r vs
-count_within p q r [] apart within = omega arith
-count_within {G = G} {D = D} p q r (v ∷ vs) apart within =
+count_covered p q r [] apart within = omega arith
+count_covered {G = G} {D = D} p q r (v ∷ vs) apart within =
     let here : cond (p v) 1 0 ≤ cond (q v) 1 0 + cond (r v) 1 0 = within v (found_here v vs) in
-    let rest : count p vs ≤ count q vs + count r vs = count_within p q r vs apart.1 (λ w found. within w (found_behind v vs w apart.0 found)) in
+    let rest : count p vs ≤ count q vs + count r vs = count_covered p q r vs apart.1 (λ w found. within w (found_behind v vs w apart.0 found)) in
     omega (arith, here, rest)
 
 -- a vote, by whether it is of the kind, counts, waits, attests, is trusted or was tried, and was found invalid
@@ -101,7 +101,7 @@ module _ {D K G C : Type 0} (x : Setting D K G C) where
       sums (count_valid past kind runs)
       (sym (count-true (proven_votes x past kind)) ∙ count_proven x past kind (λ _. true) still)
       (sym (count-true (fresh_votes x past kind)) ∙ count_fresh x past kind (λ _. true) still)
-      (count_within _ _ _ (first_votes x past) (firsts_apart x past) (λ v found.
+      (count_covered _ _ _ (first_votes x past) (firsts_apart x past) (λ v found.
       valid_table (is_of_kind kind v) (is_counted x (selected_proposal x past) v) (waits x.same_digest (selected_proposal x past) v) (is_valid x v)
       (is_trusted x past v || stood_before (trials x past) v) (was_invalid (trials x past) v)
       (counted_waits (selected_proposal x past) v) (invalid_are_bad past possible v found)))
