@@ -1,6 +1,6 @@
 -- Alike histories: what a round that retains votes goes by, and one that releases them.
 use Rattle.std.proofs.Common.{◌≡◌, Bool, false, not, cond, ◌&&◌, ◌||◌, List, [], ◌∷◌, ◌++◌, map, find, filter, Option, Some, None, is_some, refl, ap, ◌∙◌}
-use Rattle.std.specs.Prelude.{option_and_then}
+use Rattle.std.specs.Prelude.{⊤, option_and_then}
 use Rattle.std.specs.Option.{option_or, option_map_or}
 use Rattle.std.proofs.lemmas.List.Elements.{filter_agree}
 use Rattle.batcher.specs.declared.messages.Kind.{Kind}
@@ -21,7 +21,14 @@ use Rattle.batcher.specs.History.{Event, History, is_made, recorded_certificate,
 use Rattle.batcher.specs.FirstVotes.{is_free, first_votes, own_first_votes}
 use Rattle.batcher.specs.Selection.{selection_by, forwards, leader_named, leader_of, certificate_of, is_certified, finalized_by, fixing_evidence, fixed_proposal, was_forwarded, leaders_proposal, selection, selected_proposal, replacement, comes_back, votes_restored_by, restored_votes}
 use Rattle.batcher.specs.Standing.{Trial, stood_before, was_invalid, holds_vote, is_valid, is_counted, counted_votes, valid_votes, waiting_votes, standing_votes, is_trusted, proven_by, fresh_by, is_ready_by, ready_kind_by, with_batch, trial_of, trials, proven_votes, fresh_votes, ready_kind}
-use Rattle.batcher.specs.Pairs.{IsAlike, AreAlike, in_mode}
+use Rattle.batcher.specs.Pairs.{IsAlike, in_mode}
+
+module _ {D K G C : Type 0} where
+  -- histories of the same calls, answered alike
+  abbrev pub AreAlike : History D K G C → History D K G C → Type 0
+  AreAlike [] [] = ⊤
+  AreAlike (a ∷ retained) (b ∷ released) = (a.0 ≡ b.0) × (IsAlike a.1 b.1 × AreAlike retained released)
+  AreAlike retained released = ⊥
 
 -- What a history goes by of two answers is the same.
 pub record SameTold {G C D : Type 0} (a b : Answer G C D) : Type 0 where

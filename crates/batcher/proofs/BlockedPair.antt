@@ -27,8 +27,8 @@ use Rattle.batcher.specs.Comparison.{compared_votes, conflicts}
 use Rattle.batcher.specs.Composed.{carry_different}
 use Rattle.batcher.specs.Answers.{network_answer, admission_sent_by, admission_against, admission_by_first, MayAnswer, IsPossible}
 use Rattle.batcher.specs.Promises.{votes_cast}
-use Rattle.batcher.specs.Pairs.{AreAlike, in_mode, blocks, blocks_participant, was_blocked, tells_nothing, AtEachPlace, SelectsAlike, IsBlockedByBoth, IsBlockedByOne}
-use Rattle.batcher.proofs.Alike.{along, certified_alike, firsts_alike, selection_alike}
+use Rattle.batcher.specs.Pairs.{in_mode, blocks, blocks_participant, was_blocked, tells_nothing, AtEachPlace, SelectsAlike, IsBlockedByBoth, IsBlockedByOne}
+use Rattle.batcher.proofs.Alike.{AreAlike, along, certified_alike, firsts_alike, selection_alike}
 use Rattle.batcher.proofs.Apart.{found_is_of, is_itself, is_kind-true}
 use Rattle.batcher.proofs.Conflicts.{conflict_with_compared}
 use Rattle.batcher.proofs.Conflicting.{released_is_fixed, fixed_is_selected, matches, matching_conflicts, other_conflicts, matching_blocked}

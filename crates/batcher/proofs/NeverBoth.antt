@@ -2,7 +2,7 @@
 use Rattle.std.proofs.Common.{◌≡◌, ℕ, Bool, true, false, ◌&&◌, ◌||◌, List, [], ◌∷◌, ◌++◌, refl, ap, sym, ◌∙◌, ⊎_elim, eqb, subst}
 use Rattle.std.specs.Prelude.{is_some}
 use Rattle.std.specs.List.{list_any}
-use Rattle.std.proofs.lemmas.Bool.{and_parts, and_from, or_right, not-true, true≢false, false_from_ne_true, eqb-true, eq-eqb}
+use Rattle.std.proofs.lemmas.Bool.{or_from, and_left, and_parts, and_from, or_right, not-true, true≢false, false_from_ne_true, eqb-true, eq-eqb}
 use Rattle.batcher.specs.declared.messages.Vote.{Vote}
 use Rattle.batcher.specs.declared.messages.Kind.{Kind}
 use Rattle.batcher.specs.declared.messages.Kind.TheVariants.{Nullification, Finalization}
@@ -15,16 +15,8 @@ use Rattle.batcher.proofs.Finding.{any_more}
 
 -- a vote of one of two sorts beside others of which one sort is missing
 still_apart : (n f a b : Bool) → (n ≡ true → f ≡ false) → (n ≡ true → b ≡ false) → (f ≡ true → a ≡ false) → (a && b) ≡ false → ((n || a) && (f || b)) ≡ false
-still_apart true f a b other none before apart = or_none f b (other refl) (none refl)
-  where
-    or_none : (g c : Bool) → g ≡ false → c ≡ false → (g || c) ≡ false
-    or_none true c e h = absurd (true≢false e)
-    or_none false c e h = h
-still_apart false true a b other none before apart = and_none a (before refl)
-  where
-    and_none : (c : Bool) → c ≡ false → (c && true) ≡ false
-    and_none true e = absurd (true≢false e)
-    and_none false e = refl
+still_apart true f a b other none before apart = or_from f b (other refl) (none refl)
+still_apart false true a b other none before apart = and_left a true (before refl)
 still_apart false false a b other none before apart = apart
 
 module _ {G D : Type 0} where

@@ -22,11 +22,11 @@ use Rattle.batcher.specs.Selection.{is_released}
 use Rattle.batcher.specs.Comparison.{conflicts, compared_votes}
 use Rattle.batcher.specs.Composed.{carry_different}
 use Rattle.batcher.specs.Answers.{outcome_by_first, own_answer, own_answer_against, IsAnswered}
-use Rattle.batcher.specs.Pairs.{in_mode, ends_pair, is_own_fault, AreAlike}
+use Rattle.batcher.specs.Pairs.{in_mode, ends_pair, is_own_fault}
 use Rattle.batcher.proofs.Laws.{HasLaws}
 use Rattle.batcher.proofs.Finding.{any_more}
 use Rattle.batcher.proofs.Conflicts.{conflict_with_compared}
-use Rattle.batcher.proofs.Alike.{firsts_alike}
+use Rattle.batcher.proofs.Alike.{AreAlike, firsts_alike}
 
 duplicate_errs : (kind : Kind) → has_proposals kind ≡ true → is_err (duplicate_result kind) ≡ true
 duplicate_errs Notarization h = refl

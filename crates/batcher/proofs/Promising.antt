@@ -28,7 +28,7 @@ use Rattle.batcher.specs.FirstVotes.{first_votes, is_free, contradicts, first_li
 use Rattle.batcher.specs.Selection.{is_certified, is_released}
 use Rattle.batcher.specs.Comparison.{compared_votes, is_compared, is_compared_at_release, conflicts}
 use Rattle.batcher.specs.Answers.{network_answer, admission_sent_by, admission_against, admission_by_first, MayAnswer, IsPossible}
-use Rattle.batcher.specs.Promises.{AtEachVote, IsAcceptedExactly, votes_cast, contradicts_itself, gave_cause, IsBlockedForCause, IsBlockedIfContradicting, AtEachEvent, AtEachTime, IsCertified, CompletesQuorums, Rests, Promises}
+use Rattle.batcher.specs.Promises.{AtEachVote, IsAcceptedExactly, votes_cast, contradicts_itself, gave_cause, IsBlockedForCause, IsBlockedIfContradicting, AtEachEvent, AtEachTime, GivesVerified, CompletesQuorums, Rests, Promises}
 use Rattle.batcher.specs.Runs.{certifies_answer}
 use Rattle.batcher.specs.Trying.{certifies_subject}
 use Rattle.batcher.specs.Verifiers.{certifies_itself}
@@ -41,8 +41,8 @@ use Rattle.batcher.proofs.Right.{found_passes}
 use Rattle.batcher.proofs.Apart.{any_count, count_at, positive, firsts_apart, found_is_of}
 use Rattle.batcher.proofs.Arriving.{added_is}
 use Rattle.batcher.proofs.Completing.{completes, rests}
-use Rattle.batcher.specs.Work.{IsWorkedOnce}
-use Rattle.batcher.proofs.Working.{worked_once, skipped_works_not}
+use Rattle.batcher.specs.Work.{IsWorkBounded}
+use Rattle.batcher.proofs.Working.{work_bounded, skipped_works_not}
 
 module _ {G D : Type 0} (same : D → D → Bool) (equal : G → G → Bool) where
   -- VOTES THAT CONTRADICT EACH OTHER
@@ -317,9 +317,9 @@ module _ {D K G C : Type 0} (x : Setting D K G C) where
         acceptance_is_exact = accepted_exactly past possible;
         honest_are_never_blocked = honest_not_blocked laws past possible;
         contradictions_are_blocked = contradictions_blocked past possible;
-        certificates_verify = at_each_event x (IsCertified x) (λ before event made. gives_verified before event.0 event.1 made.1.1.0) past possible;
+        certificates_verify = at_each_event x (GivesVerified x) (λ before event made. gives_verified before event.0 event.1 made.1.1.0) past possible;
         quorums_complete = at_each_event x (CompletesQuorums x) (completes x laws) past possible;
         constructions_rest = at_each_event x Rests (rests x laws) past possible;
-        no_double_work = at_each_time x (IsWorkedOnce x) (worked_once x laws) past possible;
+        no_double_work = at_each_time x (IsWorkBounded x) (work_bounded x laws) past possible;
         no_work_when_skipped = λ skipped. skipped_works_not x skipped past possible;
       }

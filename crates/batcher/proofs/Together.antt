@@ -35,8 +35,8 @@ use Rattle.batcher.specs.Standing.{ready_kind, waiting_votes}
 use Rattle.batcher.specs.Trying.{left_verified}
 use Rattle.batcher.specs.Answers.{certificate_answer, network_answer}
 use Rattle.batcher.specs.Stands.{Stands, Follows, Meets, arrivals, first_by_signer, pending_after, tries_kind, verified_after}
-use Rattle.batcher.specs.Pairs.{IsAlike, AreAlike, in_mode, ends_pair}
-use Rattle.batcher.proofs.Alike.{told_alike, leader_alike, forwarded_alike, certified_alike, firsts_alike, selection_alike, selected_alike, waiting_alike, back_alike, ready_alike}
+use Rattle.batcher.specs.Pairs.{IsAlike, in_mode, ends_pair}
+use Rattle.batcher.proofs.Alike.{AreAlike, told_alike, leader_alike, forwarded_alike, certified_alike, firsts_alike, selection_alike, selected_alike, waiting_alike, back_alike, ready_alike}
 use Rattle.batcher.proofs.Arriving.{added_is}
 use Rattle.batcher.proofs.Fresh.{fresh_stands}
 

@@ -28,7 +28,7 @@ use Rattle.batcher.specs.Standing.{fresh_votes, holds_vote, is_among, is_trusted
 use Rattle.batcher.specs.Stands.{tries_kind}
 use Rattle.batcher.specs.Trying.{votes_checked}
 use Rattle.batcher.specs.Answers.{IsPossible, MayAnswer}
-use Rattle.batcher.specs.Work.{IsWorkedOnce, processed_by, processed_total, votes_accepted_open}
+use Rattle.batcher.specs.Work.{IsWorkBounded, processed_by, processed_total, votes_accepted_open}
 use Rattle.batcher.proofs.Apart.{AreApart, IsAt, count-filter, firsts_apart, found_behind, found_here, free_is_new, is_itself, is_kind-refl, is_kind-true, new_votes, option_cases, some_of}
 use Rattle.batcher.proofs.Attempting.{MadeBatch, batch_made}
 use Rattle.batcher.proofs.Buffers.{is_fresh, new_not_tried, no_batch, no_trial, not_restored}
@@ -352,8 +352,8 @@ module _ {D K G C : Type 0} (x : Setting D K G C) where
   worked_cases past v = worked_by (stood_before (trials x past) v) (holds_vote (own_first_votes x past) v) (holds_vote (restored_votes x past) v) (not (is_certified past (kind_of v)))
 
   -- and each is processed once at most.
-  pub worked_once : HasLaws x → (past : History D K G C) → IsPossible x past → IsWorkedOnce x past
-  worked_once laws past possible =
+  pub work_bounded : HasLaws x → (past : History D K G C) → IsPossible x past → IsWorkBounded x past
+  work_bounded laws past possible =
       let processed : processed_total past ≤ count (is_worked past) (first_votes x past) = processed_within past possible in
       let split : count (is_worked past) (first_votes x past) + count (λ _. false) (first_votes x past) ≤ count (is_workable past) (first_votes x past) + count (is_own_restored past) (first_votes x past) =
       counts_within _ (λ _. false) _ _ (first_votes x past) (firsts_apart x past) (λ v found. worked_cases past v) in

@@ -48,13 +48,6 @@ module _ {G C D : Type 0} where
   blocks (NetworkAnswer admission) = is_some admission.block
   blocks answer = false
 
-module _ {D K G C : Type 0} where
-  -- histories of the same calls, answered alike
-  abbrev pub AreAlike : History D K G C → History D K G C → Type 0
-  AreAlike [] [] = ⊤
-  AreAlike (a ∷ retained) (b ∷ released) = (a.0 ≡ b.0) × (IsAlike a.1 b.1 × AreAlike retained released)
-  AreAlike retained released = ⊥
-
 module _ {D K G C : Type 0} (x : Setting D K G C) where
   abbrev pub in_mode : Mode → Setting D K G C
   in_mode mode = record x { mode = mode }
@@ -108,7 +101,6 @@ module _ {D K G C : Type 0} (x : Setting D K G C) where
   IsBlockedByOne a retained b released = ⊤
 
   pub record IsBeside (retained released : History D K G C) : Type 0 where
-    pub alike : AreAlike retained released
     pub select_alike : AtEachPlace SelectsAlike retained released
     pub blocked_by_both : AtEachPlace IsBlockedByBoth retained released
     pub blocked_by_one : AtEachPlace IsBlockedByOne retained released

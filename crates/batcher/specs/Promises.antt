@@ -17,7 +17,7 @@ use Rattle.batcher.specs.FirstVotes.{first_votes, is_free, contradicts}
 use Rattle.batcher.specs.Selection.{is_certified}
 use Rattle.batcher.specs.Standing.{valid_votes}
 use Rattle.batcher.specs.Runs.{certifies_answer}
-use Rattle.batcher.specs.Work.{processed_total, IsWorkedOnce}
+use Rattle.batcher.specs.Work.{processed_total, IsWorkBounded}
 
 module _ {D K G C : Type 0} where
   -- what holds of each network vote, by the history before it, its sender and the admission that it was answered
@@ -82,8 +82,8 @@ module _ {D K G C : Type 0} (x : Setting D K G C) where
       → is_some admission.block ≡ true
 
   -- Certificates verify: the one that a batch gives certifies what it names.
-  abbrev pub IsCertified : History D K G C → Event D K G C → Type 0
-  IsCertified past event = certifies_answer x.meaning event.1
+  abbrev pub GivesVerified : History D K G C → Event D K G C → Type 0
+  GivesVerified past event = certifies_answer x.meaning event.1
 
   -- Quorums complete: after three constructions in a row each kind of which a quorum is valid is certified.
   abbrev pub CompletesQuorums : History D K G C → Event D K G C → Type 0
@@ -96,8 +96,8 @@ module _ {D K G C : Type 0} (x : Setting D K G C) where
     pub acceptance_is_exact : AtEachVote IsAcceptedExactly past
     pub honest_are_never_blocked : AtEachVote IsBlockedForCause past
     pub contradictions_are_blocked : AtEachVote IsBlockedIfContradicting past
-    pub certificates_verify : AtEachEvent IsCertified past
+    pub certificates_verify : AtEachEvent GivesVerified past
     pub quorums_complete : AtEachEvent CompletesQuorums past
     pub constructions_rest : AtEachEvent Rests past
-    pub no_double_work : AtEachTime (IsWorkedOnce x) past
+    pub no_double_work : AtEachTime (IsWorkBounded x) past
     pub no_work_when_skipped : x.mode ≡ Skipped → processed_total past ≡ 0

@@ -33,5 +33,5 @@ module _ {D K G C : Type 0} (x : Setting D K G C) where
   own_notarizes_restored past = filter (λ v. is_of_kind Notarization v && holds_vote (own_first_votes x past) v) (restored_votes x past)
 
   -- No more votes are processed than were accepted from the network in time, and own notarizes restored.
-  abbrev pub IsWorkedOnce : History D K G C → Type 0
-  IsWorkedOnce past = processed_total past ≤ length (votes_accepted_open past) + length (own_notarizes_restored past)
+  abbrev pub IsWorkBounded : History D K G C → Type 0
+  IsWorkBounded past = processed_total past ≤ length (votes_accepted_open past) + length (own_notarizes_restored past)
