@@ -30,7 +30,7 @@ use Rattle.batcher.specs.Trying.{bad_signers}
 use Rattle.batcher.specs.Composed.{NamesBadSigners, usable_votes, has_bad_vote}
 use Rattle.batcher.proofs.Laws.{HasLaws}
 use Rattle.batcher.proofs.Apart.{IsAt, AreApart, count-filter, count_at, firsts_apart, first_stays, found_here, found_behind, is_kind-true, some_of, some_where}
-use Rattle.batcher.proofs.Counts.{count-append, count-filter_le, count-false, count_same, all_count, once_fewer}
+use Rattle.batcher.proofs.Counts.{count-append, count-false, count_same, all_count, once_fewer}
 use Rattle.batcher.proofs.Past.{among_standing, closed_is_empty, count_passed, count_proven, invalid_after, invalid_in, own_filled, tried_after, tried_filled, kind_and_signer}
 use Rattle.batcher.proofs.Selecting.{certified_before}
 use Rattle.batcher.proofs.Attempting.{any_bad_fresh, bad_of_all, batch_made, found_among, given_certified, invalid_tried, is_fresh_bad, tries_by}
@@ -71,6 +71,19 @@ some_more p q more (Some v) h = more v h
 count_adds : {X : Type 0} (p q r : X → Bool) (xs : List X) → ((v : X) → cond (p v) 1 0 + cond (q v) 1 0 ≡ cond (r v) 1 0) → count p xs + count q xs ≡ count r xs
 count_adds p q r [] adds = omega arith
 count_adds p q r (v ∷ xs) adds = omega (arith, adds v, count_adds p q r xs adds)
+
+-- and counts of two tests that never pass both, within a third
+counts_within : {X : Type 0} (p q r : X → Bool) (xs : List X)
+    → ((v : X) → cond (p v) 1 0 + cond (q v) 1 0 ≤ cond (r v) 1 0)
+    → count p xs + count q xs ≤ count r xs
+counts_within p q r [] within = omega arith
+counts_within p q r (v ∷ xs) within = omega (arith, within v, counts_within p q r xs within)
+
+one_of_two : (tried invalid passes : Bool)
+    → cond (not tried && passes) 1 0 + cond ((tried && not invalid) && passes) 1 0 ≤ cond passes 1 0
+one_of_two true true passes = omega arith
+one_of_two true false passes = omega arith
+one_of_two false invalid passes = omega arith
 
 -- of what stands, by whether it is trusted, tried and invalid
 fresh_or_proven : (trusted tried invalid passes : Bool) → (invalid ≡ true → tried ≡ true) →
@@ -235,10 +248,21 @@ module _ {D K G C : Type 0} (x : Setting D K G C) where
       adds : {f p n m all : ℕ} → f ≡ n → p ≡ m → n + m ≡ all → f + p ≡ all
       adds a b c = omega (arith, a, b, c)
 
-  -- no more of them than stand
-  usable_within : (past : History D K G C) → IsPossible x past → (kind : Kind) (test : Vote G D → Bool) → count test (usable_votes x past kind) ≤ count test (standing_votes x past kind)
-  usable_within past possible kind test =
-      omega (arith, usable_are past possible kind test, count-filter_le test (λ v. not (was_invalid (trials x past) v)) (standing_votes x past kind))
+  -- no more of them than stand, whatever was answered
+  pub usable_within : (past : History D K G C) (kind : Kind) (test : Vote G D → Bool)
+      → count test (usable_votes x past kind) ≤ count test (standing_votes x past kind)
+  usable_within past kind test =
+      omega (
+        arith,
+        count-append test (fresh_votes x past kind) (proven_votes x past kind),
+        count-filter test (λ v. not (is_trusted x past v || stood_before (trials x past) v)) (standing_votes x past kind),
+        count-filter test (λ v. (is_trusted x past v || stood_before (trials x past) v) && not (was_invalid (trials x past) v)) (standing_votes x past kind),
+        counts_within
+            (λ v. not (is_trusted x past v || stood_before (trials x past) v) && test v)
+            (λ v. ((is_trusted x past v || stood_before (trials x past) v) && not (was_invalid (trials x past) v)) && test v)
+            test (standing_votes x past kind)
+            (λ v. one_of_two (is_trusted x past v || stood_before (trials x past) v) (was_invalid (trials x past) v) (test v)),
+      )
 
   -- Of each signer one vote at most stands.
   standing_once : (past : History D K G C) (kind : Kind) → EachOnce signer_of (standing_votes x past kind)
@@ -256,9 +280,9 @@ module _ {D K G C : Type 0} (x : Setting D K G C) where
       one_of true n h = omega (arith, h)
       one_of false n h = omega (arith, h)
 
-  pub usable_once : (past : History D K G C) → IsPossible x past → (kind : Kind) → EachOnce signer_of (usable_votes x past kind)
-  usable_once past possible kind =
-      once_fewer signer_of (standing_votes x past kind) (usable_votes x past kind) (usable_within past possible kind) (standing_once past kind)
+  pub usable_once : (past : History D K G C) (kind : Kind) → EachOnce signer_of (usable_votes x past kind)
+  usable_once past kind =
+      once_fewer signer_of (standing_votes x past kind) (usable_votes x past kind) (usable_within past kind) (standing_once past kind)
 
   -- With a proposal selected, the standing votes of a kind with proposals are for it.
   standing_for : (past : History D K G C) (kind : Kind) (p : Proposal D) → has_proposals kind ≡ true → selected_proposal x past ≡ Some p → count (λ v. not (is_for x.same_digest p v)) (standing_votes x past kind) ≡ 0
@@ -272,11 +296,13 @@ module _ {D K G C : Type 0} (x : Setting D K G C) where
       ∙ count-false (first_votes x past))))
       (cases_Bool (is_certified past kind || is_skipped x.mode))
 
-  pub usable_for : (past : History D K G C) → IsPossible x past → (kind : Kind) (p : Proposal D) → has_proposals kind ≡ true → selected_proposal x past ≡ Some p → AllPass (is_for x.same_digest p) (usable_votes x past kind)
-  usable_for past possible kind p has selected =
+  pub usable_for : (past : History D K G C) (kind : Kind) (p : Proposal D)
+      → has_proposals kind ≡ true → selected_proposal x past ≡ Some p
+      → AllPass (is_for x.same_digest p) (usable_votes x past kind)
+  usable_for past kind p has selected =
       AllPass-from_list_all (is_for x.same_digest p) (usable_votes x past kind)
       (all_count (is_for x.same_digest p) (usable_votes x past kind)
-      (none_more (usable_within past possible kind (λ v. not (is_for x.same_digest p v))) (standing_for past kind p has selected)))
+      (none_more (usable_within past kind (λ v. not (is_for x.same_digest p v))) (standing_for past kind p has selected)))
     where
       none_more : {n m : ℕ} → n ≤ m → m ≡ 0 → n ≡ 0
       none_more h e = omega (arith, h, e)

@@ -17,6 +17,7 @@ use Rattle.batcher.proofs.Histories.{meets_stands, history-push, answered-push}
 use Rattle.batcher.proofs.Running.{Runs-push}
 use Rattle.batcher.proofs.Promising.{promised}
 use Rattle.batcher.proofs.Composing.{holds_throughout}
+use Rattle.batcher.proofs.ByDefinition.{follows_by_definition}
 
 -- what stays true of a run while it goes on
 pub record Goes {D K G C : Type 0} (x : Setting D K G C) (before : Stream) (calls : List (Call K G C D)) (answers : List (Answer G C D)) (held : Held G D) (after : Stream) : Type 0 where
@@ -47,5 +48,7 @@ module _ {D K G C : Type 0} (x : Setting D K G C) where
         stands = goes.stands;
         answered = goes.answered;
         promises = promised x laws (history calls answers) goes.stands.possible;
-        throughout = holds_throughout x laws (history calls answers) goes.stands.possible;
+        throughout = holds_throughout x laws calls answers goes.answered goes.stands.possible;
+        follows = follows_by_definition x laws (history calls answers);
+        some_participant = laws.some_participant;
       }

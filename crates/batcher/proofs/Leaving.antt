@@ -1,12 +1,13 @@
 -- What a construction leaves: no vote comes back, a kind that it doesn't try has no more fresh and proven votes than before, and
 -- one that it tries is certified, or has no fresh votes and too few proven ones.
-use Rattle.std.proofs.Common.{inl, inr, ◌≡◌, ◌≤◌, ◌<◌, ◌+◌, ℕ, Bool, true, false, not, cond, ◌&&◌, ◌||◌, ◌⊎◌, nat_le, List, [], ◌∷◌, ◌++◌, length, Option, Some, None, is_some, refl, ap, sym, ◌∙◌, arith, ⊎_elim, length-append}
+use Rattle.std.proofs.Common.{subst, inl, inr, ◌≡◌, ◌≤◌, ◌<◌, ◌+◌, ℕ, Bool, true, false, not, cond, ◌&&◌, ◌||◌, ◌⊎◌, nat_le, List, [], ◌∷◌, ◌++◌, length, Option, Some, None, is_some, refl, ap, sym, ◌∙◌, arith, ⊎_elim, length-append}
 use Rattle.std.specs.Prelude.{filter, option_and_then}
 use Rattle.std.specs.Option.{option_or}
 use Rattle.std.proofs.lemmas.Bool.{cond_both, false_from_ne_true, leb-false, true≢false}
 use Rattle.batcher.specs.declared.messages.Kind.{Kind}
 use Rattle.batcher.specs.declared.messages.Proposal.{Proposal}
 use Rattle.batcher.specs.declared.messages.Vote.{Vote}
+use Rattle.batcher.specs.declared.messages.Subject.{Subject}
 use Rattle.batcher.specs.declared.messages.Vote.TheVariants.{Finalize as FinalizeVote, Notarize as NotarizeVote, Nullify as NullifyVote}
 use Rattle.batcher.specs.declared.messages.Certificate.{Certificate}
 use Rattle.batcher.specs.declared.verifier.Batch.{Batch}
@@ -89,19 +90,31 @@ module _ {D K G C : Type 0} (x : Setting D K G C) where
       by_selected (Some p) (NotarizeVote u) h = inr (u.proposal, (refl, inr (ap Some (proposal_is x.same_digest lawful.digests_equal p u.proposal h))))
       by_selected (Some p) (FinalizeVote u) h = inr (u.proposal, (refl, inr (ap Some (proposal_is x.same_digest lawful.digests_equal p u.proposal h))))
 
-  -- the certificate that is given is for what is selected, so it brings none back
-  given_back : HasLaws x → (past : History D K G C) (kind : Kind) (batch : Batch (Certificate C D)) (c : Certificate C D) → AttemptAfter x past kind batch → batch.certificate ≡ Some c →
-      (v : Vote G D) → comes_back x past (constructed x past (Some batch)) v ≡ false
-  given_back lawful past kind batch c after given v =
+  -- What a given certificate carries is the selected proposal, where one is selected,
+  pub given_evidence : HasLaws x → (past : History D K G C) (kind : Kind)
+      (batch : Batch (Certificate C D)) (c : Certificate C D)
+      → AttemptAfter x past kind batch → batch.certificate ≡ Some c
+      → IsEvidence x past (proposal_in (subject_certified c))
+  given_evidence lawful past kind batch c after given =
       let w = witnessed x lawful past kind after.verified after.pending batch c after.attempt after.verified_are after.pending_are given in
       let first_waits : waits x.same_digest (selected_proposal x past) w.vote ≡ true =
       (keeps_all (waits x.same_digest (selected_proposal x past) w.vote) (count (λ u. not (waits x.same_digest (selected_proposal x past) u)) w.rest)
       (sym (ap (count (λ u. not (waits x.same_digest (selected_proposal x past) u))) w.looked_at) ∙ looked_wait past kind batch after)).0 in
-      let same : subject_certified c ≡ subject_of w.vote =
-      sym (subject_is x.same_digest lawful.digests_equal w.subject (subject_certified c) w.of_certificate) ∙ subject_is x.same_digest lawful.digests_equal w.subject (subject_of w.vote) w.of_vote in
-      let is : fixing_evidence (constructed x past (Some batch)) ≡ proposal_in (subject_of w.vote) =
-      ap (λ o. option_or None (option_and_then (λ d. proposal_in (subject_certified d)) (option_or None o))) given ∙ ap proposal_in same in
-      none_comes_back x lawful past (constructed x past (Some batch)) (proposal_in (subject_of w.vote)) is (waiting_evidence lawful past w.vote first_waits) v
+      let same : subject_of w.vote ≡ subject_certified c =
+      sym (subject_is x.same_digest lawful.digests_equal w.subject (subject_of w.vote) w.of_vote)
+      ∙ subject_is x.same_digest lawful.digests_equal w.subject (subject_certified c) w.of_certificate in
+      subst (λ (s : Subject D). IsEvidence x past (proposal_in s)) same (waiting_evidence lawful past w.vote first_waits)
+
+  -- so it brings no vote back.
+  given_back : HasLaws x → (past : History D K G C) (kind : Kind)
+      (batch : Batch (Certificate C D)) (c : Certificate C D)
+      → AttemptAfter x past kind batch → batch.certificate ≡ Some c
+      → (v : Vote G D) → comes_back x past (constructed x past (Some batch)) v ≡ false
+  given_back lawful past kind batch c after given v =
+      let is : fixing_evidence (constructed x past (Some batch)) ≡ proposal_in (subject_certified c) =
+      ap (λ o. option_or None (option_and_then (λ d. proposal_in (subject_certified d)) (option_or None o))) given in
+      none_comes_back x lawful past (constructed x past (Some batch)) (proposal_in (subject_certified c)) is
+      (given_evidence lawful past kind batch c after given) v
 
   -- No vote comes back at a construction.
   none_returns : HasLaws x → (past : History D K G C) (answer : Option (Batch (Certificate C D))) → MayAnswer x past ConstructCall (ConstructAnswer answer) →

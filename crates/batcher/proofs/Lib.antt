@@ -65,7 +65,9 @@ pub mod Conflicts
 pub mod Promising
 pub mod Attesting
 pub mod NeverBoth
+pub mod Told
 pub mod Composing
+pub mod ByDefinition
 pub mod Going
 pub mod Alike
 pub mod Together

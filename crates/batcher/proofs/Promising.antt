@@ -28,7 +28,7 @@ use Rattle.batcher.specs.FirstVotes.{first_votes, is_free, contradicts, first_li
 use Rattle.batcher.specs.Selection.{is_certified, is_released}
 use Rattle.batcher.specs.Comparison.{compared_votes, is_compared, is_compared_at_release, conflicts}
 use Rattle.batcher.specs.Answers.{network_answer, admission_sent_by, admission_against, admission_by_first, MayAnswer, IsPossible}
-use Rattle.batcher.specs.Promises.{AtEachVote, IsAcceptedExactly, votes_cast, contradicts_itself, gave_cause, IsBlockedForCause, IsBlockedIfContradicting, AtEachEvent, AtEachTime, GivesVerified, CompletesQuorums, Rests, Promises}
+use Rattle.batcher.specs.Promises.{AtEachVote, IsAcceptedExactly, votes_cast, contradicts_itself, gave_cause, IsBlockedForCause, IsBlockedIfContradicting, AtEachEvent, AtEachTime, GivesVerified, CompletesQuorums, Rests, GivesNone, Promises}
 use Rattle.batcher.specs.Runs.{certifies_answer}
 use Rattle.batcher.specs.Trying.{certifies_subject}
 use Rattle.batcher.specs.Verifiers.{certifies_itself}
@@ -42,7 +42,7 @@ use Rattle.batcher.proofs.Apart.{any_count, count_at, positive, firsts_apart, fo
 use Rattle.batcher.proofs.Arriving.{added_is}
 use Rattle.batcher.proofs.Completing.{completes, rests}
 use Rattle.batcher.specs.Work.{IsWorkBounded}
-use Rattle.batcher.proofs.Working.{work_bounded, skipped_works_not}
+use Rattle.batcher.proofs.Working.{work_bounded, skipped_gives_none}
 
 module _ {G D : Type 0} (same : D → D → Bool) (equal : G → G → Bool) where
   -- VOTES THAT CONTRADICT EACH OTHER
@@ -321,5 +321,5 @@ module _ {D K G C : Type 0} (x : Setting D K G C) where
         quorums_complete = at_each_event x (CompletesQuorums x) (completes x laws) past possible;
         constructions_rest = at_each_event x Rests (rests x laws) past possible;
         no_double_work = at_each_time x (IsWorkBounded x) (work_bounded x laws) past possible;
-        no_work_when_skipped = λ skipped. skipped_works_not x skipped past possible;
+        no_batch_when_skipped = at_each_event x (GivesNone x) (skipped_gives_none x laws) past possible;
       }

@@ -1,11 +1,12 @@
 -- No double work: batches process each accepted vote once at most, an own one only after it was restored, and in a skipped round none.
 use Rattle.std.proofs.Common.{inl, inr, ◌⊎◌, ◌≡◌, ◌≤◌, ◌+◌, ℕ, Bool, true, false, not, cond, ◌&&◌, ◌||◌, List, [], ◌∷◌, length, map, Some, None, refl, ap, sym, ◌∙◌, arith, ⊎_elim, leb, subst, length-append}
-use Rattle.std.specs.Prelude.{filter, is_some}
+use Rattle.std.specs.Prelude.{filter, is_some, is_none, nat_le}
 use Rattle.std.proofs.lemmas.List.{append-nil}
 use Rattle.std.proofs.lemmas.List.Folds.{list_any-append}
 use Rattle.std.specs.List.{list_any}
 use Rattle.std.specs.Option.{option_map_or, option_or}
-use Rattle.std.proofs.lemmas.Bool.{cases_Bool, and_parts, and_from, or_cases, cond_both, false_from_ne_true, true≢false, false≢true, or_left, or_right, or_parts, not-true}
+use Rattle.std.proofs.lemmas.Bool.{cases_Bool, and_parts, and_from, or_cases, cond_both, false_from_ne_true, true≢false, false≢true, or_left, or_right, or_parts, not-true, and_right}
+use Rattle.std.proofs.lemmas.Bool.Decides.{nat_tests}
 use Rattle.batcher.specs.declared.messages.Vote.{Vote}
 use Rattle.batcher.specs.declared.messages.Vote.TheVariants.{Notarize as NotarizeVote, Nullify as NullifyVote, Finalize as FinalizeVote}
 use Rattle.batcher.specs.declared.messages.Proposal.{Proposal}
@@ -19,18 +20,19 @@ use Rattle.batcher.specs.declared.run.Call.{Call}
 use Rattle.batcher.specs.declared.run.Call.TheVariants.{Network as NetworkCall, Own as OwnCall, Certificate as CertificateCall, Leader as LeaderCall, Construct as ConstructCall, Forward as ForwardCall, Missing as MissingCall}
 use Rattle.batcher.specs.Setting.{Setting, quorum_in}
 use Rattle.batcher.specs.Lists.{count, is_some_and}
-use Rattle.batcher.specs.Votes.{is_kind, kind_of, signer_of, is_of_kind, is_vote_of, waits}
+use Rattle.batcher.specs.Votes.{has_proposals, is_kind, kind_of, signer_of, is_of_kind, is_vote_of, waits}
 use Rattle.batcher.specs.Tracking.{is_skipped}
 use Rattle.batcher.specs.History.{Event, History, batch_given, own_votes, sent_votes, cast_votes}
 use Rattle.batcher.specs.FirstVotes.{first_vote, first_votes, own_first_votes, is_free}
 use Rattle.batcher.specs.Selection.{comes_back, fixed_proposal, fixing_evidence, is_certified, restored_votes, selected_proposal, votes_restored_by}
-use Rattle.batcher.specs.Standing.{fresh_votes, holds_vote, is_among, is_trusted, ready_kind, standing_votes, stood_before, trials}
+use Rattle.batcher.specs.Standing.{fresh_votes, holds_vote, is_among, is_ready_by, is_trusted, ready_kind, standing_votes, stood_before, trials}
 use Rattle.batcher.specs.Stands.{tries_kind}
 use Rattle.batcher.specs.Trying.{votes_checked}
 use Rattle.batcher.specs.Answers.{IsPossible, MayAnswer}
+use Rattle.batcher.specs.Promises.{GivesNone}
 use Rattle.batcher.specs.Work.{IsWorkBounded, processed_by, processed_total, votes_accepted_open}
 use Rattle.batcher.proofs.Apart.{AreApart, IsAt, count-filter, firsts_apart, found_behind, found_here, free_is_new, is_itself, is_kind-refl, is_kind-true, new_votes, option_cases, some_of}
-use Rattle.batcher.proofs.Attempting.{MadeBatch, batch_made}
+use Rattle.batcher.proofs.Attempting.{MadeBatch, batch_made, ready_is, quorum_positive}
 use Rattle.batcher.proofs.Buffers.{is_fresh, new_not_tried, no_batch, no_trial, not_restored}
 use Rattle.batcher.proofs.Counts.{count-append, count-false, count-true, count_same, length_same}
 use Rattle.batcher.proofs.Laws.{HasLaws}
@@ -362,22 +364,28 @@ module _ {D K G C : Type 0} (x : Setting D K G C) where
       let lengths = counted (is_own_notarize past) (restored_votes x past) in
       omega (arith, processed, split, others, own, lengths)
 
-  -- In a skipped round no vote is fresh, so none is processed.
-  skipped_at : x.mode ≡ Skipped → (past : History D K G C) (event : Event D K G C) → MayAnswer x past event.0 event.1 → processed_by event.1 ≡ 0
-  skipped_at skipped past event may =
-      ⊎_elim
-      (λ none. processed_none event.1 none)
-      (λ (some : (b : Batch (Certificate C D)) × (batch_given event.1 ≡ Some b)).
-      let made = batch_made x past event.0 event.1 some.0 may some.1 in
-      let few : processed_by event.1 ≤ length (fresh_votes x past made.kind) = processes_fresh past event some.0 some.1 made in
-      let closed : (is_certified past made.kind || is_skipped x.mode) ≡ true = or_right (is_certified past made.kind) (is_skipped x.mode) (ap is_skipped skipped) in
-      let none : length (fresh_votes x past made.kind) ≡ 0 = ap length (closed_is_empty x past made.kind closed).0 in
-      omega (arith, few, none))
-      (option_cases (batch_given event.1))
+  -- In a skipped round no vote waits, so no kind is ready, and there is no batch.
+  nothing_is_enough : (carries : Bool) (q : ℕ) (other : Bool) → 1 ≤ q
+      → cond carries (nat_le q 0 && true) (nat_le q 0 || (false && other)) ≡ false
+  nothing_is_enough true q other some = let none : nat_le q 0 ≡ false = grind (arith, nat_tests) in rw none refl
+  nothing_is_enough false q other some = let none : nat_le q 0 ≡ false = grind (arith, nat_tests) in rw none refl
 
-  pub skipped_works_not : x.mode ≡ Skipped → (past : History D K G C) → IsPossible x past → processed_total past ≡ 0
-  skipped_works_not skipped [] possible = refl
-  skipped_works_not skipped (event ∷ past) possible =
-      let before : processed_total past ≡ 0 = skipped_works_not skipped past possible.1.1.1 in
-      let now : processed_by event.1 ≡ 0 = skipped_at skipped past event possible.1.1.0 in
-      omega (arith, before, now)
+  none_ready : HasLaws x → x.mode ≡ Skipped → (past : History D K G C) (kind : Kind)
+      → is_ready_by x (trials x past) past kind ≡ false
+  none_ready laws skipped past kind =
+      let closed : (is_certified past kind || is_skipped x.mode) ≡ true = or_right (is_certified past kind) (is_skipped x.mode) (ap is_skipped skipped) in
+      let none = closed_is_empty x past kind closed in
+      rw (none.0, none.1)
+      (and_right (not (is_certified past kind)) _
+      (nothing_is_enough (has_proposals kind && is_none (selected_proposal x past)) (quorum_in x)
+      (not x.meaning.batchable || nat_le (quorum_in x) 0) (quorum_positive x laws)))
+
+  pub skipped_gives_none : HasLaws x → (past : History D K G C) (event : Event D K G C)
+      → IsPossible x (event ∷ past) → GivesNone x past event
+  skipped_gives_none laws past event possible skipped =
+      ⊎_elim
+      (λ none. none)
+      (λ (some : (b : Batch (Certificate C D)) × (batch_given event.1 ≡ Some b)).
+      let made = batch_made x past event.0 event.1 some.0 possible.1.1.0 some.1 in
+      absurd (true≢false (sym (ready_is x past made.kind made.ready) ∙ none_ready laws skipped past made.kind)))
+      (option_cases (batch_given event.1))

@@ -8,7 +8,7 @@ use Rattle.batcher.specs.declared.messages.Vote.{Vote}
 use Rattle.batcher.specs.declared.messages.Certificate.{Certificate}
 use Rattle.batcher.specs.declared.messages.Certificate.TheVariants.{Notarization as NotarizationCertificate, Nullification as NullificationCertificate, Finalization as FinalizationCertificate}
 use Rattle.batcher.specs.declared.messages.Kind.{Kind}
-use Rattle.batcher.specs.declared.messages.Kind.TheVariants.{Nullification}
+use Rattle.batcher.specs.declared.messages.Kind.TheVariants.{Notarization, Nullification, Finalization}
 use Rattle.batcher.specs.declared.round.Admission.{Admission}
 use Rattle.batcher.specs.declared.round.BlockReason.TheVariants.{UnknownParticipant}
 use Rattle.batcher.specs.declared.round.OwnFault.{OwnFault}
@@ -113,9 +113,19 @@ module _ {D K G C : Type 0} (x : Setting D K G C) where
   IsPossible (event ∷ past) =
       MayCall x.meaning x.number event.0 × ((is_made event.1 ≡ true) × (MayAnswer past event.0 event.1 × IsPossible past))
 
-  -- Whether a call may need memory: a vote that is added, a certificate with which votes come back, a batch, and a list of participants.
+  -- whether a first vote of the participant is there, of any kind
+  abbrev pub has_voted : History D K G C → ℕ → Bool
+  has_voted past i =
+      is_some (first_vote x past Notarization i)
+      || (is_some (first_vote x past Nullification i) || is_some (first_vote x past Finalization i))
+
+  -- Whether a call may need memory: a network vote that is added, unless its signer has voted and
+  -- its kind is released; an own vote that is added; a certificate with which votes come back; a
+  -- batch; and a list of participants.
   abbrev pub needs_memory : History D K G C → Call K G C D → Bool
-  needs_memory past (NetworkCall sender vote) = (network_answer past sender vote).added
+  needs_memory past (NetworkCall sender vote) =
+      (network_answer past sender vote).added
+      && (not (has_voted past (signer_of vote)) || not (is_released x past (kind_of vote)))
   needs_memory past (OwnCall vote) = is_some_and (result_ok (own_answer past vote)) is_added
   needs_memory past (CertificateCall certificate) =
       not (is_empty (votes_restored_by x past (CertificateCall certificate, CertificateAnswer (certificate_answer past certificate))))

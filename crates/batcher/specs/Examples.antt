@@ -47,7 +47,8 @@ use Rattle.batcher.specs.Standing.{counted_votes, valid_votes, proven_votes, fre
 use Rattle.batcher.specs.Stands.{pending_after, verified_after}
 use Rattle.batcher.specs.Work.{processed_total, votes_accepted_open, own_notarizes_restored}
 use Rattle.batcher.specs.Promises.{gave_cause}
-use Rattle.batcher.specs.Composed.{replacements, usable_votes, has_bad_vote}
+use Rattle.batcher.specs.Composed.{usable_votes, has_bad_vote, HoldsThroughout}
+use Rattle.batcher.specs.Consequences.{replacements, FollowsByDefinition}
 use Rattle.batcher.specs.Pairs.{blocks, tells_nothing}
 use Rattle.batcher.specs.Answers.{network_answer, own_answer, certificate_answer, forward_after, missing_after, needs_memory}
 
@@ -290,6 +291,21 @@ module _ (x : TinySetting) where
   buffers_after calls held call kind =
       (pending_after x (played calls) held (call, answer (played calls) call) kind, verified_after x (played calls) held (call, answer (played calls) call) kind)
 
+-- Answers that no round gives: after a finalization for P1 a notarization for P2 is told to change the
+-- selected proposal, and P2 is handed on; and a repeat is blocked as another vote.
+abbrev pub changed_calls : List TinyCall
+changed_calls = cert (finalization 1) ∷ cert (notarization 2) ∷ forward 3 ∷ []
+
+abbrev pub changed_answers : List TinyAnswer
+changed_answers = CertificateAnswer false ∷ CertificateAnswer true ∷ ForwardAnswer (Some (p 2)) ∷ []
+
+abbrev pub repeated_calls : List TinyCall
+repeated_calls = net 1 (notarize 1 2) ∷ cert (notarization 2) ∷ net 1 (notarize 1 2) ∷ []
+
+abbrev pub repeated_answers : List TinyAnswer
+repeated_answers =
+    added (notarize 1 2) ∷ CertificateAnswer true ∷ blocked ConflictingNotarize ∷ []
+
 pub record WorkedExamples : Type 0 where
   -- An equal repeat is refused, another proposal is blocked and reported.
   pub conflict_in_a_retaining_round :
@@ -373,6 +389,11 @@ pub record WorkedExamples : Type 0 where
   pub memory_for_votes_that_come_back :
       needs (four Retaining) (lead 0 ∷ net 0 (notarize 0 1) ∷ net 1 (finalize 1 2) ∷ []) (cert (notarization 1) ∷ cert (notarization 2) ∷ own (finalize 1 1) ∷ own (finalize 2 1) ∷ [])
       ≡ false ∷ true ∷ false ∷ true ∷ []
+  -- A vote whose kind is released needs none where its signer has voted before.
+  pub memory_after_a_release :
+      needs (four Releasing) (net 1 (nullify 1) ∷ net 2 (nullify 2) ∷ cert (notarization 1) ∷ [])
+      (net 1 (notarize 1 1) ∷ net 3 (notarize 3 1) ∷ net 1 (finalize 1 1) ∷ [])
+      ≡ false ∷ true ∷ false ∷ []
   pub memory_for_a_batch : needs (round_of 1 Retaining) (own (notarize 0 1) ∷ []) (construct ∷ []) ≡ true ∷ []
   -- Votes that come back stand in the order of their signers, and an own one among the verified.
   pub votes_come_back_in_order :
@@ -416,3 +437,12 @@ pub record WorkedExamples : Type 0 where
   pub blocked_by_one :
       blocking (four Retaining) repeating_round ∷ blocking (four Releasing) repeating_round ∷ []
       ≡ (false ∷ false ∷ false ∷ true ∷ true ∷ []) ∷ (false ∷ false ∷ false ∷ true ∷ false ∷ []) ∷ []
+  -- Both lists of garbage meet what follows by definition, and what holds throughout refuses them.
+  pub changed_follows : FollowsByDefinition (four Retaining) (history changed_calls changed_answers)
+  pub changed_is_refused : HoldsThroughout (four Retaining) changed_calls changed_answers → ⊥
+  pub repeated_follows :
+      FollowsByDefinition (four Skipped) (history repeated_calls repeated_answers)
+  pub repeated_is_refused : HoldsThroughout (four Skipped) repeated_calls repeated_answers → ⊥
+  -- What was told as added without being free, or the other way round, is refused too.
+  pub unadded_is_refused :
+      HoldsThroughout (four Retaining) (net 1 (nullify 1) ∷ []) (refused ∷ []) → ⊥

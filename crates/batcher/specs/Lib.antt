@@ -37,6 +37,7 @@ pub mod Stands
 pub mod Work
 pub mod Promises
 pub mod Composed
+pub mod Consequences
 pub mod Ran
 pub mod Pairs
 pub mod Examples

@@ -12,12 +12,12 @@ use Rattle.batcher.specs.declared.run.Answer.TheVariants.{Network as NetworkAnsw
 use Rattle.batcher.specs.Setting.{Setting, sender_in, quorum_in}
 use Rattle.batcher.specs.Lists.{is_some_and}
 use Rattle.batcher.specs.Votes.{signer_of}
-use Rattle.batcher.specs.History.{Event, History, names_sender, cast_votes}
+use Rattle.batcher.specs.History.{Event, History, names_sender, cast_votes, batch_given}
 use Rattle.batcher.specs.FirstVotes.{first_votes, is_free, contradicts}
 use Rattle.batcher.specs.Selection.{is_certified}
 use Rattle.batcher.specs.Standing.{valid_votes}
 use Rattle.batcher.specs.Runs.{certifies_answer}
-use Rattle.batcher.specs.Work.{processed_total, IsWorkBounded}
+use Rattle.batcher.specs.Work.{IsWorkBounded}
 
 module _ {D K G C : Type 0} where
   -- what holds of each network vote, by the history before it, its sender and the admission that it was answered
@@ -91,6 +91,10 @@ module _ {D K G C : Type 0} (x : Setting D K G C) where
       ends_in_constructions 3 (event ∷ past) ≡ true
       → (kind : Kind) → quorum_in x ≤ length (valid_votes x (event ∷ past) kind) → is_certified (event ∷ past) kind ≡ true
 
+  -- A skipped round gives no batch.
+  abbrev pub GivesNone : History D K G C → Event D K G C → Type 0
+  GivesNone past event = x.mode ≡ Skipped → batch_given event.1 ≡ None
+
   -- What holds of every list of calls on a fresh round, over its history.
   pub record Promises (past : History D K G C) : Type 0 where
     pub acceptance_is_exact : AtEachVote IsAcceptedExactly past
@@ -100,4 +104,4 @@ module _ {D K G C : Type 0} (x : Setting D K G C) where
     pub quorums_complete : AtEachEvent CompletesQuorums past
     pub constructions_rest : AtEachEvent Rests past
     pub no_double_work : AtEachTime (IsWorkBounded x) past
-    pub no_work_when_skipped : x.mode ≡ Skipped → processed_total past ≡ 0
+    pub no_batch_when_skipped : AtEachEvent GivesNone past

@@ -1,6 +1,6 @@
 //! One round: what it answers to votes, and the certificates that it makes of them.
 
-ghost use Rattle.std.specs.Prelude.{◌≡◌, ◌≤◌, ◌<◌, MatchBool, ◌&&◌, ◌||◌, ◌↔◌, not, Some, None, true, false, [], length, is_some, if◌then◌else◌, IfOk, IfErr, OnOk, OnErr, IsTrue, IsOk, IfSome, cond};
+ghost use Rattle.std.specs.Prelude.{◌≡◌, ◌≤◌, ◌<◌, MatchBool, ◌&&◌, ◌||◌, ◌↔◌, not, Some, None, true, false, [], length, is_some, if◌then◌else◌, Ok, Err, IfOk, IfErr, OnOk, OnErr, IsTrue, IsOk, IfSome, cond};
 ghost use Rattle.batcher.specs.declared.messages.Kind.TheVariants.{Nullification as NullifyKind};
 ghost use Rattle.batcher.specs.declared.messages.Kind.{Kind as TheKind};
 ghost use Rattle.batcher.specs.declared.positions.Round.{Round as TheNumber};
@@ -25,6 +25,7 @@ ghost use Rattle.batcher.specs.Comparison.{has_block};
 ghost use Rattle.batcher.specs.Answers.{keeps_nullify, own_answer, needs_memory};
 ghost use Rattle.batcher.specs.declared.run.Call.TheVariants.{Network as NetworkCall, Own as OwnCall, Construct as ConstructCall, Leader as LeaderCall, Forward as ForwardCall, Missing as MissingCall, Certificate as CertificateCall};
 ghost use Rattle.batcher.specs.declared.run.Answer.TheVariants.{Network as NetworkAnswer, Own as OwnAnswer, Construct as ConstructAnswer, Leader as LeaderAnswer, Forward as ForwardAnswer, Missing as MissingAnswer, Certificate as CertificateAnswer};
+ghost use Rattle.batcher.specs.Runs.{MayCall};
 ghost use Rattle.batcher.specs.Stands.{Stands, Follows, Meets};
 ghost use Rattle.batcher.specs.declared.messages.Proposal.{Proposal as TheProposal};
 ghost use Rattle.batcher.specs.declared.round.OwnFault.TheVariants.{OutOfMemory as OutOfMemoryFault};
@@ -212,7 +213,8 @@ impl<S: Scheme<D>, D: Digest> Round<S, D> {
 
     /// Whether the vote is of this round. Its parent view isn't looked at.
     pub fn belongs(&self, vote: &Vote<S::Signature, D>) -> bool
-        ensures { IsTrue result ↔ (round_in (subject_of vote.now) ≡ self.now.number) }
+        ensures number { IsTrue result ↔ (round_in (subject_of vote.now) ≡ self.now.number) }
+        ensures may { (sender : S.PublicKey) → IsTrue result ↔ MayCall (S.meaning self.now.scheme) self.now.number (NetworkCall sender vote.now) }
     {
         self.verifier.round()
             == match vote {
@@ -224,7 +226,8 @@ impl<S: Scheme<D>, D: Digest> Round<S, D> {
 
     /// Whether the certificate is of this round. Its parent view isn't looked at.
     pub fn belongs_certificate(&self, certificate: &Certificate<S::Certificate, D>) -> bool
-        ensures { IsTrue result ↔ (round_in (subject_certified certificate.now) ≡ self.now.number) }
+        ensures number { IsTrue result ↔ (round_in (subject_certified certificate.now) ≡ self.now.number) }
+        ensures may { IsTrue result ↔ MayCall (S.meaning self.now.scheme) self.now.number (CertificateCall certificate.now) }
     {
         self.verifier.round()
             == match certificate {
@@ -329,6 +332,7 @@ impl<S: Scheme<D>, D: Digest> Round<S, D> {
         ensures step { IfOk result (λ answer. AfterNetwork (setting (S.meaning self.old.scheme) S.PublicKey.cmp S.Signature.eq D.eq self.old.number self.old.mode) self.old.holds sender vote answer self.new.holds) }
         ensures meets { (past : History D S.PublicKey S.Signature S.Certificate) → Stands (setting (S.meaning self.old.scheme) S.PublicKey.cmp S.Signature.eq D.eq self.old.number self.old.mode) past self.old.holds → IfOk result (λ answer. Follows (setting (S.meaning self.old.scheme) S.PublicKey.cmp S.Signature.eq D.eq self.old.number self.old.mode) past self.old.holds (NetworkCall sender vote, NetworkAnswer answer) self.new.holds) }
         ensures no_memory { (admission (setting (S.meaning self.old.scheme) S.PublicKey.cmp S.Signature.eq D.eq self.old.number self.old.mode) self.old.holds sender vote).added ≡ false → IsOk result }
+        ensures needed { (past : History D S.PublicKey S.Signature S.Certificate) → Stands (setting (S.meaning self.old.scheme) S.PublicKey.cmp S.Signature.eq D.eq self.old.number self.old.mode) past self.old.holds → OnErr result (needs_memory (setting (S.meaning self.old.scheme) S.PublicKey.cmp S.Signature.eq D.eq self.old.number self.old.mode) past (NetworkCall sender vote) ≡ true) }
         ensures refused { OnErr result (self.new ≡ self.old) }
         ensures same { (self.new.scheme ≡ self.old.scheme) × (self.new.number ≡ self.old.number) × (self.new.mode ≡ self.old.mode) }
     {
@@ -362,6 +366,7 @@ impl<S: Scheme<D>, D: Digest> Round<S, D> {
         ensures step { IfOk result (λ answer. AfterOwn (setting (S.meaning self.old.scheme) S.PublicKey.cmp S.Signature.eq D.eq self.old.number self.old.mode) self.old.holds vote answer.0 answer.1 self.new.holds) }
         ensures meets { (past : History D S.PublicKey S.Signature S.Certificate) → Stands (setting (S.meaning self.old.scheme) S.PublicKey.cmp S.Signature.eq D.eq self.old.number self.old.mode) past self.old.holds → IfOk result (λ answer. Follows (setting (S.meaning self.old.scheme) S.PublicKey.cmp S.Signature.eq D.eq self.old.number self.old.mode) past self.old.holds (OwnCall vote, OwnAnswer answer.0 answer.1) self.new.holds) }
         ensures named { (past : History D S.PublicKey S.Signature S.Certificate) → Stands (setting (S.meaning self.old.scheme) S.PublicKey.cmp S.Signature.eq D.eq self.old.number self.old.mode) past self.old.holds → IfErr result (λ fault. fault ≡ fault_or_memory (own_answer (setting (S.meaning self.old.scheme) S.PublicKey.cmp S.Signature.eq D.eq self.old.number self.old.mode) past vote)) }
+        ensures needed { (past : History D S.PublicKey S.Signature S.Certificate) → Stands (setting (S.meaning self.old.scheme) S.PublicKey.cmp S.Signature.eq D.eq self.old.number self.old.mode) past self.old.holds → result ≡ Err OutOfMemoryFault → needs_memory (setting (S.meaning self.old.scheme) S.PublicKey.cmp S.Signature.eq D.eq self.old.number self.old.mode) past (OwnCall vote) ≡ true }
         ensures no_memory { (outcome : Outcome) → own_result (setting (S.meaning self.old.scheme) S.PublicKey.cmp S.Signature.eq D.eq self.old.number self.old.mode) self.old.holds vote ≡ Ok outcome → is_added outcome ≡ false → IsOk result }
         ensures fault { IfErr result (λ fault. fault ≡ fault_or_memory (own_result (setting (S.meaning self.old.scheme) S.PublicKey.cmp S.Signature.eq D.eq self.old.number self.old.mode) self.old.holds vote)) }
         ensures refused { OnErr result (self.new ≡ self.old) }
@@ -389,6 +394,7 @@ impl<S: Scheme<D>, D: Digest> Round<S, D> {
         requires { round_in (subject_certified certificate.now) ≡ self.old.number }
         ensures step { IfOk result (λ answer. AfterCertificate (setting (S.meaning self.old.scheme) S.PublicKey.cmp S.Signature.eq D.eq self.old.number self.old.mode) self.old.holds certificate.now answer self.new.holds) }
         ensures meets { (past : History D S.PublicKey S.Signature S.Certificate) → Stands (setting (S.meaning self.old.scheme) S.PublicKey.cmp S.Signature.eq D.eq self.old.number self.old.mode) past self.old.holds → IfOk result (λ answer. Follows (setting (S.meaning self.old.scheme) S.PublicKey.cmp S.Signature.eq D.eq self.old.number self.old.mode) past self.old.holds (CertificateCall certificate.now, CertificateAnswer answer) self.new.holds) }
+        ensures needed { (past : History D S.PublicKey S.Signature S.Certificate) → Stands (setting (S.meaning self.old.scheme) S.PublicKey.cmp S.Signature.eq D.eq self.old.number self.old.mode) past self.old.holds → OnErr result (needs_memory (setting (S.meaning self.old.scheme) S.PublicKey.cmp S.Signature.eq D.eq self.old.number self.old.mode) past (CertificateCall certificate.now) ≡ true) }
         ensures no_memory { ((kind : TheKind) → restored_with (setting (S.meaning self.old.scheme) S.PublicKey.cmp S.Signature.eq D.eq self.old.number self.old.mode) self.old.holds certificate.now kind ≡ []) → IsOk result }
         ensures refused { OnErr result (self.new ≡ self.old) }
         ensures same { (self.new.scheme ≡ self.old.scheme) × (self.new.number ≡ self.old.number) × (self.new.mode ≡ self.old.mode) }
@@ -503,6 +509,7 @@ fn admit<S: Scheme<D>, D: Digest>(
     requires range { signer_of vote < length (S.meaning verifier.old.scheme).participants }
     requires belongs { round_in (subject_of vote) ≡ verifier.old.number }
     ensures answer { IfOk result (λ answer. answer ≡ admission_by (setting (S.meaning verifier.old.scheme) S.PublicKey.cmp S.Signature.eq D.eq verifier.old.number votes.old.mode) (proposal_of verifier.old.holds.selection) (observed votes.old.holds (kind_of vote) (signer_of vote)) vote) }
+    ensures spared { is_known votes.old.holds (signer_of vote) ≡ true → of_kind votes.old.holds.compacted (kind_of vote) ≡ true → IsOk result }
     ensures no_memory { (admission_by (setting (S.meaning verifier.old.scheme) S.PublicKey.cmp S.Signature.eq D.eq verifier.old.number votes.old.mode) (proposal_of verifier.old.holds.selection) (observed votes.old.holds (kind_of vote) (signer_of vote)) vote).added ≡ false → IsOk result }
     ensures tracked { OnOk result ((kind : TheKind) → RecordsKind D.eq votes.old.holds votes.new.holds (proposal_of verifier.old.holds.selection) true vote kind) }
     ensures buffered { IfOk result (λ answer. MatchBool (answer.added && not (of_kind votes.old.holds.compacted (kind_of vote))) (AddsVote D.eq verifier.old.holds vote false verifier.new.holds) (verifier.new.holds ≡ verifier.old.holds)) }

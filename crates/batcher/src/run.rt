@@ -1,6 +1,6 @@
 //! Calls of a round as values, and whole lists of them.
 
-ghost use Rattle.std.specs.Prelude.{◌≡◌, All, IfOk};
+ghost use Rattle.std.specs.Prelude.{◌≡◌, All, IfOk, OnErr};
 ghost use Rattle.std.specs.List.{list_any};
 ghost use Rattle.std.specs.List.Sorted.{IsStrictlySortedBy};
 ghost use Rattle.batcher.specs.Setting.{setting};
@@ -77,6 +77,7 @@ pub fn run<S: Scheme<D>, D: Digest, R: CryptoRng>(
     requires fresh { round.holds ≡ nothing_held round.mode }
     requires calls { All (MayCall (S.meaning round.scheme) round.number) calls.now }
     ensures ran { IfOk result (λ ran. IsRun (setting (S.meaning round.scheme) S.PublicKey.cmp S.Signature.eq D.eq round.number round.mode) (R.stream rng.old) calls.now ran.answers.items ran.round.holds (R.stream rng.new)) }
+    ensures drawn { OnErr result (R.stream rng.new ≡ R.stream rng.old) }
     ensures same { IfOk result (λ ran. (ran.round.scheme ≡ round.scheme) × ((ran.round.number ≡ round.number) × (ran.round.mode ≡ round.mode))) }
 {
     round.has_participants();

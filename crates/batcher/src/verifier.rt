@@ -1,7 +1,7 @@
 //! Votes on their way to a certificate: the selected proposal, two buffers of votes a kind, and
 //! the attempts to make certificates out of them.
 
-ghost use Rattle.std.specs.Prelude.{◌≡◌, ◌+◌, ◌≤◌, ◌&&◌, not, cond, true, false, ◌++◌, [], if◌then◌else◌, length, filter, Some, is_some, IsOk, IfOk, IfSome, OnOk, OnErr};
+ghost use Rattle.std.specs.Prelude.{◌≡◌, ◌≢◌, ◌+◌, ◌≤◌, ◌&&◌, not, cond, true, false, ◌++◌, [], if◌then◌else◌, length, filter, Some, is_some, IsOk, IfOk, IfSome, OnOk, OnErr};
 ghost use Rattle.std.specs.Option.{option_copied, option_map};
 ghost use Rattle.batcher.specs.declared.messages.Kind.{Kind as TheKind};
 ghost use Rattle.batcher.specs.declared.messages.Kind.TheVariants.{Notarization as TheNotarization, Nullification as TheNullification, Finalization as TheFinalization};
@@ -289,6 +289,7 @@ impl<S: Scheme<D>, D: Digest> Verifier<S, D> {
         ensures ready { IfOk result (λ given. is_some given ≡ is_ready D.eq (S.meaning self.old.scheme).batchable self.old.quorum self.old.holds TheNotarization) }
         ensures tries { IfOk result (λ given. IfSome given (λ batch. TriesKind (S.meaning self.old.scheme) self.old.number self.old.quorum self.old.holds TheNotarization (R.stream rng.old) batch (R.stream rng.new) self.new.holds)) }
         ensures certifies { IfOk result (λ given. IfSome given (λ batch. IfSome batch.certificate (λ certificate. certifies_itself (S.meaning self.old.scheme) certificate ≡ true))) }
+        ensures names { IfOk result (λ given. IfSome given (λ batch. batch.fallback ≡ true → batch.invalid ≢ [])) }
         ensures not_ready { is_ready D.eq (S.meaning self.old.scheme).batchable self.old.quorum self.old.holds TheNotarization ≡ false → (IsOk result) × (self.new ≡ self.old) × (R.stream rng.new ≡ R.stream rng.old) }
         ensures unchanged { OnErr result (self.new.holds ≡ self.old.holds) }
         ensures same { (self.new.scheme ≡ self.old.scheme) × (self.new.number ≡ self.old.number) × (self.new.quorum ≡ self.old.quorum) }
@@ -304,6 +305,7 @@ impl<S: Scheme<D>, D: Digest> Verifier<S, D> {
         ensures ready { IfOk result (λ given. is_some given ≡ is_ready D.eq (S.meaning self.old.scheme).batchable self.old.quorum self.old.holds TheNullification) }
         ensures tries { IfOk result (λ given. IfSome given (λ batch. TriesKind (S.meaning self.old.scheme) self.old.number self.old.quorum self.old.holds TheNullification (R.stream rng.old) batch (R.stream rng.new) self.new.holds)) }
         ensures certifies { IfOk result (λ given. IfSome given (λ batch. IfSome batch.certificate (λ certificate. certifies_itself (S.meaning self.old.scheme) certificate ≡ true))) }
+        ensures names { IfOk result (λ given. IfSome given (λ batch. batch.fallback ≡ true → batch.invalid ≢ [])) }
         ensures not_ready { is_ready D.eq (S.meaning self.old.scheme).batchable self.old.quorum self.old.holds TheNullification ≡ false → (IsOk result) × (self.new ≡ self.old) × (R.stream rng.new ≡ R.stream rng.old) }
         ensures unchanged { OnErr result (self.new.holds ≡ self.old.holds) }
         ensures same { (self.new.scheme ≡ self.old.scheme) × (self.new.number ≡ self.old.number) × (self.new.quorum ≡ self.old.quorum) }
@@ -319,6 +321,7 @@ impl<S: Scheme<D>, D: Digest> Verifier<S, D> {
         ensures ready { IfOk result (λ given. is_some given ≡ is_ready D.eq (S.meaning self.old.scheme).batchable self.old.quorum self.old.holds TheFinalization) }
         ensures tries { IfOk result (λ given. IfSome given (λ batch. TriesKind (S.meaning self.old.scheme) self.old.number self.old.quorum self.old.holds TheFinalization (R.stream rng.old) batch (R.stream rng.new) self.new.holds)) }
         ensures certifies { IfOk result (λ given. IfSome given (λ batch. IfSome batch.certificate (λ certificate. certifies_itself (S.meaning self.old.scheme) certificate ≡ true))) }
+        ensures names { IfOk result (λ given. IfSome given (λ batch. batch.fallback ≡ true → batch.invalid ≢ [])) }
         ensures not_ready { is_ready D.eq (S.meaning self.old.scheme).batchable self.old.quorum self.old.holds TheFinalization ≡ false → (IsOk result) × (self.new ≡ self.old) × (R.stream rng.new ≡ R.stream rng.old) }
         ensures unchanged { OnErr result (self.new.holds ≡ self.old.holds) }
         ensures same { (self.new.scheme ≡ self.old.scheme) × (self.new.number ≡ self.old.number) × (self.new.quorum ≡ self.old.quorum) }
@@ -335,6 +338,7 @@ impl<S: Scheme<D>, D: Digest> Verifier<S, D> {
         ensures ready { IfOk result (λ given. is_some given ≡ is_ready D.eq (S.meaning self.old.scheme).batchable self.old.quorum self.old.holds kind) }
         ensures tries { IfOk result (λ given. IfSome given (λ batch. TriesKind (S.meaning self.old.scheme) self.old.number self.old.quorum self.old.holds kind (R.stream rng.old) batch (R.stream rng.new) self.new.holds)) }
         ensures certifies { IfOk result (λ given. IfSome given (λ batch. IfSome batch.certificate (λ certificate. certifies_itself (S.meaning self.old.scheme) certificate ≡ true))) }
+        ensures names { IfOk result (λ given. IfSome given (λ batch. batch.fallback ≡ true → batch.invalid ≢ [])) }
         ensures sound { IsSound (S.meaning self.old.scheme) D.eq self.old.number self.old.quorum self.old.holds }
         ensures not_ready { is_ready D.eq (S.meaning self.old.scheme).batchable self.old.quorum self.old.holds kind ≡ false → (IsOk result) × (self.new ≡ self.old) × (R.stream rng.new ≡ R.stream rng.old) }
         ensures unchanged { OnErr result (self.new.holds ≡ self.old.holds) }
@@ -389,6 +393,7 @@ impl<S: Scheme<D>, D: Digest> Verifier<S, D> {
         requires { subject_ready D.eq (S.meaning self.old.scheme).batchable self.old.quorum self.old.holds self.old.number kind ≡ Some subject }
         ensures tries { IfOk result (λ batch. TriesKind (S.meaning self.old.scheme) self.old.number self.old.quorum self.old.holds kind (R.stream rng.old) batch (R.stream rng.new) self.new.holds) }
         ensures certifies { IfOk result (λ batch. IfSome batch.certificate (λ certificate. certifies_itself (S.meaning self.old.scheme) certificate ≡ true)) }
+        ensures names { IfOk result (λ batch. batch.fallback ≡ true → batch.invalid ≢ []) }
         ensures unchanged { OnErr result (self.new.holds ≡ self.old.holds) }
         ensures same { (self.new.scheme ≡ self.old.scheme) × (self.new.number ≡ self.old.number) × (self.new.quorum ≡ self.old.quorum) }
     {

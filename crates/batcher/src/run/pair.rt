@@ -1,6 +1,6 @@
 //! Two rounds that take the same calls, one that retains its votes and one that releases them.
 
-ghost use Rattle.std.specs.Prelude.{◌≡◌, ◌≤◌, All, IfOk, [], length, vec_capacity};
+ghost use Rattle.std.specs.Prelude.{◌≡◌, ◌≤◌, All, IfOk, OnErr, [], length, vec_capacity};
 ghost use Rattle.batcher.specs.declared.votes.Mode.{Mode};
 ghost use Rattle.batcher.specs.Setting.{setting};
 ghost use Rattle.batcher.specs.Steps.{nothing_held};
@@ -46,6 +46,7 @@ pub fn run_pair<S: Scheme<D>, D: Digest, R: CryptoRng>(
     requires streams { R.stream rng_b.old ≡ R.stream rng_a.old }
     requires calls { All (MayCall (S.meaning retaining.scheme) retaining.number) calls.now }
     ensures ran { IfOk result (λ pair. IsPairRun (setting (S.meaning retaining.scheme) S.PublicKey.cmp S.Signature.eq D.eq retaining.number Mode.Retaining) (R.stream rng_a.old) calls.now pair.stopped pair.retaining.answers.items pair.retaining.round.holds (R.stream rng_a.new) pair.releasing.answers.items pair.releasing.round.holds (R.stream rng_b.new)) }
+    ensures drawn { OnErr result ((R.stream rng_a.new ≡ R.stream rng_a.old) × (R.stream rng_b.new ≡ R.stream rng_b.old)) }
     ensures kept { IfOk result (λ pair. (pair.retaining.round ≡ record retaining { holds = pair.retaining.round.holds }) × (pair.releasing.round ≡ record releasing { holds = pair.releasing.round.holds })) }
 {
     let mut retained = Vec::with_capacity(alloc, calls.len())?;

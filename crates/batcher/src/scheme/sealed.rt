@@ -87,6 +87,7 @@ impl Scheme<Sha256Digest> for Sealed {
     ) -> Result<Verification<[u8; 32]>, AllocError>
         ensures sorts { IfOk result (Sorts (is_signed (length self.now.participants) self.now.root subject) pending.now) }
         ensures stream { OnOk result (R.stream rng.new ≡ R.stream rng.old) }
+        ensures drawn { R.stream rng.new ≡ R.stream rng.old }
     {
         let _ = rng;
         verify_each(alloc, self.participants.len(), &self.root, subject, pending)
@@ -105,6 +106,7 @@ impl Scheme<Sha256Digest> for Sealed {
         requires attested { AllPass (is_signed (length self.now.participants) self.now.root subject) verified.now }
         ensures sorts { IfOk result (λ answer. IfErr answer (Sorts (is_signed (length self.now.participants) self.now.root subject) pending.now)) }
         ensures function { IfOk result (λ answer. (result_ok answer, R.stream rng.new) ≡ sealed_at_once (length self.now.participants) self.now.root subject pending.now verified.now (R.stream rng.old)) }
+        ensures drawn { R.stream rng.new ≡ R.stream rng.old }
     {
         let _ = rng;
         let n = self.participants.len();

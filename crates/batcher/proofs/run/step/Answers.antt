@@ -1,7 +1,6 @@
-use Rattle.std.proofs.Common.{rules, ap, sym, ◌∙◌}
+use Rattle.std.proofs.Common.{rules, Err, ap, sym, ◌∙◌}
 use Rattle.batcher.specs.Setting.{setting}
 use Rattle.batcher.proofs.Histories.{named}
-use Rattle.batcher.proofs.Needing.{memory_alone, network_needs, own_needs, certificate_needs}
 use Rattle.batcher.specs.declared.run.Answer.TheVariants.{OwnRefused}
 use Rattle.batcher.specs.Runs.{Steps}
 use Rattle.batcher.proofs.Naming.{own_same}
@@ -12,14 +11,15 @@ returns-in-Ok-clause-meets g c = rw c.in-Network.is (λ past stands. named _ (c.
 
 pub returns-in-Err-clause-meets : goal.returns-in-Err-clause-meets
 returns-in-Err-clause-meets g c =
-    rw c.in-Network.is (λ past stands. (ap (λ r. r.holds) c.in-Err.ensures.refused, network_needs _ past c.args.round.now.holds c.in-Network.sender c.in-Network.vote stands c.in-Err.ensures.no_memory))
+    rw c.in-Network.is (λ past stands. (ap (λ r. r.holds) c.in-Err.ensures.refused, c.in-Err.ensures.needed past stands))
 
 pub returns-in-Ok-accept_vote-clause-meets : goal.returns-in-Ok-accept_vote-clause-meets
 returns-in-Ok-accept_vote-clause-meets g c = rw c.in-Own.is (λ past stands. named _ (c.in-Ok-accept_vote.ensures.meets past stands))
 
 pub returns-in-Err-OutOfMemory-clause-meets : goal.returns-in-Err-OutOfMemory-clause-meets
 returns-in-Err-OutOfMemory-clause-meets g c =
-    rw c.in-Own.is (λ past stands. (ap (λ r. r.holds) c.in-Err-OutOfMemory.ensures.refused, own_needs _ past c.args.round.now.holds c.in-Own.vote stands (memory_alone _ _ _ (sym c.in-Err-OutOfMemory.field-0-is ∙ c.in-Err-OutOfMemory.ensures.fault)) c.in-Err-OutOfMemory.ensures.no_memory))
+    rw c.in-Own.is
+    (λ past stands. (ap (λ r. r.holds) c.in-Err-OutOfMemory.ensures.refused, c.in-Err-OutOfMemory.ensures.needed past stands (ap Err c.in-Err-OutOfMemory.field-0-is)))
 
 pub returns-in-Err-accept_vote : goal.returns-in-Err-accept_vote
 returns-in-Err-accept_vote g c =
@@ -37,7 +37,9 @@ returns-in-Ok-record_certificate-clause-meets g c = rw c.in-Certificate.is (λ p
 
 pub returns-in-Err-record_certificate-clause-meets : goal.returns-in-Err-record_certificate-clause-meets
 returns-in-Err-record_certificate-clause-meets g c =
-    rw c.in-Certificate.is (λ past stands. (ap (λ r. r.holds) c.in-Err-record_certificate.ensures.refused, certificate_needs _ past c.args.round.now.holds c.in-Certificate.certificate stands c.in-Err-record_certificate.ensures.no_memory))
+    rw c.in-Certificate.is
+    (λ past stands.
+    (ap (λ r. r.holds) c.in-Err-record_certificate.ensures.refused, c.in-Err-record_certificate.ensures.needed past stands))
 
 pub returns-in-Forward-clause-meets : goal.returns-in-Forward-clause-meets
 returns-in-Forward-clause-meets g c = rw c.in-Forward.is (λ past stands. named _ (c.try_forward_proposal.ensures.meets past stands))

@@ -1,4 +1,4 @@
-use Rattle.std.proofs.Common.{◌≡◌, ◌∙◌, ap, sym, subst, refl, true, nat_lt, arith}
+use Rattle.std.proofs.Common.{rules, ◌≡◌, ◌∙◌, ap, sym, subst, refl, true, nat_lt, arith}
 use Rattle.std.proofs.lemmas.Bool.Decides.{nat_tests}
 use Rattle.std.specs.Prelude.{IfErr}
 use Rattle.batcher.specs.Votes.{kind_of, signer_of, subject_of, attestation_of}
@@ -11,6 +11,7 @@ use Rattle.batcher.proofs.Naming.{own_same}
 use Rattle.batcher.proofs.Casting.{own_follows}
 use Rattle.batcher.proofs.Rooms.{fixes_no_more}
 use Rattle.batcher.proofs.Owning.{err_only, known_signer, ok_is, own_step, result_is}
+use Rattle.batcher.proofs.Needing.{own_needed}
 use Rattle.batcher.proofs.round.Round.accept_vote.Goals as goal
 
 pub returns-in_err-make_room_to_accept-clause-fault : goal.returns-in_err-make_room_to_accept-clause-fault
@@ -92,3 +93,33 @@ pub returns-in_err-take_in-clause-named : goal.returns-in_err-take_in-clause-nam
 returns-in_err-take_in-clause-named g c =
     let fault = rw (← c.self.view_is) at (returns-in_err-take_in-clause-fault g c) in
     rw (← c.self.view_is) (λ past stands. subst (λ r. IfErr c.from_residual-in_err-take_in.result (λ fault. fault ≡ fault_or_memory r)) (own_same _ past _ c.args.vote stands) fault)
+
+pub returns-in_err-outcome-clause-no_memory : goal.returns-in_err-outcome-clause-no_memory
+returns-in_err-outcome-clause-no_memory g c = search rules
+
+pub returns-in_err-outcome-clause-needed : goal.returns-in_err-outcome-clause-needed
+returns-in_err-outcome-clause-needed g c =
+    let b = c.self.inside in
+    let x = setting (g.S.Scheme.meaning b.verifier.scheme) g.S.PublicKey.Ord.cmp g.S.Signature.PartialEq.eq g.D.PartialEq.eq b.verifier.number b.votes.mode in
+    let held : Held g.row.S-Signature.Denot g.row.D.Denot = record { tracked = b.votes.holds; buffered = b.verifier.holds; forwarded = b.forwarded } in
+    let fault = rw (← c.self.view_is) at (returns-in_err-outcome-clause-fault g c) in
+    let no_memory = rw (← c.self.view_is) at (returns-in_err-outcome-clause-no_memory g c) in
+    rw (← c.self.view_is) (λ past stands. own_needed x past held c.args.vote _ stands fault no_memory)
+
+pub returns-in_err-make_room_to_accept-clause-needed : goal.returns-in_err-make_room_to_accept-clause-needed
+returns-in_err-make_room_to_accept-clause-needed g c =
+    let b = c.self.inside in
+    let x = setting (g.S.Scheme.meaning b.verifier.scheme) g.S.PublicKey.Ord.cmp g.S.Signature.PartialEq.eq g.D.PartialEq.eq b.verifier.number b.votes.mode in
+    let held : Held g.row.S-Signature.Denot g.row.D.Denot = record { tracked = b.votes.holds; buffered = b.verifier.holds; forwarded = b.forwarded } in
+    let fault = rw (← c.self.view_is) at (returns-in_err-make_room_to_accept-clause-fault g c) in
+    let no_memory = rw (← c.self.view_is) at (returns-in_err-make_room_to_accept-clause-no_memory g c) in
+    rw (← c.self.view_is) (λ past stands. own_needed x past held c.args.vote _ stands fault no_memory)
+
+pub returns-in_err-take_in-clause-needed : goal.returns-in_err-take_in-clause-needed
+returns-in_err-take_in-clause-needed g c =
+    let b = c.self.inside in
+    let x = setting (g.S.Scheme.meaning b.verifier.scheme) g.S.PublicKey.Ord.cmp g.S.Signature.PartialEq.eq g.D.PartialEq.eq b.verifier.number b.votes.mode in
+    let held : Held g.row.S-Signature.Denot g.row.D.Denot = record { tracked = b.votes.holds; buffered = b.verifier.holds; forwarded = b.forwarded } in
+    let fault = rw (← c.self.view_is) at (returns-in_err-take_in-clause-fault g c) in
+    let no_memory = rw (← c.self.view_is) at (returns-in_err-take_in-clause-no_memory g c) in
+    rw (← c.self.view_is) (λ past stands. own_needed x past held c.args.vote _ stands fault no_memory)

@@ -11,6 +11,7 @@ use Rattle.batcher.specs.Steps.{AfterNetwork}
 use Rattle.batcher.specs.Stands.{Follows}
 use Rattle.batcher.proofs.Laws.{HasLaws}
 use Rattle.batcher.proofs.Arriving.{network_follows}
+use Rattle.batcher.proofs.Needing.{network_needed}
 use Rattle.batcher.proofs.round.Round.add_network.Goals as goal
 
 pub returns-in-Some-objection-clause-step : goal.returns-in-Some-objection-clause-step
@@ -94,3 +95,12 @@ returns-in-None-objection-clause-meets g c =
     (λ past stands.
     IfOk-weaker c.admit.result (λ answer. AfterNetwork x held c.args.sender c.args.vote answer new) (λ answer. Follows x past held (NetworkCall c.args.sender c.args.vote, NetworkAnswer answer) new)
     (λ answer after. network_follows x laws past held c.args.sender c.args.vote answer new stands allowed after) step)
+
+pub returns-in-None-objection-clause-needed : goal.returns-in-None-objection-clause-needed
+returns-in-None-objection-clause-needed g c =
+    let b = c.self.inside in
+    let x = setting (g.S.Scheme.meaning b.verifier.scheme) g.S.PublicKey.Ord.cmp g.S.Signature.PartialEq.eq g.D.PartialEq.eq b.verifier.number b.votes.mode in
+    let held : Held g.row.S-Signature.Denot g.row.D.Denot = record { tracked = b.votes.holds; buffered = b.verifier.holds; forwarded = b.forwarded } in
+    let no_memory = rw (← c.self.view_is) at (returns-in-None-objection-clause-no_memory g c) in
+    let own = same_number c.in-Some.index.0 c.signer.result.0 (sym c.ne.ensures ∙ c.if-ne.false) ∙ ap (λ p. p.0) c.signer.ensures in
+    rw (← c.self.view_is) (λ past stands. network_needed x past held c.args.sender c.args.vote c.admit.result stands no_memory c.admit.ensures.spared)

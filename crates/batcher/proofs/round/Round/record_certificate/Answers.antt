@@ -11,6 +11,7 @@ use Rattle.batcher.proofs.Laws.{HasLaws}
 use Rattle.batcher.proofs.Certified.{certificate_follows}
 use Rattle.batcher.proofs.Owning.{right_certified}
 use Rattle.batcher.proofs.Rooms.{no_room_with}
+use Rattle.batcher.proofs.Needing.{certificate_needed}
 use Rattle.batcher.proofs.round.Round.record_certificate.Goals as goal
 use Rattle.batcher.proofs.Fixing.{finalization_for}
 
@@ -74,3 +75,11 @@ returns-in_err-make_room_to_fix-clause-no_memory g c =
     c.in_err-make_room_to_fix.ensures.no_memory
     (λ fixed is takes kind has own full. no_room_with x (record { tracked = b.votes.holds; buffered = b.verifier.holds; forwarded = b.forwarded }) fixed kind _ takes has c.args.certificate.now _ _ c.kind-kind.ensures c.proposal_certified-proposal.ensures is own (none kind)) in
     absurd (cc))
+
+pub returns-in_err-make_room_to_fix-clause-needed : goal.returns-in_err-make_room_to_fix-clause-needed
+returns-in_err-make_room_to_fix-clause-needed g c =
+    let b = c.self.inside in
+    let x = setting (g.S.Scheme.meaning b.verifier.scheme) g.S.PublicKey.Ord.cmp g.S.Signature.PartialEq.eq g.D.PartialEq.eq b.verifier.number b.votes.mode in
+    let held : Held g.row.S-Signature.Denot g.row.D.Denot = record { tracked = b.votes.holds; buffered = b.verifier.holds; forwarded = b.forwarded } in
+    let no_memory = rw (← c.self.view_is) at (returns-in_err-make_room_to_fix-clause-no_memory g c) in
+    rw (← c.self.view_is) (λ past stands. certificate_needed x past held c.args.certificate.now _ stands no_memory)

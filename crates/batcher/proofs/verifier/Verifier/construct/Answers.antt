@@ -84,3 +84,33 @@ returns-in-Some-clause-certifies g c =
     let fine = fine_attempt m (g.met.S.Scheme.lawful v.scheme.value) same v.round v.quorum held kind subject c.self.invariant about _ _ _ attempted in
     rw (← c.self.view_is)
     (named_certifies m subject _ c.in-Some.content c.certificate_of.result fine c.in-Some.is c.certificate_of.ensures)
+
+pub returns-in-Some-clause-names : goal.returns-in-Some-clause-names
+returns-in-Some-clause-names g c =
+    let v = c.self.inside in
+    let m = g.S.Scheme.meaning v.scheme.value in
+    let same = g.D.PartialEq.eq in
+    let held = held_by v.state in
+    let kind = c.args.kind in
+    let subject = c.args.subject in
+    let b = c.in_ok-batch.field-0.batch in
+    let ready : subject_ready same m.batchable v.quorum held v.round kind ≡ Some subject = rw (← c.self.view_is) at c.requires in
+    let attempted = rw (← c.self.view_is) at c.in_ok-batch.ensures in
+    let about = verified_about same g.met.D.Digest.identical v.round subject m.batchable v.quorum held kind ready (c.self.invariant.kinds kind).verified in
+    let fine = fine_attempt m (g.met.S.Scheme.lawful v.scheme.value) same v.round v.quorum held kind subject c.self.invariant about _ _ _ attempted in
+    fine.names
+
+pub returns-clause-names : goal.returns-clause-names
+returns-clause-names g c =
+    let v = c.self.inside in
+    let m = g.S.Scheme.meaning v.scheme.value in
+    let same = g.D.PartialEq.eq in
+    let held = held_by v.state in
+    let kind = c.args.kind in
+    let subject = c.args.subject in
+    let b = c.in_ok-batch.field-0.batch in
+    let ready : subject_ready same m.batchable v.quorum held v.round kind ≡ Some subject = rw (← c.self.view_is) at c.requires in
+    let attempted = rw (← c.self.view_is) at c.in_ok-batch.ensures in
+    let about = verified_about same g.met.D.Digest.identical v.round subject m.batchable v.quorum held kind ready (c.self.invariant.kinds kind).verified in
+    let fine = fine_attempt m (g.met.S.Scheme.lawful v.scheme.value) same v.round v.quorum held kind subject c.self.invariant about _ _ _ attempted in
+    fine.names
