@@ -1,13 +1,15 @@
 //! What a script stands for: the scheme of its round, and the calls of its commands.
 
-ghost use Rattle.std.specs.Prelude.{◌≡◌, ◌<◌, ◌≤◌, All, IfOk, length, true};
+ghost use Rattle.std.specs.Prelude.{◌≡◌, ◌<◌, ◌≤◌, ◌&&◌, ℕ, List, All, IfOk, length, nat_lt, true, false};
 ghost use Rattle.std.specs.List.{AllPass, AllZip};
+ghost use Rattle.batcher.specs.declared.messages.Attestation.{Attestation as TheAttestation};
 ghost use Rattle.batcher.specs.Attestations.{IsQuorum};
 ghost use Rattle.batcher.specs.Runs.{MayCall};
-ghost use Rattle.batcher.specs.Votes.{attestation_of, signer_of, subject_of, subject_certified};
-ghost use Rattle.batcher_script.specs.Calls.{IsCallOf, proposal_for, subject_for};
+ghost use Rattle.batcher.specs.Hashed.{same_bytes};
+ghost use Rattle.batcher.specs.Verifiers.{certifies_itself};
+ghost use Rattle.batcher.specs.Votes.{subject_certified};
+ghost use Rattle.batcher_script.specs.Calls.{IsVoteOf, IsCallOf, is_good, proposal_for, subject_for};
 ghost use Rattle.batcher_script.specs.Commands.{is_among};
-ghost use Rattle.batcher_script.specs.declared.script.Signature.TheVariants.{Good as GoodSignature};
 
 use crate::script::{Ballot, Command, Signature};
 use batcher::messages::{
@@ -28,7 +30,10 @@ pub trait TestScheme: Scheme<Sha256Digest, PublicKey = Name, Signature = [u8; 32
     /// The attestation of any index.
     fn sign(&self, signer: Participant, subject: Subject<Sha256Digest>) -> Attestation<[u8; 32]>
         ensures signer { result.signer ≡ signer }
-        ensures attests { signer.0 < length (Self.meaning self.now).participants → (Self.meaning self.now).attests subject result ≡ true };
+        ensures attests { (other : TheAttestation (List ℕ)) → other.signer ≡ signer
+            → (Self.meaning self.now).attests subject other
+            ≡ (nat_lt signer.0 (length (Self.meaning self.now).participants)
+            && same_bytes other.signature result.signature) };
 }
 
 impl<const BATCHABLE: bool> TestScheme for Keyed<BATCHABLE> {
@@ -79,7 +84,7 @@ pub fn calls_of<S: TestScheme>(
     requires some { 1 ≤ length (S.meaning scheme.now).participants }
     requires few { length (S.meaning scheme.now).participants ≤ 1000 }
     requires among { AllPass (is_among (length (S.meaning scheme.now).participants)) commands.now }
-    ensures each { IfOk result (λ calls. AllZip (IsCallOf round) commands.now calls.items) }
+    ensures each { IfOk result (λ calls. AllZip (IsCallOf (S.meaning scheme.now) round) commands.now calls.items) }
     ensures may { IfOk result (λ calls. All (MayCall (S.meaning scheme.now) round) calls.items) }
 {
     let mut calls = Vec::with_capacity(alloc, commands.len())?;
@@ -98,7 +103,7 @@ fn call<S: TestScheme>(
     requires some { 1 ≤ length (S.meaning scheme.now).participants }
     requires few { length (S.meaning scheme.now).participants ≤ 1000 }
     requires among { is_among (length (S.meaning scheme.now).participants) command ≡ true }
-    ensures each { IfOk result (IsCallOf round command) }
+    ensures each { IfOk result (IsCallOf (S.meaning scheme.now) round command) }
     ensures may { IfOk result (MayCall (S.meaning scheme.now) round) }
 {
     Ok(match command {
@@ -153,9 +158,7 @@ fn vote<S: TestScheme>(
     ballot: Ballot,
     signature: Signature,
 ) -> Vote<[u8; 32], Sha256Digest>
-    ensures signer { signer_of result ≡ signer.0 }
-    ensures subject { subject_of result ≡ subject_for round ballot }
-    ensures attests { signature ≡ GoodSignature → signer.0 < length (S.meaning scheme.now).participants → (S.meaning scheme.now).attests (subject_of result) (attestation_of result) ≡ true }
+    ensures { IsVoteOf (S.meaning scheme.now) round signer.0 ballot signature result }
 {
     let subject = subject(round, ballot);
     let attestation = attestation(scheme, signer, subject, signature);
@@ -179,13 +182,26 @@ fn attestation<S: TestScheme>(
     signature: Signature,
 ) -> Attestation<[u8; 32]>
     ensures signer { result.signer ≡ signer }
-    ensures attests { signature ≡ GoodSignature → signer.0 < length (S.meaning scheme.now).participants → (S.meaning scheme.now).attests subject result ≡ true }
+    ensures signed { (S.meaning scheme.now).attests subject result
+        ≡ (is_good signature && nat_lt signer.0 (length (S.meaning scheme.now).participants)) }
 {
-    let mut attestation = scheme.sign(signer, subject);
-    if signature == Signature::Bad {
-        attestation.signature[0] ^= 1;
+    let attestation = scheme.sign(signer, subject);
+    match signature {
+        Signature::Good => attestation,
+        Signature::Bad => Attestation {
+            signer,
+            signature: with_a_bit_flipped(attestation.signature),
+        },
     }
-    attestation
+}
+
+// Another text of bytes.
+fn with_a_bit_flipped(bytes: [u8; 32]) -> [u8; 32]
+    ensures { same_bytes result bytes ≡ false }
+{
+    let mut flipped = bytes;
+    flipped[0] ^= 1;
+    flipped
 }
 
 // The certificate of the first participants that are a quorum.
@@ -197,7 +213,8 @@ fn certificate<S: TestScheme>(
 ) -> Result<Certificate<S::Certificate, Sha256Digest>, AllocError>
     requires some { 1 ≤ length (S.meaning scheme.now).participants }
     requires few { length (S.meaning scheme.now).participants ≤ 1000 }
-    ensures { IfOk result (λ certificate. subject_certified certificate ≡ subject_for round ballot) }
+    ensures subject { IfOk result (λ certificate. subject_certified certificate ≡ subject_for round ballot) }
+    ensures certifies { IfOk result (λ certificate. certifies_itself (S.meaning scheme.now) certificate ≡ true) }
 {
     let subject = subject(round, ballot);
     let attestations = quorum_of(alloc, scheme, subject)?;

@@ -14,6 +14,7 @@ use batcher::run::{Answer, Call, Ran, blocked, run};
 use batcher::scheme::{Counter, Keyed, Name, Sealed};
 use batcher::votes::Mode;
 use std::alloc::{AllocError, Global};
+use std::collections::BTreeSet;
 use std::io::{ErrorKind, Read, Write};
 use std::rc::Rc;
 
@@ -157,7 +158,9 @@ fn answer_all<S: TestScheme>(
     Ok(Answered { calls, answers })
 }
 
-/// Prints the answers up to the first for want of memory.
+/// Prints the answers up to the first for want of memory, and after so many of them as a question
+/// says who is blocked by then. Senders are gathered from question to question, so that many
+/// questions cost no more than their own lines.
 fn print_answers<S: TestScheme, W: Write>(
     alloc: Global,
     opening: &Opening,
@@ -168,28 +171,32 @@ fn print_answers<S: TestScheme, W: Write>(
     requires { list_all (is_among opening.now.participants) commands.now ≡ true }
 {
     let answered = answer_all::<S>(alloc, opening, commands)?;
-    let calls = answered.calls.as_slice();
-    let answers = answered.answers.as_slice();
-    for (place, answer) in answers.iter().enumerate() {
-        print_blocked(alloc, calls, &answers[..place], questions, output)?;
-        print_answer(answer, output)?;
+    let mut calls = answered.calls.as_slice();
+    let mut answers = answered.answers.as_slice();
+    let mut printed = 0;
+    let mut senders = BTreeSet::new(alloc);
+    for question in questions {
+        let more = question.saturating_sub(printed).min(answers.len());
+        let (asked, later) = answers.split_at(more);
+        print_each(asked, output)?;
+        let (made, after) = calls.split_at(more.min(calls.len()));
+        for sender in blocked(alloc, made, asked)?.as_slice() {
+            senders.insert(*sender).map_err(|_| Stop::OutOfMemory)?;
+        }
+        output.print(format_args!("blocked: {}", AsText(&senders)))?;
+        calls = after;
+        answers = later;
+        printed = *question;
     }
-    print_blocked(alloc, calls, answers, questions, output)
+    print_each(answers, output)
 }
 
-/// Prints who is blocked by these answers, once for each question that stands behind as many.
-fn print_blocked<G: Drop, C: Drop, W: Write>(
-    alloc: Global,
-    calls: &[Call<Name, G, C, Sha256Digest>],
+fn print_each<G: Drop, C: Drop, W: Write>(
     answers: &[Answer<G, C, Sha256Digest>],
-    questions: &[usize],
     output: &mut Output<W>,
 ) -> Result<(), Stop> {
-    for question in questions {
-        if *question == answers.len() {
-            let senders = blocked(alloc, calls, answers)?;
-            output.print(format_args!("blocked: {}", AsText(&senders.as_slice())))?;
-        }
+    for answer in answers {
+        print_answer(answer, output)?;
     }
     Ok(())
 }

@@ -9,6 +9,7 @@ use batcher::scheme::Name;
 use batcher::verifier::Batch;
 use batcher::votes::Outcome;
 use std::alloc::Global;
+use std::collections::BTreeSet;
 use std::fmt;
 use std::io::Write;
 
@@ -80,6 +81,19 @@ impl<T: Text> Text for Option<T> {
 }
 
 impl<T: Text> Text for &[T] {
+    fn write<W: fmt::Write>(&self, f: &mut fmt::Formatter<W>) -> fmt::Result {
+        write!(f, "[")?;
+        for (place, item) in self.iter().enumerate() {
+            if place > 0 {
+                write!(f, ", ")?;
+            }
+            item.write(f)?;
+        }
+        write!(f, "]")
+    }
+}
+
+impl<T: Text + Ord> Text for BTreeSet<T> {
     fn write<W: fmt::Write>(&self, f: &mut fmt::Formatter<W>) -> fmt::Result {
         write!(f, "[")?;
         for (place, item) in self.iter().enumerate() {

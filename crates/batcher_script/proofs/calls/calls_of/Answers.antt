@@ -28,7 +28,7 @@ loop-command-preserved g c =
     let items = c.loop-command.calls.items in
     record {
       may = rw pushed (All-push (MayCall (g.S.Scheme.meaning c.args.scheme.now) c.args.round) items _ inv.may c.in_ok-call.ensures.may);
-      each = rw (pushed, add-one) (zip_more (IsCallOf c.args.round) c.args.commands.now items c.loop-command.command-index _ _ c.loop-command-test.true inv.each c.in_ok-call.ensures.each);
+      each = rw (pushed, add-one) (zip_more (IsCallOf (g.S.Scheme.meaning c.args.scheme.now) c.args.round) c.args.commands.now items c.loop-command.command-index _ _ c.loop-command-test.true inv.each c.in_ok-call.ensures.each);
       told = ap length pushed ∙ length-append items (_ ∷ []) ∙ ap (λ n. n + 1) inv.told;
       room = rw c.push_reserved.ensures.capacity inv.room;
     }

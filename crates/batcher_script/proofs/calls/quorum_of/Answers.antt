@@ -1,9 +1,11 @@
-use Rattle.std.proofs.Common.{◌≡◌, ◌<◌, ◌≤◌, ◌+◌, ◌==◌, ◌∙◌, ◌++◌, ◌∷◌, [], ℕ, Bool, true, false, cond, All, List, length, ap, sym, refl, arith, length-append}
+use Rattle.std.proofs.Common.{◌&&◌, nat_lt, ◌≡◌, ◌<◌, ◌≤◌, ◌+◌, ◌==◌, ◌∙◌, ◌++◌, ◌∷◌, [], ℕ, Bool, true, false, cond, All, List, length, ap, sym, refl, arith, length-append}
 use Rattle.std.proofs.lemmas.Bool.Decides.{nat_tests}
 use Rattle.std.proofs.lemmas.List.Elements.{All-head, All-tail, All-push}
 use Rattle.batcher.specs.Lists.{count, EachOnce}
 use Rattle.batcher.specs.Attestations.{index_of_signer}
 use Rattle.batcher.proofs.Counts.{count-append}
+use Rattle.batcher.specs.Hashed.{same_bytes}
+use Rattle.batcher_script.proofs.Signing.{same_itself}
 use Rattle.batcher_script.proofs.calls.quorum_of.Goals as goal
 
 module _ {X : Type 0} (number : X → ℕ) where
@@ -33,7 +35,12 @@ loop-index-preserved g c =
     let test = c.loop-index-test.true in
     let within : c.loop-index.index < length (g.S.Scheme.meaning c.args.scheme.now).participants = omega (arith, inv.end, test) in
     let own : index_of_signer c.sign.result ≡ c.loop-index.index = ap (λ p. p.0) (c.sign.ensures.signer) ∙ c.new.ensures in
-    let attested = c.sign.ensures.attests (rw c.new.ensures within) in
+    let below : nat_lt c.new.result.0 (length (g.S.Scheme.meaning c.args.scheme.now).participants) ≡ true =
+    rw c.new.ensures (grind (arith, nat_tests, within)) in
+    let attested =
+    c.sign.ensures.attests c.sign.result c.sign.ensures.signer
+    ∙ ap (λ b. b && same_bytes c.sign.result.signature c.sign.result.signature) below
+    ∙ same_itself c.sign.result.signature in
     record {
       end = inv.end;
       told = rw c.in_ok-push.ensures.items (omega (arith, length-append items (c.sign.result ∷ []), inv.told));
