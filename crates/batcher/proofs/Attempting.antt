@@ -84,7 +84,7 @@ module _ {D K G C : Type 0} (x : Setting D K G C) where
       none_tried : votes_checked (quorum_in x) verified pending ≡ []
       none_tried = rw (le-leb (quorum_in x) (length verified) enough) refl
 
-abbrev kind_in : {D : Type 0} → Subject D → Kind
+abbrev pub kind_in : {D : Type 0} → Subject D → Kind
 kind_in (NotarizeSubject p) = Notarization
 kind_in (NullifySubject r) = Nullification
 kind_in (FinalizeSubject p) = Finalization
@@ -133,7 +133,7 @@ chosen r false false true k ea eb ec h = let e : Finalization ≡ k = cc in subs
 chosen r false false false k ea eb ec h = cc
 
 module _ {D K G C : Type 0} (x : Setting D K G C) where
-  kind_of_vote : (v : Vote G D) → kind_in (subject_of v) ≡ kind_of v
+  pub kind_of_vote : (v : Vote G D) → kind_in (subject_of v) ≡ kind_of v
   kind_of_vote (NotarizeVote v) = refl
   kind_of_vote (NullifyVote v) = refl
   kind_of_vote (FinalizeVote v) = refl

@@ -63,7 +63,7 @@ all_among test (j ∷ signers) each =
     (all_among test signers (λ i among. each i (or_right (eqb j.0 i) (is_among i (map (λ l. l.0) signers)) among)))
 
 -- a weaker test of a value that is there
-some_more : {X : Type 0} (p q : X → Bool) → ((v : X) → p v ≡ true → q v ≡ true) → (o : Option X) → is_some_and o p ≡ true → is_some_and o q ≡ true
+pub some_more : {X : Type 0} (p q : X → Bool) → ((v : X) → p v ≡ true → q v ≡ true) → (o : Option X) → is_some_and o p ≡ true → is_some_and o q ≡ true
 some_more p q more None h = h
 some_more p q more (Some v) h = more v h
 

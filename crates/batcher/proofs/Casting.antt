@@ -40,7 +40,7 @@ use Rattle.batcher.proofs.Returning.{returned_fixed, nothing_comes}
 
 module _ {D K G C : Type 0} (x : Setting D K G C) where
   -- WHICH VOTES ARE ADDED
-  unopposed : (past : History D K G C) (opposite : Option (Vote G D)) (vote : Vote G D) (outcome : Outcome) → own_answer_against x past opposite vote ≡ Ok outcome → opposite ≡ None
+  pub unopposed : (past : History D K G C) (opposite : Option (Vote G D)) (vote : Vote G D) (outcome : Outcome) → own_answer_against x past opposite vote ≡ Ok outcome → opposite ≡ None
   unopposed past None vote outcome h = refl
   unopposed past (Some earlier) vote outcome h = absurd (cc)
 

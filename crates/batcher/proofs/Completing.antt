@@ -24,7 +24,7 @@ use Rattle.batcher.proofs.Ready.{tried_is_ready}
 use Rattle.batcher.proofs.ValidQuorums.{valid_quorum_ready}
 
 -- where no kind is chosen, none passes
-unchosen : (r : Kind → Bool) (a b c : Bool) → r Notarization ≡ a → r Nullification ≡ b → r Finalization ≡ c →
+pub unchosen : (r : Kind → Bool) (a b c : Bool) → r Notarization ≡ a → r Nullification ≡ b → r Finalization ≡ c →
     cond a (Some Notarization) (cond b (Some Nullification) (cond c (Some Finalization) None)) ≡ None → (kind : Kind) → r kind ≡ false
 unchosen r true b c ea eb ec none kind = absurd (cc)
 unchosen r false true c ea eb ec none kind = absurd (cc)
@@ -45,7 +45,7 @@ module _ {D K G C : Type 0} where
   last_constructs n (MissingCall p, answer) past ends = absurd (true≢false (sym ends))
 
   -- A construction is answered a batch or none.
-  construct_answered : (x : Setting D K G C) (past : History D K G C) (answer : Answer G C D) → MayAnswer x past ConstructCall answer → (P : Answer G C D → Type 0) →
+  pub construct_answered : (x : Setting D K G C) (past : History D K G C) (answer : Answer G C D) → MayAnswer x past ConstructCall answer → (P : Answer G C D → Type 0) →
       ((given : Option (Batch (Certificate C D))) → MayAnswer x past ConstructCall (ConstructAnswer given) → P (ConstructAnswer given)) → P answer
   construct_answered x past (ConstructAnswer given) may P holds = holds given may
   construct_answered x past (NetworkAnswer a) may P holds = absurd may

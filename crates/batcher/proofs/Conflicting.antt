@@ -32,7 +32,7 @@ use Rattle.batcher.proofs.Taking.{free_is}
 use Rattle.batcher.proofs.Refusing.{refused_blocks, cast_uncertified, conflicting_refused, first_if_free, like_at, first_before}
 
 -- what passes a filter and a test is among the filtered ones that pass the test
-any_in_filtered : {X : Type 0} (p q : X → Bool) (vs : List X) → list_any (λ v. q v && p v) vs ≡ true → list_any p (filter q vs) ≡ true
+pub any_in_filtered : {X : Type 0} (p q : X → Bool) (vs : List X) → list_any (λ v. q v && p v) vs ≡ true → list_any p (filter q vs) ≡ true
 any_in_filtered p q [] h = h
 any_in_filtered {X = X} p q (v ∷ vs) h = by_mark (q v) h (any_in_filtered p q vs)
   where

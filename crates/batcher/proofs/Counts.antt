@@ -130,3 +130,13 @@ first_only xs ys none = append-nil (xs ++ ys) ∙ (ap (λ zs. xs ++ zs) none ∙
 
 pub filter_behind : {X : Type 0} (p : X → Bool) (xs ys zs : List X) → filter p ys ≡ filter p zs → filter p (xs ++ ys) ≡ filter p (xs ++ zs)
 filter_behind p xs ys zs same = filter-append p xs ys ∙ (ap (λ vs. filter p xs ++ vs) same ∙ sym (filter-append p xs zs))
+
+-- A mark counts once at most, and a stronger test passes no more often.
+pub at_most_one : (b : Bool) → cond b 1 0 ≤ 1
+at_most_one true = omega arith
+at_most_one false = omega arith
+
+pub count_mono : {X : Type 0} (p q : X → Bool) (xs : List X)
+    → ((v : X) → cond (p v) 1 0 ≤ cond (q v) 1 0) → count p xs ≤ count q xs
+count_mono p q [] fewer = omega arith
+count_mono p q (x ∷ xs) fewer = omega (arith, fewer x, count_mono p q xs fewer)

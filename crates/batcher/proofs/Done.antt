@@ -71,7 +71,7 @@ module _ {D K G C : Type 0} (x : Setting D K G C) where
   kinds_done past = one_if (is_done past Notarization) + (one_if (is_done past Nullification) + one_if (is_done past Finalization))
 
   -- what is ready isn't done
-  ready_not_done : (past : History D K G C) (kind : Kind) → is_ready_by x (trials x past) past kind ≡ true → is_done past kind ≡ false
+  pub ready_not_done : (past : History D K G C) (kind : Kind) → is_ready_by x (trials x past) past kind ≡ true → is_done past kind ≡ false
   ready_not_done past kind ready =
       done_table (is_certified past kind) (nat_le (quorum_in x) (length (proven_votes x past kind))) (nat_lt 0 (length (fresh_votes x past kind))) (have_one_subject x.same_digest (proven_votes x past kind))
       (not x.meaning.batchable || nat_le (quorum_in x) (length (proven_votes x past kind) + length (fresh_votes x past kind))) (has_proposals kind && is_none (selected_proposal x past)) ready
@@ -93,7 +93,7 @@ module _ {D K G C : Type 0} (x : Setting D K G C) where
       each Finalization = three.2
 
   -- where it isn't certified, by how many votes are left
-  done_if : (past : History D K G C) (kind : Kind) → (is_certified past kind ≡ false → length (proven_votes x past kind) < quorum_in x) → (is_certified past kind ≡ false → length (fresh_votes x past kind) ≤ 0) → is_done past kind ≡ true
+  pub done_if : (past : History D K G C) (kind : Kind) → (is_certified past kind ≡ false → length (proven_votes x past kind) < quorum_in x) → (is_certified past kind ≡ false → length (fresh_votes x past kind) ≤ 0) → is_done past kind ≡ true
   done_if past kind few none =
       ⊎_elim
       (λ certified. or_left (is_certified past kind) _ certified)

@@ -7,15 +7,21 @@ use Rattle.batcher.specs.Setting.{Setting}
 use Rattle.batcher.specs.Held.{Held}
 use Rattle.batcher.specs.Steps.{nothing_held}
 use Rattle.batcher.specs.Runs.{Steps, Runs}
-use Rattle.batcher.specs.History.{history}
-use Rattle.batcher.specs.Answers.{IsAnswered, AreAnswered}
+use Rattle.batcher.specs.History.{History, history}
+use Rattle.batcher.specs.Answers.{IsPossible, IsAnswered, AreAnswered}
 use Rattle.batcher.specs.Stands.{Stands, Meets}
-use Rattle.batcher.specs.Ran.{IsRun}
+use Rattle.batcher.specs.Ran.{IsPromised, IsRun}
 use Rattle.batcher.proofs.Laws.{HasLaws}
 use Rattle.batcher.proofs.Fresh.{fresh_stands}
 use Rattle.batcher.proofs.Histories.{meets_stands, history-push, answered-push}
 use Rattle.batcher.proofs.Running.{Runs-push}
 use Rattle.batcher.proofs.Promising.{promised}
+use Rattle.batcher.proofs.Agreeing.{gives_safely}
+use Rattle.batcher.proofs.Prompting.{gives_promptly}
+use Rattle.batcher.proofs.Blocking.{blocks_justly}
+use Rattle.batcher.proofs.Reporting.{reports_truly}
+use Rattle.batcher.proofs.Honesty.{takes_in_honest}
+use Rattle.batcher.proofs.Flooding.{flood_bounded}
 use Rattle.batcher.proofs.Composing.{holds_throughout}
 use Rattle.batcher.proofs.ByDefinition.{follows_by_definition}
 
@@ -41,13 +47,25 @@ module _ {D K G C : Type 0} (x : Setting D K G C) where
         answered = answered-push x [] calls answers call answer goes.answered answered;
       }
 
+  is_promised : HasLaws x → (past : History D K G C) → IsPossible x past → IsPromised x past
+  is_promised laws past possible =
+      record {
+        promises = promised x laws past possible;
+        gives_safely = gives_safely x laws past possible;
+        gives_promptly = gives_promptly x laws past possible;
+        blocks_justly = blocks_justly x laws past possible;
+        reports_truly = reports_truly x past possible;
+        takes_in_honest = takes_in_honest x laws past possible;
+        flood_bounded = flood_bounded x laws past possible;
+      }
+
   pub goes_to : HasLaws x → (before : Stream) (calls : List (Call K G C D)) (answers : List (Answer G C D)) (held : Held G D) (after : Stream) → Goes x before calls answers held after → IsRun x before calls answers held after
   goes_to laws before calls answers held after goes =
       record {
         runs = goes.runs;
         stands = goes.stands;
         answered = goes.answered;
-        promises = promised x laws (history calls answers) goes.stands.possible;
+        promised = is_promised laws (history calls answers) goes.stands.possible;
         throughout = holds_throughout x laws calls answers goes.answered goes.stands.possible;
         follows = follows_by_definition x laws (history calls answers);
         some_participant = laws.some_participant;

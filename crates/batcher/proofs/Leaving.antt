@@ -63,7 +63,7 @@ module _ {D K G C : Type 0} (x : Setting D K G C) where
       never_both false = refl
 
   -- each vote that an attempt looks at waits
-  looked_wait : (past : History D K G C) (kind : Kind) (batch : Batch (Certificate C D)) (after : AttemptAfter x past kind batch) →
+  pub looked_wait : (past : History D K G C) (kind : Kind) (batch : Batch (Certificate C D)) (after : AttemptAfter x past kind batch) →
       count (λ v. not (waits x.same_digest (selected_proposal x past) v)) (after.verified ++ votes_checked (quorum_in x) after.verified after.pending) ≡ 0
   looked_wait past kind batch after =
       none_more (count-append t after.verified (votes_checked (quorum_in x) after.verified after.pending))
@@ -79,7 +79,7 @@ module _ {D K G C : Type 0} (x : Setting D K G C) where
       none_more a b d e g h i = omega (arith, a, b, d, e, g, h, i)
 
   -- what a waiting vote carries is the selected proposal, where one is selected
-  waiting_evidence : HasLaws x → (past : History D K G C) (v : Vote G D) → waits x.same_digest (selected_proposal x past) v ≡ true → IsEvidence x past (proposal_in (subject_of v))
+  pub waiting_evidence : HasLaws x → (past : History D K G C) (v : Vote G D) → waits x.same_digest (selected_proposal x past) v ≡ true → IsEvidence x past (proposal_in (subject_of v))
   waiting_evidence lawful past v = by_selected (selected_proposal x past) v
     where
       by_selected : (o : Option (Proposal D)) (u : Vote G D) → waits x.same_digest o u ≡ true →

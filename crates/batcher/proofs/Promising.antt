@@ -20,7 +20,7 @@ use Rattle.batcher.specs.declared.run.Answer.{Answer}
 use Rattle.batcher.specs.declared.run.Answer.TheVariants.{OutOfMemory, Network as NetworkAnswer, Own as OwnAnswer, OwnRefused, Certificate as CertificateAnswer, Leader as LeaderAnswer, Construct as ConstructAnswer, Forward as ForwardAnswer, Missing as MissingAnswer}
 use Rattle.batcher.specs.Setting.{Setting, sender_in}
 use Rattle.batcher.specs.Lists.{is_some_and}
-use Rattle.batcher.specs.Votes.{is_kind, kind_of, signer_of, is_vote_of, are_opposite, excludes, opposes, same_proposal}
+use Rattle.batcher.specs.Votes.{is_kind, kind_of, signer_of, subject_of, round_in, is_vote_of, are_opposite, excludes, opposes, same_proposal}
 use Rattle.batcher.specs.Tracking.{is_released_in}
 use Rattle.batcher.specs.Admissions.{same_vote, refusal, mismatch_reason, block_for, admission_after, admission_after_facts, admission_beside}
 use Rattle.batcher.specs.History.{Event, History, names_sender, cast_votes, batch_given}
@@ -147,7 +147,7 @@ module _ {D K G C : Type 0} (x : Setting D K G C) where
   by_first_contradicts laws past vote (Some seen) true true e c h = conflict_contradicts laws past vote c
   by_first_contradicts laws past vote (Some seen) true false e c h = absurd (false≢true h)
 
-  against_contradicts : HasLaws x → (past : History D K G C) (vote : Vote G D) (opposite : Option (Vote G D)) → opposite_vote x past vote ≡ opposite →
+  pub against_contradicts : HasLaws x → (past : History D K G C) (vote : Vote G D) (opposite : Option (Vote G D)) → opposite_vote x past vote ≡ opposite →
       is_some (admission_against x past opposite vote).block ≡ true → list_any (λ v. contradicts x v vote) (votes_cast x past) ≡ true
   against_contradicts laws past vote (Some earlier) e h =
       let opposed : opposes earlier vote ≡ true = found_passes (λ v. opposes v vote) (first_votes x past) earlier e in
@@ -254,27 +254,34 @@ module _ {D K G C : Type 0} (x : Setting D K G C) (holds : History D K G C → T
   at_each_time [] possible = each [] possible
   at_each_time (event ∷ past) possible = (each (event ∷ past) possible, at_each_time past possible.1.1.1)
 
--- and at each network vote
+-- at each network vote, which is of this round,
+module _ {D K G C : Type 0} (x : Setting D K G C) (holds : History D K G C → K → Vote G D → Admission G D → Type 0)
+    (named : (past : History D K G C) (sender : K) (vote : Vote G D) → IsPossible x past →
+    round_in (subject_of vote) ≡ x.number → holds past sender vote (network_answer x past sender vote)) where
+  pub at_each_allowed : (past : History D K G C) → IsPossible x past → AtEachVote holds past
+  at_each_allowed [] possible = tt
+  at_each_allowed ((NetworkCall sender vote, NetworkAnswer admission) ∷ past) possible =
+      (subst (λ (a : Admission G D). holds past sender vote a) (sym possible.1.1.0) (named past sender vote possible.1.1.1 possible.0), at_each_allowed past possible.1.1.1)
+  at_each_allowed ((NetworkCall sender vote, OwnAnswer outcome report) ∷ past) possible = at_each_allowed past possible.1.1.1
+  at_each_allowed ((NetworkCall sender vote, OwnRefused fault) ∷ past) possible = at_each_allowed past possible.1.1.1
+  at_each_allowed ((NetworkCall sender vote, CertificateAnswer changed) ∷ past) possible = at_each_allowed past possible.1.1.1
+  at_each_allowed ((NetworkCall sender vote, LeaderAnswer result) ∷ past) possible = at_each_allowed past possible.1.1.1
+  at_each_allowed ((NetworkCall sender vote, ConstructAnswer batch) ∷ past) possible = at_each_allowed past possible.1.1.1
+  at_each_allowed ((NetworkCall sender vote, ForwardAnswer proposal) ∷ past) possible = at_each_allowed past possible.1.1.1
+  at_each_allowed ((NetworkCall sender vote, MissingAnswer missing) ∷ past) possible = at_each_allowed past possible.1.1.1
+  at_each_allowed ((NetworkCall sender vote, OutOfMemory) ∷ past) possible = at_each_allowed past possible.1.1.1
+  at_each_allowed ((OwnCall vote, answer) ∷ past) possible = at_each_allowed past possible.1.1.1
+  at_each_allowed ((CertificateCall certificate, answer) ∷ past) possible = at_each_allowed past possible.1.1.1
+  at_each_allowed ((LeaderCall leader, answer) ∷ past) possible = at_each_allowed past possible.1.1.1
+  at_each_allowed ((ConstructCall, answer) ∷ past) possible = at_each_allowed past possible.1.1.1
+  at_each_allowed ((ForwardCall me, answer) ∷ past) possible = at_each_allowed past possible.1.1.1
+  at_each_allowed ((MissingCall p, answer) ∷ past) possible = at_each_allowed past possible.1.1.1
+
+-- and at each whatever round it is of
 module _ {D K G C : Type 0} (x : Setting D K G C) (holds : History D K G C → K → Vote G D → Admission G D → Type 0)
     (named : (past : History D K G C) (sender : K) (vote : Vote G D) → holds past sender vote (network_answer x past sender vote)) where
   pub at_each_vote : (past : History D K G C) → IsPossible x past → AtEachVote holds past
-  at_each_vote [] possible = tt
-  at_each_vote ((NetworkCall sender vote, NetworkAnswer admission) ∷ past) possible =
-      (subst (λ (a : Admission G D). holds past sender vote a) (sym possible.1.1.0) (named past sender vote), at_each_vote past possible.1.1.1)
-  at_each_vote ((NetworkCall sender vote, OwnAnswer outcome report) ∷ past) possible = at_each_vote past possible.1.1.1
-  at_each_vote ((NetworkCall sender vote, OwnRefused fault) ∷ past) possible = at_each_vote past possible.1.1.1
-  at_each_vote ((NetworkCall sender vote, CertificateAnswer changed) ∷ past) possible = at_each_vote past possible.1.1.1
-  at_each_vote ((NetworkCall sender vote, LeaderAnswer result) ∷ past) possible = at_each_vote past possible.1.1.1
-  at_each_vote ((NetworkCall sender vote, ConstructAnswer batch) ∷ past) possible = at_each_vote past possible.1.1.1
-  at_each_vote ((NetworkCall sender vote, ForwardAnswer proposal) ∷ past) possible = at_each_vote past possible.1.1.1
-  at_each_vote ((NetworkCall sender vote, MissingAnswer missing) ∷ past) possible = at_each_vote past possible.1.1.1
-  at_each_vote ((NetworkCall sender vote, OutOfMemory) ∷ past) possible = at_each_vote past possible.1.1.1
-  at_each_vote ((OwnCall vote, answer) ∷ past) possible = at_each_vote past possible.1.1.1
-  at_each_vote ((CertificateCall certificate, answer) ∷ past) possible = at_each_vote past possible.1.1.1
-  at_each_vote ((LeaderCall leader, answer) ∷ past) possible = at_each_vote past possible.1.1.1
-  at_each_vote ((ConstructCall, answer) ∷ past) possible = at_each_vote past possible.1.1.1
-  at_each_vote ((ForwardCall me, answer) ∷ past) possible = at_each_vote past possible.1.1.1
-  at_each_vote ((MissingCall p, answer) ∷ past) possible = at_each_vote past possible.1.1.1
+  at_each_vote = at_each_allowed x holds (λ past sender vote _ _. named past sender vote)
 
 module _ {D K G C : Type 0} (x : Setting D K G C) where
   accepted_exactly : (past : History D K G C) → IsPossible x past → AtEachVote (IsAcceptedExactly x) past

@@ -33,7 +33,7 @@ all_left : {X : Type 0} (p : X → Bool) (b : Bool) (xs : List X) → AllPass p 
 all_left p true xs h = none_at_all p
 all_left p false xs h = h
 
-fewer_left : {X : Type 0} (test p : X → Bool) (b : Bool) (xs : List X) → count test (cond b [] (filter p xs)) ≤ count test xs
+pub fewer_left : {X : Type 0} (test p : X → Bool) (b : Bool) (xs : List X) → count test (cond b [] (filter p xs)) ≤ count test xs
 fewer_left test p true xs = omega arith
 fewer_left test p false xs = count-filter_le test p xs
 

@@ -1,7 +1,7 @@
 -- What answers tell: which votes were added, which conflict with another, and what is selected where a
 -- proposal is given, handed on or recorded.
 use Rattle.std.proofs.Common.{inl, inr, ◌≡◌, ◌≢◌, ◌⊎◌, Bool, true, false, not, cond, ◌&&◌, ◌||◌, List, [], ◌∷◌, ◌++◌, Option, Some, None, Result, Ok, Err, refl, ap, sym, ◌∙◌, eqb, subst}
-use Rattle.std.specs.Prelude.{is_none, IfSome, filter, option_and_then}
+use Rattle.std.specs.Prelude.{is_none, IfSome, filter}
 use Rattle.std.specs.Option.{option_or}
 use Rattle.std.specs.List.{list_any}
 use Rattle.std.proofs.lemmas.Bool.{and_from, false≢true}
@@ -39,8 +39,8 @@ use Rattle.batcher.specs.Admissions.{same_vote, refusal, block_for, mismatch_rea
 use Rattle.batcher.specs.Steps.{is_added, is_participant, opposite_fault, duplicate_result, unopposed_result}
 use Rattle.batcher.specs.History.{Event, History, names_sender, cast_votes, batch_given, certificate_given, history_after}
 use Rattle.batcher.specs.FirstVotes.{first_votes, first_like, is_free, opposite_vote}
-use Rattle.batcher.specs.Selection.{selection, selection_by, selected_proposal, fixed_proposal, leaders_proposal, leader_of, was_forwarded}
-use Rattle.batcher.specs.Selection.{finalized_by, fixing_evidence, certificate_of, is_released}
+use Rattle.batcher.specs.Selection.{selection, selected_proposal, leader_of, was_forwarded}
+use Rattle.batcher.specs.Selection.{is_released}
 use Rattle.batcher.specs.Comparison.{conflicts}
 use Rattle.batcher.specs.Answers.{network_answer, admission_sent_by, admission_against, admission_by_first, outcome_by_first, own_answer_against}
 use Rattle.batcher.specs.Answers.{certificate_answer, MayAnswer, IsPossible, IsAnswered, AreAnswered}
@@ -309,14 +309,7 @@ batch_with (MissingAnswer a) c h = absurd (cc)
 batch_with OutOfMemory c h = absurd (cc)
 
 module _ {D : Type 0} where
-  -- what is fixed by evidence for the selected proposal, and what is selected with it
-  fixed_after : (fixed leaders after : Option (Proposal D)) (p : Proposal D)
-      → (proposal_of (selection_by fixed leaders) ≡ None) ⊎ (proposal_of (selection_by fixed leaders) ≡ Some p)
-      → selection_by (option_or fixed (Some p)) after ≡ FixedProposal p
-  fixed_after None leaders after p h = refl
-  fixed_after (Some f) leaders after p (inl h) = absurd (cc)
-  fixed_after (Some f) leaders after p (inr h) = ap FixedProposal (same_Some f p h)
-
+  -- what is selected, or else the proposal, is the proposal
   selected_or : (o : Option (Proposal D)) (p : Proposal D) → (o ≡ None) ⊎ (o ≡ Some p) → option_or o (Some p) ≡ Some p
   selected_or o p (inl h) = ap (λ s. option_or s (Some p)) h
   selected_or o p (inr h) = ap (λ s. option_or s (Some p)) h
@@ -329,26 +322,18 @@ module _ {D : Type 0} where
       subst (λ (q : Proposal D). (s ≡ None) ⊎ (s ≡ Some q)) same some.1.1
 
 module _ {D K G C : Type 0} (x : Setting D K G C) where
-  -- A certificate that is given is for the selected proposal, and fixes it.
+  -- A certificate that is given is for the selected proposal.
   pub gives_selected : HasLaws x → (past : History D K G C) (event : Event D K G C)
       → IsPossible x (event ∷ past) → GivesSelected x past event
   gives_selected laws past event possible =
       if_some (certificate_given event.1)
-      (λ c. IfSome (proposal_in (subject_certified c)) (λ p.
-      (option_or (selected_proposal x past) (Some p) ≡ Some p) × (selection x (event ∷ past) ≡ FixedProposal p))) (λ c h.
-      if_some (proposal_in (subject_certified c))
-      (λ p. (option_or (selected_proposal x past) (Some p) ≡ Some p) × (selection x (event ∷ past) ≡ FixedProposal p)) (λ p is.
+      (λ c. IfSome (proposal_in (subject_certified c)) (λ p. option_or (selected_proposal x past) (Some p) ≡ Some p)) (λ c h.
+      if_some (proposal_in (subject_certified c)) (λ p. option_or (selected_proposal x past) (Some p) ≡ Some p) (λ p is.
       let b = batch_with event.1 c h in
       let made = batch_made x past event.0 event.1 b.0 possible.1.1.0 b.1 in
-      let evidence : fixing_evidence event ≡ Some p =
-      ap (λ (call : Call K G C D). option_or (finalized_by call) (option_and_then (λ d. proposal_in (subject_certified d)) (certificate_of event))) made.constructs
-      ∙ (ap (λ o. option_and_then (λ d. proposal_in (subject_certified d)) o) (made.certificate ∙ b.2) ∙ is) in
-      let selected = evidence_some (proposal_in (subject_certified c)) (selected_proposal x past) p is
-      (given_evidence x laws past made.kind b.0 c made.after b.2) in (
-        selected_or (selected_proposal x past) p selected,
-        ap (λ o. selection_by (option_or (fixed_proposal past) o) (leaders_proposal x (event ∷ past))) evidence
-            ∙ fixed_after (fixed_proposal past) (leaders_proposal x past) (leaders_proposal x (event ∷ past)) p selected,
-      )))
+      selected_or (selected_proposal x past) p
+      (evidence_some (proposal_in (subject_certified c)) (selected_proposal x past) p is
+      (given_evidence x laws past made.kind b.0 c made.after b.2))))
 
   -- What is forwarded is the selected proposal.
   unless : (b : Bool) (o : Option (Proposal D)) → IfSome (cond b None o) (λ p. o ≡ Some p)

@@ -83,10 +83,10 @@ module _ {D K G C : Type 0} (x : Setting D K G C) where
   counted_waits (Some p) v h = h
 
   -- in a skipped round none counts
-  skipped_counts : (past : History D K G C) (kind : Kind) → is_skipped x.mode ≡ true → valid_votes x past kind ≡ []
+  pub skipped_counts : (past : History D K G C) (kind : Kind) → is_skipped x.mode ≡ true → valid_votes x past kind ≡ []
   skipped_counts past kind skips = rw skips refl
 
-  count_valid : (past : History D K G C) (kind : Kind) → is_skipped x.mode ≡ false →
+  pub count_valid : (past : History D K G C) (kind : Kind) → is_skipped x.mode ≡ false →
       length (valid_votes x past kind) ≡ count (λ v. (is_of_kind kind v && is_counted x (selected_proposal x past) v) && (is_valid x v && true)) (first_votes x past)
   count_valid past kind runs =
       sym (count-true (valid_votes x past kind))

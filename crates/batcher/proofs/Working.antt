@@ -42,7 +42,7 @@ use Rattle.batcher.proofs.Finding.{any_filter}
 use Rattle.batcher.proofs.Selecting.{certified_before, comes_back_by}
 
 -- Counts over votes apart compare as they do at each vote that is found.
-counts_within : {G D : Type 0} (p q r s : Vote G D → Bool) (vs : List (Vote G D)) → AreApart vs →
+pub counts_within : {G D : Type 0} (p q r s : Vote G D → Bool) (vs : List (Vote G D)) → AreApart vs →
     ((v : Vote G D) → IsAt vs v → cond (p v) 1 0 + cond (q v) 1 0 ≤ cond (r v) 1 0 + cond (s v) 1 0) → count p vs + count q vs ≤ count r vs + count s vs
 counts_within p q r s [] apart within = omega arith
 counts_within p q r s (v ∷ vs) apart within =
@@ -56,7 +56,7 @@ one_within true false h = absurd (true≢false (sym (h refl)))
 one_within false b h = omega arith
 
 -- a test that is weaker at each vote that is found
-count_weaker : {G D : Type 0} (p q : Vote G D → Bool) (vs : List (Vote G D)) → AreApart vs → ((v : Vote G D) → IsAt vs v → p v ≡ true → q v ≡ true) → count p vs ≤ count q vs
+pub count_weaker : {G D : Type 0} (p q : Vote G D → Bool) (vs : List (Vote G D)) → AreApart vs → ((v : Vote G D) → IsAt vs v → p v ≡ true → q v ≡ true) → count p vs ≤ count q vs
 count_weaker p q vs apart weaker =
     let none : count (λ _. false) vs ≡ 0 = count-false vs in
     let both : count p vs + count (λ _. false) vs ≤ count q vs + count (λ _. false) vs =
@@ -64,7 +64,7 @@ count_weaker p q vs apart weaker =
     omega (arith, none, both)
 
 -- and one that is at every element
-count_implied : {X : Type 0} (p q : X → Bool) (xs : List X) → ((v : X) → p v ≡ true → q v ≡ true) → count p xs ≤ count q xs
+pub count_implied : {X : Type 0} (p q : X → Bool) (xs : List X) → ((v : X) → p v ≡ true → q v ≡ true) → count p xs ≤ count q xs
 count_implied p q [] weaker = omega arith
 count_implied p q (v ∷ vs) weaker =
     let here : cond (p v) 1 0 ≤ cond (q v) 1 0 = one_within (p v) (q v) (weaker v) in
@@ -92,7 +92,7 @@ processed_none {C = C} {D = D} answer none = ap (λ o. option_map_or (λ (b : Ba
 module _ {D K G C : Type 0} (x : Setting D K G C) where
   -- WHAT WAS WORKED ON
   -- A vote was worked on if it stood before and isn't trusted.
-  abbrev is_worked : History D K G C → Vote G D → Bool
+  abbrev pub is_worked : History D K G C → Vote G D → Bool
   is_worked past v = stood_before (trials x past) v && not (is_trusted x past v)
 
   -- whether an event tries the vote
@@ -168,7 +168,7 @@ module _ {D K G C : Type 0} (x : Setting D K G C) where
       (worked_table (is_tried past event v) (stood_before (trials x past) v) (holds_vote (own_first_votes x past) v) (holds_vote (restored_votes x past) v) (comes_back x past event v))
 
   -- So the batches have processed no more than was worked on.
-  processed_within : (past : History D K G C) → IsPossible x past → processed_total past ≤ count (is_worked past) (first_votes x past)
+  pub processed_within : (past : History D K G C) → IsPossible x past → processed_total past ≤ count (is_worked past) (first_votes x past)
   processed_within [] possible = omega arith
   processed_within (event ∷ past) possible =
       let before : processed_total past ≤ count (is_worked past) (first_votes x past) = processed_within past possible.1.1.1 in

@@ -94,13 +94,11 @@ module _ {D K G C : Type 0} (x : Setting D K G C) where
       (λ v. is_vote_of (kind_of vote) (signer_of vote) v && carry_different x.same_digest v vote)
       (votes_cast x past) ≡ true))
 
-  -- A certificate that is given with a proposal is for the selected one, if there is any, and the
-  -- proposal is fixed from then on.
+  -- A certificate that is given with a proposal is for the selected one, if there is any.
   abbrev pub GivesSelected : History D K G C → Event D K G C → Type 0
   GivesSelected past event =
       IfSome (certificate_given event.1) (λ c. IfSome (proposal_in (subject_certified c)) (λ p.
-      (option_or (selected_proposal x past) (Some p) ≡ Some p)
-      × (selection x (event ∷ past) ≡ FixedProposal p)))
+      option_or (selected_proposal x past) (Some p) ≡ Some p))
 
   -- A proposal that is forwarded is the selected one.
   abbrev pub ForwardsSelected : History D K G C → Event D K G C → Type 0

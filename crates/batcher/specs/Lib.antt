@@ -41,3 +41,13 @@ pub mod Consequences
 pub mod Ran
 pub mod Pairs
 pub mod Examples
+pub mod Reported
+pub mod Backed
+pub mod Prompt
+pub mod Blocked
+pub mod Honest
+pub mod Flood
+pub mod Converge
+pub mod BlockExamples
+pub mod HonestExamples
+pub mod CertificateExamples

@@ -28,3 +28,7 @@ is_empty (x ∷ xs) = false
 -- the same elements, each as often, in some order
 abbrev pub SameElements : {X : Type 0} → List X → List X → Type 0
 SameElements {X} xs ys = (test : X → Bool) → count test xs ≡ count test ys
+
+-- The elements of the first list are among those of the second, each no more often.
+abbrev pub ElementsWithin : {X : Type 0} → List X → List X → Type 0
+ElementsWithin {X} xs ys = (test : X → Bool) → count test xs ≤ count test ys

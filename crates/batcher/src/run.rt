@@ -5,7 +5,6 @@ ghost use Rattle.std.specs.List.{list_any};
 ghost use Rattle.std.specs.List.Sorted.{IsStrictlySortedBy};
 ghost use Rattle.batcher.specs.Setting.{setting};
 ghost use Rattle.batcher.specs.Steps.{nothing_held};
-ghost use Rattle.batcher.specs.Examples.{WorkedExamples};
 ghost use Rattle.batcher.specs.History.{History};
 ghost use Rattle.batcher.specs.Answers.{IsAnswered};
 ghost use Rattle.batcher.specs.Stands.{Stands, Meets};
@@ -13,6 +12,7 @@ ghost use Rattle.batcher.specs.Ran.{IsRun};
 ghost use Rattle.batcher.specs.Runs.{MayCall, Steps, blocked_sender, blocked_senders};
 
 mod pair;
+mod theorems;
 
 use crate::messages::{Activity, Certificate, Digest, Proposal, Vote};
 use crate::positions::{Participant, Participants};
@@ -23,6 +23,7 @@ use crate::votes::Outcome;
 pub use pair::{PairRan, run_pair};
 use rand_core::CryptoRng;
 use std::alloc::{AllocError, Global};
+pub use theorems::{order_is_free, worked_examples};
 
 /// A call of a round, with keys `P`, signatures `G`, certificates `C` and digests `D`.
 #[derive(Debug, Drop)]
@@ -125,12 +126,6 @@ fn step<S: Scheme<D>, D: Digest, R: CryptoRng>(
         },
     }
 }
-
-/// Does nothing. Its contract is the worked examples of `docs/DEFINITIONS.md`: what histories of
-/// small rounds name as answers, computed from the definitions.
-pub fn worked_examples()
-    ensures { WorkedExamples }
-{}
 
 /// The senders that the answers block, each once, in ascending order of keys.
 ///
