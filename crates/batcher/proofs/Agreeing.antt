@@ -34,7 +34,9 @@ use Rattle.batcher.proofs.Attempting.{ready_is}
 use Rattle.batcher.proofs.NeverBoth.{never_both}
 use Rattle.batcher.proofs.Promising.{at_each_event}
 use Rattle.batcher.proofs.ByDefinition.{keeps_fixed}
-use Rattle.batcher.proofs.Backing.{if_some, is_outside, firsts_take_part, Gave, gave_in, gave, kind_enough, backed_here, given_evidence}
+use Rattle.batcher.proofs.Backing.{is_outside, firsts_take_part, Gave, gave_in, gave, kind_enough, backed_here}
+use Rattle.batcher.proofs.Told.{if_some}
+use Rattle.batcher.proofs.Leaving.{given_evidence}
 use Rattle.batcher.proofs.Overlap.{count_covers, few_distinct, quorums_overlap}
 
 -- AT EACH EVENT
@@ -71,7 +73,7 @@ module _ {D K G C : Type 0} (x : Setting D K G C) (laws : HasLaws x)
   fixes_named c given p named =
       ap (λ e. selection_by (option_or (fixed_proposal past) e) (leaders_proposal x (event ∷ past))) evidence
       ∙ fixed_then (fixed_proposal past) (leaders_proposal x past) (leaders_proposal x (event ∷ past)) (proposal_certified c) p
-      named (given_evidence x laws past possible.1.1.1 g.batch c g.gives g.after)
+      named (given_evidence x laws past (kind_certified c) g.batch c g.after g.gives)
     where
       g : Gave x past event c
       g = gave x past event laws possible c given
@@ -88,6 +90,7 @@ module _ {D K G C : Type 0} (x : Setting D K G C) (laws : HasLaws x)
       (λ c. IfSome (proposal_certified c) (λ p. selection x (event ∷ past) ≡ FixedProposal p)) (λ c given.
       if_some (proposal_certified c) (λ p. selection x (event ∷ past) ≡ FixedProposal p) (fixes_named c given))
 
+-- the certificate of a kind that an answer gives
 given_where : {G C D : Type 0} (kind : Kind) (answer : Answer G C D)
     → gives_kind kind answer ≡ true
     → (c : Certificate C D) × (certificate_given answer ≡ Some c)
@@ -167,7 +170,8 @@ module _ {D K G C : Type 0} (x : Setting D K G C) (laws : HasLaws x) where
   either_of (FinalizeVote v) = omega arith
 
   pub one_at : (past : History D K G C) (kind : Kind) (i : ℕ)
-      → count (is_vote_of kind i) (first_votes x past) ≡ cond (is_some (first_vote x past kind i)) 1 0
+      → count (is_vote_of kind i) (first_votes x past)
+      ≡ cond (is_some (first_vote x past kind i)) 1 0
   one_at past kind i =
       count_at (λ _. true) (first_votes x past) kind i (firsts_apart x past)
       ∙ ap (λ b. cond b 1 0) (always (first_vote x past kind i))
@@ -223,7 +227,7 @@ module _ {D K G C : Type 0} (x : Setting D K G C) (laws : HasLaws x) where
       )))
 
   -- ALL NAME ONE PROPOSAL
-  -- It stays fixed.
+  -- The proposal of a certificate that was given stays fixed.
   named_is_fixed : (past : History D K G C) → IsPossible x past
       → (c : Certificate C D) → IsGiven past c → (p : Proposal D) → proposal_certified c ≡ Some p
       → selection x past ≡ FixedProposal p

@@ -19,12 +19,10 @@ use Rattle.batcher.specs.declared.messages.Certificate.TheVariants.{Notarization
 use Rattle.batcher.specs.declared.verifier.Batch.{Batch}
 use Rattle.batcher.specs.declared.run.Call.{Call}
 use Rattle.batcher.specs.declared.run.Call.TheVariants.{Network as NetworkCall, Own as OwnCall, Certificate as CertificateCall, Leader as LeaderCall, Construct as ConstructCall, Forward as ForwardCall, Missing as MissingCall}
-use Rattle.batcher.specs.declared.run.Answer.{Answer}
-use Rattle.batcher.specs.declared.run.Answer.TheVariants.{Construct as ConstructAnswer}
 use Rattle.batcher.specs.Keys.{index_of, participant}
 use Rattle.batcher.specs.Setting.{Setting, participants_in, quorum_in, sender_in}
 use Rattle.batcher.specs.Lists.{count, ElementsWithin}
-use Rattle.batcher.specs.Votes.{signer_of, attestation_of, subject_of, proposal_in, kind_certified, subject_certified, same_subject, is_of_kind, waits}
+use Rattle.batcher.specs.Votes.{signer_of, attestation_of, subject_of, kind_certified, subject_certified, same_subject, is_of_kind, waits}
 use Rattle.batcher.specs.Runs.{MayCall}
 use Rattle.batcher.specs.Tracking.{is_skipped}
 use Rattle.batcher.specs.History.{Event, History, batch_given, certificate_given, cast_votes, names_sender}
@@ -34,18 +32,17 @@ use Rattle.batcher.specs.Standing.{is_valid, proven_votes, fresh_votes, ready_ki
 use Rattle.batcher.specs.Trying.{AttemptAfter, votes_checked, certifies_subject}
 use Rattle.batcher.specs.Answers.{IsPossible}
 use Rattle.batcher.specs.Composed.{usable_votes}
-use Rattle.batcher.specs.Backed.{proposal_certified, votes_behind, IsBacked}
+use Rattle.batcher.specs.Backed.{votes_behind, IsBacked}
 use Rattle.batcher.proofs.Laws.{HasLaws}
-use Rattle.batcher.proofs.Counts.{count-append, count-filter_le, once_fewer, length_same, keeps_all, all_count}
+use Rattle.batcher.proofs.Counts.{count-append, count-filter_le, once_fewer, length_same, all_count}
 use Rattle.batcher.proofs.Apart.{count-filter, where_holds}
 use Rattle.batcher.proofs.Soundness.{fewer_left}
 use Rattle.batcher.proofs.Memory.{counted}
 use Rattle.batcher.proofs.Constructing.{subject_is}
-use Rattle.batcher.proofs.Attempting.{batch_made, Witnessed, witnessed, reached_by}
-use Rattle.batcher.proofs.Evidence.{IsEvidence}
-use Rattle.batcher.proofs.Leaving.{looked_wait, waiting_evidence}
+use Rattle.batcher.proofs.Attempting.{batch_made, witnessed, reached_by}
 use Rattle.batcher.proofs.Working.{count_implied}
 use Rattle.batcher.proofs.Attesting.{usable_within, usable_once, proven_attest}
+use Rattle.batcher.proofs.Told.{batch_with}
 use Rattle.batcher.proofs.Overlap.{count_split, all_counted, all_counted_both}
 
 -- WHO CASTS TAKES PART
@@ -101,9 +98,9 @@ module _ {D K G C : Type 0} (x : Setting D K G C) where
       )
 
   -- USABLE VOTES ARE FIRST VOTES
-  pub usable_are_first : (past : History D K G C) → IsPossible x past → (kind : Kind)
+  pub usable_are_first : (past : History D K G C) (kind : Kind)
       → ElementsWithin (usable_votes x past kind) (first_votes x past)
-  usable_are_first past possible kind test =
+  usable_are_first past kind test =
       omega (
         arith,
         usable_within x past kind test,
@@ -113,20 +110,6 @@ module _ {D K G C : Type 0} (x : Setting D K G C) where
       )
 
 -- WHAT IS KNOWN OF A CERTIFICATE THAT IS GIVEN
--- what holds of an option's value, where it has one
-pub if_some : {X : Type 0} (o : Option X) (P : X → Type 0)
-    → ((v : X) → o ≡ Some v → P v) → IfSome o P
-if_some None P holds = tt
-if_some (Some v) P holds = holds v refl
-
-batch_with : {G C D : Type 0} (answer : Answer G C D) (c : Certificate C D)
-    → certificate_given answer ≡ Some c
-    → (batch : Batch (Certificate C D)) × (batch_given answer ≡ Some batch)
-    × (batch.certificate ≡ Some c)
-batch_with (ConstructAnswer (Some batch)) c h = (batch, refl, h)
-batch_with (ConstructAnswer None) c h = absurd (cc)
-batch_with answer c h = absurd (cc)
-
 module _ {D K G C : Type 0} (x : Setting D K G C)
     (past : History D K G C) (event : Event D K G C) where
   -- A construction gave it, in a batch of its kind.
@@ -251,7 +234,7 @@ module _ {D K G C : Type 0} (x : Setting D K G C) (laws : HasLaws x)
       omega (
         arith,
         behind_enough,
-        usable_are_first x past possible (kind_certified c) (is_of_kind (kind_certified c)),
+        usable_are_first x past (kind_certified c) (is_of_kind (kind_certified c)),
         count_implied is_behind (is_of_kind (kind_certified c)) usable (behind_is_of_kind x.same_digest c),
       )
 
@@ -305,7 +288,7 @@ module _ {D K G C : Type 0} (x : Setting D K G C) (laws : HasLaws x)
 
   behind_first : ElementsWithin (votes_behind x past c) (first_votes x past)
   behind_first test =
-      omega (arith, count-filter_le test is_behind usable, usable_are_first x past possible (kind_certified c) test)
+      omega (arith, count-filter_le test is_behind usable, usable_are_first x past (kind_certified c) test)
 
   pub backed_here : IsBacked x past batch c
   backed_here =
@@ -321,26 +304,3 @@ module _ {D K G C : Type 0} (x : Setting D K G C) (laws : HasLaws x)
             (omega (arith, behind_first (is_outside x), firsts_take_part x laws past possible)));
         attested = λ each. attest_enough (⊎_elim fell_back none_taken (or_cases batch.fallback (batch.processed == 0) each));
       }
-
-  -- What it names is selected, if anything is.
-  pub given_evidence : IsEvidence x past (proposal_certified c)
-  given_evidence =
-      subst (λ (s : Subject D). IsEvidence x past (proposal_in s)) same (waiting_evidence x laws past w.vote first_waits)
-    where
-      w : Witnessed x after.verified after.pending batch (kind_certified c) c
-      w =
-          witnessed x laws past (kind_certified c) after.verified after.pending batch c after.attempt
-          after.verified_are after.pending_are given
-
-      fails : Vote G D → Bool
-      fails u = not (waits x.same_digest (selected_proposal x past) u)
-
-      first_waits : waits x.same_digest (selected_proposal x past) w.vote ≡ true
-      first_waits =
-          (keeps_all (waits x.same_digest (selected_proposal x past) w.vote) (count fails w.rest)
-          (sym (ap (count fails) w.looked_at) ∙ looked_wait x past (kind_certified c) batch after)).0
-
-      same : subject_of w.vote ≡ subject_certified c
-      same =
-          sym (subject_is x.same_digest laws.digests_equal w.subject (subject_of w.vote) w.of_vote)
-          ∙ subject_is x.same_digest laws.digests_equal w.subject (subject_certified c) w.of_certificate

@@ -25,6 +25,7 @@ use Rattle.batcher.proofs.Backing.{gave, usable_enough}
 use Rattle.batcher.proofs.Reordering.{same_tests, selection_same, certified_same, quorum_same, clean_too, settled_same}
 use Rattle.batcher.proofs.ValidVotes.{settled_stays, valid_stay, enough_valid}
 
+-- THREE CONSTRUCTIONS
 module _ {D K G C : Type 0} (x : Setting D K G C) (laws : HasLaws x) where
   -- A settled kind that a construction certifies had a valid quorum.
   certified_now : (past : History D K G C) (given : Option (Batch (Certificate C D)))
@@ -58,6 +59,7 @@ module _ {D K G C : Type 0} (x : Setting D K G C) (laws : HasLaws x) where
           same_first = left.same_first;
         }
 
+    -- What is certified after them was so before, or had a valid quorum;
     certified_had : (batches : Batches C D) → IsPossible x (after_constructions batches past)
         → HasNoBadVote x past → is_certified (after_constructions batches past) kind ≡ true
         → (is_certified past kind || has_valid_quorum x past kind) ≡ true
@@ -74,11 +76,13 @@ module _ {D K G C : Type 0} (x : Setting D K G C) (laws : HasLaws x) where
         (λ then. certified_had earlier possible.1.1.1 clean then)
         (or_cases _ _ certified)
 
+    -- what was certified is so still;
     certified_still : (batches : Batches C D) → is_certified past kind ≡ true
         → is_certified (after_constructions batches past) kind ≡ true
     certified_still [] certified = certified
     certified_still (batch ∷ earlier) certified = or_right _ _ (certified_still earlier certified)
 
+    -- and what had a valid quorum is certified after three.
     certified_soon : (batches : Batches C D) → 3 ≤ length batches
         → IsPossible x (after_constructions batches past) → has_valid_quorum x past kind ≡ true
         → is_certified (after_constructions batches past) kind ≡ true

@@ -41,7 +41,9 @@ module _ {X : Type 0} where
   all_counted_both p q xs all =
       sym (count-filter q p xs) ∙ ap (count q) (filter_all p xs (none_fails p xs all))
 
-pub below_or_at : (m n : ℕ) → cond (nat_lt m (suc n)) 1 0 ≤ cond (nat_lt m n) 1 0 + cond (m == n) 1 0
+-- numbers below the next bound
+pub below_or_at : (m n : ℕ)
+    → cond (nat_lt m (suc n)) 1 0 ≤ cond (nat_lt m n) 1 0 + cond (m == n) 1 0
 below_or_at m n = grind (arith, nat_tests)
 
 pub below_zero : (m : ℕ) → nat_lt m 0 ≡ false

@@ -34,8 +34,9 @@ use Rattle.batcher.proofs.ValidQuorums.{valid_quorum_ready}
 use Rattle.batcher.proofs.Completing.{unchosen, construct_answered}
 use Rattle.batcher.proofs.Settling.{constructed}
 use Rattle.batcher.proofs.Promising.{at_each_event}
+use Rattle.batcher.proofs.Told.{if_some}
 use Rattle.batcher.proofs.Overlap.{count_split, none_fails}
-use Rattle.batcher.proofs.Backing.{if_some, usable_are_first, checked_within, gave}
+use Rattle.batcher.proofs.Backing.{usable_are_first, checked_within, gave}
 use Rattle.batcher.proofs.ValidVotes.{valid_stay, enough_valid}
 
 -- AT ONCE
@@ -90,7 +91,7 @@ module _ {D K G C : Type 0} (x : Setting D K G C) (past : History D K G C) where
           arith,
           counted fails checked,
           after.pending_are fails,
-          usable_are_first x past possible kind fails,
+          usable_are_first x past kind fails,
           checked_within (quorum_in x) after.verified after.pending fails,
           count-append fails (fresh_votes x past kind) (proven_votes x past kind),
           none_fails (is_valid x) (first_votes x past) (list_all-from_AllPass (is_valid x) (first_votes x past) clean),
@@ -210,7 +211,8 @@ module _ {D K G C : Type 0} (x : Setting D K G C) (laws : HasLaws x) (past : His
       (possible : IsPossible x (constructed x past (Some batch) ∷ past)) where
     -- the certificate that a clean history is given is of a kind that was due,
     was_due : IsClean x past → is_some (selected_proposal x past) ≡ true
-        → (c : Certificate C D) → batch.certificate ≡ Some c → is_due x past (kind_certified c) ≡ true
+        → (c : Certificate C D) → batch.certificate ≡ Some c
+        → is_due x past (kind_certified c) ≡ true
     was_due clean some c gives =
         let ready = (gave x past (constructed x past (Some batch)) laws possible c gives).ready in
         and_from _ _ (and_parts _ _ (ready_is x past (kind_certified c) ready)).0

@@ -54,16 +54,19 @@ same_tests true b there back = sym (there refl)
 same_tests false true there back = back refl
 same_tests false false there back = refl
 
+-- lists of the same elements
 any_same : {X : Type 0} (xs ys : List X) → SameElements xs ys → (test : X → Bool)
     → list_any test xs ≡ list_any test ys
 any_same xs ys same test = any_count test xs ∙ (ap (λ n. nat_lt 0 n) (same test) ∙ sym (any_count test ys))
 
+-- options of the same value
 same_options : {X : Type 0} (o s : Option X) → ((v : X) → o ≡ Some v → s ≡ Some v)
     → ((v : X) → s ≡ Some v → o ≡ Some v) → o ≡ s
 same_options (Some v) s there back = sym (there v refl)
 same_options None (Some w) there back = back w refl
 same_options None None there back = refl
 
+-- the value of one of two options
 or_some : {X : Type 0} (o s : Option X) (v : X) → option_or o s ≡ Some v
     → (o ≡ Some v) ⊎ (s ≡ Some v)
 or_some (Some w) s v h = inl h
@@ -71,7 +74,7 @@ or_some None s v h = inr h
 
 -- THE FIRST OF VALUES THAT ARE ALL THE SAME
 module _ {E X : Type 0} (value : E → Option X) where
-  -- of the newest last
+  -- of a list with the newest first
   abbrev first_of : List E → Option X
   first_of [] = None
   first_of (e ∷ es) = option_or (first_of es) (value e)
@@ -99,6 +102,7 @@ module _ {E X : Type 0} (value : E → Option X) where
 
   module _ (same : X → X → Bool) (itself : (v : X) → same v v ≡ true)
       (equal : (v w : X) → same v w ≡ true → v ≡ w) where
+    -- Then lists of the same elements have the same first value.
     first_there : (es fs : List E) → SameElements es fs → AllSame same es
         → (v : X) → first_of es ≡ Some v → first_of fs ≡ Some v
     first_there es fs elements all v is =
@@ -124,6 +128,7 @@ module _ {E X : Type 0} (value : E → Option X) where
         (first_there fs es (λ test. sym (elements test)) all_fs)
 
 -- VOTES
+-- votes exclude each other both ways
 number_same : (m n : ℕ) → (m == n) ≡ (n == m)
 number_same m n = same_tests _ _ (λ h. eq-eqb n m (sym (eqb-true m n h))) (λ h. eq-eqb m n (sym (eqb-true n m h)))
 
@@ -143,6 +148,7 @@ module _ {G D : Type 0} where
       and_from _ _ (eq-eqb (signer_of v) (signer_of v) refl)
       (or_left _ (are_opposite (kind_of v) (kind_of v)) (is_kind-refl (kind_of v)))
 
+  -- one vote at most is counted once at most
   count_few : (test : Vote G D → Bool) (cast : List (Vote G D)) → length cast ≤ 1
       → count test cast ≡ cond (list_any test cast) 1 0
   count_few test [] few = omega arith
@@ -171,6 +177,7 @@ module _ {G D : Type 0} where
   all_free (v ∷ w ∷ cast) votes few apart = absurd (omega (arith, few))
 
 module _ {D K G C : Type 0} (x : Setting D K G C) where
+  -- A call casts one vote at most, so the same calls cast the same votes.
   casts_one : (call : Call K G C D) → length (cast_votes x call) ≤ 1
   casts_one call =
       ⊎_elim
@@ -210,6 +217,7 @@ module _ {D K G C : Type 0} (x : Setting D K G C) where
       before : AreApart past
       before v = omega (arith, apart v, count-append (excludes v) (cast_votes x event.0) (votes_cast x past))
 
+  -- So they have the same first votes.
   firsts_same : (a b : History D K G C) → SameElements (calls_of a) (calls_of b) → AreApart a
       → SameElements (first_votes x a) (first_votes x b)
   firsts_same a b same apart test =
@@ -254,6 +262,7 @@ module _ {D K G C : Type 0} (x : Setting D K G C) where
   names_again past (ForwardCall me) answer may made i led = refl
   names_again past (MissingCall p) answer may made i led = refl
 
+  -- So the same calls name the same leader.
   leader_first : (past : History D K G C) → leader_of past ≡ first_of leader_named (calls_of past)
   leader_first [] = refl
   leader_first (event ∷ past) = ap (λ o. option_or o (leader_named event.0)) (leader_first past)
@@ -304,6 +313,7 @@ module _ {D K G C : Type 0} (x : Setting D K G C) (laws : HasLaws x) where
           absurd (true≢false (sym (ap is_construction g.constructs) ∙ other)))
           (option_cases (certificate_given event.1))
 
+  -- So a proposal is fixed and a kind certified by the calls themselves, where nothing is constructed.
   fixed_first : (past : History D K G C) → IsPossible x past
       → list_any is_construction (calls_of past) ≡ false
       → fixed_proposal past ≡ first_of evidence_by (calls_of past)
@@ -350,6 +360,7 @@ abbrev carried : {G D : Type 0} → Option (Vote G D) → Option (Proposal D)
 carried o = option_and_then (λ v. proposal_in (subject_of v)) o
 
 module _ {D K G C : Type 0} (x : Setting D K G C) (laws : HasLaws x) where
+  -- It is known by tests.
   carries : (o : Option (Vote G D)) (p : Proposal D)
       → is_some_and o (is_for x.same_digest p) ≡ true → carried o ≡ Some p
   carries None p h = absurd (false≢true h)
@@ -427,6 +438,7 @@ module _ {D K G C : Type 0} (x : Setting D K G C) (laws : HasLaws x) (a b : Hist
       ∙ ap (λ l. carried (option_and_then (λ i. first_vote x b Notarization i.0) l))
       (leader_same x a b possible_a possible_b same))
 
+  -- What is selected, certified, valid and settled is the same.
   pub selection_same : selection x a ≡ selection x b
   selection_same =
       ap (λ f. selection_by f (leaders_proposal x a)) fixed_same ∙ ap (selection_by (fixed_proposal b)) leaders_same

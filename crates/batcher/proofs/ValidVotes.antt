@@ -13,7 +13,7 @@ use Rattle.batcher.specs.declared.messages.Certificate.{Certificate}
 use Rattle.batcher.specs.declared.verifier.Batch.{Batch}
 use Rattle.batcher.specs.Setting.{Setting, quorum_in}
 use Rattle.batcher.specs.Lists.{count, is_some_and}
-use Rattle.batcher.specs.Votes.{kind_of, has_proposals, is_of_kind, is_for, waits}
+use Rattle.batcher.specs.Votes.{kind_of, kind_certified, has_proposals, is_of_kind, is_for, waits}
 use Rattle.batcher.specs.Selected.{proposal_of}
 use Rattle.batcher.specs.Tracking.{is_skipped}
 use Rattle.batcher.specs.History.{History, certificate_given}
@@ -31,10 +31,12 @@ use Rattle.batcher.proofs.Past.{closed_is_empty, open_waits}
 use Rattle.batcher.proofs.Attempting.{quorum_positive}
 use Rattle.batcher.proofs.Attesting.{usable_within}
 use Rattle.batcher.proofs.Evidence.{IsEvidence}
+use Rattle.batcher.proofs.Leaving.{given_evidence}
 use Rattle.batcher.proofs.Settling.{constructed, selection_then, evidence_selects}
 use Rattle.batcher.proofs.Overlap.{none_fails}
-use Rattle.batcher.proofs.Backing.{gave, given_evidence}
+use Rattle.batcher.proofs.Backing.{gave}
 
+-- by whether a vote is of a kind, and then carries no proposal
 by_kind : (k n c : Bool) → (k ≡ true → n ≡ true) → (k && (n || c)) ≡ k
 by_kind true true c h = refl
 by_kind true false c h = absurd (false≢true (h refl))
@@ -69,11 +71,11 @@ module _ {D K G C : Type 0} (x : Setting D K G C) (laws : HasLaws x) (past : His
       (λ (some : (c : Certificate C D) × (certificate_given (constructed x past given).1 ≡ Some c)).
       let g = gave x past (constructed x past given) laws possible some.0 some.1 in
       subst (λ e. IsEvidence x past e) (sym (ap (λ o. option_or None (option_and_then proposal_certified o)) g.certificate))
-      (given_evidence x laws past possible.1.1.1 g.batch some.0 g.gives g.after))
+      (given_evidence x laws past (kind_certified some.0) g.batch some.0 g.after g.gives))
       (option_cases (certificate_given (constructed x past given).1))
 
   -- the selected proposal, if one is
-  pub selected_stays : (p : Proposal D) → selected_proposal x past ≡ Some p
+  selected_stays : (p : Proposal D) → selected_proposal x past ≡ Some p
       → selected_proposal x (constructed x past given ∷ past) ≡ Some p
   selected_stays p selected = by_evidence gives_evidence
     where

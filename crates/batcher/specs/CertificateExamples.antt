@@ -9,14 +9,13 @@ use Rattle.batcher.specs.declared.round.BlockReason.TheVariants.{ConflictingNota
 use Rattle.batcher.specs.declared.votes.Mode.TheVariants.{Retaining}
 use Rattle.batcher.specs.declared.verifier.ProposalState.TheVariants.{Unknown, Leader as LeadersProposal, Certificate as FixedProposal}
 use Rattle.batcher.specs.Meaning.{Meaning, IsLawful}
-use Rattle.batcher.specs.Lists.{count}
-use Rattle.batcher.specs.Votes.{signer_of, subject_certified, same_proposal}
+use Rattle.batcher.specs.Votes.{signer_of, subject_certified}
 use Rattle.batcher.specs.History.{Event}
-use Rattle.batcher.specs.Selection.{is_certified, selection}
+use Rattle.batcher.specs.Selection.{is_certified}
 use Rattle.batcher.specs.Standing.{is_valid}
 use Rattle.batcher.specs.Composed.{usable_votes}
 use Rattle.batcher.specs.Reported.{subjects_contradict}
-use Rattle.batcher.specs.Backed.{gives_kind, was_given, votes_behind}
+use Rattle.batcher.specs.Backed.{was_given, votes_behind, GivesSafely}
 use Rattle.batcher.specs.Prompt.{has_valid_quorum, kinds_due}
 use Rattle.batcher.specs.Examples.{TinySetting, TinyCall, TinyAnswer, listing, round_of, four, one_by_one, p, signed, notarize, bad_notarize, nullify, finalize, notarization, nullification, finalization}
 use Rattle.batcher.specs.Examples.{net, own, cert, lead, construct, added, no_batch, batch, blocked_and_reported, answers_from, answers, played, selects, counts}
@@ -40,6 +39,12 @@ as_they_come = one_by_one Retaining
 -- lists of calls
 abbrev pub three_notarizes : List TinyCall
 three_notarizes = lead 0 ∷ net 0 (notarize 0 1) ∷ net 1 (notarize 1 1) ∷ net 2 (notarize 2 1) ∷ []
+
+abbrev pub two_notarizes : List TinyCall
+two_notarizes = lead 0 ∷ net 0 (notarize 0 1) ∷ net 1 (notarize 1 1) ∷ []
+
+abbrev pub with_outsider : List TinyCall
+with_outsider = two_notarizes ++ own (notarize 7 1) ∷ []
 
 abbrev pub one_bad : List TinyCall
 one_bad = lead 0 ∷ net 0 (notarize 0 1) ∷ net 1 (notarize 1 1) ∷ net 2 (bad_notarize 2 1) ∷ []
@@ -101,41 +106,41 @@ pub record CertificateExamples : Type 0 where
   -- Behind a notarization of P1 are three votes for it, and none is behind one of P2.
   pub behind_a_quorum : behind three_notarizes (notarization 1) ≡ (2 ∷ 1 ∷ 0 ∷ [], 2 ∷ 1 ∷ 0 ∷ [])
   pub none_behind : behind three_notarizes (notarization 2) ≡ ([], [])
-  -- Two are too few, and so are three where one is an outsider's, which no call may bring.
-  pub too_few_behind :
-      behind (lead 0 ∷ net 0 (notarize 0 1) ∷ net 1 (notarize 1 1) ∷ []) (notarization 1)
-      ≡ (1 ∷ 0 ∷ [], 1 ∷ 0 ∷ [])
-  pub outsider_behind :
-      behind (lead 0 ∷ net 0 (notarize 0 1) ∷ net 1 (notarize 1 1) ∷ own (notarize 7 1) ∷ [])
-      (notarization 1) ≡ (1 ∷ 0 ∷ 7 ∷ [], 1 ∷ 0 ∷ [])
-  -- Where too few of three attest, a batch that fell back gives none; but a lawful scheme may give
-  -- one at once.
-  pub too_few_attest : behind one_bad (notarization 1) ≡ (2 ∷ 1 ∷ 0 ∷ [], 1 ∷ 0 ∷ [])
+  -- It isn't given where two votes are behind it, or one of three is an outsider's, which no call
+  -- may bring, or too few of three attest and the batch fell back.
+  pub two_behind : behind two_notarizes (notarization 1) ≡ (1 ∷ 0 ∷ [], 1 ∷ 0 ∷ [])
+  pub two_are_refused : GivesSafely tiny (giving (notarization 1) ∷ played tiny two_notarizes) → ⊥
+  pub outsider_behind : behind with_outsider (notarization 1) ≡ (1 ∷ 0 ∷ 7 ∷ [], 1 ∷ 0 ∷ [])
+  pub outsider_is_refused :
+      GivesSafely tiny (giving (notarization 1) ∷ played tiny with_outsider) → ⊥
+  pub bad_behind : behind one_bad (notarization 1) ≡ (2 ∷ 1 ∷ 0 ∷ [], 1 ∷ 0 ∷ [])
+  pub bad_is_refused :
+      GivesSafely tiny
+      ((construct, batch 3 (2 ∷ []) (Some (notarization 1)) true) ∷ played tiny one_bad) → ⊥
+  -- But a lawful scheme may give it at once where one alone attests.
   pub hopeful_is_lawful : IsLawful hopeful
   pub given_over_bad_votes : counts of_hopeful two_bad Notarization ≡ (3, 1)
   pub given_all_the_same :
       was_given (played of_hopeful (two_bad ++ construct ∷ [])) Notarization ≡ true
-  -- A certificate isn't given after one of its kind was recorded,
-  pub recorded_before : is_certified (played tiny (cert (notarization 1) ∷ [])) Notarization ≡ true
-  -- nor for another proposal than the one that is fixed,
-  pub another_is_fixed :
-      selection tiny (giving (notarization 2) ∷ played tiny (cert (finalization 1) ∷ []))
-      ≡ FixedProposal (p 1)
-  -- nor twice of one kind, nor a nullification beside a finalization:
-  pub given_twice :
-      count (λ event. gives_kind Notarization event.1)
-      (giving (notarization 1) ∷ giving (notarization 1) ∷ []) ≡ 2
-  pub both_given :
-      map (was_given (giving nullification ∷ giving (finalization 1) ∷ []))
-      (Nullification ∷ Finalization ∷ []) ≡ true ∷ true ∷ []
-  -- these contradict each other, and so do notarizations of two proposals;
+  -- None is given of a kind that was recorded, nor for another proposal than the one that is fixed,
+  -- nor a second of its kind, nor a finalization beside a nullification,
+  pub recorded_is_refused :
+      GivesSafely tiny
+      (giving (notarization 1) ∷ played tiny (three_notarizes ++ cert (notarization 1) ∷ [])) → ⊥
+  pub unfixed_is_refused :
+      GivesSafely tiny (giving (notarization 2) ∷ played tiny (cert (finalization 1) ∷ [])) → ⊥
+  pub second_is_refused :
+      GivesSafely tiny (giving (notarization 1) ∷ giving (notarization 1) ∷ []) → ⊥
+  pub both_are_refused : GivesSafely tiny (giving nullification ∷ giving (finalization 1) ∷ []) → ⊥
+  -- nor one that contradicts another, nor one that names another proposal, though that alone is no
+  -- contradiction.
   pub which_contradict :
-      contradict nullification (finalization 1) ∷ contradict (notarization 1) (notarization 2) ∷ []
-      ≡ true ∷ true ∷ []
-  -- a notarization and a finalization of two proposals don't, but name different ones.
-  pub which_differ :
-      contradict (notarization 1) (finalization 2) ∷ same_proposal tiny.same_digest (p 1) (p 2) ∷ []
-      ≡ false ∷ false ∷ []
+      contradict nullification (finalization 1) ∷ contradict (notarization 1) (notarization 2)
+      ∷ contradict (notarization 1) (finalization 2) ∷ [] ≡ true ∷ true ∷ false ∷ []
+  pub contradiction_is_refused :
+      GivesSafely tiny (giving (notarization 1) ∷ giving (notarization 2) ∷ []) → ⊥
+  pub two_proposals_are_refused :
+      GivesSafely tiny (giving (notarization 1) ∷ giving (finalization 2) ∷ []) → ⊥
   -- A round that gave a nullification may record a finalization: what is certified may contradict
   -- itself, what is given never does.
   pub both_certified :
