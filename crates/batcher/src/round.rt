@@ -12,11 +12,11 @@ ghost use Rattle.batcher.specs.Setting.{setting};
 ghost use Rattle.batcher.specs.Lists.{is_some_and};
 ghost use Rattle.batcher.specs.Votes.{is_kind, has_proposals, kind_of, signer_of, attestation_of, subject_of, round_in, proposal_in, subject_certified};
 ghost use Rattle.batcher.specs.Selected.{proposal_of, replaces, fixes, same_selected};
-ghost use Rattle.batcher.specs.Held.{of_kind};
+ghost use Rattle.batcher.specs.Held.{of_kind, round_of, SameRound, SameVerifier, SameTracker};
 ghost use Rattle.batcher.specs.Tracking.{nothing_tracked, shown, is_known, outcome_of, outcome_by, observed, observed_opposite, RecordsKind, kept_vote};
 ghost use Rattle.batcher.specs.Buffering.{AddsVote, FixesProposal, MayFix};
 ghost use Rattle.batcher.specs.Quorum.{quorum_of};
-ghost use Rattle.batcher.specs.Sound.{IsSound, HasRoomFor, KeepsRoom};
+ghost use Rattle.batcher.specs.Sound.{IsSound, HasRoomFor, KeepsAllRoom, WhereItReplaces};
 ghost use Rattle.batcher.specs.Admissions.{refusal, mismatch_reason, admission_of};
 ghost use Rattle.batcher.specs.Steps.{nothing_held, has_block as has_block_held, missing_in, leader_set_answer, forward_answer, AfterLeader, AfterNetwork, admission, objection_by, own_result_by, admission_by, kind_tried, restored_with, AfterConstruct, TriesHeld, Fixes, is_ready_in, IsRight, WaitsWhereKept, AfterOwn, own_result, fault_or_memory, fixed_by, opposite_fault, unopposed_result, report_by, is_added, is_kept, AfterCertificate};
 ghost use Rattle.batcher.specs.History.{History};
@@ -31,7 +31,7 @@ ghost use Rattle.batcher.specs.Stands.{Stands, Follows, Meets};
 ghost use Rattle.batcher.specs.declared.messages.Proposal.{Proposal as TheProposal};
 ghost use Rattle.batcher.specs.declared.round.OwnFault.TheVariants.{OutOfMemory as OutOfMemoryFault};
 ghost use Rattle.batcher.specs.declared.votes.Outcome.TheVariants.{Added as AddedOutcome};
-ghost use Rattle.batcher.specs.Verifiers.{certifies_itself};
+ghost use Rattle.batcher.specs.Verifiers.{IfGiven, BatchCertifies};
 
 mod answers;
 
@@ -317,7 +317,7 @@ impl<S: Scheme<D>, D: Digest> Round<S, D> {
             (λ past. Meets (⟦<S as Judge<D>>⟧.of self.old) past self.old.holds (LeaderCall leader, LeaderAnswer result) self.new.holds) }
         ensures step { OnOk result (AfterLeader (⟦<S as Judge<D>>⟧.of self.old) self.old.holds leader self.new.holds) }
         ensures refused { OnErr result (self.new ≡ self.old) }
-        ensures same { (self.new.scheme ≡ self.old.scheme) × (self.new.number ≡ self.old.number) × (self.new.mode ≡ self.old.mode) }
+        ensures same { SameRound self.old self.new }
     {
         let notarize = self.votes.notarize(leader);
         self.verifier.set_leader(leader, notarize.as_ref())
@@ -330,7 +330,7 @@ impl<S: Scheme<D>, D: Digest> Round<S, D> {
         ensures meets { WhereverItStands (⟦<S as Judge<D>>⟧.of self.old) self.old.holds
             (λ past. Follows (⟦<S as Judge<D>>⟧.of self.old) past self.old.holds (ForwardCall me, ForwardAnswer result) self.new.holds) }
         ensures holds { self.new.holds ≡ record self.old.holds { forwarded = is_some result || self.old.holds.forwarded } }
-        ensures same { (self.new.scheme ≡ self.old.scheme) × (self.new.number ≡ self.old.number) × (self.new.mode ≡ self.old.mode) }
+        ensures same { SameRound self.old self.new }
     {
         if self.forwarded || self.verifier.leader() == Some(me) {
             return None;
@@ -358,7 +358,7 @@ impl<S: Scheme<D>, D: Digest> Round<S, D> {
         ensures no_memory { (admission (⟦<S as Judge<D>>⟧.of self.old) self.old.holds sender vote).added ≡ false → IsOk result }
         ensures needed { IsRefusedForNeed (⟦<S as Judge<D>>⟧.of self.old) self.old.holds (NetworkCall sender vote) result }
         ensures refused { OnErr result (self.new ≡ self.old) }
-        ensures same { (self.new.scheme ≡ self.old.scheme) × (self.new.number ≡ self.old.number) × (self.new.mode ≡ self.old.mode) }
+        ensures same { SameRound self.old self.new }
     {
         match self.verifier.participants().index(&sender) {
             None => Ok(blocked(BlockReason::UnknownParticipant, None)),
@@ -397,7 +397,7 @@ impl<S: Scheme<D>, D: Digest> Round<S, D> {
         ensures no_memory { (outcome : Outcome) → own_result (⟦<S as Judge<D>>⟧.of self.old) self.old.holds vote ≡ Ok outcome → is_added outcome ≡ false → IsOk result }
         ensures fault { IfErr result (λ fault. fault ≡ fault_or_memory (own_result (⟦<S as Judge<D>>⟧.of self.old) self.old.holds vote)) }
         ensures refused { OnErr result (self.new ≡ self.old) }
-        ensures same { (self.new.scheme ≡ self.old.scheme) × (self.new.number ≡ self.old.number) × (self.new.mode ≡ self.old.mode) }
+        ensures same { SameRound self.old self.new }
     {
         let place = self.votes.place(vote.signer());
         let outcome = own_result(&self.verifier, &self.votes, place, vote)?;
@@ -425,7 +425,7 @@ impl<S: Scheme<D>, D: Digest> Round<S, D> {
         ensures needed { IsRefusedForNeed (⟦<S as Judge<D>>⟧.of self.old) self.old.holds (CertificateCall certificate.now) result }
         ensures no_memory { ((kind : TheKind) → restored_with (⟦<S as Judge<D>>⟧.of self.old) self.old.holds certificate.now kind ≡ []) → IsOk result }
         ensures refused { OnErr result (self.new ≡ self.old) }
-        ensures same { (self.new.scheme ≡ self.old.scheme) × (self.new.number ≡ self.old.number) × (self.new.mode ≡ self.old.mode) }
+        ensures same { SameRound self.old self.new }
     {
         let kind = certificate.kind();
         let proposal = proposal_certified(certificate);
@@ -449,9 +449,9 @@ impl<S: Scheme<D>, D: Digest> Round<S, D> {
             (ConstructCall) ConstructAnswer result self.new.holds }
         ensures no_memory { kind_tried (⟦<S as Judge<D>>⟧.of self.old) self.old.holds ≡ None → IsOk result }
         ensures needed { IsRefusedForNeed (⟦<S as Judge<D>>⟧.of self.old) self.old.holds ConstructCall result }
-        ensures certifies { IfOk result (λ answer. IfSome answer (λ batch. IfSome batch.certificate (λ certificate. certifies_itself (S.meaning self.old.scheme) certificate ≡ true))) }
+        ensures certifies { IfGiven result (BatchCertifies (S.meaning self.old.scheme)) }
         ensures refused { OnErr result (self.new ≡ self.old) }
-        ensures same { (self.new.scheme ≡ self.old.scheme) × (self.new.number ≡ self.old.number) × (self.new.mode ≡ self.old.mode) }
+        ensures same { SameRound self.old self.new }
     {
         if let Some(batch) = self.try_kind(Kind::Notarization, rng)? {
             return Ok(Some(batch));
@@ -469,12 +469,12 @@ impl<S: Scheme<D>, D: Digest> Round<S, D> {
         rng: &mut R,
     ) -> Result<Option<Batch<Certificate<S::Certificate, D>>>, AllocError>
         ensures ready { IfOk result (λ given. is_some given ≡ is_ready_in (⟦<S as Judge<D>>⟧.of self.old) self.old.holds kind) }
-        ensures tries { IfOk result (λ given. IfSome given (λ batch. TriesHeld (⟦<S as Judge<D>>⟧.of self.old) self.old.holds kind (R.stream rng.old) batch self.new.holds (R.stream rng.new))) }
+        ensures tries { IfGiven result (λ batch. TriesHeld (⟦<S as Judge<D>>⟧.of self.old) self.old.holds kind (R.stream rng.old) batch self.new.holds (R.stream rng.new)) }
         ensures sound { IsSound (S.meaning self.old.scheme) D.eq self.old.number (quorum_of (length (S.meaning self.old.scheme).participants)) self.old.holds.buffered }
         ensures none { is_ready_in (⟦<S as Judge<D>>⟧.of self.old) self.old.holds kind ≡ false → (IsOk result) × (self.new ≡ self.old) × (R.stream rng.new ≡ R.stream rng.old) }
-        ensures certifies { IfOk result (λ given. IfSome given (λ batch. IfSome batch.certificate (λ certificate. certifies_itself (S.meaning self.old.scheme) certificate ≡ true))) }
+        ensures certifies { IfGiven result (BatchCertifies (S.meaning self.old.scheme)) }
         ensures refused { OnErr result (self.new ≡ self.old) }
-        ensures same { (self.new.scheme ≡ self.old.scheme) × (self.new.number ≡ self.old.number) × (self.new.mode ≡ self.old.mode) }
+        ensures same { SameRound self.old self.new }
     {
         let Some(batch) = self.verifier.try_construct(kind, rng)? else {
             return Ok(None);
@@ -534,18 +534,18 @@ fn admit<S: Scheme<D>, D: Digest>(
 ) -> Result<Admission<S::Signature, D>, AllocError>
     requires right { IsRight (S.meaning verifier.old.scheme) votes.old verifier.old.holds verifier.old.quorum }
     requires place { place ≡ place_of votes.old.signers (signer_of vote) }
-    requires unopposed { objection_by (setting (S.meaning verifier.old.scheme) S.PublicKey.cmp S.Signature.eq D.eq verifier.old.number votes.old.mode) (observed_opposite votes.old.holds vote) (observed votes.old.holds (kind_of vote) (signer_of vote)) vote ≡ None }
+    requires unopposed { objection_by (⟦<S as Judge<D>>⟧.of (round_of verifier.old votes.old)) (observed_opposite votes.old.holds vote) (observed votes.old.holds (kind_of vote) (signer_of vote)) vote ≡ None }
     requires range { signer_of vote < length (S.meaning verifier.old.scheme).participants }
     requires belongs { round_in (subject_of vote) ≡ verifier.old.number }
-    ensures answer { IfOk result (λ answer. answer ≡ admission_by (setting (S.meaning verifier.old.scheme) S.PublicKey.cmp S.Signature.eq D.eq verifier.old.number votes.old.mode) (proposal_of verifier.old.holds.selection) (observed votes.old.holds (kind_of vote) (signer_of vote)) vote) }
+    ensures answer { IfOk result (λ answer. answer ≡ admission_by (⟦<S as Judge<D>>⟧.of (round_of verifier.old votes.old)) (proposal_of verifier.old.holds.selection) (observed votes.old.holds (kind_of vote) (signer_of vote)) vote) }
     ensures spared { is_known votes.old.holds (signer_of vote) ≡ true → of_kind votes.old.holds.compacted (kind_of vote) ≡ true → IsOk result }
-    ensures no_memory { (admission_by (setting (S.meaning verifier.old.scheme) S.PublicKey.cmp S.Signature.eq D.eq verifier.old.number votes.old.mode) (proposal_of verifier.old.holds.selection) (observed votes.old.holds (kind_of vote) (signer_of vote)) vote).added ≡ false → IsOk result }
+    ensures no_memory { (admission_by (⟦<S as Judge<D>>⟧.of (round_of verifier.old votes.old)) (proposal_of verifier.old.holds.selection) (observed votes.old.holds (kind_of vote) (signer_of vote)) vote).added ≡ false → IsOk result }
     ensures tracked { OnOk result ((kind : TheKind) → RecordsKind D.eq votes.old.holds votes.new.holds (proposal_of verifier.old.holds.selection) true vote kind) }
     ensures buffered { IfOk result (λ answer. MatchBool (answer.added && not (of_kind votes.old.holds.compacted (kind_of vote))) (AddsVote D.eq verifier.old.holds vote false verifier.new.holds) (verifier.new.holds ≡ verifier.old.holds)) }
     ensures refused { OnErr result ((verifier.new.holds ≡ verifier.old.holds) × (votes.new.holds ≡ votes.old.holds)) }
     ensures right { IsRight (S.meaning verifier.old.scheme) votes.new verifier.new.holds verifier.old.quorum }
-    ensures same { (verifier.new.scheme ≡ verifier.old.scheme) × (verifier.new.number ≡ verifier.old.number) × (verifier.new.quorum ≡ verifier.old.quorum) }
-    ensures mode { (votes.new.mode ≡ votes.old.mode) × (votes.new.participants ≡ votes.old.participants) }
+    ensures same { SameVerifier verifier.old verifier.new }
+    ensures mode { SameTracker votes.old votes.new }
 {
     let kind = vote.kind();
     let additional = usize::from(!votes.is_compacted(kind));
@@ -616,8 +616,8 @@ fn take_in<S: Scheme<D>, D: Digest>(
     ensures refused { OnErr result ((verifier.new.holds ≡ verifier.old.holds) × (votes.new.holds ≡ votes.old.holds)) }
     ensures right { IsRight (S.meaning verifier.old.scheme) votes.new verifier.new.holds verifier.old.quorum }
     ensures with_room { (is_known votes.old.holds (signer_of vote) ≡ false → 1 ≤ votes.old.room) → IsOk result }
-    ensures same { (verifier.new.scheme ≡ verifier.old.scheme) × (verifier.new.number ≡ verifier.old.number) × (verifier.new.quorum ≡ verifier.old.quorum) }
-    ensures mode { (votes.new.mode ≡ votes.old.mode) × (votes.new.participants ≡ votes.old.participants) }
+    ensures same { SameVerifier verifier.old verifier.new }
+    ensures mode { SameTracker votes.old votes.new }
 {
     let outcome = votes.record_at(place, &vote, verifier.proposal())?;
     if is_kept(outcome) {
@@ -638,8 +638,8 @@ fn make_room_for<S: Scheme<D>, D: Digest>(
     ensures room { OnOk result (is_some_and completed (is_kind kind) ≡ false → HasRoomFor D.eq verifier.old.holds.certified votes.now.holds.kept proposal.now verifier.new.pending_room kind) }
     ensures no_memory { (is_some_and completed (is_kind kind) ≡ false → of_kind votes.now.holds.compacted kind ≡ false → HasRoomFor D.eq verifier.old.holds.certified votes.now.holds.kept proposal.now verifier.old.pending_room kind) → IsOk result }
     ensures holds { verifier.new.holds ≡ verifier.old.holds }
-    ensures kept { KeepsRoom verifier.old.pending_room verifier.old.verified_room verifier.new.pending_room verifier.new.verified_room }
-    ensures same { (verifier.new.scheme ≡ verifier.old.scheme) × (verifier.new.number ≡ verifier.old.number) × (verifier.new.quorum ≡ verifier.old.quorum) }
+    ensures kept { KeepsAllRoom verifier.old verifier.new }
+    ensures same { SameVerifier verifier.old verifier.new }
 {
     if completed == Some(kind) || verifier.has_certificate(kind) {
         return Ok(());
@@ -654,11 +654,13 @@ fn make_room_to_fix<S: Scheme<D>, D: Digest>(
     proposal: Option<Proposal<D>>,
     completed: Option<Kind>,
 ) -> Result<(), AllocError>
-    ensures room { OnOk result ((fixed : TheProposal D) → proposal ≡ Some fixed → replaces D.eq verifier.old.holds.selection fixed ≡ true → (kind : TheKind) → has_proposals kind ≡ true → is_some_and completed (is_kind kind) ≡ false → HasRoomFor D.eq verifier.old.holds.certified votes.now.holds.kept fixed verifier.new.pending_room kind) }
-    ensures no_memory { ((fixed : TheProposal D) → proposal ≡ Some fixed → replaces D.eq verifier.old.holds.selection fixed ≡ true → (kind : TheKind) → has_proposals kind ≡ true → is_some_and completed (is_kind kind) ≡ false → of_kind votes.now.holds.compacted kind ≡ false → HasRoomFor D.eq verifier.old.holds.certified votes.now.holds.kept fixed verifier.old.pending_room kind) → IsOk result }
+    ensures room { OnOk result (WhereItReplaces D.eq verifier.old.holds.selection (proposal) (λ fixed kind.
+        is_some_and completed (is_kind kind) ≡ false → HasRoomFor D.eq verifier.old.holds.certified votes.now.holds.kept fixed verifier.new.pending_room kind)) }
+    ensures no_memory { (WhereItReplaces D.eq verifier.old.holds.selection (proposal) (λ fixed kind.
+        is_some_and completed (is_kind kind) ≡ false → of_kind votes.now.holds.compacted kind ≡ false → HasRoomFor D.eq verifier.old.holds.certified votes.now.holds.kept fixed verifier.old.pending_room kind)) → IsOk result }
     ensures holds { verifier.new.holds ≡ verifier.old.holds }
-    ensures kept { KeepsRoom verifier.old.pending_room verifier.old.verified_room verifier.new.pending_room verifier.new.verified_room }
-    ensures same { (verifier.new.scheme ≡ verifier.old.scheme) × (verifier.new.number ≡ verifier.old.number) × (verifier.new.quorum ≡ verifier.old.quorum) }
+    ensures kept { KeepsAllRoom verifier.old verifier.new }
+    ensures same { SameVerifier verifier.old verifier.new }
 {
     let Some(proposal) = proposal else {
         return Ok(());
@@ -677,15 +679,17 @@ fn make_room_to_accept<S: Scheme<D>, D: Digest>(
     vote: &Vote<S::Signature, D>,
     outcome: Outcome,
 ) -> Result<(), AllocError>
-    ensures to_fix { OnOk result ((proposal : TheProposal D) → fixed_by vote.now ≡ Some proposal → replaces D.eq verifier.old.holds.selection proposal ≡ true → (kind : TheKind) → has_proposals kind ≡ true → HasRoomFor D.eq verifier.old.holds.certified votes.old.holds.kept proposal verifier.new.pending_room kind) }
+    ensures to_fix { OnOk result (WhereItReplaces D.eq verifier.old.holds.selection (fixed_by vote.now) (λ proposal kind.
+        HasRoomFor D.eq verifier.old.holds.certified votes.old.holds.kept proposal verifier.new.pending_room kind)) }
     ensures to_record { OnOk result (is_added outcome ≡ true → 1 ≤ votes.new.room) }
     ensures to_wait { OnOk result (is_kept outcome ≡ true → 1 ≤ of_kind verifier.new.verified_room (kind_of vote.now)) }
-    ensures no_memory { is_added outcome ≡ false → ((proposal : TheProposal D) → fixed_by vote.now ≡ Some proposal → replaces D.eq verifier.old.holds.selection proposal ≡ true → (kind : TheKind) → has_proposals kind ≡ true → of_kind votes.old.holds.compacted kind ≡ false → HasRoomFor D.eq verifier.old.holds.certified votes.old.holds.kept proposal verifier.old.pending_room kind) → IsOk result }
+    ensures no_memory { is_added outcome ≡ false → (WhereItReplaces D.eq verifier.old.holds.selection (fixed_by vote.now) (λ proposal kind.
+        of_kind votes.old.holds.compacted kind ≡ false → HasRoomFor D.eq verifier.old.holds.certified votes.old.holds.kept proposal verifier.old.pending_room kind)) → IsOk result }
     ensures holds { verifier.new.holds ≡ verifier.old.holds }
     ensures votes { votes.new.holds ≡ votes.old.holds }
     ensures signers { votes.new.signers ≡ votes.old.signers }
-    ensures same { (verifier.new.scheme ≡ verifier.old.scheme) × (verifier.new.number ≡ verifier.old.number) × (verifier.new.quorum ≡ verifier.old.quorum) }
-    ensures mode { (votes.new.mode ≡ votes.old.mode) × (votes.new.participants ≡ votes.old.participants) }
+    ensures same { SameVerifier verifier.old verifier.new }
+    ensures mode { SameTracker votes.old votes.new }
 {
     make_room_to_fix(verifier, votes, fixed_by(vote), None)?;
     if is_added(outcome) {
@@ -710,7 +714,7 @@ fn fix<S: Scheme<D>, D: Digest>(
     ensures changed { result ≡ not (same_selected D.eq (proposal_of verifier.old.holds.selection) (proposal_of verifier.new.holds.selection)) }
     ensures within { WaitsWhereKept votes.now.holds verifier.new.holds }
     ensures room { (kind : TheKind) → of_kind verifier.old.verified_room kind ≤ of_kind verifier.new.verified_room kind }
-    ensures same { (verifier.new.scheme ≡ verifier.old.scheme) × (verifier.new.number ≡ verifier.old.number) × (verifier.new.quorum ≡ verifier.old.quorum) }
+    ensures same { SameVerifier verifier.old verifier.new }
 {
     let update = verifier.set_proposal(ProposalState::Certificate(proposal));
     if update.replaced {
@@ -727,12 +731,13 @@ fn may_fix<S: Scheme<D>, D: Digest>(
     proposal: Option<Proposal<D>>,
 ) -> bool
     requires within { WaitsWhereKept votes.now.holds verifier.old.holds }
-    requires room { (fixed : TheProposal D) → proposal ≡ Some fixed → replaces D.eq verifier.old.holds.selection fixed ≡ true → (kind : TheKind) → has_proposals kind ≡ true → HasRoomFor D.eq verifier.old.holds.certified votes.now.holds.kept fixed verifier.old.pending_room kind }
+    requires room { WhereItReplaces D.eq verifier.old.holds.selection (proposal) (λ fixed kind.
+        HasRoomFor D.eq verifier.old.holds.certified votes.now.holds.kept fixed verifier.old.pending_room kind) }
     ensures fixes { MayFix D.eq verifier.old.holds votes.now.holds.kept proposal verifier.new.holds }
     ensures changed { result ≡ not (same_selected D.eq (proposal_of verifier.old.holds.selection) (proposal_of verifier.new.holds.selection)) }
     ensures within { WaitsWhereKept votes.now.holds verifier.new.holds }
     ensures room { (kind : TheKind) → of_kind verifier.old.verified_room kind ≤ of_kind verifier.new.verified_room kind }
-    ensures same { (verifier.new.scheme ≡ verifier.old.scheme) × (verifier.new.number ≡ verifier.old.number) × (verifier.new.quorum ≡ verifier.old.quorum) }
+    ensures same { SameVerifier verifier.old verifier.new }
 {
     match proposal {
         Some(proposal) => fix(verifier, votes, proposal),
@@ -744,7 +749,7 @@ fn may_fix<S: Scheme<D>, D: Digest>(
 // another's place, so no vote comes back.
 fn settle<S: Scheme<D>, D: Digest>(verifier: &mut Verifier<S, D>, proposal: Option<Proposal<D>>)
     ensures fixes { Fixes (setting (S.meaning verifier.old.scheme) S.PublicKey.cmp S.Signature.eq D.eq verifier.old.number Mode.Retaining) verifier.old.holds proposal verifier.new.holds }
-    ensures same { (verifier.new.scheme ≡ verifier.old.scheme) × (verifier.new.number ≡ verifier.old.number) × (verifier.new.quorum ≡ verifier.old.quorum) }
+    ensures same { SameVerifier verifier.old verifier.new }
 {
     if let Some(proposal) = proposal {
         verifier.set_proposal(ProposalState::Certificate(proposal));
