@@ -1,5 +1,5 @@
 -- What a round holds: the votes that it tracks, and those that wait for a certificate.
-use Rattle.std.specs.Prelude.{ℕ, Bool, List, Option}
+use Rattle.std.specs.Prelude.{◌≡◌, ℕ, Bool, false, List, Option}
 use Rattle.batcher.specs.declared.positions.Participant.{Participant}
 use Rattle.batcher.specs.declared.positions.Round.{Round}
 use Rattle.batcher.specs.declared.messages.Vote.{Vote}
@@ -71,3 +71,25 @@ pub record RoundView (S G D : Type 0) : Type 0 where
   pub number : Round
   pub mode : Mode
   pub holds : Held G D
+
+-- A call changes nothing of them but what is held, and the room for more.
+abbrev pub SameRound : {S G D : Type 0} → RoundView S G D → RoundView S G D → Type 0
+SameRound old new =
+    (new.scheme ≡ old.scheme) × (new.number ≡ old.number) × (new.mode ≡ old.mode)
+
+abbrev pub SameVerifier : {S G D : Type 0} → Verifying S G D → Verifying S G D → Type 0
+SameVerifier old new =
+    (new.scheme ≡ old.scheme) × (new.number ≡ old.number) × (new.quorum ≡ old.quorum)
+
+abbrev pub SameTracker : {G D : Type 0} → Tracker G D → Tracker G D → Type 0
+SameTracker old new = (new.mode ≡ old.mode) × (new.participants ≡ old.participants)
+
+-- a verifier and a tracker, as what a round has of them is judged
+abbrev pub round_of : {S G D : Type 0} → Verifying S G D → Tracker G D → RoundView S G D
+round_of verifier votes =
+    record {
+      scheme = verifier.scheme;
+      number = verifier.number;
+      mode = votes.mode;
+      holds = record { tracked = votes.holds; buffered = verifier.holds; forwarded = false };
+    }

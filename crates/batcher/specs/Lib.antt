@@ -34,6 +34,7 @@ pub mod Standing
 pub mod Trying
 pub mod Answers
 pub mod Stands
+pub mod Judged
 pub mod Work
 pub mod Promises
 pub mod Composed

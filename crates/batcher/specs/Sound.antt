@@ -10,9 +10,10 @@ use Rattle.batcher.specs.declared.messages.Kind.{Kind}
 use Rattle.batcher.specs.Quorum.{quorum_of}
 use Rattle.batcher.specs.Lists.{EachOnce}
 use Rattle.batcher.specs.Meaning.{Meaning}
-use Rattle.batcher.specs.Votes.{is_kind, is_of_kind, signer_of, subject_of, attestation_of, same_subject, waits}
-use Rattle.batcher.specs.Selected.{proposal_of}
-use Rattle.batcher.specs.Held.{PerKind, of_kind, Buffered}
+use Rattle.batcher.specs.declared.verifier.ProposalState.{ProposalState}
+use Rattle.batcher.specs.Votes.{is_kind, is_of_kind, has_proposals, signer_of, subject_of, attestation_of, same_subject, waits}
+use Rattle.batcher.specs.Selected.{proposal_of, replaces}
+use Rattle.batcher.specs.Held.{PerKind, of_kind, Buffered, Verifying}
 use Rattle.batcher.specs.Buffering.{SameBuffered, subject_from, vote_for}
 
 module _ {D : Type 0} (same : D → D → Bool) where
@@ -105,3 +106,15 @@ pub record Absorbs {G D : Type 0} (old : Buffered G D) (kind : Kind) (subject : 
   pub certified : of_kind new.certified kind ≡ of_kind old.certified kind
   pub pending : of_kind new.pending kind ≡ []
   pub verified : of_kind new.verified kind ≡ of_kind old.verified kind ++ map (vote_for subject) joining
+
+-- the same of two verifiers
+abbrev pub KeepsAllRoom : {S G D : Type 0} → Verifying S G D → Verifying S G D → Type 0
+KeepsAllRoom old new =
+    KeepsRoom old.pending_room old.verified_room new.pending_room new.verified_room
+
+-- It holds of each proposal that is fixed and takes another's place, and each kind with proposals.
+abbrev pub WhereItReplaces : {D : Type 0} → (D → D → Bool) → ProposalState D
+    → Option (Proposal D) → (Proposal D → Kind → Type 0) → Type 0
+WhereItReplaces {D} same selection proposal holds =
+    (fixed : Proposal D) → proposal ≡ Some fixed → replaces same selection fixed ≡ true
+    → (kind : Kind) → has_proposals kind ≡ true → holds fixed kind

@@ -12,11 +12,11 @@ ghost use Rattle.batcher.specs.Setting.{setting};
 ghost use Rattle.batcher.specs.Lists.{is_some_and};
 ghost use Rattle.batcher.specs.Votes.{is_kind, has_proposals, kind_of, signer_of, attestation_of, subject_of, round_in, proposal_in, subject_certified};
 ghost use Rattle.batcher.specs.Selected.{proposal_of, replaces, fixes, same_selected};
-ghost use Rattle.batcher.specs.Held.{of_kind};
+ghost use Rattle.batcher.specs.Held.{of_kind, round_of, SameRound, SameVerifier, SameTracker};
 ghost use Rattle.batcher.specs.Tracking.{nothing_tracked, shown, is_known, outcome_of, outcome_by, observed, observed_opposite, RecordsKind, kept_vote};
 ghost use Rattle.batcher.specs.Buffering.{AddsVote, FixesProposal, MayFix};
 ghost use Rattle.batcher.specs.Quorum.{quorum_of};
-ghost use Rattle.batcher.specs.Sound.{IsSound, HasRoomFor, KeepsRoom};
+ghost use Rattle.batcher.specs.Sound.{IsSound, HasRoomFor, KeepsAllRoom, WhereItReplaces};
 ghost use Rattle.batcher.specs.Admissions.{refusal, mismatch_reason, admission_of};
 ghost use Rattle.batcher.specs.Steps.{nothing_held, has_block as has_block_held, missing_in, leader_set_answer, forward_answer, AfterLeader, AfterNetwork, admission, objection_by, own_result_by, admission_by, kind_tried, restored_with, AfterConstruct, TriesHeld, Fixes, is_ready_in, IsRight, WaitsWhereKept, AfterOwn, own_result, fault_or_memory, fixed_by, opposite_fault, unopposed_result, report_by, is_added, is_kept, AfterCertificate};
 ghost use Rattle.batcher.specs.History.{History};
@@ -26,11 +26,12 @@ ghost use Rattle.batcher.specs.Answers.{keeps_nullify, own_answer, needs_memory}
 ghost use Rattle.batcher.specs.declared.run.Call.TheVariants.{Network as NetworkCall, Own as OwnCall, Construct as ConstructCall, Leader as LeaderCall, Forward as ForwardCall, Missing as MissingCall, Certificate as CertificateCall};
 ghost use Rattle.batcher.specs.declared.run.Answer.TheVariants.{Network as NetworkAnswer, Own as OwnAnswer, Construct as ConstructAnswer, Leader as LeaderAnswer, Forward as ForwardAnswer, Missing as MissingAnswer, Certificate as CertificateAnswer};
 ghost use Rattle.batcher.specs.Runs.{MayCall};
+ghost use Rattle.batcher.specs.Judged.{WhereverItStands, FollowsOnOk, IsRefusedForNeed};
 ghost use Rattle.batcher.specs.Stands.{Stands, Follows, Meets};
 ghost use Rattle.batcher.specs.declared.messages.Proposal.{Proposal as TheProposal};
 ghost use Rattle.batcher.specs.declared.round.OwnFault.TheVariants.{OutOfMemory as OutOfMemoryFault};
 ghost use Rattle.batcher.specs.declared.votes.Outcome.TheVariants.{Added as AddedOutcome};
-ghost use Rattle.batcher.specs.Verifiers.{certifies_itself};
+ghost use Rattle.batcher.specs.Verifiers.{IfGiven, BatchCertifies};
 
 mod answers;
 
@@ -124,6 +125,21 @@ pub struct Admission<G, D> {
     pub report: Option<Activity<G, D>>,
 }
 
+/// What rounds over a scheme are judged by. Every scheme has it, and it says nothing of its own:
+/// contracts name by it the scheme, the number and the mode of a round.
+pub trait Judge<D: Digest>: Scheme<D> {
+    ghost use Rattle.batcher.specs.Setting.{Setting};
+    ghost use Rattle.batcher.specs.Held.{RoundView};
+
+    ghost of: { RoundView Self Self.Signature D → Setting D Self.PublicKey Self.Signature Self.Certificate };
+}
+
+impl<D: Digest, S: Scheme<D>> Judge<D> for S {
+    ghost use Rattle.batcher.specs.Judged.{judge};
+
+    ghost of = { judge S.meaning S.PublicKey.cmp S.Signature.eq D.eq };
+}
+
 /// The votes of one round, and the certificates that they have made.
 #[derive(Drop)]
 pub struct Round<S: Scheme<D>, D: Digest> {
@@ -161,7 +177,7 @@ impl<S: Scheme<D>, D: Digest> Round<S, D> {
         ensures number { result.number ≡ round }
         ensures mode { result.mode ≡ (if track_historical_votes then Mode.Retaining else Mode.Releasing) }
         ensures holds { result.holds ≡ nothing_held result.mode }
-        ensures stands { Stands (setting (S.meaning result.scheme) S.PublicKey.cmp S.Signature.eq D.eq result.number result.mode) [] result.holds }
+        ensures stands { Stands (⟦<S as Judge<D>>⟧.of result) [] result.holds }
     {
         let votes = VoteTracker::new(alloc, scheme.participants().len(), track_historical_votes);
         Round::with_votes(alloc, round, scheme, votes)
@@ -175,7 +191,7 @@ impl<S: Scheme<D>, D: Digest> Round<S, D> {
         ensures number { result.number ≡ round }
         ensures mode { result.mode ≡ Mode.Skipped }
         ensures holds { result.holds ≡ nothing_held result.mode }
-        ensures stands { Stands (setting (S.meaning result.scheme) S.PublicKey.cmp S.Signature.eq D.eq result.number result.mode) [] result.holds }
+        ensures stands { Stands (⟦<S as Judge<D>>⟧.of result) [] result.holds }
     {
         let votes = VoteTracker::skipped(alloc, scheme.participants().len());
         Round::with_votes(alloc, round, scheme, votes)
@@ -240,7 +256,8 @@ impl<S: Scheme<D>, D: Digest> Round<S, D> {
     /// Whether a certificate of the kind is there.
     pub fn has_certificate(&self, kind: Kind) -> bool
         ensures held { result ≡ of_kind self.now.holds.buffered.certified kind }
-        ensures meets { (past : History D S.PublicKey S.Signature S.Certificate) → Stands (setting (S.meaning self.now.scheme) S.PublicKey.cmp S.Signature.eq D.eq self.now.number self.now.mode) past self.now.holds → result ≡ is_certified past kind }
+        ensures meets { WhereverItStands (⟦<S as Judge<D>>⟧.of self.now) self.now.holds
+            (λ past. result ≡ is_certified past kind) }
     {
         self.verifier.has_certificate(kind)
     }
@@ -248,7 +265,8 @@ impl<S: Scheme<D>, D: Digest> Round<S, D> {
     /// Whether a nullify of the signer is kept in full.
     pub fn has_nullify(&self, signer: Participant) -> bool
         ensures held { result ≡ is_some (kept_vote self.now.holds.tracked NullifyKind signer.0) }
-        ensures meets { (past : History D S.PublicKey S.Signature S.Certificate) → Stands (setting (S.meaning self.now.scheme) S.PublicKey.cmp S.Signature.eq D.eq self.now.number self.now.mode) past self.now.holds → result ≡ keeps_nullify (setting (S.meaning self.now.scheme) S.PublicKey.cmp S.Signature.eq D.eq self.now.number self.now.mode) past signer.0 }
+        ensures meets { WhereverItStands (⟦<S as Judge<D>>⟧.of self.now) self.now.holds
+            (λ past. result ≡ keeps_nullify (⟦<S as Judge<D>>⟧.of self.now) past signer.0) }
     {
         self.votes.has_nullify(signer)
     }
@@ -257,7 +275,8 @@ impl<S: Scheme<D>, D: Digest> Round<S, D> {
     /// finalize for it shows. An index out of range is of no one who has it.
     pub fn is_missing_voter(&self, proposal: &Proposal<D>, participant: Participant) -> bool
         ensures held { result ≡ not (has_block_held D.eq self.now.holds participant.0 proposal.now) }
-        ensures meets { (past : History D S.PublicKey S.Signature S.Certificate) → Stands (setting (S.meaning self.now.scheme) S.PublicKey.cmp S.Signature.eq D.eq self.now.number self.now.mode) past self.now.holds → result ≡ not (has_block (setting (S.meaning self.now.scheme) S.PublicKey.cmp S.Signature.eq D.eq self.now.number self.now.mode) past participant.0 proposal.now) }
+        ensures meets { WhereverItStands (⟦<S as Judge<D>>⟧.of self.now) self.now.holds
+            (λ past. result ≡ not (has_block (⟦<S as Judge<D>>⟧.of self.now) past participant.0 proposal.now)) }
     {
         !self.has_block(proposal, participant)
     }
@@ -273,7 +292,8 @@ impl<S: Scheme<D>, D: Digest> Round<S, D> {
     /// The participants that aren't known to have the proposal's block, in ascending order.
     pub fn missing_voters(&self, proposal: &Proposal<D>) -> Result<Participants, AllocError>
         ensures held { IfOk result (λ list. list ≡ missing_in D.eq self.now.holds proposal.now (length (S.meaning self.now.scheme).participants)) }
-        ensures meets { (past : History D S.PublicKey S.Signature S.Certificate) → Stands (setting (S.meaning self.now.scheme) S.PublicKey.cmp S.Signature.eq D.eq self.now.number self.now.mode) past self.now.holds → IfOk result (λ list. Follows (setting (S.meaning self.now.scheme) S.PublicKey.cmp S.Signature.eq D.eq self.now.number self.now.mode) past self.now.holds (MissingCall proposal.now, MissingAnswer list) self.now.holds) }
+        ensures meets { FollowsOnOk (⟦<S as Judge<D>>⟧.of self.now) self.now.holds
+            (MissingCall proposal.now) MissingAnswer result self.now.holds }
     {
         let participants = self.verifier.participants().len();
         let mut missing = Vec::with_capacity(self.verifier.alloc(), participants)?;
@@ -291,11 +311,13 @@ impl<S: Scheme<D>, D: Digest> Round<S, D> {
     /// The same leader again changes nothing; another one is refused.
     pub fn set_leader(&mut self, leader: Participant) -> Result<(), LeaderFault>
         ensures answer { result ≡ leader_set_answer self.old.holds.buffered.leader leader }
-        ensures named { (past : History D S.PublicKey S.Signature S.Certificate) → Stands (setting (S.meaning self.old.scheme) S.PublicKey.cmp S.Signature.eq D.eq self.old.number self.old.mode) past self.old.holds → result ≡ leader_set_answer (leader_of past) leader }
-        ensures meets { (past : History D S.PublicKey S.Signature S.Certificate) → Stands (setting (S.meaning self.old.scheme) S.PublicKey.cmp S.Signature.eq D.eq self.old.number self.old.mode) past self.old.holds → Meets (setting (S.meaning self.old.scheme) S.PublicKey.cmp S.Signature.eq D.eq self.old.number self.old.mode) past self.old.holds (LeaderCall leader, LeaderAnswer result) self.new.holds }
-        ensures step { OnOk result (AfterLeader (setting (S.meaning self.old.scheme) S.PublicKey.cmp S.Signature.eq D.eq self.old.number self.old.mode) self.old.holds leader self.new.holds) }
+        ensures named { WhereverItStands (⟦<S as Judge<D>>⟧.of self.old) self.old.holds
+            (λ past. result ≡ leader_set_answer (leader_of past) leader) }
+        ensures meets { WhereverItStands (⟦<S as Judge<D>>⟧.of self.old) self.old.holds
+            (λ past. Meets (⟦<S as Judge<D>>⟧.of self.old) past self.old.holds (LeaderCall leader, LeaderAnswer result) self.new.holds) }
+        ensures step { OnOk result (AfterLeader (⟦<S as Judge<D>>⟧.of self.old) self.old.holds leader self.new.holds) }
         ensures refused { OnErr result (self.new ≡ self.old) }
-        ensures same { (self.new.scheme ≡ self.old.scheme) × (self.new.number ≡ self.old.number) × (self.new.mode ≡ self.old.mode) }
+        ensures same { SameRound self.old self.new }
     {
         let notarize = self.votes.notarize(leader);
         self.verifier.set_leader(leader, notarize.as_ref())
@@ -305,9 +327,10 @@ impl<S: Scheme<D>, D: Digest> Round<S, D> {
     /// It takes no memory.
     pub fn try_forward_proposal(&mut self, me: Participant) -> Option<Proposal<D>>
         ensures answer { result ≡ forward_answer self.old.holds me }
-        ensures meets { (past : History D S.PublicKey S.Signature S.Certificate) → Stands (setting (S.meaning self.old.scheme) S.PublicKey.cmp S.Signature.eq D.eq self.old.number self.old.mode) past self.old.holds → Follows (setting (S.meaning self.old.scheme) S.PublicKey.cmp S.Signature.eq D.eq self.old.number self.old.mode) past self.old.holds (ForwardCall me, ForwardAnswer result) self.new.holds }
+        ensures meets { WhereverItStands (⟦<S as Judge<D>>⟧.of self.old) self.old.holds
+            (λ past. Follows (⟦<S as Judge<D>>⟧.of self.old) past self.old.holds (ForwardCall me, ForwardAnswer result) self.new.holds) }
         ensures holds { self.new.holds ≡ record self.old.holds { forwarded = is_some result || self.old.holds.forwarded } }
-        ensures same { (self.new.scheme ≡ self.old.scheme) × (self.new.number ≡ self.old.number) × (self.new.mode ≡ self.old.mode) }
+        ensures same { SameRound self.old self.new }
     {
         if self.forwarded || self.verifier.leader() == Some(me) {
             return None;
@@ -329,12 +352,13 @@ impl<S: Scheme<D>, D: Digest> Round<S, D> {
         vote: Vote<S::Signature, D>,
     ) -> Result<Admission<S::Signature, D>, AllocError>
         requires { round_in (subject_of vote) ≡ self.old.number }
-        ensures step { IfOk result (λ answer. AfterNetwork (setting (S.meaning self.old.scheme) S.PublicKey.cmp S.Signature.eq D.eq self.old.number self.old.mode) self.old.holds sender vote answer self.new.holds) }
-        ensures meets { (past : History D S.PublicKey S.Signature S.Certificate) → Stands (setting (S.meaning self.old.scheme) S.PublicKey.cmp S.Signature.eq D.eq self.old.number self.old.mode) past self.old.holds → IfOk result (λ answer. Follows (setting (S.meaning self.old.scheme) S.PublicKey.cmp S.Signature.eq D.eq self.old.number self.old.mode) past self.old.holds (NetworkCall sender vote, NetworkAnswer answer) self.new.holds) }
-        ensures no_memory { (admission (setting (S.meaning self.old.scheme) S.PublicKey.cmp S.Signature.eq D.eq self.old.number self.old.mode) self.old.holds sender vote).added ≡ false → IsOk result }
-        ensures needed { (past : History D S.PublicKey S.Signature S.Certificate) → Stands (setting (S.meaning self.old.scheme) S.PublicKey.cmp S.Signature.eq D.eq self.old.number self.old.mode) past self.old.holds → OnErr result (needs_memory (setting (S.meaning self.old.scheme) S.PublicKey.cmp S.Signature.eq D.eq self.old.number self.old.mode) past (NetworkCall sender vote) ≡ true) }
+        ensures step { IfOk result (λ answer. AfterNetwork (⟦<S as Judge<D>>⟧.of self.old) self.old.holds sender vote answer self.new.holds) }
+        ensures meets { FollowsOnOk (⟦<S as Judge<D>>⟧.of self.old) self.old.holds
+            (NetworkCall sender vote) NetworkAnswer result self.new.holds }
+        ensures no_memory { (admission (⟦<S as Judge<D>>⟧.of self.old) self.old.holds sender vote).added ≡ false → IsOk result }
+        ensures needed { IsRefusedForNeed (⟦<S as Judge<D>>⟧.of self.old) self.old.holds (NetworkCall sender vote) result }
         ensures refused { OnErr result (self.new ≡ self.old) }
-        ensures same { (self.new.scheme ≡ self.old.scheme) × (self.new.number ≡ self.old.number) × (self.new.mode ≡ self.old.mode) }
+        ensures same { SameRound self.old self.new }
     {
         match self.verifier.participants().index(&sender) {
             None => Ok(blocked(BlockReason::UnknownParticipant, None)),
@@ -363,14 +387,17 @@ impl<S: Scheme<D>, D: Digest> Round<S, D> {
     ) -> Result<(Outcome, Option<Activity<S::Signature, D>>), OwnFault>
         requires belongs { round_in (subject_of vote) ≡ self.old.number }
         requires attests { (S.meaning self.old.scheme).attests (subject_of vote) (attestation_of vote) ≡ true }
-        ensures step { IfOk result (λ answer. AfterOwn (setting (S.meaning self.old.scheme) S.PublicKey.cmp S.Signature.eq D.eq self.old.number self.old.mode) self.old.holds vote answer.0 answer.1 self.new.holds) }
-        ensures meets { (past : History D S.PublicKey S.Signature S.Certificate) → Stands (setting (S.meaning self.old.scheme) S.PublicKey.cmp S.Signature.eq D.eq self.old.number self.old.mode) past self.old.holds → IfOk result (λ answer. Follows (setting (S.meaning self.old.scheme) S.PublicKey.cmp S.Signature.eq D.eq self.old.number self.old.mode) past self.old.holds (OwnCall vote, OwnAnswer answer.0 answer.1) self.new.holds) }
-        ensures named { (past : History D S.PublicKey S.Signature S.Certificate) → Stands (setting (S.meaning self.old.scheme) S.PublicKey.cmp S.Signature.eq D.eq self.old.number self.old.mode) past self.old.holds → IfErr result (λ fault. fault ≡ fault_or_memory (own_answer (setting (S.meaning self.old.scheme) S.PublicKey.cmp S.Signature.eq D.eq self.old.number self.old.mode) past vote)) }
-        ensures needed { (past : History D S.PublicKey S.Signature S.Certificate) → Stands (setting (S.meaning self.old.scheme) S.PublicKey.cmp S.Signature.eq D.eq self.old.number self.old.mode) past self.old.holds → result ≡ Err OutOfMemoryFault → needs_memory (setting (S.meaning self.old.scheme) S.PublicKey.cmp S.Signature.eq D.eq self.old.number self.old.mode) past (OwnCall vote) ≡ true }
-        ensures no_memory { (outcome : Outcome) → own_result (setting (S.meaning self.old.scheme) S.PublicKey.cmp S.Signature.eq D.eq self.old.number self.old.mode) self.old.holds vote ≡ Ok outcome → is_added outcome ≡ false → IsOk result }
-        ensures fault { IfErr result (λ fault. fault ≡ fault_or_memory (own_result (setting (S.meaning self.old.scheme) S.PublicKey.cmp S.Signature.eq D.eq self.old.number self.old.mode) self.old.holds vote)) }
+        ensures step { IfOk result (λ answer. AfterOwn (⟦<S as Judge<D>>⟧.of self.old) self.old.holds vote answer.0 answer.1 self.new.holds) }
+        ensures meets { WhereverItStands (⟦<S as Judge<D>>⟧.of self.old) self.old.holds
+            (λ past. IfOk result (λ answer. Follows (⟦<S as Judge<D>>⟧.of self.old) past self.old.holds (OwnCall vote, OwnAnswer answer.0 answer.1) self.new.holds)) }
+        ensures named { WhereverItStands (⟦<S as Judge<D>>⟧.of self.old) self.old.holds
+            (λ past. IfErr result (λ fault. fault ≡ fault_or_memory (own_answer (⟦<S as Judge<D>>⟧.of self.old) past vote))) }
+        ensures needed { WhereverItStands (⟦<S as Judge<D>>⟧.of self.old) self.old.holds
+            (λ past. result ≡ Err OutOfMemoryFault → needs_memory (⟦<S as Judge<D>>⟧.of self.old) past (OwnCall vote) ≡ true) }
+        ensures no_memory { (outcome : Outcome) → own_result (⟦<S as Judge<D>>⟧.of self.old) self.old.holds vote ≡ Ok outcome → is_added outcome ≡ false → IsOk result }
+        ensures fault { IfErr result (λ fault. fault ≡ fault_or_memory (own_result (⟦<S as Judge<D>>⟧.of self.old) self.old.holds vote)) }
         ensures refused { OnErr result (self.new ≡ self.old) }
-        ensures same { (self.new.scheme ≡ self.old.scheme) × (self.new.number ≡ self.old.number) × (self.new.mode ≡ self.old.mode) }
+        ensures same { SameRound self.old self.new }
     {
         let place = self.votes.place(vote.signer());
         let outcome = own_result(&self.verifier, &self.votes, place, vote)?;
@@ -392,12 +419,13 @@ impl<S: Scheme<D>, D: Digest> Round<S, D> {
         certificate: &Certificate<S::Certificate, D>,
     ) -> Result<bool, AllocError>
         requires { round_in (subject_certified certificate.now) ≡ self.old.number }
-        ensures step { IfOk result (λ answer. AfterCertificate (setting (S.meaning self.old.scheme) S.PublicKey.cmp S.Signature.eq D.eq self.old.number self.old.mode) self.old.holds certificate.now answer self.new.holds) }
-        ensures meets { (past : History D S.PublicKey S.Signature S.Certificate) → Stands (setting (S.meaning self.old.scheme) S.PublicKey.cmp S.Signature.eq D.eq self.old.number self.old.mode) past self.old.holds → IfOk result (λ answer. Follows (setting (S.meaning self.old.scheme) S.PublicKey.cmp S.Signature.eq D.eq self.old.number self.old.mode) past self.old.holds (CertificateCall certificate.now, CertificateAnswer answer) self.new.holds) }
-        ensures needed { (past : History D S.PublicKey S.Signature S.Certificate) → Stands (setting (S.meaning self.old.scheme) S.PublicKey.cmp S.Signature.eq D.eq self.old.number self.old.mode) past self.old.holds → OnErr result (needs_memory (setting (S.meaning self.old.scheme) S.PublicKey.cmp S.Signature.eq D.eq self.old.number self.old.mode) past (CertificateCall certificate.now) ≡ true) }
-        ensures no_memory { ((kind : TheKind) → restored_with (setting (S.meaning self.old.scheme) S.PublicKey.cmp S.Signature.eq D.eq self.old.number self.old.mode) self.old.holds certificate.now kind ≡ []) → IsOk result }
+        ensures step { IfOk result (λ answer. AfterCertificate (⟦<S as Judge<D>>⟧.of self.old) self.old.holds certificate.now answer self.new.holds) }
+        ensures meets { FollowsOnOk (⟦<S as Judge<D>>⟧.of self.old) self.old.holds
+            (CertificateCall certificate.now) CertificateAnswer result self.new.holds }
+        ensures needed { IsRefusedForNeed (⟦<S as Judge<D>>⟧.of self.old) self.old.holds (CertificateCall certificate.now) result }
+        ensures no_memory { ((kind : TheKind) → restored_with (⟦<S as Judge<D>>⟧.of self.old) self.old.holds certificate.now kind ≡ []) → IsOk result }
         ensures refused { OnErr result (self.new ≡ self.old) }
-        ensures same { (self.new.scheme ≡ self.old.scheme) × (self.new.number ≡ self.old.number) × (self.new.mode ≡ self.old.mode) }
+        ensures same { SameRound self.old self.new }
     {
         let kind = certificate.kind();
         let proposal = proposal_certified(certificate);
@@ -416,13 +444,14 @@ impl<S: Scheme<D>, D: Digest> Round<S, D> {
         &mut self,
         rng: &mut R,
     ) -> Result<Option<Batch<Certificate<S::Certificate, D>>>, AllocError>
-        ensures step { IfOk result (λ answer. AfterConstruct (setting (S.meaning self.old.scheme) S.PublicKey.cmp S.Signature.eq D.eq self.old.number self.old.mode) self.old.holds (R.stream rng.old) answer self.new.holds (R.stream rng.new)) }
-        ensures meets { (past : History D S.PublicKey S.Signature S.Certificate) → Stands (setting (S.meaning self.old.scheme) S.PublicKey.cmp S.Signature.eq D.eq self.old.number self.old.mode) past self.old.holds → IfOk result (λ given. Follows (setting (S.meaning self.old.scheme) S.PublicKey.cmp S.Signature.eq D.eq self.old.number self.old.mode) past self.old.holds (ConstructCall, ConstructAnswer given) self.new.holds) }
-        ensures no_memory { kind_tried (setting (S.meaning self.old.scheme) S.PublicKey.cmp S.Signature.eq D.eq self.old.number self.old.mode) self.old.holds ≡ None → IsOk result }
-        ensures needed { (past : History D S.PublicKey S.Signature S.Certificate) → Stands (setting (S.meaning self.old.scheme) S.PublicKey.cmp S.Signature.eq D.eq self.old.number self.old.mode) past self.old.holds → OnErr result (needs_memory (setting (S.meaning self.old.scheme) S.PublicKey.cmp S.Signature.eq D.eq self.old.number self.old.mode) past ConstructCall ≡ true) }
-        ensures certifies { IfOk result (λ answer. IfSome answer (λ batch. IfSome batch.certificate (λ certificate. certifies_itself (S.meaning self.old.scheme) certificate ≡ true))) }
+        ensures step { IfOk result (λ answer. AfterConstruct (⟦<S as Judge<D>>⟧.of self.old) self.old.holds (R.stream rng.old) answer self.new.holds (R.stream rng.new)) }
+        ensures meets { FollowsOnOk (⟦<S as Judge<D>>⟧.of self.old) self.old.holds
+            (ConstructCall) ConstructAnswer result self.new.holds }
+        ensures no_memory { kind_tried (⟦<S as Judge<D>>⟧.of self.old) self.old.holds ≡ None → IsOk result }
+        ensures needed { IsRefusedForNeed (⟦<S as Judge<D>>⟧.of self.old) self.old.holds ConstructCall result }
+        ensures certifies { IfGiven result (BatchCertifies (S.meaning self.old.scheme)) }
         ensures refused { OnErr result (self.new ≡ self.old) }
-        ensures same { (self.new.scheme ≡ self.old.scheme) × (self.new.number ≡ self.old.number) × (self.new.mode ≡ self.old.mode) }
+        ensures same { SameRound self.old self.new }
     {
         if let Some(batch) = self.try_kind(Kind::Notarization, rng)? {
             return Ok(Some(batch));
@@ -439,13 +468,13 @@ impl<S: Scheme<D>, D: Digest> Round<S, D> {
         kind: Kind,
         rng: &mut R,
     ) -> Result<Option<Batch<Certificate<S::Certificate, D>>>, AllocError>
-        ensures ready { IfOk result (λ given. is_some given ≡ is_ready_in (setting (S.meaning self.old.scheme) S.PublicKey.cmp S.Signature.eq D.eq self.old.number self.old.mode) self.old.holds kind) }
-        ensures tries { IfOk result (λ given. IfSome given (λ batch. TriesHeld (setting (S.meaning self.old.scheme) S.PublicKey.cmp S.Signature.eq D.eq self.old.number self.old.mode) self.old.holds kind (R.stream rng.old) batch self.new.holds (R.stream rng.new))) }
+        ensures ready { IfOk result (λ given. is_some given ≡ is_ready_in (⟦<S as Judge<D>>⟧.of self.old) self.old.holds kind) }
+        ensures tries { IfGiven result (λ batch. TriesHeld (⟦<S as Judge<D>>⟧.of self.old) self.old.holds kind (R.stream rng.old) batch self.new.holds (R.stream rng.new)) }
         ensures sound { IsSound (S.meaning self.old.scheme) D.eq self.old.number (quorum_of (length (S.meaning self.old.scheme).participants)) self.old.holds.buffered }
-        ensures none { is_ready_in (setting (S.meaning self.old.scheme) S.PublicKey.cmp S.Signature.eq D.eq self.old.number self.old.mode) self.old.holds kind ≡ false → (IsOk result) × (self.new ≡ self.old) × (R.stream rng.new ≡ R.stream rng.old) }
-        ensures certifies { IfOk result (λ given. IfSome given (λ batch. IfSome batch.certificate (λ certificate. certifies_itself (S.meaning self.old.scheme) certificate ≡ true))) }
+        ensures none { is_ready_in (⟦<S as Judge<D>>⟧.of self.old) self.old.holds kind ≡ false → (IsOk result) × (self.new ≡ self.old) × (R.stream rng.new ≡ R.stream rng.old) }
+        ensures certifies { IfGiven result (BatchCertifies (S.meaning self.old.scheme)) }
         ensures refused { OnErr result (self.new ≡ self.old) }
-        ensures same { (self.new.scheme ≡ self.old.scheme) × (self.new.number ≡ self.old.number) × (self.new.mode ≡ self.old.mode) }
+        ensures same { SameRound self.old self.new }
     {
         let Some(batch) = self.verifier.try_construct(kind, rng)? else {
             return Ok(None);
@@ -505,18 +534,18 @@ fn admit<S: Scheme<D>, D: Digest>(
 ) -> Result<Admission<S::Signature, D>, AllocError>
     requires right { IsRight (S.meaning verifier.old.scheme) votes.old verifier.old.holds verifier.old.quorum }
     requires place { place ≡ place_of votes.old.signers (signer_of vote) }
-    requires unopposed { objection_by (setting (S.meaning verifier.old.scheme) S.PublicKey.cmp S.Signature.eq D.eq verifier.old.number votes.old.mode) (observed_opposite votes.old.holds vote) (observed votes.old.holds (kind_of vote) (signer_of vote)) vote ≡ None }
+    requires unopposed { objection_by (⟦<S as Judge<D>>⟧.of (round_of verifier.old votes.old)) (observed_opposite votes.old.holds vote) (observed votes.old.holds (kind_of vote) (signer_of vote)) vote ≡ None }
     requires range { signer_of vote < length (S.meaning verifier.old.scheme).participants }
     requires belongs { round_in (subject_of vote) ≡ verifier.old.number }
-    ensures answer { IfOk result (λ answer. answer ≡ admission_by (setting (S.meaning verifier.old.scheme) S.PublicKey.cmp S.Signature.eq D.eq verifier.old.number votes.old.mode) (proposal_of verifier.old.holds.selection) (observed votes.old.holds (kind_of vote) (signer_of vote)) vote) }
+    ensures answer { IfOk result (λ answer. answer ≡ admission_by (⟦<S as Judge<D>>⟧.of (round_of verifier.old votes.old)) (proposal_of verifier.old.holds.selection) (observed votes.old.holds (kind_of vote) (signer_of vote)) vote) }
     ensures spared { is_known votes.old.holds (signer_of vote) ≡ true → of_kind votes.old.holds.compacted (kind_of vote) ≡ true → IsOk result }
-    ensures no_memory { (admission_by (setting (S.meaning verifier.old.scheme) S.PublicKey.cmp S.Signature.eq D.eq verifier.old.number votes.old.mode) (proposal_of verifier.old.holds.selection) (observed votes.old.holds (kind_of vote) (signer_of vote)) vote).added ≡ false → IsOk result }
+    ensures no_memory { (admission_by (⟦<S as Judge<D>>⟧.of (round_of verifier.old votes.old)) (proposal_of verifier.old.holds.selection) (observed votes.old.holds (kind_of vote) (signer_of vote)) vote).added ≡ false → IsOk result }
     ensures tracked { OnOk result ((kind : TheKind) → RecordsKind D.eq votes.old.holds votes.new.holds (proposal_of verifier.old.holds.selection) true vote kind) }
     ensures buffered { IfOk result (λ answer. MatchBool (answer.added && not (of_kind votes.old.holds.compacted (kind_of vote))) (AddsVote D.eq verifier.old.holds vote false verifier.new.holds) (verifier.new.holds ≡ verifier.old.holds)) }
     ensures refused { OnErr result ((verifier.new.holds ≡ verifier.old.holds) × (votes.new.holds ≡ votes.old.holds)) }
     ensures right { IsRight (S.meaning verifier.old.scheme) votes.new verifier.new.holds verifier.old.quorum }
-    ensures same { (verifier.new.scheme ≡ verifier.old.scheme) × (verifier.new.number ≡ verifier.old.number) × (verifier.new.quorum ≡ verifier.old.quorum) }
-    ensures mode { (votes.new.mode ≡ votes.old.mode) × (votes.new.participants ≡ votes.old.participants) }
+    ensures same { SameVerifier verifier.old verifier.new }
+    ensures mode { SameTracker votes.old votes.new }
 {
     let kind = vote.kind();
     let additional = usize::from(!votes.is_compacted(kind));
@@ -587,8 +616,8 @@ fn take_in<S: Scheme<D>, D: Digest>(
     ensures refused { OnErr result ((verifier.new.holds ≡ verifier.old.holds) × (votes.new.holds ≡ votes.old.holds)) }
     ensures right { IsRight (S.meaning verifier.old.scheme) votes.new verifier.new.holds verifier.old.quorum }
     ensures with_room { (is_known votes.old.holds (signer_of vote) ≡ false → 1 ≤ votes.old.room) → IsOk result }
-    ensures same { (verifier.new.scheme ≡ verifier.old.scheme) × (verifier.new.number ≡ verifier.old.number) × (verifier.new.quorum ≡ verifier.old.quorum) }
-    ensures mode { (votes.new.mode ≡ votes.old.mode) × (votes.new.participants ≡ votes.old.participants) }
+    ensures same { SameVerifier verifier.old verifier.new }
+    ensures mode { SameTracker votes.old votes.new }
 {
     let outcome = votes.record_at(place, &vote, verifier.proposal())?;
     if is_kept(outcome) {
@@ -609,8 +638,8 @@ fn make_room_for<S: Scheme<D>, D: Digest>(
     ensures room { OnOk result (is_some_and completed (is_kind kind) ≡ false → HasRoomFor D.eq verifier.old.holds.certified votes.now.holds.kept proposal.now verifier.new.pending_room kind) }
     ensures no_memory { (is_some_and completed (is_kind kind) ≡ false → of_kind votes.now.holds.compacted kind ≡ false → HasRoomFor D.eq verifier.old.holds.certified votes.now.holds.kept proposal.now verifier.old.pending_room kind) → IsOk result }
     ensures holds { verifier.new.holds ≡ verifier.old.holds }
-    ensures kept { KeepsRoom verifier.old.pending_room verifier.old.verified_room verifier.new.pending_room verifier.new.verified_room }
-    ensures same { (verifier.new.scheme ≡ verifier.old.scheme) × (verifier.new.number ≡ verifier.old.number) × (verifier.new.quorum ≡ verifier.old.quorum) }
+    ensures kept { KeepsAllRoom verifier.old verifier.new }
+    ensures same { SameVerifier verifier.old verifier.new }
 {
     if completed == Some(kind) || verifier.has_certificate(kind) {
         return Ok(());
@@ -625,11 +654,13 @@ fn make_room_to_fix<S: Scheme<D>, D: Digest>(
     proposal: Option<Proposal<D>>,
     completed: Option<Kind>,
 ) -> Result<(), AllocError>
-    ensures room { OnOk result ((fixed : TheProposal D) → proposal ≡ Some fixed → replaces D.eq verifier.old.holds.selection fixed ≡ true → (kind : TheKind) → has_proposals kind ≡ true → is_some_and completed (is_kind kind) ≡ false → HasRoomFor D.eq verifier.old.holds.certified votes.now.holds.kept fixed verifier.new.pending_room kind) }
-    ensures no_memory { ((fixed : TheProposal D) → proposal ≡ Some fixed → replaces D.eq verifier.old.holds.selection fixed ≡ true → (kind : TheKind) → has_proposals kind ≡ true → is_some_and completed (is_kind kind) ≡ false → of_kind votes.now.holds.compacted kind ≡ false → HasRoomFor D.eq verifier.old.holds.certified votes.now.holds.kept fixed verifier.old.pending_room kind) → IsOk result }
+    ensures room { OnOk result (WhereItReplaces D.eq verifier.old.holds.selection (proposal) (λ fixed kind.
+        is_some_and completed (is_kind kind) ≡ false → HasRoomFor D.eq verifier.old.holds.certified votes.now.holds.kept fixed verifier.new.pending_room kind)) }
+    ensures no_memory { (WhereItReplaces D.eq verifier.old.holds.selection (proposal) (λ fixed kind.
+        is_some_and completed (is_kind kind) ≡ false → of_kind votes.now.holds.compacted kind ≡ false → HasRoomFor D.eq verifier.old.holds.certified votes.now.holds.kept fixed verifier.old.pending_room kind)) → IsOk result }
     ensures holds { verifier.new.holds ≡ verifier.old.holds }
-    ensures kept { KeepsRoom verifier.old.pending_room verifier.old.verified_room verifier.new.pending_room verifier.new.verified_room }
-    ensures same { (verifier.new.scheme ≡ verifier.old.scheme) × (verifier.new.number ≡ verifier.old.number) × (verifier.new.quorum ≡ verifier.old.quorum) }
+    ensures kept { KeepsAllRoom verifier.old verifier.new }
+    ensures same { SameVerifier verifier.old verifier.new }
 {
     let Some(proposal) = proposal else {
         return Ok(());
@@ -648,15 +679,17 @@ fn make_room_to_accept<S: Scheme<D>, D: Digest>(
     vote: &Vote<S::Signature, D>,
     outcome: Outcome,
 ) -> Result<(), AllocError>
-    ensures to_fix { OnOk result ((proposal : TheProposal D) → fixed_by vote.now ≡ Some proposal → replaces D.eq verifier.old.holds.selection proposal ≡ true → (kind : TheKind) → has_proposals kind ≡ true → HasRoomFor D.eq verifier.old.holds.certified votes.old.holds.kept proposal verifier.new.pending_room kind) }
+    ensures to_fix { OnOk result (WhereItReplaces D.eq verifier.old.holds.selection (fixed_by vote.now) (λ proposal kind.
+        HasRoomFor D.eq verifier.old.holds.certified votes.old.holds.kept proposal verifier.new.pending_room kind)) }
     ensures to_record { OnOk result (is_added outcome ≡ true → 1 ≤ votes.new.room) }
     ensures to_wait { OnOk result (is_kept outcome ≡ true → 1 ≤ of_kind verifier.new.verified_room (kind_of vote.now)) }
-    ensures no_memory { is_added outcome ≡ false → ((proposal : TheProposal D) → fixed_by vote.now ≡ Some proposal → replaces D.eq verifier.old.holds.selection proposal ≡ true → (kind : TheKind) → has_proposals kind ≡ true → of_kind votes.old.holds.compacted kind ≡ false → HasRoomFor D.eq verifier.old.holds.certified votes.old.holds.kept proposal verifier.old.pending_room kind) → IsOk result }
+    ensures no_memory { is_added outcome ≡ false → (WhereItReplaces D.eq verifier.old.holds.selection (fixed_by vote.now) (λ proposal kind.
+        of_kind votes.old.holds.compacted kind ≡ false → HasRoomFor D.eq verifier.old.holds.certified votes.old.holds.kept proposal verifier.old.pending_room kind)) → IsOk result }
     ensures holds { verifier.new.holds ≡ verifier.old.holds }
     ensures votes { votes.new.holds ≡ votes.old.holds }
     ensures signers { votes.new.signers ≡ votes.old.signers }
-    ensures same { (verifier.new.scheme ≡ verifier.old.scheme) × (verifier.new.number ≡ verifier.old.number) × (verifier.new.quorum ≡ verifier.old.quorum) }
-    ensures mode { (votes.new.mode ≡ votes.old.mode) × (votes.new.participants ≡ votes.old.participants) }
+    ensures same { SameVerifier verifier.old verifier.new }
+    ensures mode { SameTracker votes.old votes.new }
 {
     make_room_to_fix(verifier, votes, fixed_by(vote), None)?;
     if is_added(outcome) {
@@ -681,7 +714,7 @@ fn fix<S: Scheme<D>, D: Digest>(
     ensures changed { result ≡ not (same_selected D.eq (proposal_of verifier.old.holds.selection) (proposal_of verifier.new.holds.selection)) }
     ensures within { WaitsWhereKept votes.now.holds verifier.new.holds }
     ensures room { (kind : TheKind) → of_kind verifier.old.verified_room kind ≤ of_kind verifier.new.verified_room kind }
-    ensures same { (verifier.new.scheme ≡ verifier.old.scheme) × (verifier.new.number ≡ verifier.old.number) × (verifier.new.quorum ≡ verifier.old.quorum) }
+    ensures same { SameVerifier verifier.old verifier.new }
 {
     let update = verifier.set_proposal(ProposalState::Certificate(proposal));
     if update.replaced {
@@ -698,12 +731,13 @@ fn may_fix<S: Scheme<D>, D: Digest>(
     proposal: Option<Proposal<D>>,
 ) -> bool
     requires within { WaitsWhereKept votes.now.holds verifier.old.holds }
-    requires room { (fixed : TheProposal D) → proposal ≡ Some fixed → replaces D.eq verifier.old.holds.selection fixed ≡ true → (kind : TheKind) → has_proposals kind ≡ true → HasRoomFor D.eq verifier.old.holds.certified votes.now.holds.kept fixed verifier.old.pending_room kind }
+    requires room { WhereItReplaces D.eq verifier.old.holds.selection (proposal) (λ fixed kind.
+        HasRoomFor D.eq verifier.old.holds.certified votes.now.holds.kept fixed verifier.old.pending_room kind) }
     ensures fixes { MayFix D.eq verifier.old.holds votes.now.holds.kept proposal verifier.new.holds }
     ensures changed { result ≡ not (same_selected D.eq (proposal_of verifier.old.holds.selection) (proposal_of verifier.new.holds.selection)) }
     ensures within { WaitsWhereKept votes.now.holds verifier.new.holds }
     ensures room { (kind : TheKind) → of_kind verifier.old.verified_room kind ≤ of_kind verifier.new.verified_room kind }
-    ensures same { (verifier.new.scheme ≡ verifier.old.scheme) × (verifier.new.number ≡ verifier.old.number) × (verifier.new.quorum ≡ verifier.old.quorum) }
+    ensures same { SameVerifier verifier.old verifier.new }
 {
     match proposal {
         Some(proposal) => fix(verifier, votes, proposal),
@@ -715,7 +749,7 @@ fn may_fix<S: Scheme<D>, D: Digest>(
 // another's place, so no vote comes back.
 fn settle<S: Scheme<D>, D: Digest>(verifier: &mut Verifier<S, D>, proposal: Option<Proposal<D>>)
     ensures fixes { Fixes (setting (S.meaning verifier.old.scheme) S.PublicKey.cmp S.Signature.eq D.eq verifier.old.number Mode.Retaining) verifier.old.holds proposal verifier.new.holds }
-    ensures same { (verifier.new.scheme ≡ verifier.old.scheme) × (verifier.new.number ≡ verifier.old.number) × (verifier.new.quorum ≡ verifier.old.quorum) }
+    ensures same { SameVerifier verifier.old verifier.new }
 {
     if let Some(proposal) = proposal {
         verifier.set_proposal(ProposalState::Certificate(proposal));

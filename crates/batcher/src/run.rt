@@ -3,11 +3,11 @@
 ghost use Rattle.std.specs.Prelude.{◌≡◌, All, IfOk, OnErr};
 ghost use Rattle.std.specs.List.{list_any};
 ghost use Rattle.std.specs.List.Sorted.{IsStrictlySortedBy};
-ghost use Rattle.batcher.specs.Setting.{setting};
+ghost use Rattle.batcher.specs.Held.{SameRound};
+ghost use Rattle.batcher.specs.Judged.{WhereverItStands};
 ghost use Rattle.batcher.specs.Steps.{nothing_held};
-ghost use Rattle.batcher.specs.History.{History};
 ghost use Rattle.batcher.specs.Answers.{IsAnswered};
-ghost use Rattle.batcher.specs.Stands.{Stands, Meets};
+ghost use Rattle.batcher.specs.Stands.{Meets};
 ghost use Rattle.batcher.specs.Ran.{IsRun};
 ghost use Rattle.batcher.specs.Runs.{MayCall, Steps, blocked_sender, blocked_senders};
 
@@ -16,7 +16,7 @@ mod theorems;
 
 use crate::messages::{Activity, Certificate, Digest, Proposal, Vote};
 use crate::positions::{Participant, Participants};
-use crate::round::{Admission, OwnFault, Round};
+use crate::round::{Admission, Judge, OwnFault, Round};
 use crate::scheme::Scheme;
 use crate::verifier::{Batch, LeaderFault};
 use crate::votes::Outcome;
@@ -77,9 +77,9 @@ pub fn run<S: Scheme<D>, D: Digest, R: CryptoRng>(
 ) -> Result<Ran<S, D>, AllocError>
     requires fresh { round.holds ≡ nothing_held round.mode }
     requires calls { All (MayCall (S.meaning round.scheme) round.number) calls.now }
-    ensures ran { IfOk result (λ ran. IsRun (setting (S.meaning round.scheme) S.PublicKey.cmp S.Signature.eq D.eq round.number round.mode) (R.stream rng.old) calls.now ran.answers.items ran.round.holds (R.stream rng.new)) }
+    ensures ran { IfOk result (λ ran. IsRun (⟦<S as Judge<D>>⟧.of round) (R.stream rng.old) calls.now ran.answers.items ran.round.holds (R.stream rng.new)) }
     ensures drawn { OnErr result (R.stream rng.new ≡ R.stream rng.old) }
-    ensures same { IfOk result (λ ran. (ran.round.scheme ≡ round.scheme) × ((ran.round.number ≡ round.number) × (ran.round.mode ≡ round.mode))) }
+    ensures same { IfOk result (λ ran. SameRound round ran.round) }
 {
     round.has_participants();
     let mut answers = Vec::with_capacity(alloc, calls.len())?;
@@ -96,9 +96,10 @@ fn step<S: Scheme<D>, D: Digest, R: CryptoRng>(
     call: &Call<S::PublicKey, S::Signature, S::Certificate, D>,
 ) -> Answer<S::Signature, S::Certificate, D>
     requires { MayCall (S.meaning round.old.scheme) round.old.number call.now }
-    ensures steps { Steps (setting (S.meaning round.old.scheme) S.PublicKey.cmp S.Signature.eq D.eq round.old.number round.old.mode) round.old.holds (R.stream rng.old) call.now result round.new.holds (R.stream rng.new) }
-    ensures meets { (past : History D S.PublicKey S.Signature S.Certificate) → Stands (setting (S.meaning round.old.scheme) S.PublicKey.cmp S.Signature.eq D.eq round.old.number round.old.mode) past round.old.holds → (Meets (setting (S.meaning round.old.scheme) S.PublicKey.cmp S.Signature.eq D.eq round.old.number round.old.mode) past round.old.holds (call.now, result) round.new.holds) × (IsAnswered (setting (S.meaning round.old.scheme) S.PublicKey.cmp S.Signature.eq D.eq round.old.number round.old.mode) past call.now result) }
-    ensures same { (round.new.scheme ≡ round.old.scheme) × ((round.new.number ≡ round.old.number) × (round.new.mode ≡ round.old.mode)) }
+    ensures steps { Steps (⟦<S as Judge<D>>⟧.of round.old) round.old.holds (R.stream rng.old) call.now result round.new.holds (R.stream rng.new) }
+    ensures meets { WhereverItStands (⟦<S as Judge<D>>⟧.of round.old) round.old.holds
+        (λ past. (Meets (⟦<S as Judge<D>>⟧.of round.old) past round.old.holds (call.now, result) round.new.holds) × (IsAnswered (⟦<S as Judge<D>>⟧.of round.old) past call.now result)) }
+    ensures same { SameRound round.old round.new }
 {
     match call {
         Call::Network(sender, vote) => match round.add_network(*sender, *vote) {

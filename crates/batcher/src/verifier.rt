@@ -11,11 +11,11 @@ ghost use Rattle.std.specs.List.{AllPass};
 ghost use Rattle.batcher.specs.Lists.{EachOnce};
 ghost use Rattle.batcher.specs.Votes.{is_kind, kind_of, is_of_kind, has_proposals, signer_of, subject_of, attestation_of, waits};
 ghost use Rattle.batcher.specs.Selected.{proposal_of, updated, same_selected, replaces};
-ghost use Rattle.batcher.specs.Held.{of_kind};
+ghost use Rattle.batcher.specs.Held.{of_kind, SameVerifier};
 ghost use Rattle.batcher.specs.Attempts.{attempt_of};
 ghost use Rattle.batcher.specs.Buffering.{attestations_of, nothing_buffered, is_buffered, is_dropped, leader_answer, is_ready, certificate_for, Buffers, TriesKind, AddsVote, SetsLeader, SetsProposal, CompletesKind};
-ghost use Rattle.batcher.specs.Sound.{IsSound, KeepsRoom, RestoresRoom};
-ghost use Rattle.batcher.specs.Verifiers.{is_of_round, certifies_itself, subject_ready};
+ghost use Rattle.batcher.specs.Sound.{IsSound, KeepsAllRoom, RestoresRoom};
+ghost use Rattle.batcher.specs.Verifiers.{is_of_round, subject_ready, IfGiven, BatchCertifies, NamesSomebody};
 
 mod attempt;
 mod buffer;
@@ -147,7 +147,7 @@ impl<S: Scheme<D>, D: Digest> Verifier<S, D> {
         ensures no_memory { 1 ≤ cond verified (of_kind self.old.verified_room (kind_of vote)) (of_kind self.old.pending_room (kind_of vote)) → IsOk result }
         ensures pending_room { (kind : TheKind) → of_kind self.old.pending_room kind ≤ of_kind self.new.pending_room kind + cond (is_of_kind kind vote && not verified) 1 0 }
         ensures verified_room { (kind : TheKind) → of_kind self.old.verified_room kind ≤ of_kind self.new.verified_room kind + cond (is_of_kind kind vote && verified) 1 0 }
-        ensures same { (self.new.scheme ≡ self.old.scheme) × (self.new.number ≡ self.old.number) × (self.new.quorum ≡ self.old.quorum) }
+        ensures same { SameVerifier self.old self.new }
     {
         self.state.add(vote, verified)
     }
@@ -162,8 +162,8 @@ impl<S: Scheme<D>, D: Digest> Verifier<S, D> {
         ensures again { is_some self.old.holds.leader ≡ true → self.new.holds ≡ self.old.holds }
         ensures refused { OnErr result (self.new.holds ≡ self.old.holds) }
         ensures sets { is_some self.old.holds.leader ≡ false → OnOk result (SetsLeader D.eq self.old.holds leader (option_map (λ vote. vote.proposal) (option_copied notarize.entry)) self.new.holds) }
-        ensures room { KeepsRoom self.old.pending_room self.old.verified_room self.new.pending_room self.new.verified_room }
-        ensures same { (self.new.scheme ≡ self.old.scheme) × (self.new.number ≡ self.old.number) × (self.new.quorum ≡ self.old.quorum) }
+        ensures room { KeepsAllRoom self.old self.new }
+        ensures same { SameVerifier self.old self.new }
     {
         self.state.set_leader(leader, notarize)
     }
@@ -174,8 +174,8 @@ impl<S: Scheme<D>, D: Digest> Verifier<S, D> {
         ensures changed { result.changed ≡ not (same_selected D.eq (proposal_of self.old.holds.selection) (proposal_of self.new.holds.selection)) }
         ensures replaced { result.replaced ≡ (result.changed && is_some (proposal_of self.old.holds.selection)) }
         ensures none_wait { result.replaced ≡ true → (kind : TheKind) → has_proposals kind ≡ true → (of_kind self.new.holds.pending kind ≡ []) × (of_kind self.new.holds.verified kind ≡ []) }
-        ensures room { KeepsRoom self.old.pending_room self.old.verified_room self.new.pending_room self.new.verified_room }
-        ensures same { (self.new.scheme ≡ self.old.scheme) × (self.new.number ≡ self.old.number) × (self.new.quorum ≡ self.old.quorum) }
+        ensures room { KeepsAllRoom self.old self.new }
+        ensures same { SameVerifier self.old self.new }
     {
         self.state.set_proposal(next)
     }
@@ -214,7 +214,7 @@ impl<S: Scheme<D>, D: Digest> Verifier<S, D> {
         ensures selection { self.new.holds.selection ≡ self.old.holds.selection }
         ensures buffers { (other : TheKind) → Buffers D.eq self.old.holds self.new.holds other (cond (is_kind kind other) votes.entry []) [] }
         ensures room { RestoresRoom kind self.old.pending_room self.old.verified_room self.new.pending_room self.new.verified_room }
-        ensures same { (self.new.scheme ≡ self.old.scheme) × (self.new.number ≡ self.old.number) × (self.new.quorum ≡ self.old.quorum) }
+        ensures same { SameVerifier self.old self.new }
     {
         if let Some(proposal) = selected(&self.state.proposal).copied() {
             self.state.restore(kind, votes, &proposal);
@@ -224,8 +224,8 @@ impl<S: Scheme<D>, D: Digest> Verifier<S, D> {
     /// A certificate of the kind is there, so its votes go. It takes no memory.
     pub(crate) fn record_certificate(&mut self, kind: Kind)
         ensures completes { CompletesKind D.eq self.old.holds kind self.new.holds }
-        ensures room { KeepsRoom self.old.pending_room self.old.verified_room self.new.pending_room self.new.verified_room }
-        ensures same { (self.new.scheme ≡ self.old.scheme) × (self.new.number ≡ self.old.number) × (self.new.quorum ≡ self.old.quorum) }
+        ensures room { KeepsAllRoom self.old self.new }
+        ensures same { SameVerifier self.old self.new }
     {
         self.state.record_certificate(kind);
     }
@@ -273,10 +273,10 @@ impl<S: Scheme<D>, D: Digest> Verifier<S, D> {
         additional: usize,
     ) -> Result<(), AllocError>
         ensures holds { self.new.holds ≡ self.old.holds }
-        ensures kept { KeepsRoom self.old.pending_room self.old.verified_room self.new.pending_room self.new.verified_room }
+        ensures kept { KeepsAllRoom self.old self.new }
         ensures room { OnOk result (additional ≤ cond verified (of_kind self.new.verified_room kind) (of_kind self.new.pending_room kind)) }
         ensures no_memory { additional ≤ cond verified (of_kind self.old.verified_room kind) (of_kind self.old.pending_room kind) → IsOk result }
-        ensures same { (self.new.scheme ≡ self.old.scheme) × (self.new.number ≡ self.old.number) × (self.new.quorum ≡ self.old.quorum) }
+        ensures same { SameVerifier self.old self.new }
     {
         self.state.make_room(kind, verified, additional)
     }
@@ -287,12 +287,13 @@ impl<S: Scheme<D>, D: Digest> Verifier<S, D> {
         rng: &mut R,
     ) -> Result<Option<Batch<Certificate<S::Certificate, D>>>, AllocError>
         ensures ready { IfOk result (λ given. is_some given ≡ is_ready D.eq (S.meaning self.old.scheme).batchable self.old.quorum self.old.holds TheNotarization) }
-        ensures tries { IfOk result (λ given. IfSome given (λ batch. TriesKind (S.meaning self.old.scheme) self.old.number self.old.quorum self.old.holds TheNotarization (R.stream rng.old) batch (R.stream rng.new) self.new.holds)) }
-        ensures certifies { IfOk result (λ given. IfSome given (λ batch. IfSome batch.certificate (λ certificate. certifies_itself (S.meaning self.old.scheme) certificate ≡ true))) }
-        ensures names { IfOk result (λ given. IfSome given (λ batch. batch.fallback ≡ true → batch.invalid ≢ [])) }
+        ensures tries { IfGiven result (λ batch.
+            TriesKind (S.meaning self.old.scheme) self.old.number self.old.quorum self.old.holds TheNotarization (R.stream rng.old) batch (R.stream rng.new) self.new.holds) }
+        ensures certifies { IfGiven result (BatchCertifies (S.meaning self.old.scheme)) }
+        ensures names { IfGiven result NamesSomebody }
         ensures not_ready { is_ready D.eq (S.meaning self.old.scheme).batchable self.old.quorum self.old.holds TheNotarization ≡ false → (IsOk result) × (self.new ≡ self.old) × (R.stream rng.new ≡ R.stream rng.old) }
         ensures unchanged { OnErr result (self.new.holds ≡ self.old.holds) }
-        ensures same { (self.new.scheme ≡ self.old.scheme) × (self.new.number ≡ self.old.number) × (self.new.quorum ≡ self.old.quorum) }
+        ensures same { SameVerifier self.old self.new }
     {
         self.try_construct(Kind::Notarization, rng)
     }
@@ -303,12 +304,13 @@ impl<S: Scheme<D>, D: Digest> Verifier<S, D> {
         rng: &mut R,
     ) -> Result<Option<Batch<Certificate<S::Certificate, D>>>, AllocError>
         ensures ready { IfOk result (λ given. is_some given ≡ is_ready D.eq (S.meaning self.old.scheme).batchable self.old.quorum self.old.holds TheNullification) }
-        ensures tries { IfOk result (λ given. IfSome given (λ batch. TriesKind (S.meaning self.old.scheme) self.old.number self.old.quorum self.old.holds TheNullification (R.stream rng.old) batch (R.stream rng.new) self.new.holds)) }
-        ensures certifies { IfOk result (λ given. IfSome given (λ batch. IfSome batch.certificate (λ certificate. certifies_itself (S.meaning self.old.scheme) certificate ≡ true))) }
-        ensures names { IfOk result (λ given. IfSome given (λ batch. batch.fallback ≡ true → batch.invalid ≢ [])) }
+        ensures tries { IfGiven result (λ batch.
+            TriesKind (S.meaning self.old.scheme) self.old.number self.old.quorum self.old.holds TheNullification (R.stream rng.old) batch (R.stream rng.new) self.new.holds) }
+        ensures certifies { IfGiven result (BatchCertifies (S.meaning self.old.scheme)) }
+        ensures names { IfGiven result NamesSomebody }
         ensures not_ready { is_ready D.eq (S.meaning self.old.scheme).batchable self.old.quorum self.old.holds TheNullification ≡ false → (IsOk result) × (self.new ≡ self.old) × (R.stream rng.new ≡ R.stream rng.old) }
         ensures unchanged { OnErr result (self.new.holds ≡ self.old.holds) }
-        ensures same { (self.new.scheme ≡ self.old.scheme) × (self.new.number ≡ self.old.number) × (self.new.quorum ≡ self.old.quorum) }
+        ensures same { SameVerifier self.old self.new }
     {
         self.try_construct(Kind::Nullification, rng)
     }
@@ -319,12 +321,13 @@ impl<S: Scheme<D>, D: Digest> Verifier<S, D> {
         rng: &mut R,
     ) -> Result<Option<Batch<Certificate<S::Certificate, D>>>, AllocError>
         ensures ready { IfOk result (λ given. is_some given ≡ is_ready D.eq (S.meaning self.old.scheme).batchable self.old.quorum self.old.holds TheFinalization) }
-        ensures tries { IfOk result (λ given. IfSome given (λ batch. TriesKind (S.meaning self.old.scheme) self.old.number self.old.quorum self.old.holds TheFinalization (R.stream rng.old) batch (R.stream rng.new) self.new.holds)) }
-        ensures certifies { IfOk result (λ given. IfSome given (λ batch. IfSome batch.certificate (λ certificate. certifies_itself (S.meaning self.old.scheme) certificate ≡ true))) }
-        ensures names { IfOk result (λ given. IfSome given (λ batch. batch.fallback ≡ true → batch.invalid ≢ [])) }
+        ensures tries { IfGiven result (λ batch.
+            TriesKind (S.meaning self.old.scheme) self.old.number self.old.quorum self.old.holds TheFinalization (R.stream rng.old) batch (R.stream rng.new) self.new.holds) }
+        ensures certifies { IfGiven result (BatchCertifies (S.meaning self.old.scheme)) }
+        ensures names { IfGiven result NamesSomebody }
         ensures not_ready { is_ready D.eq (S.meaning self.old.scheme).batchable self.old.quorum self.old.holds TheFinalization ≡ false → (IsOk result) × (self.new ≡ self.old) × (R.stream rng.new ≡ R.stream rng.old) }
         ensures unchanged { OnErr result (self.new.holds ≡ self.old.holds) }
-        ensures same { (self.new.scheme ≡ self.old.scheme) × (self.new.number ≡ self.old.number) × (self.new.quorum ≡ self.old.quorum) }
+        ensures same { SameVerifier self.old self.new }
     {
         self.try_construct(Kind::Finalization, rng)
     }
@@ -336,13 +339,14 @@ impl<S: Scheme<D>, D: Digest> Verifier<S, D> {
         rng: &mut R,
     ) -> Result<Option<Batch<Certificate<S::Certificate, D>>>, AllocError>
         ensures ready { IfOk result (λ given. is_some given ≡ is_ready D.eq (S.meaning self.old.scheme).batchable self.old.quorum self.old.holds kind) }
-        ensures tries { IfOk result (λ given. IfSome given (λ batch. TriesKind (S.meaning self.old.scheme) self.old.number self.old.quorum self.old.holds kind (R.stream rng.old) batch (R.stream rng.new) self.new.holds)) }
-        ensures certifies { IfOk result (λ given. IfSome given (λ batch. IfSome batch.certificate (λ certificate. certifies_itself (S.meaning self.old.scheme) certificate ≡ true))) }
-        ensures names { IfOk result (λ given. IfSome given (λ batch. batch.fallback ≡ true → batch.invalid ≢ [])) }
+        ensures tries { IfGiven result (λ batch.
+            TriesKind (S.meaning self.old.scheme) self.old.number self.old.quorum self.old.holds kind (R.stream rng.old) batch (R.stream rng.new) self.new.holds) }
+        ensures certifies { IfGiven result (BatchCertifies (S.meaning self.old.scheme)) }
+        ensures names { IfGiven result NamesSomebody }
         ensures sound { IsSound (S.meaning self.old.scheme) D.eq self.old.number self.old.quorum self.old.holds }
         ensures not_ready { is_ready D.eq (S.meaning self.old.scheme).batchable self.old.quorum self.old.holds kind ≡ false → (IsOk result) × (self.new ≡ self.old) × (R.stream rng.new ≡ R.stream rng.old) }
         ensures unchanged { OnErr result (self.new.holds ≡ self.old.holds) }
-        ensures same { (self.new.scheme ≡ self.old.scheme) × (self.new.number ≡ self.old.number) × (self.new.quorum ≡ self.old.quorum) }
+        ensures same { SameVerifier self.old self.new }
     {
         match self.subject_ready(kind) {
             None => Ok(None),
@@ -392,10 +396,10 @@ impl<S: Scheme<D>, D: Digest> Verifier<S, D> {
     ) -> Result<Batch<Certificate<S::Certificate, D>>, AllocError>
         requires { subject_ready D.eq (S.meaning self.old.scheme).batchable self.old.quorum self.old.holds self.old.number kind ≡ Some subject }
         ensures tries { IfOk result (λ batch. TriesKind (S.meaning self.old.scheme) self.old.number self.old.quorum self.old.holds kind (R.stream rng.old) batch (R.stream rng.new) self.new.holds) }
-        ensures certifies { IfOk result (λ batch. IfSome batch.certificate (λ certificate. certifies_itself (S.meaning self.old.scheme) certificate ≡ true)) }
-        ensures names { IfOk result (λ batch. batch.fallback ≡ true → batch.invalid ≢ []) }
+        ensures certifies { IfOk result (BatchCertifies (S.meaning self.old.scheme)) }
+        ensures names { IfOk result NamesSomebody }
         ensures unchanged { OnErr result (self.new.holds ≡ self.old.holds) }
-        ensures same { (self.new.scheme ≡ self.old.scheme) × (self.new.number ≡ self.old.number) × (self.new.quorum ≡ self.old.quorum) }
+        ensures same { SameVerifier self.old self.new }
     {
         let Attempted { batch, joining } = self.attempt_at(kind, subject, rng)?;
         let Batch {

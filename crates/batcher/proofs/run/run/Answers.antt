@@ -42,8 +42,8 @@ loop-call-preserved g c =
       told = rw c.push_reserved.ensures.items (omega (arith, length-append answers (c.step.result ∷ []), c.loop-call.invariant.told));
       room = rw c.push_reserved.ensures.capacity c.loop-call.invariant.room;
       scheme = c.step.ensures.same.0 ∙ c.loop-call.invariant.scheme;
-      number = c.step.ensures.same.1.0 ∙ c.loop-call.invariant.number;
-      mode = c.step.ensures.same.1.1 ∙ c.loop-call.invariant.mode;
+      number = c.step.ensures.same.1 ∙ c.loop-call.invariant.number;
+      mode = c.step.ensures.same.2 ∙ c.loop-call.invariant.mode;
     }
 
 pub returns-clause-ran : goal.returns-clause-ran

@@ -60,11 +60,11 @@ loop-call-preserved g c =
       room = rw c.push_reserved.ensures.capacity i.room;
       room_released = rw c.push_reserved-in-loop-call.ensures.capacity i.room_released;
       scheme = c.step-answer.ensures.same.0 ∙ i.scheme;
-      number = c.step-answer.ensures.same.1.0 ∙ i.number;
-      mode = c.step-answer.ensures.same.1.1 ∙ i.mode;
+      number = c.step-answer.ensures.same.1 ∙ i.number;
+      mode = c.step-answer.ensures.same.2 ∙ i.mode;
       scheme_released = c.step-answer-in-loop-call.ensures.same.0 ∙ i.scheme_released;
-      number_released = c.step-answer-in-loop-call.ensures.same.1.0 ∙ i.number_released;
-      mode_released = c.step-answer-in-loop-call.ensures.same.1.1 ∙ i.mode_released;
+      number_released = c.step-answer-in-loop-call.ensures.same.1 ∙ i.number_released;
+      mode_released = c.step-answer-in-loop-call.ensures.same.2 ∙ i.mode_released;
     }
 
 pub returns-then-is_refused-clause-ran : goal.returns-then-is_refused-clause-ran

@@ -1,0 +1,34 @@
+-- What a round is judged by, and what holds of one call wherever the round stands.
+use Rattle.std.specs.Prelude.{◌≡◌, Bool, true, Result, IfOk, OnErr}
+use Rattle.std.specs.declared.cmp.Ordering.{Ordering}
+use Rattle.batcher.specs.declared.run.Call.{Call}
+use Rattle.batcher.specs.declared.run.Answer.{Answer}
+use Rattle.batcher.specs.Meaning.{Meaning}
+use Rattle.batcher.specs.Setting.{Setting, setting}
+use Rattle.batcher.specs.Held.{Held, RoundView}
+use Rattle.batcher.specs.History.{History}
+use Rattle.batcher.specs.Answers.{needs_memory}
+use Rattle.batcher.specs.Stands.{Stands, Follows}
+
+-- what a round is judged by: its scheme, its number, its mode, and the comparisons of its values
+abbrev pub judge : {S D K G C : Type 0} → (S → Meaning D K G C) → (K → K → Ordering)
+    → (G → G → Bool) → (D → D → Bool) → RoundView S G D → Setting D K G C
+judge meaning compare_keys same_signature same_digest round =
+    setting (meaning round.scheme) compare_keys same_signature same_digest round.number round.mode
+
+module _ {D K G C : Type 0} (x : Setting D K G C) (held : Held G D) where
+  -- It holds of every history after which the round stands.
+  abbrev pub WhereverItStands : (History D K G C → Type 0) → Type 0
+  WhereverItStands holds = (past : History D K G C) → Stands x past held → holds past
+
+  -- A call that is made follows with its answer.
+  abbrev pub FollowsOnOk : {A E : Type 0} → Call K G C D → (A → Answer G C D) → Result A E
+      → Held G D → Type 0
+  FollowsOnOk call answered result new =
+      WhereverItStands (λ past.
+      IfOk result (λ answer. Follows x past held (call, answered answer) new))
+
+  -- A call is refused for memory only where the history says that it may need some.
+  abbrev pub IsRefusedForNeed : {A E : Type 0} → Call K G C D → Result A E → Type 0
+  IsRefusedForNeed call result =
+      WhereverItStands (λ past. OnErr result (needs_memory x past call ≡ true))
