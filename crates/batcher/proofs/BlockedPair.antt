@@ -88,7 +88,7 @@ module _ {D K G C : Type 0} (x : Setting D K G C) where
   selects_alike (a ∷ retained) (b ∷ released) alike =
       ((selection_alike x (a ∷ retained) (b ∷ released) alike, certified_alike (a ∷ retained) (b ∷ released) alike), selects_alike retained released alike.1.1)
 
-  at_each_place : (holds : Event D K G C → History D K G C → Event D K G C → History D K G C → Type 0)
+  pub at_each_place : (holds : Event D K G C → History D K G C → Event D K G C → History D K G C → Type 0)
       → ((a : Event D K G C) (retained : History D K G C) (b : Event D K G C) (released : History D K G C) → AreAlike (a ∷ retained) (b ∷ released)
       → IsPossible (in_mode x Retaining) (a ∷ retained) → IsPossible (in_mode x Releasing) (b ∷ released) → holds a retained b released)
       → (retained released : History D K G C) → AreAlike retained released → IsPossible (in_mode x Retaining) retained → IsPossible (in_mode x Releasing) released → AtEachPlace holds retained released

@@ -123,7 +123,7 @@ module _ {D K G C : Type 0} (x : Setting D K G C) where
               (and_from _ _ (ap (λ k. not (is_released x past k)) is ∙ ap not unreleased) (ap (is_released x (event ∷ past)) is ∙ released))
 
       -- So each one is among the compared votes.
-      first_compared : (past : History D K G C) → IsPossible x past → is_released x past kind ≡ true → (first : Vote G D) → first_vote x past kind i ≡ Some first →
+      pub first_compared : (past : History D K G C) → IsPossible x past → is_released x past kind ≡ true → (first : Vote G D) → first_vote x past kind i ≡ Some first →
           (test : Vote G D → Bool) → test first ≡ true → list_any test (compared_votes x past) ≡ true
       first_compared [] possible released first found test passes = absurd (none-some first found)
       first_compared (event ∷ past) possible released first found test passes =

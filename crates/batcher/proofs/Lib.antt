@@ -92,3 +92,7 @@ pub mod Flooding
 pub mod BlocksWorked
 pub mod HonestWorked
 pub mod CertificatesWorked
+pub mod MissingPair
+pub mod BlockedKeys
+pub mod Replaying
+pub mod ReplayWorked

@@ -1,8 +1,8 @@
 -- How a run of a pair goes on, and what it leaves where it stops.
-use Rattle.std.proofs.Common.{inl, inr, ◌≡◌, ◌<◌, ◌+◌, ◌++◌, ◌||◌, ◌∷◌, [], ℕ, true, false, List, length, take, Some, None, refl, ap, sym, ◌∙◌, arith, subst, length-append}
+use Rattle.std.proofs.Common.{inl, inr, ◌≡◌, ◌<◌, ◌+◌, ◌++◌, ◌||◌, ◌∷◌, [], ℕ, true, false, List, length, take, drop, Some, None, refl, ap, sym, ◌∙◌, arith, subst, length-append}
 use Rattle.std.specs.List.{list_any}
 use Rattle.std.proofs.lemmas.Bool.{or_from, or_right, false≢true, true≢false, false_from_ne_true}
-use Rattle.std.proofs.lemmas.List.{append-nil}
+use Rattle.std.proofs.lemmas.List.{append-nil, take-append-drop}
 use Rattle.std.proofs.lemmas.List.Folds.{list_any-append}
 use Rattle.std.proofs.lemmas.Option.{none-some}
 use Rattle.rand_core.specs.Stream.{Stream}
@@ -19,11 +19,12 @@ use Rattle.batcher.specs.History.{History, history, history_after}
 use Rattle.batcher.specs.Answers.{IsAnswered}
 use Rattle.batcher.specs.Stands.{Meets}
 use Rattle.batcher.specs.Ran.{IsRun}
-use Rattle.batcher.specs.Pairs.{in_mode, ends_pair, is_own_fault, IsAlike, AnsweredAlike, IsBeside, GoesOn, EndsAt, IsPairRun}
+use Rattle.batcher.specs.Pairs.{in_mode, blocks, ends_pair, is_own_fault, IsAlike, AnsweredAlike, IsBeside, GoesOn, EndsAt, BlocksNoMore, IsPairRun}
 use Rattle.batcher.proofs.Laws.{HasLaws}
 use Rattle.batcher.proofs.Histories.{history-push}
 use Rattle.batcher.proofs.Going.{Goes, goes_first, goes_more, goes_to}
 use Rattle.batcher.proofs.BesideEach.{beside_of}
+use Rattle.batcher.proofs.BlockedKeys.{blocks_no_more}
 use Rattle.batcher.proofs.Finding.{any_more}
 use Rattle.batcher.proofs.OwnPair.{not_own_fault}
 use Rattle.batcher.proofs.Together.{AreTogether, beside_at_first, stay_beside}
@@ -46,6 +47,12 @@ fault_ends (ConstructAnswer batch) h = absurd (false≢true h)
 fault_ends (ForwardAnswer proposal) h = absurd (false≢true h)
 fault_ends (MissingAnswer missing) h = absurd (false≢true h)
 fault_ends OutOfMemory h = absurd (false≢true h)
+
+-- An answer that ends the pair blocks nobody.
+ends_unblocked : {G C D : Type 0} (answer : Answer G C D)
+    → ends_pair answer ≡ true → blocks answer ≡ false
+ends_unblocked (NetworkAnswer admission) h = absurd (false≢true h)
+ends_unblocked answer h = refl
 
 module _ {G C D : Type 0} where
   -- one more answer, which ends the pair or doesn't
@@ -142,6 +149,14 @@ module _ {D K G C : Type 0} (x : Setting D K G C) (laws : HasLaws x) where
     besides : IsBeside x (history calls retained) (history calls released)
     besides = beside_of x laws (history calls retained) (history calls released) goes.together.alike goes.together.stands.possible goes.together.stands_released.possible
 
+    no_more_blocked : (cs more : List (Call K G C D))
+        (more_retained more_released : List (Answer G C D)) → calls ++ more ≡ cs
+        → list_any blocks more_released ≡ false
+        → BlocksNoMore x cs (retained ++ more_retained) (released ++ more_released)
+    no_more_blocked cs more more_retained more_released whole none =
+        blocks_no_more x cs calls more retained released more_retained more_released whole
+        goes.retained_on.0 goes.released_on.0 goes.answered_alike besides.blocked_by_both none
+
     -- where no call was refused,
     pub pair_ends : all ≡ calls → IsPairRun x before all None retained retaining after released releasing left
     pair_ends is =
@@ -152,6 +167,10 @@ module _ {D K G C : Type 0} (x : Setting D K G C) (laws : HasLaws x) where
           stops = (goes.retained_on, goes.released_on);
           answered_alike = goes.answered_alike;
           beside = besides;
+          blocks_no_more =
+              subst (λ given. BlocksNoMore x calls given released) (append-nil retained)
+              (subst (λ given. BlocksNoMore x calls (retained ++ []) given) (append-nil released)
+              (no_more_blocked calls [] [] [] (append-nil calls) refl));
           held_alike = λ _. (goes.together.buffered, (goes.together.forwarded, goes.streams));
         })
       where
@@ -181,6 +200,13 @@ module _ {D K G C : Type 0} (x : Setting D K G C) (laws : HasLaws x) where
           subst (λ given. AnsweredAlike given (take place (released ++ more_released))) (sym (take_front place retained more_retained (goes.retained_on.0 ∙ told)))
           (subst (λ given. AnsweredAlike retained given) (sym (take_front place released more_released (goes.released_on.0 ∙ told))) goes.answered_alike)
 
+      no_more_so_far : (more_retained more_released : List (Answer G C D))
+          → list_any blocks more_released ≡ false
+          → BlocksNoMore x all (retained ++ more_retained) (released ++ more_released)
+      no_more_so_far more_retained more_released none =
+          no_more_blocked all (drop place all) more_retained more_released
+          (ap (λ cs. cs ++ drop place all) (sym so_far) ∙ take-append-drop place all) none
+
       -- where the retaining round refused one,
       pub pair_stops : (a : Answer G C D) (new : Held G D) (then : Stream) → Takes (in_mode x Retaining) (history calls retained) retaining after call a new then → ends_pair a ≡ true →
           IsPairRun x before all (Some place) (retained ++ a ∷ []) new then released releasing left
@@ -194,6 +220,8 @@ module _ {D K G C : Type 0} (x : Setting D K G C) (laws : HasLaws x) where
             stops = (below, inl (ends_then place retained a (at_place retained goes.retained_on) ends, at_place released goes.released_on));
             answered_alike = subst (λ given. AnsweredAlike (take place (retained ++ a ∷ [])) (take place given)) (append-nil released) (alike_so_far (a ∷ []) []);
             beside = subst (λ given. IsBeside x (history (take place all) (take place (retained ++ a ∷ []))) (history (take place all) (take place given))) (append-nil released) (beside_so_far (a ∷ []) []);
+            blocks_no_more =
+                subst (λ given. BlocksNoMore x all (retained ++ a ∷ []) given) (append-nil released) (no_more_so_far (a ∷ []) [] refl);
             held_alike = λ none. absurd (none-some place (sym none));
           }
 
@@ -216,5 +244,6 @@ module _ {D K G C : Type 0} (x : Setting D K G C) (laws : HasLaws x) where
             stops = (below, inr (goes_on_more place retained a (at_place retained goes.retained_on) on, (ends_then place released b (at_place released goes.released_on) ends, memory_alone)));
             answered_alike = alike_so_far (a ∷ []) (b ∷ []);
             beside = beside_so_far (a ∷ []) (b ∷ []);
+            blocks_no_more = no_more_so_far (a ∷ []) (b ∷ []) (or_from _ _ (ends_unblocked b ends) refl);
             held_alike = λ none. absurd (none-some place (sym none));
           }

@@ -1,5 +1,5 @@
 -- Two rounds that take the same calls, one that retains votes and one that releases them: one more call leaves them alike.
-use Rattle.std.proofs.Common.{◌≡◌, ℕ, Bool, true, false, cond, ◌&&◌, ◌||◌, List, [], ◌∷◌, ◌++◌, Option, Some, None, is_none, is_some, filter, refl, ap, sym, ◌∙◌, subst, ⊎_elim}
+use Rattle.std.proofs.Common.{◌≡◌, ℕ, Bool, true, false, cond, ◌&&◌, ◌||◌, List, [], ◌∷◌, ◌++◌, Option, Some, None, is_none, is_some, Ok, filter, find, refl, ap, sym, ◌∙◌, subst, ⊎_elim}
 use Rattle.std.specs.Prelude.{⊤, MatchBool}
 use Rattle.std.proofs.lemmas.Bool.{cases_Bool, true≢false}
 use Rattle.std.proofs.lemmas.Option.{none-some, same_Some}
@@ -12,6 +12,7 @@ use Rattle.batcher.specs.declared.messages.Vote.{Vote}
 use Rattle.batcher.specs.declared.messages.Certificate.{Certificate}
 use Rattle.batcher.specs.declared.messages.Certificate.TheVariants.{Notarization as NotarizationCertificate, Nullification as NullificationCertificate, Finalization as FinalizationCertificate}
 use Rattle.batcher.specs.declared.verifier.Batch.{Batch}
+use Rattle.batcher.specs.declared.votes.Outcome.{Outcome}
 use Rattle.batcher.specs.declared.votes.Mode.TheVariants.{Retaining, Releasing}
 use Rattle.batcher.specs.declared.run.Call.{Call}
 use Rattle.batcher.specs.declared.run.Call.TheVariants.{Network as NetworkCall, Own as OwnCall, Certificate as CertificateCall, Leader as LeaderCall, Construct as ConstructCall, Forward as ForwardCall, Missing as MissingCall}
@@ -20,29 +21,31 @@ use Rattle.batcher.specs.declared.run.Answer.TheVariants.{OutOfMemory, Network a
 use Rattle.batcher.specs.Meaning.{Meaning}
 use Rattle.batcher.specs.Setting.{Setting, quorum_in}
 use Rattle.batcher.specs.Ascending.{ordered_by}
-use Rattle.batcher.specs.Votes.{is_kind, is_of_kind, signer_of, waits}
+use Rattle.batcher.specs.Votes.{is_kind, kind_of, is_of_kind, is_vote_of, signer_of, opposes, waits}
 use Rattle.batcher.specs.Selected.{replaces}
 use Rattle.batcher.specs.Lists.{is_some_and}
 use Rattle.batcher.specs.Held.{PerKind, of_kind, Buffered, Held}
 use Rattle.batcher.specs.Attempts.{attempt_of}
 use Rattle.batcher.specs.Buffering.{TriesKind, attestations_of, batch_of}
-use Rattle.batcher.specs.Steps.{AfterConstruct, kind_tried, forward_answer, leader_set_answer, nothing_held}
+use Rattle.batcher.specs.Steps.{AfterConstruct, kind_tried, forward_answer, leader_set_answer, nothing_held, is_added}
 use Rattle.batcher.specs.Runs.{Steps}
 use Rattle.batcher.specs.History.{History, is_made, history_after, names_sender, sent_votes, own_votes, batch_given}
-use Rattle.batcher.specs.FirstVotes.{is_free}
+use Rattle.batcher.specs.FirstVotes.{is_free, opposite_vote}
 use Rattle.batcher.specs.Selection.{selection, selected_proposal, is_certified, comes_back}
 use Rattle.batcher.specs.Standing.{ready_kind, waiting_votes}
 use Rattle.batcher.specs.Trying.{left_verified}
-use Rattle.batcher.specs.Answers.{certificate_answer, network_answer}
+use Rattle.batcher.specs.Answers.{certificate_answer, network_answer, own_answer}
 use Rattle.batcher.specs.Stands.{Stands, Follows, Meets, arrivals, first_by_signer, pending_after, tries_kind, verified_after}
 use Rattle.batcher.specs.Pairs.{IsAlike, in_mode, ends_pair}
 use Rattle.batcher.proofs.Alike.{AreAlike, told_alike, leader_alike, forwarded_alike, certified_alike, firsts_alike, selection_alike, selected_alike, waiting_alike, back_alike, ready_alike}
 use Rattle.batcher.proofs.Arriving.{added_is}
+use Rattle.batcher.proofs.Told.{own_added}
 use Rattle.batcher.proofs.Fresh.{fresh_stands}
 
 -- WHAT IS BUFFERED
 -- the same of each kind
-each_same : {X : Type 0} (a b : PerKind X) → ((kind : Kind) → of_kind a kind ≡ of_kind b kind) → a ≡ b
+pub each_same : {X : Type 0} (a b : PerKind X)
+    → ((kind : Kind) → of_kind a kind ≡ of_kind b kind) → a ≡ b
 each_same {X = X} a b same =
     ap (λ v. by v a.nullify a.finalize) (same Notarization)
     ∙ (ap (λ v. by b.notarize v a.finalize) (same Nullification) ∙ ap (λ v. by b.notarize b.nullify v) (same Finalization))
@@ -50,8 +53,11 @@ each_same {X = X} a b same =
     by : X → X → X → PerKind X
     by u v w = record { notarize = u; nullify = v; finalize = w }
 
-buffered_same : {G D : Type 0} (a b : Buffered G D) → a.leader ≡ b.leader → a.selection ≡ b.selection → ((kind : Kind) → of_kind a.certified kind ≡ of_kind b.certified kind) →
-    ((kind : Kind) → of_kind a.pending kind ≡ of_kind b.pending kind) → ((kind : Kind) → of_kind a.verified kind ≡ of_kind b.verified kind) → a ≡ b
+pub buffered_same : {G D : Type 0} (a b : Buffered G D)
+    → a.leader ≡ b.leader → a.selection ≡ b.selection
+    → ((kind : Kind) → of_kind a.certified kind ≡ of_kind b.certified kind)
+    → ((kind : Kind) → of_kind a.pending kind ≡ of_kind b.pending kind)
+    → ((kind : Kind) → of_kind a.verified kind ≡ of_kind b.verified kind) → a ≡ b
 buffered_same a b leader selection certified pending verified =
     ap (λ v. record a { leader = v }) leader
     ∙ (ap (λ v. record a { leader = b.leader; selection = v }) selection
@@ -64,19 +70,34 @@ not_before true b none = absurd (true≢false none)
 not_before false b none = none
 
 -- ATTEMPTS
--- Two attempts with the same buffers and stream give one batch, and leave one stream.
-one_attempt : {D K G C : Type 0} (m : Meaning D K G C) (number : Round) (q : ℕ) (held : Buffered G D) (kind : Kind) (before : Stream) (batch other : Batch (Certificate C D)) (after left : Stream) (new news : Buffered G D) →
-    TriesKind m number q held kind before batch after new → TriesKind m number q held kind before other left news → (batch ≡ other) × (after ≡ left)
-one_attempt m number q held kind before batch other after left new news first second =
+-- Two attempts with the same buffers and stream are about one subject, come to one outcome, and
+-- leave one stream;
+pub one_outcome : {D K G C : Type 0} (m : Meaning D K G C) (number : Round) (q : ℕ)
+    (held : Buffered G D) (kind : Kind) (before : Stream) (batch other : Batch (Certificate C D))
+    (after left : Stream) (new news : Buffered G D)
+    → (first : TriesKind m number q held kind before batch after new)
+    → (second : TriesKind m number q held kind before other left news)
+    → (first.subject ≡ second.subject) × ((first.outcome ≡ second.outcome) × (after ≡ left))
+one_outcome m number q held kind before batch other after left new news first second =
     let subjects = same_Some first.subject second.subject (sym first.subject_is ∙ second.subject_is) in
     let both =
     first.attempt
     ∙ (ap (λ s. attempt_of m s q (attestations_of (of_kind held.verified kind)) (attestations_of (of_kind held.pending kind)) before) subjects
-    ∙ sym second.attempt) in (
+    ∙ sym second.attempt) in
+    (subjects, (ap (λ t. t.0) both, ap (λ t. t.1) both))
+
+-- so they give one batch.
+pub one_attempt : {D K G C : Type 0} (m : Meaning D K G C) (number : Round) (q : ℕ)
+    (held : Buffered G D) (kind : Kind) (before : Stream) (batch other : Batch (Certificate C D))
+    (after left : Stream) (new news : Buffered G D)
+    → TriesKind m number q held kind before batch after new
+    → TriesKind m number q held kind before other left news → (batch ≡ other) × (after ≡ left)
+one_attempt m number q held kind before batch other after left new news first second =
+    let one = one_outcome m number q held kind before batch other after left new news first second in (
       first.batch_is
-          ∙ (ap (λ s. batch_of s first.outcome) subjects
-          ∙ (ap (λ t. batch_of second.subject t.0) both ∙ sym second.batch_is)),
-      ap (λ t. t.1) both,
+          ∙ (ap (λ s. batch_of s first.outcome) one.0
+          ∙ (ap (λ o. batch_of second.subject o) one.1.0 ∙ sym second.batch_is)),
+      one.1.1,
     )
 
 -- ANSWERS
@@ -133,6 +154,17 @@ module _ {D K G C : Type 0} (x : Setting D K G C) where
         ∙ (ap (λ vs. names_sender x sender vote && is_free vs vote) (firsts_alike x retained released beside.alike)
         ∙ sym (added_is (in_mode x Releasing) released sender vote))
 
+    own_added_alike : (vote : Vote G D) (outcome second : Outcome)
+        → own_answer (in_mode x Retaining) retained vote ≡ Ok outcome
+        → own_answer (in_mode x Releasing) released vote ≡ Ok second
+        → is_added outcome ≡ is_added second
+    own_added_alike vote outcome second is also =
+        own_added (in_mode x Retaining) retained vote (opposite_vote (in_mode x Retaining) retained vote) outcome is
+        ∙ (ap (λ vs.
+        is_none (find (is_vote_of (kind_of vote) (signer_of vote)) vs) && is_none (find (λ v. opposes v vote) vs))
+        (firsts_alike x retained released beside.alike)
+        ∙ sym (own_added (in_mode x Releasing) released vote (opposite_vote (in_mode x Releasing) released vote) second also))
+
     changes_alike : (certificate : Certificate C D) → certificate_answer (in_mode x Retaining) retained certificate ≡ certificate_answer (in_mode x Releasing) released certificate
     changes_alike (NotarizationCertificate certificate) =
         ap (λ o. is_none o || replaces x.same_digest (selection (in_mode x Retaining) retained) certificate.proposal) (selected_alike x retained released beside.alike)
@@ -163,7 +195,8 @@ module _ {D K G C : Type 0} (x : Setting D K G C) where
           Meets (in_mode x Retaining) retained old (call, a) new → Meets (in_mode x Releasing) released other (call, b) news → IsAlike a b × (after ≡ left)
       answers_alike (NetworkCall sender vote) (NetworkAnswer a) (NetworkAnswer b) fit fit_released step step_released meets meets_released =
           (ap (λ t. t.added) meets.stands.possible.1.1.0 ∙ (added_alike sender vote ∙ sym (ap (λ t. t.added) meets_released.stands.possible.1.1.0)), step.1 ∙ sym step_released.1)
-      answers_alike (OwnCall vote) (OwnAnswer outcome report) (OwnAnswer second reported) fit fit_released step step_released meets meets_released = (tt, step.1 ∙ sym step_released.1)
+      answers_alike (OwnCall vote) (OwnAnswer outcome report) (OwnAnswer second reported) fit fit_released step step_released meets meets_released =
+          (own_added_alike vote outcome second meets.stands.possible.1.1.0.0 meets_released.stands.possible.1.1.0.0, step.1 ∙ sym step_released.1)
       answers_alike (CertificateCall certificate) (CertificateAnswer a) (CertificateAnswer b) fit fit_released step step_released meets meets_released =
           (meets.stands.possible.1.1.0 ∙ (changes_alike certificate ∙ sym meets_released.stands.possible.1.1.0), step.1 ∙ sym step_released.1)
       answers_alike (LeaderCall leader) (LeaderAnswer a) (LeaderAnswer b) fit fit_released step step_released meets meets_released =

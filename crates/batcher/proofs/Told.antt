@@ -246,8 +246,8 @@ module _ {D K G C : Type 0} (x : Setting D K G C) where
       added_if (Ok o) = is_added o
       added_if (Err fault) = false
 
-  own_added : (past : History D K G C) (vote : Vote G D) (opposite : Option (Vote G D)) (outcome : Outcome)
-      → own_answer_against x past opposite vote ≡ Ok outcome
+  pub own_added : (past : History D K G C) (vote : Vote G D) (opposite : Option (Vote G D))
+      (outcome : Outcome) → own_answer_against x past opposite vote ≡ Ok outcome
       → is_added outcome ≡ (is_none (first_like x past vote) && is_none opposite)
   own_added past vote (Some earlier) outcome h = absurd (cc)
   own_added past vote None outcome h =

@@ -52,3 +52,5 @@ pub mod Converge
 pub mod BlockExamples
 pub mod HonestExamples
 pub mod CertificateExamples
+pub mod Replay
+pub mod ReplayExamples

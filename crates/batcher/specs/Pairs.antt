@@ -2,19 +2,23 @@
 use Rattle.std.specs.Prelude.{◌≡◌, ◌<◌, ◌+◌, ◌⊎◌, ⊤, ℕ, Bool, true, false, not, ◌&&◌, ◌||◌, ◌==◌, List, [], ◌∷◌, length, take, Option, Some, None, is_some}
 use Rattle.std.specs.List.{list_any}
 use Rattle.rand_core.specs.Stream.{Stream}
+use Rattle.batcher.specs.declared.positions.Participant.{Participant}
+use Rattle.batcher.specs.declared.messages.Proposal.{Proposal}
 use Rattle.batcher.specs.declared.messages.Vote.{Vote}
 use Rattle.batcher.specs.declared.messages.Kind.{Kind}
 use Rattle.batcher.specs.declared.votes.Mode.{Mode}
 use Rattle.batcher.specs.declared.votes.Mode.TheVariants.{Retaining, Releasing}
 use Rattle.batcher.specs.declared.run.Call.{Call}
-use Rattle.batcher.specs.declared.run.Call.TheVariants.{Network as NetworkCall}
+use Rattle.batcher.specs.declared.run.Call.TheVariants.{Network as NetworkCall, Missing as MissingCall}
 use Rattle.batcher.specs.declared.run.Answer.{Answer}
 use Rattle.batcher.specs.declared.run.Answer.TheVariants.{OutOfMemory, Network as NetworkAnswer, Own as OwnAnswer, OwnRefused, Certificate as CertificateAnswer, Leader as LeaderAnswer, Construct as ConstructAnswer, Forward as ForwardAnswer, Missing as MissingAnswer}
 use Rattle.batcher.specs.Setting.{Setting, sender_in}
 use Rattle.batcher.specs.Lists.{is_some_and}
-use Rattle.batcher.specs.Votes.{kind_of, is_for, subject_of, proposal_in}
+use Rattle.batcher.specs.Votes.{kind_of, is_for, subject_of, proposal_in, same_proposal}
 use Rattle.batcher.specs.Selected.{same_selected}
 use Rattle.batcher.specs.Held.{Held}
+use Rattle.batcher.specs.Steps.{is_added}
+use Rattle.batcher.specs.Runs.{blocked_senders}
 use Rattle.batcher.specs.History.{Event, History, history}
 use Rattle.batcher.specs.Ran.{IsRun}
 use Rattle.batcher.specs.FirstVotes.{first_like}
@@ -32,10 +36,11 @@ module _ {G C D : Type 0} where
   is_own_fault (OwnRefused fault) = true
   is_own_fault answer = false
 
-  -- What both rounds answer alike: whether a network vote is added, and to certificates, leaders, constructions and forwards all.
+  -- What both rounds answer alike: whether a vote is added, and to certificates, leaders,
+  -- constructions and forwards all.
   abbrev pub IsAlike : Answer G C D → Answer G C D → Type 0
   IsAlike (NetworkAnswer a) (NetworkAnswer b) = a.added ≡ b.added
-  IsAlike (OwnAnswer outcome report) (OwnAnswer other reported) = ⊤
+  IsAlike (OwnAnswer outcome report) (OwnAnswer other reported) = is_added outcome ≡ is_added other
   IsAlike (CertificateAnswer a) (CertificateAnswer b) = a ≡ b
   IsAlike (LeaderAnswer a) (LeaderAnswer b) = a ≡ b
   IsAlike (ConstructAnswer a) (ConstructAnswer b) = a ≡ b
@@ -66,6 +71,11 @@ module _ {D K G C : Type 0} (x : Setting D K G C) where
   tells_nothing past vote first =
       same_selected x.same_digest (proposal_in (subject_of vote)) (proposal_in (subject_of first))
       || not (is_some_and (selected_proposal x past) (λ p. is_for x.same_digest p vote || is_for x.same_digest p first))
+
+  -- whether a proposal is selected, and another one than this
+  abbrev pub is_other_selected : History D K G C → Proposal D → Bool
+  is_other_selected past p =
+      is_some_and (selected_proposal x past) (λ q. not (same_proposal x.same_digest q p))
 
 -- answers that are alike, one by one
 abbrev pub AnsweredAlike : {G C D : Type 0} → List (Answer G C D) → List (Answer G C D) → Type 0
@@ -100,10 +110,20 @@ module _ {D K G C : Type 0} (x : Setting D K G C) where
       → (is_released (in_mode x Releasing) released (kind_of vote) && is_some_and (first_like x released vote) (tells_nothing x released vote)) ≡ true
   IsBlockedByOne a retained b released = ⊤
 
+  -- Unless another proposal is selected than the one that is asked about, whom the releasing round
+  -- lists as without its block the retaining one lists too.
+  abbrev pub IsMissingInBoth :
+      Event D K G C → History D K G C → Event D K G C → History D K G C → Type 0
+  IsMissingInBoth (c, MissingAnswer kept) retained (MissingCall p, MissingAnswer missing) released =
+      is_other_selected (in_mode x Releasing) released p ≡ false
+      → (i : ℕ) → list_any (λ j. j.0 == i) missing ≡ true → list_any (λ j. j.0 == i) kept ≡ true
+  IsMissingInBoth a retained b released = ⊤
+
   pub record IsBeside (retained released : History D K G C) : Type 0 where
     pub select_alike : AtEachPlace SelectsAlike retained released
     pub blocked_by_both : AtEachPlace IsBlockedByBoth retained released
     pub blocked_by_one : AtEachPlace IsBlockedByOne retained released
+    pub missing_in_both : AtEachPlace IsMissingInBoth retained released
 
 -- WHERE A PAIR STOPS
 module _ {G C D : Type 0} where
@@ -128,6 +148,20 @@ made_by_both None all = all
 made_by_both (Some place) all = take place all
 
 module _ {D K G C : Type 0} (x : Setting D K G C) where
+  -- a test that all keys of one participant pass, or none
+  abbrev pub TellsNoKeysApart : (K → Bool) → Type 0
+  TellsNoKeysApart test =
+      (a b : K) (i : Participant)
+      → sender_in x a ≡ Some i → sender_in x b ≡ Some i → test a ≡ test b
+
+  -- Whom the releasing round's answers block those of the retaining one block too: the sender with
+  -- the same key, or with another key of the same participant.
+  abbrev pub BlocksNoMore : List (Call K G C D) → List (Answer G C D) → List (Answer G C D) → Type 0
+  BlocksNoMore calls retained released =
+      (test : K → Bool) → TellsNoKeysApart test
+      → list_any test (blocked_senders calls released) ≡ true
+      → list_any test (blocked_senders calls retained) ≡ true
+
   -- What a run of a pair leaves. Each round has run in its own mode, over the calls that it has made; over those that both have
   -- made they are beside each other; and where none was refused they hold the same, but for kept votes and facts.
   pub record IsPairRun (before : Stream) (calls : List (Call K G C D)) (stopped : Option ℕ) (retained : List (Answer G C D)) (retaining : Held G D) (after : Stream) (released : List (Answer G C D)) (releasing : Held G D) (left : Stream) : Type 0 where
@@ -136,4 +170,5 @@ module _ {D K G C : Type 0} (x : Setting D K G C) where
     pub stops : StopsAt stopped (length calls) retained released
     pub answered_alike : AnsweredAlike (made_by_both stopped retained) (made_by_both stopped released)
     pub beside : IsBeside x (history (made_by_both stopped calls) (made_by_both stopped retained)) (history (made_by_both stopped calls) (made_by_both stopped released))
+    pub blocks_no_more : BlocksNoMore calls retained released
     pub held_alike : stopped ≡ None → (retaining.buffered ≡ releasing.buffered) × ((retaining.forwarded ≡ releasing.forwarded) × (after ≡ left))

@@ -23,7 +23,7 @@ use crate::votes::Outcome;
 pub use pair::{PairRan, run_pair};
 use rand_core::CryptoRng;
 use std::alloc::{AllocError, Global};
-pub use theorems::{order_is_free, worked_examples};
+pub use theorems::{order_is_free, replays, worked_examples};
 
 /// A call of a round, with keys `P`, signatures `G`, certificates `C` and digests `D`.
 #[derive(Debug, Drop)]

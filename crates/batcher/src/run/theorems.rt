@@ -2,12 +2,14 @@
 
 ghost use Rattle.batcher.specs.declared.positions.Round.{Round as TheNumber};
 ghost use Rattle.batcher.specs.declared.votes.Mode.{Mode as TheMode};
-ghost use Rattle.batcher.specs.Setting.{setting};
+ghost use Rattle.batcher.specs.Setting.{setting, Setting as TheSetting};
 ghost use Rattle.batcher.specs.Converge.{OrderIsFree};
 ghost use Rattle.batcher.specs.Examples.{WorkedExamples};
 ghost use Rattle.batcher.specs.CertificateExamples.{CertificateExamples};
 ghost use Rattle.batcher.specs.BlockExamples.{BlockExamples};
 ghost use Rattle.batcher.specs.HonestExamples.{HonestExamples};
+ghost use Rattle.batcher.specs.ReplayExamples.{ReplayExamples};
+ghost use Rattle.batcher.specs.Replay.{EqualRunsGoAlike};
 
 use crate::messages::Digest;
 use crate::scheme::Scheme;
@@ -19,6 +21,7 @@ pub fn worked_examples()
     ensures certificates { CertificateExamples }
     ensures blocks { BlockExamples }
     ensures honest { HonestExamples }
+    ensures pairs { ReplayExamples }
 {}
 
 /// Does nothing. Its contract says, for every scheme, what three constructions certify where no bad
@@ -27,4 +30,11 @@ pub fn order_is_free<S: Scheme<D>, D: Digest>()
     ensures { (scheme : S) (number : TheNumber) (mode : TheMode)
         → OrderIsFree
         (setting (S.meaning scheme) S.PublicKey.cmp S.Signature.eq D.eq number mode) }
+{}
+
+/// Does nothing. Its contract says that runs of equal calls on equal rounds, with equal generators,
+/// give equal answers and leave equal rounds, as long as memory isn't refused in either; and that a
+/// run of the first calls gives the first answers.
+pub fn replays<P, G, C, D>()
+    ensures { (x : TheSetting D P G C) → EqualRunsGoAlike x }
 {}
