@@ -37,30 +37,38 @@ module _ {X : Type 0} (test : X → Bool) (key : X → ℕ) (x : X) where
   found_first true o = refl
   found_first false o = refl
 
-  found_later : (b c : Bool) (y : X) (o p : Option X) → is_some p ≡ (c || is_some o) → is_some (cond b (Some y) p) ≡ (c || is_some (cond b (Some y) o))
+  found_later : (b c : Bool) (y : X) (o p : Option X) → is_some p ≡ (c || is_some o)
+      → is_some (cond b (Some y) p) ≡ (c || is_some (cond b (Some y) o))
   found_later true c y o p e = sym (or_true c)
   found_later false c y o p e = e
 
   -- something is found after an insert where it was before, or where the new element is it
-  pub found-insert_by : (xs : List X) → is_some (find test (insert_by key x xs)) ≡ (test x || is_some (find test xs))
+  pub found-insert_by : (xs : List X) → is_some (find test (insert_by key x xs))
+      ≡ (test x || is_some (find test xs))
   found-insert_by [] = found_first (test x) None
   found-insert_by (y ∷ ys) = found_either (nat_le (key x) (key y)) y ys (found-insert_by ys) where
-    found_either : (b : Bool) (y : X) (ys : List X) → is_some (find test (insert_by key x ys)) ≡ (test x || is_some (find test ys)) → is_some (find test (cond b (x ∷ y ∷ ys) (y ∷ insert_by key x ys))) ≡ (test x || is_some (find test (y ∷ ys)))
+    found_either : (b : Bool) (y : X) (ys : List X) → is_some (find test (insert_by key x ys))
+        ≡ (test x || is_some (find test ys))
+        → is_some (find test (cond b (x ∷ y ∷ ys) (y ∷ insert_by key x ys)))
+        ≡ (test x || is_some (find test (y ∷ ys)))
     found_either true y ys e = found_first (test x) (find test (y ∷ ys))
     found_either false y ys e = found_later (test y) (test x) y (find test ys) (find test (insert_by key x ys)) e
 
 no_more : (b : Bool) (m n : ℕ) → m ≤ n → cond b 1 0 + m ≤ cond b 1 0 + n
 no_more b m n h = omega (arith, h)
 
-any_none : {X : Type 0} (test : X → Bool) (xs : List X) → count test xs ≡ 0 → list_any test xs ≡ false
+any_none : {X : Type 0} (test : X → Bool) (xs : List X) → count test xs ≡ 0 → list_any test xs
+    ≡ false
 any_none test [] h = refl
 any_none test (x ∷ xs) h = any_cons (test x) (count test xs) (list_any test xs) h (any_none test xs) where
-  any_cons : (b : Bool) (n : ℕ) (rest : Bool) → cond b 1 0 + n ≡ 0 → (n ≡ 0 → rest ≡ false) → (b || rest) ≡ false
+  any_cons : (b : Bool) (n : ℕ) (rest : Bool) → cond b 1 0 + n ≡ 0 → (n ≡ 0 → rest ≡ false)
+      → (b || rest) ≡ false
   any_cons true n rest h e = absurd (omega (arith, h))
   any_cons false n rest h e = e (omega (arith, h))
 
 module _ {G D : Type 0} (held : Buffered G D) (kind : Kind) (i : ℕ) where
-  fewer_of : (xs : List (Vote G D)) → count (is_vote_of kind i) xs ≤ count (λ v. signer_of v == i) xs
+  fewer_of : (xs : List (Vote G D)) → count (is_vote_of kind i) xs
+      ≤ count (λ v. signer_of v == i) xs
   fewer_of [] = omega arith
   fewer_of (v ∷ vs) = both (is_kind (kind_of v) kind) (signer_of v == i) (count (is_vote_of kind i) vs) (count (λ w. signer_of w == i) vs) (fewer_of vs) where
     both : (b c : Bool) (m n : ℕ) → m ≤ n → cond (b && c) 1 0 + m ≤ cond c 1 0 + n
@@ -69,11 +77,15 @@ module _ {G D : Type 0} (held : Buffered G D) (kind : Kind) (i : ℕ) where
     both false false m n h = omega (arith, h)
 
   -- where no vote of the signer waits, none of the kind does
-  pub not_buffered : count (λ v. signer_of v == i) (of_kind held.verified kind ++ of_kind held.pending kind) ≤ 0 → is_buffered held kind i ≡ false
+  pub not_buffered : count (λ v. signer_of v == i)
+      (of_kind held.verified kind ++ of_kind held.pending kind) ≤ 0 → is_buffered held kind i
+      ≡ false
   not_buffered h =
       let split = count-append (λ v. signer_of v == i) (of_kind held.verified kind) (of_kind held.pending kind) in
-      let verified : list_any (is_vote_of kind i) (of_kind held.verified kind) ≡ false = any_none (is_vote_of kind i) (of_kind held.verified kind) (omega (arith, h, split, fewer_of (of_kind held.verified kind))) in
-      let pending : list_any (is_vote_of kind i) (of_kind held.pending kind) ≡ false = any_none (is_vote_of kind i) (of_kind held.pending kind) (omega (arith, h, split, fewer_of (of_kind held.pending kind))) in
+      let verified : list_any (is_vote_of kind i) (of_kind held.verified kind)
+      ≡ false = any_none (is_vote_of kind i) (of_kind held.verified kind) (omega (arith, h, split, fewer_of (of_kind held.verified kind))) in
+      let pending : list_any (is_vote_of kind i) (of_kind held.pending kind)
+      ≡ false = any_none (is_vote_of kind i) (of_kind held.pending kind) (omega (arith, h, split, fewer_of (of_kind held.pending kind))) in
       rw (verified, pending)
 
 -- what an added vote that is kept in full tells of its signer
@@ -81,23 +93,29 @@ pub record IsNew {G D : Type 0} (held : Tracked G D) (vote : Vote G D) : Type 0 
   pub full : of_kind held.compacted (kind_of vote) ≡ false
   pub none : kept_vote held (kind_of vote) (signer_of vote) ≡ None
 
-module _ {G D : Type 0} (same : D → D → Bool) (held : Tracked G D) (selected : Option (Proposal D)) (vote : Vote G D) where
+module _ {G D : Type 0} (same : D → D → Bool) (held : Tracked G D) (selected : Option (Proposal D))
+    (vote : Vote G D) where
   new_if : (below : Bool) (compacted : Bool) (kept : Option (Vote G D)) (facts : Option Facts)
-      → cond below (outcome_by same selected compacted (cond compacted (from_facts facts) (from_kept kept)) vote) (Duplicate (not compacted)) ≡ Added true
+      → cond below (outcome_by same selected compacted
+      (cond compacted (from_facts facts) (from_kept kept)) vote) (Duplicate (not compacted))
+      ≡ Added true
       → (compacted ≡ false) × (kept ≡ None)
   new_if false compacted kept facts h = absurd (cc)
   new_if true true kept None h = absurd (cc)
   new_if true true kept (Some facts) h = by_conflict (conflicts_with same selected vote facts) h where
-    by_conflict : (b : Bool) → cond b Conflicting (Duplicate false) ≡ Added true → (true ≡ false) × (kept ≡ None)
+    by_conflict : (b : Bool) → cond b Conflicting (Duplicate false) ≡ Added true → (true ≡ false)
+        × (kept ≡ None)
     by_conflict true h = absurd (cc)
     by_conflict false h = absurd (cc)
   new_if true false None facts h = (refl, refl)
   new_if true false (Some kept) facts h = absurd (cc)
 
   -- a vote that is added in full is the first of its kind and signer
-  pub added_new : (participants : ℕ) → outcome_of same participants held selected vote ≡ Added true → IsNew held vote
+  pub added_new : (participants : ℕ) → outcome_of same participants held selected vote ≡ Added true
+      → IsNew held vote
   added_new participants h =
-      let both = new_if (nat_lt (signer_of vote) participants) (of_kind held.compacted (kind_of vote)) (kept_vote held (kind_of vote) (signer_of vote)) (known_facts held (kind_of vote) (signer_of vote)) h in
+      let both = new_if (nat_lt (signer_of vote) participants) (of_kind held.compacted (kind_of vote)) (kept_vote held (kind_of vote) (signer_of vote))
+      (known_facts held (kind_of vote) (signer_of vote)) h in
       record { full = both.0; none = both.1 }
 
 same_kind : (kind : Kind) → is_kind kind kind ≡ true
@@ -118,7 +136,9 @@ kinds_same Finalization Finalization h = refl
 
 module _ {X : Type 0} (test : X → Bool) (x : X) where
   -- a vote joins one of the two buffers at most
-  joins_one : (k is_verified : Bool) → count test (cond (k && is_verified) (x ∷ []) []) + count test (cond (k && not is_verified) (x ∷ []) []) ≤ cond k (cond (test x) 1 0) 0
+  joins_one : (k is_verified : Bool)
+      → count test (cond (k && is_verified) (x ∷ []) []) + count test
+      (cond (k && not is_verified) (x ∷ []) []) ≤ cond k (cond (test x) 1 0) 0
   joins_one true true = omega arith
   joins_one true false = omega arith
   joins_one false is_verified = omega arith
@@ -135,19 +155,26 @@ one_at_most true true = omega arith
 one_at_most true false = omega arith
 one_at_most false s = omega arith
 
-choose : {X : Type 0} (a b c d : Bool) (x y : X) → a ≡ true → b ≡ true → c ≡ false → d ≡ false → cond ((a && b) && (not c && not d)) x y ≡ x
+choose : {X : Type 0} (a b c d : Bool) (x y : X) → a ≡ true → b ≡ true → c ≡ false → d ≡ false
+    → cond ((a && b) && (not c && not d)) x y ≡ x
 choose a b c d x y e f g h = rw (e, f, g, h)
 
 own_found : (b c : Bool) → b ≡ true → (b || c) ≡ true
 own_found b c e = rw e
 
-module _ {D K G C : Type 0} (m : Meaning D K G C) (same : D → D → Bool) (tracker after : Tracker G D) (old : Buffered G D) (quorum : ℕ) (right : IsRight m tracker old quorum)
+module _ {D K G C : Type 0} (m : Meaning D K G C) (same : D → D → Bool)
+    (tracker after : Tracker G D) (old : Buffered G D) (quorum : ℕ)
+    (right : IsRight m tracker old quorum)
     (selected : Option (Proposal D)) (is_recorded : Bool) (vote : Vote G D)
     (participants : after.participants ≡ tracker.participants) (mode : after.mode ≡ tracker.mode)
     (records : (kind : Kind) → RecordsKind same tracker.holds after.holds selected is_recorded vote kind) where
-  still_some : (b : Bool) (kind : Kind) (i : ℕ) → of_kind after.holds.kept kind ≡ cond b (insert_by signer_of vote (of_kind tracker.holds.kept kind)) (of_kind tracker.holds.kept kind)
-      → is_some (kept_vote after.holds kind i) ≡ ((b && is_vote_of kind i vote) || is_some (kept_vote tracker.holds kind i))
-  still_some true kind i e = ap (λ xs. is_some (find (is_vote_of kind i) xs)) e ∙ found-insert_by (is_vote_of kind i) signer_of vote (of_kind tracker.holds.kept kind)
+  still_some : (b : Bool) (kind : Kind) (i : ℕ) → of_kind after.holds.kept kind
+      ≡ cond b (insert_by signer_of vote (of_kind tracker.holds.kept kind))
+      (of_kind tracker.holds.kept kind)
+      → is_some (kept_vote after.holds kind i)
+      ≡ ((b && is_vote_of kind i vote) || is_some (kept_vote tracker.holds kind i))
+  still_some true kind i e =
+      ap (λ xs. is_some (find (is_vote_of kind i) xs)) e ∙ found-insert_by (is_vote_of kind i) signer_of vote (of_kind tracker.holds.kept kind)
   still_some false kind i e = ap (λ xs. is_some (find (is_vote_of kind i) xs)) e
 
   still_more : (a b : Bool) (n : ℕ) → n ≤ cond b 1 0 → n ≤ cond (a || b) 1 0
@@ -168,9 +195,11 @@ module _ {D K G C : Type 0} (m : Meaning D K G C) (same : D → D → Bool) (tra
     fixed = right.fixed;
   }
 
-  module _ (new : Buffered G D) (is_verified : Bool) (adds : AddsVote same old vote is_verified new) (fresh : IsNew tracker.holds vote) (e : is_recorded ≡ true) where
+  module _ (new : Buffered G D) (is_verified : Bool) (adds : AddsVote same old vote is_verified new)
+      (fresh : IsNew tracker.holds vote) (e : is_recorded ≡ true) where
     -- what is kept of the vote's kind after it
-    kept_after : of_kind after.holds.kept (kind_of vote) ≡ insert_by signer_of vote (of_kind tracker.holds.kept (kind_of vote))
+    kept_after : of_kind after.holds.kept (kind_of vote)
+        ≡ insert_by signer_of vote (of_kind tracker.holds.kept (kind_of vote))
     kept_after = (records (kind_of vote)).kept ∙ recorded_full where
       own_kind : is_of_kind (kind_of vote) vote ≡ true
       own_kind = same_kind (kind_of vote)
@@ -178,7 +207,12 @@ module _ {D K G C : Type 0} (m : Meaning D K G C) (same : D → D → Bool) (tra
       unseen_own : is_seen (observed tracker.holds (kind_of vote) (signer_of vote)) ≡ false
       unseen_own = rw (fresh.full, fresh.none)
 
-      recorded_full : cond ((is_of_kind (kind_of vote) vote && is_recorded) && (not (of_kind tracker.holds.compacted (kind_of vote)) && not (is_seen (observed tracker.holds (kind_of vote) (signer_of vote))))) (insert_by signer_of vote (of_kind tracker.holds.kept (kind_of vote))) (of_kind tracker.holds.kept (kind_of vote)) ≡ insert_by signer_of vote (of_kind tracker.holds.kept (kind_of vote))
+      recorded_full : cond ((is_of_kind (kind_of vote) vote && is_recorded)
+          && (not (of_kind tracker.holds.compacted (kind_of vote))
+          && not (is_seen (observed tracker.holds (kind_of vote) (signer_of vote)))))
+          (insert_by signer_of vote (of_kind tracker.holds.kept (kind_of vote)))
+          (of_kind tracker.holds.kept (kind_of vote))
+          ≡ insert_by signer_of vote (of_kind tracker.holds.kept (kind_of vote))
       recorded_full = choose _ _ _ _ _ _ own_kind e fresh.full unseen_own
 
     is_there : is_some (kept_vote after.holds (kind_of vote) (signer_of vote)) ≡ true
@@ -189,7 +223,10 @@ module _ {D K G C : Type 0} (m : Meaning D K G C) (same : D → D → Bool) (tra
           own_vote : is_vote_of (kind_of vote) (signer_of vote) vote ≡ true
           own_vote = let both : (signer_of vote == signer_of vote) ≡ true = grind (arith, nat_tests) in rw (same_kind (kind_of vote), both)
 
-    joined : (kind : Kind) (i : ℕ) → count (λ v. signer_of v == i) (of_kind new.verified kind ++ of_kind new.pending kind) ≤ count (λ v. signer_of v == i) (of_kind old.verified kind ++ of_kind old.pending kind) + cond (is_of_kind kind vote) (cond (signer_of vote == i) 1 0) 0
+    joined : (kind : Kind) (i : ℕ) → count (λ v. signer_of v == i)
+        (of_kind new.verified kind ++ of_kind new.pending kind)
+        ≤ count (λ v. signer_of v == i) (of_kind old.verified kind ++ of_kind old.pending kind) +
+        cond (is_of_kind kind vote) (cond (signer_of vote == i) 1 0) 0
     joined kind i =
         omega (
           arith,
@@ -197,7 +234,8 @@ module _ {D K G C : Type 0} (m : Meaning D K G C) (same : D → D → Bool) (tra
           joins_one (λ v. signer_of v == i) vote (is_of_kind kind vote) is_verified,
         )
 
-    none_waited : count (λ v. signer_of v == signer_of vote) (of_kind old.verified (kind_of vote) ++ of_kind old.pending (kind_of vote)) ≤ 0
+    none_waited : count (λ v. signer_of v == signer_of vote)
+        (of_kind old.verified (kind_of vote) ++ of_kind old.pending (kind_of vote)) ≤ 0
     none_waited = rw fresh.none at (right.within (kind_of vote) (signer_of vote))
 
     Waits : Kind → ℕ → Type 0
@@ -205,15 +243,24 @@ module _ {D K G C : Type 0} (m : Meaning D K G C) (same : D → D → Bool) (tra
 
     waits_own : Waits (kind_of vote) (signer_of vote)
     unfolding Waits
-    waits_own = rw is_there (omega (arith, joined (kind_of vote) (signer_of vote), none_waited, one_at_most (is_of_kind (kind_of vote) vote) (signer_of vote == signer_of vote)))
+    waits_own =
+        rw is_there (omega (
+          arith,
+          joined (kind_of vote) (signer_of vote),
+          none_waited,
+          one_at_most (is_of_kind (kind_of vote) vote)
+              (signer_of vote == signer_of vote),
+        ))
 
-    waits_still : (kind : Kind) (i : ℕ) → cond (is_of_kind kind vote) (cond (signer_of vote == i) 1 0) 0 ≤ 0 → Waits kind i
+    waits_still : (kind : Kind) (i : ℕ)
+        → cond (is_of_kind kind vote) (cond (signer_of vote == i) 1 0) 0 ≤ 0 → Waits kind i
     unfolding Waits
     waits_still kind i zero =
         let now = still_some _ kind i (records kind).kept in
         rw now (still_more _ (is_some (kept_vote tracker.holds kind i)) _ (omega (arith, joined kind i, zero, right.within kind i)))
 
-    waits_all : (kind : Kind) (i : ℕ) (k s : Bool) → is_of_kind kind vote ≡ k → (signer_of vote == i) ≡ s → Waits kind i
+    waits_all : (kind : Kind) (i : ℕ) (k s : Bool) → is_of_kind kind vote ≡ k
+        → (signer_of vote == i) ≡ s → Waits kind i
     waits_all kind i true true f h =
         let signer : signer_of vote ≡ i = grind (arith, nat_tests) in
         subst (λ j. Waits kind j) signer (subst (λ other. Waits other (signer_of vote)) (kinds_same (kind_of vote) kind f) waits_own)
@@ -228,14 +275,19 @@ module _ {D K G C : Type 0} (m : Meaning D K G C) (same : D → D → Bool) (tra
       quorum_is = right.quorum_is;
       bound = participants ∙ right.bound;
       within = λ kind i. waits_all kind i (is_of_kind kind vote) (signer_of vote == i) refl refl;
-      compacted = λ kind. (records kind).compacted ∙ right.compacted kind ∙ ap (λ w. is_released_in w (of_kind old.certified kind)) (sym mode) ∙ ap (λ b. is_released_in after.mode b) (sym (adds.buffers kind).certified);
+      compacted =
+          λ kind. (records kind).compacted ∙ right.compacted kind ∙ ap (λ w. is_released_in w (of_kind old.certified kind)) (sym mode)
+          ∙ ap (λ b. is_released_in after.mode b) (sym (adds.buffers kind).certified);
       fixed = λ h. ap is_fixed adds.selection ∙ selects_fixed old.selection _ (right.fixed (sym (adds.buffers Finalization).certified ∙ h));
     }
 
 -- a vote that is recorded, with its premises as they turned out
 pub recorded_as :
-    {G D : Type 0} (same : D → D → Bool) (old new : Tracked G D) (selected other : Option (Proposal D)) (r : Bool) (vote : Vote G D) → r ≡ true → selected ≡ other
-    → ((kind : Kind) → RecordsKind same old new selected r vote kind) → (kind : Kind) → RecordsKind same old new other true vote kind
+    {G D : Type 0} (same : D → D → Bool) (old new : Tracked G D)
+    (selected other : Option (Proposal D)) (r : Bool) (vote : Vote G D) → r ≡ true → selected
+    ≡ other
+    → ((kind : Kind) → RecordsKind same old new selected r vote kind) → (kind : Kind)
+    → RecordsKind same old new other true vote kind
 recorded_as same old new selected other r vote e f h kind =
     subst (λ s. RecordsKind same old new s true vote kind) f (subst (λ b. RecordsKind same old new selected b vote kind) e (h kind))
 
@@ -258,18 +310,21 @@ and_false : (b c : Bool) → c ≡ false → (b && c) ≡ false
 and_false true c e = e
 and_false false c e = refl
 
-full_if : {G D : Type 0} (c : Bool) (facts : Option Facts) (kept : Option (Vote G D)) (vote : Vote G D) → cond c (from_facts facts) (from_kept kept) ≡ in_full vote → c ≡ false
+full_if : {G D : Type 0} (c : Bool) (facts : Option Facts) (kept : Option (Vote G D))
+    (vote : Vote G D) → cond c (from_facts facts) (from_kept kept) ≡ in_full vote → c ≡ false
 full_if true None kept vote e = absurd (cc)
 full_if true (Some facts) kept vote e = absurd (cc)
 full_if false facts kept vote e = refl
 
 module _ {G D : Type 0} (same : D → D → Bool) (equal : G → G → Bool) where
-  kept_refused : (b c : Bool) (x y z : Admission G D) → x.added ≡ false → y.added ≡ false → z.added ≡ false → (cond b (cond c x y) z).added ≡ false
+  kept_refused : (b c : Bool) (x y z : Admission G D) → x.added ≡ false → y.added ≡ false → z.added
+      ≡ false → (cond b (cond c x y) z).added ≡ false
   kept_refused true true x y z e f g = e
   kept_refused true false x y z e f g = f
   kept_refused false c x y z e f g = g
 
-  either_refused : (b : Bool) (x y : Admission G D) → x.added ≡ false → y.added ≡ false → (cond b x y).added ≡ false
+  either_refused : (b : Bool) (x y : Admission G D) → x.added ≡ false → y.added ≡ false
+      → (cond b x y).added ≡ false
   either_refused true x y e f = e
   either_refused false x y e f = f
 
@@ -284,7 +339,8 @@ module _ {G D : Type 0} (same : D → D → Bool) (equal : G → G → Bool) whe
   beside_refused (FinalizeVote kept) (NullifyVote vote) = refl
   beside_refused (FinalizeVote kept) (FinalizeVote vote) = kept_refused _ _ _ _ _ refl refl refl
 
-after_refused : {G D : Type 0} (earlier vote : Vote G D) → (admission_after earlier vote).added ≡ false
+after_refused : {G D : Type 0} (earlier vote : Vote G D) → (admission_after earlier vote).added
+    ≡ false
 after_refused (NotarizeVote earlier) (NotarizeVote vote) = refl
 after_refused (NotarizeVote earlier) (NullifyVote vote) = refl
 after_refused (NotarizeVote earlier) (FinalizeVote vote) = refl
@@ -304,14 +360,20 @@ pub same_number : (a b : ℕ) → not (a == b) ≡ false → a ≡ b
 same_number a b h = grind (arith, nat_tests, h)
 
 -- what isn't added changes no buffer
-unchanged_if : {G D : Type 0} (same : D → D → Bool) (held : Buffered G D) (vote : Vote G D) (a b : Bool) → a ≡ false → MatchBool (a && b) (AddsVote same held vote false held) (held ≡ held)
+unchanged_if : {G D : Type 0} (same : D → D → Bool) (held : Buffered G D) (vote : Vote G D)
+    (a b : Bool) → a ≡ false → MatchBool (a && b) (AddsVote same held vote false held) (held ≡ held)
 unchanged_if same held vote a b e = rw e refl
 
-module _ {D K G C : Type 0} (x : Setting D K G C) (held : Held G D) (sender : K) (i : Participant) (vote : Vote G D) (answer : Admission G D) (known : sender_in x sender ≡ Some i) (own : i.0 ≡ signer_of vote) where
-  named : admission x held sender vote ≡ admission_named x held (observed_opposite held.tracked vote) vote
+module _ {D K G C : Type 0} (x : Setting D K G C) (held : Held G D) (sender : K) (i : Participant)
+    (vote : Vote G D) (answer : Admission G D) (known : sender_in x sender ≡ Some i)
+    (own : i.0 ≡ signer_of vote) where
+  named : admission x held sender vote
+      ≡ admission_named x held (observed_opposite held.tracked vote) vote
   named = let yes : (i.0 == signer_of vote) ≡ true = grind (arith, nat_tests) in rw (known, yes)
 
-  opposed : (o : Observed G D) → observed_opposite held.tracked vote ≡ o → is_seen o ≡ true → answer ≡ admission_named x held o vote → answer.added ≡ false → AfterNetwork x held sender vote answer held
+  opposed : (o : Observed G D) → observed_opposite held.tracked vote ≡ o → is_seen o ≡ true → answer
+      ≡ admission_named x held o vote → answer.added ≡ false
+      → AfterNetwork x held sender vote answer held
   opposed o e seen told refused =
       let none : is_recorded x held sender vote ≡ false = and_false _ (not (is_seen (observed_opposite held.tracked vote))) (rw (e, seen)) in record {
         answer_is = told ∙ ap (λ w. admission_named x held w vote) (sym e) ∙ sym named;
@@ -324,47 +386,65 @@ module _ {D K G C : Type 0} (x : Setting D K G C) (held : Held G D) (sender : K)
         buffered = unchanged_if x.same_digest held.buffered vote answer.added _ refused;
       }
 
-  module _ (kept : Vote G D) (e : observed_opposite held.tracked vote ≡ unseen) (f : observed held.tracked (kind_of vote) (signer_of vote) ≡ in_full kept) where
+  module _ (kept : Vote G D) (e : observed_opposite held.tracked vote ≡ unseen)
+      (f : observed held.tracked (kind_of vote) (signer_of vote) ≡ in_full kept) where
     full : of_kind held.tracked.compacted (kind_of vote) ≡ false
-    full = full_if (of_kind held.tracked.compacted (kind_of vote)) (known_facts held.tracked (kind_of vote) (signer_of vote)) (kept_vote held.tracked (kind_of vote) (signer_of vote)) kept f
+    full =
+        full_if (of_kind held.tracked.compacted (kind_of vote)) (known_facts held.tracked (kind_of vote) (signer_of vote))
+        (kept_vote held.tracked (kind_of vote) (signer_of vote)) kept f
 
-    recorded_own : (r : Bool) → RecordsKind x.same_digest held.tracked held.tracked (selected_in held) r vote (kind_of vote)
+    recorded_own : (r : Bool) → RecordsKind x.same_digest held.tracked held.tracked
+        (selected_in held) r vote (kind_of vote)
     recorded_own r = record {
       compacted = refl;
-      kept = not_then _ _ _ _ (no_seen (of_kind held.tracked.compacted (kind_of vote)) (is_seen (observed held.tracked (kind_of vote) (signer_of vote))) (ap is_seen f));
+      kept =
+          not_then _ _ _ _ (no_seen (of_kind held.tracked.compacted (kind_of vote)) (is_seen (observed held.tracked (kind_of vote) (signer_of vote)))
+          (ap is_seen f));
       facts = not_then _ _ _ _ full;
     }
 
-    recorded_any : (r : Bool) (kind : Kind) (k : Bool) → is_of_kind kind vote ≡ k → RecordsKind x.same_digest held.tracked held.tracked (selected_in held) r vote kind
-    recorded_any r kind true h = subst (λ other. RecordsKind x.same_digest held.tracked held.tracked (selected_in held) r vote other) (kinds_same (kind_of vote) kind h) (recorded_own r)
+    recorded_any : (r : Bool) (kind : Kind) (k : Bool) → is_of_kind kind vote ≡ k
+        → RecordsKind x.same_digest held.tracked held.tracked (selected_in held) r vote kind
+    recorded_any r kind true h =
+        subst (λ other. RecordsKind x.same_digest held.tracked held.tracked (selected_in held) r vote other) (kinds_same (kind_of vote) kind h) (recorded_own r)
     recorded_any r kind false h = record {
       compacted = refl;
       kept = not_of_kind (is_of_kind kind vote) r _ _ _ h;
       facts = not_of_kind (is_of_kind kind vote) r _ _ _ h;
     }
 
-    beside_kept : answer ≡ admission_beside x.same_digest x.same_signature kept vote → AfterNetwork x held sender vote answer held
+    beside_kept : answer ≡ admission_beside x.same_digest x.same_signature kept vote
+        → AfterNetwork x held sender vote answer held
     beside_kept told = record {
       answer_is = told ∙ ap (λ w. admission_by x (selected_in held) w vote) (sym f) ∙ ap (λ w. admission_named x held w vote) (sym e) ∙ sym named;
       forwarded = refl;
       tracked = λ kind. recorded_any (is_recorded x held sender vote) kind (is_of_kind kind vote) refl;
-      buffered = unchanged_if x.same_digest held.buffered vote answer.added _ (ap (λ a. a.added) told ∙ beside_refused x.same_digest x.same_signature kept vote);
+      buffered =
+          unchanged_if x.same_digest held.buffered vote answer.added _ (ap (λ a. a.added) told ∙ beside_refused x.same_digest x.same_signature kept vote);
     }
 
-  objected_by : (o w : Observed G D) → observed_opposite held.tracked vote ≡ o → observed held.tracked (kind_of vote) (signer_of vote) ≡ w → objection_by x o w vote ≡ Some answer → AfterNetwork x held sender vote answer held
-  objected_by (in_full earlier) w e f h = let told : answer ≡ admission_after earlier vote = cc in opposed (in_full earlier) e refl told (ap (λ a. a.added) told ∙ after_refused earlier vote)
-  objected_by (as_facts facts) w e f h = let told : answer ≡ admission_after_facts vote = cc in opposed (as_facts facts) e refl told (ap (λ a. a.added) told ∙ facts_refused vote)
+  objected_by : (o w : Observed G D) → observed_opposite held.tracked vote ≡ o
+      → observed held.tracked (kind_of vote) (signer_of vote) ≡ w → objection_by x o w vote
+      ≡ Some answer → AfterNetwork x held sender vote answer held
+  objected_by (in_full earlier) w e f h =
+      let told : answer ≡ admission_after earlier vote = cc in opposed (in_full earlier) e refl told (ap (λ a. a.added) told ∙ after_refused earlier vote)
+  objected_by (as_facts facts) w e f h =
+      let told : answer ≡ admission_after_facts vote = cc in opposed (as_facts facts) e refl told (ap (λ a. a.added) told ∙ facts_refused vote)
   objected_by unseen (in_full kept) e f h = let told : answer ≡ admission_beside x.same_digest x.same_signature kept vote = cc in beside_kept kept e f told
   objected_by unseen unseen e f h = absurd (cc)
   objected_by unseen (as_facts facts) e f h = absurd (cc)
 
   -- a vote that is not recorded is answered, and changes nothing
-  pub objected : objection_to x held vote ≡ Some answer → AfterNetwork x held sender vote answer held
+  pub objected : objection_to x held vote ≡ Some answer
+      → AfterNetwork x held sender vote answer held
   objected h = objected_by (observed_opposite held.tracked vote) (observed held.tracked (kind_of vote) (signer_of vote)) refl refl h
 
 -- A vote that doesn't name its sender is refused, and changes nothing.
-pub mismatched : {D K G C : Type 0} (x : Setting D K G C) (held : Held G D) (sender : K) (i : Participant) (vote : Vote G D) (answer : Admission G D) → sender_in x sender ≡ Some i → (i.0 == signer_of vote) ≡ false
-    → answer ≡ block_for (mismatch_reason (kind_of vote)) None → AfterNetwork x held sender vote answer held
+pub mismatched : {D K G C : Type 0} (x : Setting D K G C) (held : Held G D) (sender : K)
+    (i : Participant) (vote : Vote G D) (answer : Admission G D) → sender_in x sender ≡ Some i
+    → (i.0 == signer_of vote) ≡ false
+    → answer ≡ block_for (mismatch_reason (kind_of vote)) None
+    → AfterNetwork x held sender vote answer held
 mismatched x held sender i vote answer known other told =
     record {
       answer_is = told ∙ sym named;
@@ -384,23 +464,36 @@ mismatched x held sender i vote answer known other told =
     none = rw (known, other)
 
 -- A vote that names its sender and stands against no other is recorded.
-module _ {D K G C : Type 0} (x : Setting D K G C) (old : Held G D) (sender : K) (i : Participant) (vote : Vote G D) (known : sender_in x sender ≡ Some i) (own : i.0 ≡ signer_of vote) (none : objection_to x old vote ≡ None) where
-  unopposed : (o : Observed G D) → objection_by x o (observed old.tracked (kind_of vote) (signer_of vote)) vote ≡ None → (is_seen o ≡ false) × (admission_named x old o vote ≡ admission_by x (selected_in old) (observed old.tracked (kind_of vote) (signer_of vote)) vote)
+module _ {D K G C : Type 0} (x : Setting D K G C) (old : Held G D) (sender : K) (i : Participant)
+    (vote : Vote G D) (known : sender_in x sender ≡ Some i) (own : i.0 ≡ signer_of vote)
+    (none : objection_to x old vote ≡ None) where
+  unopposed : (o : Observed G D) → objection_by x o
+      (observed old.tracked (kind_of vote) (signer_of vote)) vote ≡ None → (is_seen o ≡ false)
+      × (admission_named x old o vote ≡ admission_by x (selected_in old)
+      (observed old.tracked (kind_of vote) (signer_of vote)) vote)
   unopposed unseen h = (refl, refl)
   unopposed (in_full earlier) h = absurd (none-some _ (sym h))
   unopposed (as_facts facts) h = absurd (none-some _ (sym h))
 
   -- what it is answered
-  pub unopposed_admission : admission x old sender vote ≡ admission_by x (selected_in old) (observed old.tracked (kind_of vote) (signer_of vote)) vote
+  pub unopposed_admission : admission x old sender vote
+      ≡ admission_by x (selected_in old) (observed old.tracked (kind_of vote) (signer_of vote)) vote
   unopposed_admission = named x old sender i vote (admission x old sender vote) known own ∙ (unopposed (observed_opposite old.tracked vote) none).1
 
   unopposed_recorded : is_recorded x old sender vote ≡ true
-  unopposed_recorded = let yes : (i.0 == signer_of vote) ≡ true = grind (arith, nat_tests) in rw (known, yes, (unopposed (observed_opposite old.tracked vote) none).0)
+  unopposed_recorded =
+      let yes : (i.0 == signer_of vote) ≡ true = grind (arith, nat_tests) in rw (known, yes, (unopposed (observed_opposite old.tracked vote) none).0)
 
   -- and what that changes
-  pub unopposed_step : {E : Type 0} (new : Held G D) (r : Result (Admission G D) E) → IfOk r (λ answer. answer ≡ admission_by x (selected_in old) (observed old.tracked (kind_of vote) (signer_of vote)) vote)
-      → OnOk r ((kind : Kind) → RecordsKind x.same_digest old.tracked new.tracked (selected_in old) true vote kind)
-      → IfOk r (λ answer. MatchBool (answer.added && not (of_kind old.tracked.compacted (kind_of vote))) (AddsVote x.same_digest old.buffered vote false new.buffered) (new.buffered ≡ old.buffered))
+  pub unopposed_step : {E : Type 0} (new : Held G D) (r : Result (Admission G D) E)
+      → IfOk r (λ answer. answer ≡ admission_by x (selected_in old)
+      (observed old.tracked (kind_of vote) (signer_of vote)) vote)
+      → OnOk r ((kind : Kind) → RecordsKind x.same_digest old.tracked new.tracked (selected_in old)
+      true vote kind)
+      → IfOk r (λ answer. MatchBool (answer.added
+      && not (of_kind old.tracked.compacted (kind_of vote)))
+      (AddsVote x.same_digest old.buffered vote false new.buffered)
+      (new.buffered ≡ old.buffered))
       → new.forwarded ≡ old.forwarded → IfOk r (λ answer. AfterNetwork x old sender vote answer new)
   unopposed_step new (Ok answer) told tracked buffered forwarded =
       record {

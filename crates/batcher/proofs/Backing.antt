@@ -220,7 +220,8 @@ module _ {D K G C : Type 0} (x : Setting D K G C) (laws : HasLaws x)
   -- so the usable votes of its kind are a quorum, and its first votes are.
   pub usable_enough :
       quorum_in x
-      ≤ length (proven_votes x past (kind_certified c)) + length (fresh_votes x past (kind_certified c))
+      ≤ length (proven_votes x past (kind_certified c)) + length
+      (fresh_votes x past (kind_certified c))
   usable_enough =
       omega (
         arith,

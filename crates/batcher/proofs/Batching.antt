@@ -44,33 +44,48 @@ use Rattle.batcher.proofs.Past.{nothing_waits}
 -- THE ATTEMPT
 module _ {D K G C : Type 0} (x : Setting D K G C) where
   -- What an attempt with what is held tells of its batch, and leaves of its kind.
-  pub record Tells (old : Held G D) (kind : Kind) (batch : Batch (Certificate C D)) (left : Buffered G D) : Type 0 where
+  pub record Tells (old : Held G D) (kind : Kind) (batch : Batch (Certificate C D))
+      (left : Buffered G D) : Type 0 where
     pub subject : Subject D
     pub subject_is : subject_tried old.buffered x.number kind ≡ Some subject
-    pub attempt : Attempt x (of_kind old.buffered.verified kind) (of_kind old.buffered.pending kind) batch
+    pub attempt : Attempt x (of_kind old.buffered.verified kind) (of_kind old.buffered.pending kind)
+        batch
     pub named : (c : Certificate C D) → batch.certificate ≡ Some c → subject_certified c ≡ subject
     pub certified : of_kind left.certified kind ≡ is_some batch.certificate
     pub verified :
         of_kind left.verified kind
-        ≡ cond (is_some batch.certificate) [] (left_verified x (of_kind old.buffered.verified kind) (of_kind old.buffered.pending kind))
+        ≡ cond (is_some batch.certificate) []
+        (left_verified x (of_kind old.buffered.verified kind)
+        (of_kind old.buffered.pending kind))
 
-  named_by : (s : Subject D) (o : Option C) (c : Certificate C D) → option_map (certificate_for s) o ≡ Some c → subject_certified c ≡ s
+  named_by : (s : Subject D) (o : Option C) (c : Certificate C D) → option_map (certificate_for s) o
+      ≡ Some c → subject_certified c ≡ s
   named_by s None c e = absurd (cc)
   named_by s (Some content) c e = let same : certificate_for s content ≡ c = cc in ap subject_certified (sym same) ∙ certified_subject s content
 
   -- An attempt at a kind that is ready is one of the round.
-  pub attempted : HasLaws x → (old : Held G D) (kind : Kind) (before after : Stream) (batch : Batch (Certificate C D)) (left : Buffered G D) → TriesKind x.meaning x.number (quorum_in x) old.buffered kind before batch after left →
-      IsSound x.meaning x.same_digest x.number (quorum_in x) old.buffered → is_ready_in x old kind ≡ true → IfSome batch.certificate (λ c. certifies_itself x.meaning c ≡ true) → Tells old kind batch left
+  pub attempted : HasLaws x → (old : Held G D) (kind : Kind) (before after : Stream)
+      (batch : Batch (Certificate C D)) (left : Buffered G D)
+      → TriesKind x.meaning x.number (quorum_in x) old.buffered kind before batch after left →
+      IsSound x.meaning x.same_digest x.number (quorum_in x) old.buffered → is_ready_in x old kind
+      ≡ true → IfSome batch.certificate (λ c. certifies_itself x.meaning c ≡ true)
+      → Tells old kind batch left
   attempted lawful old kind before after batch left t sound ready certifies =
       let verified = of_kind old.buffered.verified kind in
       let pending = of_kind old.buffered.pending kind in
       let enough = (and_parts _ _ ready).1 in
-      let about = verified_about x.same_digest lawful.digests_equal x.number t.subject x.meaning.batchable (quorum_in x) old.buffered kind (ap (λ b. cond b (subject_tried old.buffered x.number kind) None) ready ∙ t.subject_is) (sound.kinds kind).verified in
-      let checked_are = checked_about x.same_digest lawful.digests_equal x.number t.subject x.meaning.batchable (quorum_in x) (proposal_of old.buffered.selection) (first_proposal verified) kind verified pending enough t.subject_is (sound.kinds kind).pending in
-      let went = goes_so x lawful t.subject verified pending before about checked_are (sound.kinds kind).attested (sound.kinds kind).once t.outcome after t.attempt in
-      let of_batch : IfSome (batch_of t.subject t.outcome).certificate (λ c. certifies_itself x.meaning c ≡ true) = subst (λ (b : Batch (Certificate C D)). IfSome b.certificate (λ c. certifies_itself x.meaning c ≡ true)) t.batch_is certifies in
-      let it = attempt_is x lawful t.subject verified pending before about checked_are (sound.kinds kind).attested (sound.kinds kind).once t.outcome went of_batch in
-      let gave : is_some batch.certificate ≡ is_some t.outcome.certificate = ap (λ (b : Batch (Certificate C D)). is_some b.certificate) t.batch_is ∙ some_mapped (certificate_for t.subject) t.outcome.certificate in
+      let about = verified_about x.same_digest lawful.digests_equal x.number t.subject x.meaning.batchable (quorum_in x) old.buffered kind
+      (ap (λ b. cond b (subject_tried old.buffered x.number kind) None) ready ∙ t.subject_is) (sound.kinds kind).verified in
+      let checked_are = checked_about x.same_digest lawful.digests_equal x.number t.subject x.meaning.batchable (quorum_in x)
+      (proposal_of old.buffered.selection) (first_proposal verified) kind verified pending enough t.subject_is (sound.kinds kind).pending in
+      let went = goes_so x lawful t.subject verified pending before about checked_are (sound.kinds kind).attested (sound.kinds kind).once t.outcome after
+      t.attempt in
+      let of_batch : IfSome (batch_of t.subject t.outcome).certificate (λ c. certifies_itself x.meaning c ≡ true) = subst
+      (λ (b : Batch (Certificate C D)). IfSome b.certificate (λ c. certifies_itself x.meaning c ≡ true)) t.batch_is certifies in
+      let it = attempt_is x lawful t.subject verified pending before about checked_are (sound.kinds kind).attested (sound.kinds kind).once t.outcome went
+      of_batch in
+      let gave : is_some batch.certificate ≡ is_some t.outcome.certificate = ap (λ (b : Batch (Certificate C D)). is_some b.certificate) t.batch_is
+      ∙ some_mapped (certificate_for t.subject) t.outcome.certificate in
       record {
         subject = t.subject;
         subject_is = t.subject_is;
@@ -84,7 +99,12 @@ module _ {D K G C : Type 0} (x : Setting D K G C) where
       }
 
 -- A BATCH
-module _ {D K G C : Type 0} (x : Setting D K G C) (lawful : HasLaws x) (past : History D K G C) (old new : Held G D) (stands : Stands x past old) (kind : Kind) (ready : ready_kind x past ≡ Some kind) (before after : Stream) (batch : Batch (Certificate C D)) (left : Buffered G D) (t : TriesKind x.meaning x.number (quorum_in x) old.buffered kind before batch after left) (tells : Tells x old kind batch left) where
+module _ {D K G C : Type 0} (x : Setting D K G C) (lawful : HasLaws x) (past : History D K G C)
+    (old new : Held G D) (stands : Stands x past old) (kind : Kind)
+    (ready : ready_kind x past ≡ Some kind) (before after : Stream)
+    (batch : Batch (Certificate C D)) (left : Buffered G D)
+    (t : TriesKind x.meaning x.number (quorum_in x) old.buffered kind before batch after left)
+    (tells : Tells x old kind batch left) where
   abbrev event : Event D K G C
   event = constructed x past (Some batch)
 
@@ -113,17 +133,25 @@ module _ {D K G C : Type 0} (x : Setting D K G C) (lawful : HasLaws x) (past : H
   abbrev NoneBack : Type 0
   NoneBack = (v : Vote G D) → comes_back x past event v ≡ false
 
-  pending_of : NoneBack → (k : Kind) → pending_after x past old event k ≡ waiting_votes x then k (cond (is_kind kind k) [] (of_kind old.buffered.pending k))
+  pending_of : NoneBack → (k : Kind) → pending_after x past old event k
+      ≡ waiting_votes x then k (cond (is_kind kind k) [] (of_kind old.buffered.pending k))
   pending_of back k =
       pending_left x past old (Some batch) back k ∙ ap (λ b. waiting_votes x then k (cond b [] (of_kind old.buffered.pending k))) (tries k)
 
-  verified_of : NoneBack → (k : Kind) → verified_after x past old event k ≡ waiting_votes x then k (cond (is_kind kind k) (left_verified x (of_kind old.buffered.verified k) (of_kind old.buffered.pending k)) (of_kind old.buffered.verified k))
+  verified_of : NoneBack → (k : Kind) → verified_after x past old event k
+      ≡ waiting_votes x then k (cond (is_kind kind k)
+      (left_verified x (of_kind old.buffered.verified k) (of_kind old.buffered.pending k))
+      (of_kind old.buffered.verified k))
   verified_of back k =
       verified_left x past old (Some batch) back k
-      ∙ ap (λ b. waiting_votes x then k (cond b (left_verified x (of_kind old.buffered.verified k) (of_kind old.buffered.pending k)) (of_kind old.buffered.verified k))) (tries k)
+      ∙ ap (λ b. waiting_votes x then k (cond b (left_verified x (of_kind old.buffered.verified k) (of_kind old.buffered.pending k))
+      (of_kind old.buffered.verified k))) (tries k)
 
   -- with a certificate, of the kind that was tried
-  module _ (c : Certificate C D) (given : batch.certificate ≡ Some c) (named : kind_certified c ≡ kind) (settles : Settles x (record old { buffered = left }) kind (proposal_in (subject_certified c)) new) where
+  module _ (c : Certificate C D) (given : batch.certificate ≡ Some c)
+      (named : kind_certified c ≡ kind)
+      (settles : Settles x (record old { buffered = left }) kind (proposal_in (subject_certified c))
+      new) where
     abbrev evidence : Option (Proposal D)
     evidence = proposal_in (subject_certified c)
 
@@ -133,14 +161,17 @@ module _ {D K G C : Type 0} (x : Setting D K G C) (lawful : HasLaws x) (past : H
     of_tried : subject_certified c ≡ tells.subject
     of_tried = tells.named c given
 
-    selected_before : (p : Proposal D) → proposal_tried old.buffered kind ≡ Some p → (selected_proposal x past ≡ None) ⊎ (selected_proposal x past ≡ Some p)
+    selected_before : (p : Proposal D) → proposal_tried old.buffered kind ≡ Some p
+        → (selected_proposal x past ≡ None) ⊎ (selected_proposal x past ≡ Some p)
     selected_before p e =
         ⊎_elim
         (λ none. inl (ap proposal_of (sym stands.selection_is) ∙ none))
         (λ some. inr (ap proposal_of (sym stands.selection_is) ∙ some))
         (tried_selected (proposal_of old.buffered.selection) (first_proposal (of_kind old.buffered.verified kind)) p e)
 
-    evidence_cases : ((evidence ≡ None) × (has_proposals kind ≡ false)) ⊎ ((p : Proposal D) × ((evidence ≡ Some p) × ((selected_proposal x past ≡ None) ⊎ (selected_proposal x past ≡ Some p))))
+    evidence_cases : ((evidence ≡ None) × (has_proposals kind ≡ false))
+        ⊎ ((p : Proposal D) × ((evidence ≡ Some p)
+        × ((selected_proposal x past ≡ None) ⊎ (selected_proposal x past ≡ Some p))))
     evidence_cases =
         ⊎_elim
         (λ none. inl (ap proposal_in of_tried ∙ none.0, none.1))
@@ -154,7 +185,8 @@ module _ {D K G C : Type 0} (x : Setting D K G C) (lawful : HasLaws x) (past : H
     back v = none_comes_back x lawful past event evidence evidence_is is_evidence v
 
     -- a kind with proposals is certified with one, and it is the selected one
-    selects : has_proposals kind ≡ true → (is_some (selected_proposal x then) ≡ true) × (evidence ≡ selected_proposal x then)
+    selects : has_proposals kind ≡ true → (is_some (selected_proposal x then) ≡ true)
+        × (evidence ≡ selected_proposal x then)
     selects has =
         ⊎_elim
         (λ none. let no : true ≡ false = sym has ∙ none.1 in absurd (cc))
@@ -194,10 +226,12 @@ module _ {D K G C : Type 0} (x : Setting D K G C) (lawful : HasLaws x) (past : H
     certified_now : (k : Kind) → is_kind kind k ≡ true → is_certified then k ≡ true
     certified_now k this = certified_then k ∙ ap (λ b. b || is_certified past k) this
 
-    certified_other : (k : Kind) → is_kind kind k ≡ false → is_certified then k ≡ is_certified past k
+    certified_other : (k : Kind) → is_kind kind k ≡ false → is_certified then k
+        ≡ is_certified past k
     certified_other k other = certified_then k ∙ ap (λ b. b || is_certified past k) other
 
-    closed_by : (k : Kind) → is_skipped x.mode ≡ true → (is_certified past k || is_skipped x.mode) ≡ true
+    closed_by : (k : Kind) → is_skipped x.mode ≡ true → (is_certified past k || is_skipped x.mode)
+        ≡ true
     closed_by k skips = or_right (is_certified past k) (is_skipped x.mode) skips
 
     selected_new : proposal_of new.buffered.selection ≡ selected_proposal x then
@@ -211,11 +245,14 @@ module _ {D K G C : Type 0} (x : Setting D K G C) (lawful : HasLaws x) (past : H
         ⊎_elim
         (λ this.
         fixes_no_pending x left new.buffered evidence k settles.buffered (ap (of_kind left.pending) (sym (is_kind-true kind k this)) ∙ t.pending)
-        ∙ sym (pending_of back k ∙ nothing_waits x then k (cond (is_kind kind k) [] (of_kind old.buffered.pending k)) (or_left (is_certified then k) (is_skipped x.mode) (certified_now k this))))
+        ∙ sym (pending_of back k ∙ nothing_waits x then k (cond (is_kind kind k) [] (of_kind old.buffered.pending k))
+        (or_left (is_certified then k) (is_skipped x.mode) (certified_now k this))))
         (λ other.
         let same = (t.others k other).pending in
-        fixes_pending x left new.buffered then k (certified_new k) selected_new evidence settles.buffered (λ skips. same ∙ closed_pending x past old k stands (closed_by k skips))
-        (λ none. ap (waiting_votes x then k) same ∙ (still_waits x past event k (of_kind old.buffered.pending k) (certified_other k other) (selected_without none) (pending_wait x past old k stands) ∙ sym same))
+        fixes_pending x left new.buffered then k (certified_new k) selected_new evidence settles.buffered
+        (λ skips. same ∙ closed_pending x past old k stands (closed_by k skips))
+        (λ none. ap (waiting_votes x then k) same ∙ (still_waits x past event k (of_kind old.buffered.pending k) (certified_other k other)
+        (selected_without none) (pending_wait x past old k stands) ∙ sym same))
         ∙ (ap (waiting_votes x then k) same
         ∙ sym (pending_of back k ∙ ap (λ b. waiting_votes x then k (cond b [] (of_kind old.buffered.pending k))) other)))
         (cases_Bool (is_kind kind k))
@@ -225,18 +262,24 @@ module _ {D K G C : Type 0} (x : Setting D K G C) (lawful : HasLaws x) (past : H
         ap (of_kind left.verified) (sym (is_kind-true kind k this))
         ∙ (tells.verified ∙ ap (λ b. cond b [] (left_verified x (of_kind old.buffered.verified kind) (of_kind old.buffered.pending kind))) (ap is_some given))
 
-    given_verified : (k : Kind) → of_kind new.buffered.verified k ≡ verified_after x past old event k
+    given_verified : (k : Kind) → of_kind new.buffered.verified k
+        ≡ verified_after x past old event k
     given_verified k =
         ⊎_elim
         (λ this.
         fixes_no_verified x left new.buffered evidence k settles.buffered (no_verified k this)
-        ∙ sym (verified_of back k ∙ nothing_waits x then k (cond (is_kind kind k) (left_verified x (of_kind old.buffered.verified k) (of_kind old.buffered.pending k)) (of_kind old.buffered.verified k)) (or_left (is_certified then k) (is_skipped x.mode) (certified_now k this))))
+        ∙ sym (verified_of back k ∙ nothing_waits x then k
+        (cond (is_kind kind k) (left_verified x (of_kind old.buffered.verified k) (of_kind old.buffered.pending k)) (of_kind old.buffered.verified k))
+        (or_left (is_certified then k) (is_skipped x.mode) (certified_now k this))))
         (λ other.
         let same = (t.others k other).verified in
-        fixes_verified x left new.buffered then k (certified_new k) selected_new evidence settles.buffered (λ skips. same ∙ closed_verified x past old k stands (closed_by k skips))
-        (λ none. ap (waiting_votes x then k) same ∙ (still_waits x past event k (of_kind old.buffered.verified k) (certified_other k other) (selected_without none) (verified_wait x past old k stands) ∙ sym same))
+        fixes_verified x left new.buffered then k (certified_new k) selected_new evidence settles.buffered
+        (λ skips. same ∙ closed_verified x past old k stands (closed_by k skips))
+        (λ none. ap (waiting_votes x then k) same ∙ (still_waits x past event k (of_kind old.buffered.verified k) (certified_other k other)
+        (selected_without none) (verified_wait x past old k stands) ∙ sym same))
         ∙ (ap (waiting_votes x then k) same
-        ∙ sym (verified_of back k ∙ ap (λ b. waiting_votes x then k (cond b (left_verified x (of_kind old.buffered.verified k) (of_kind old.buffered.pending k)) (of_kind old.buffered.verified k))) other)))
+        ∙ sym (verified_of back k ∙ ap (λ b. waiting_votes x then k
+        (cond b (left_verified x (of_kind old.buffered.verified k) (of_kind old.buffered.pending k)) (of_kind old.buffered.verified k))) other)))
         (cases_Bool (is_kind kind k))
 
     given_moves : Moves x past old ConstructCall (ConstructAnswer (Some batch)) new
@@ -280,7 +323,8 @@ module _ {D K G C : Type 0} (x : Setting D K G C) (lawful : HasLaws x) (past : H
         (λ other. (t.others k other).certified ∙ (stands.each_kind k).certified_is)
         (cases_Bool (is_kind kind k))
 
-    stays : (k : Kind) (votes : List (Vote G D)) → waiting_votes x past k votes ≡ votes → waiting_votes x then k votes ≡ votes
+    stays : (k : Kind) (votes : List (Vote G D)) → waiting_votes x past k votes ≡ votes
+        → waiting_votes x then k votes ≡ votes
     stays k votes h = still_waits x past event k votes (certified_stays k) (ap proposal_of selection_stays) h
 
     left_pending : (k : Kind) → of_kind left.pending k ≡ pending_after x past old event k
@@ -289,30 +333,37 @@ module _ {D K G C : Type 0} (x : Setting D K G C) (lawful : HasLaws x) (past : H
         (λ this.
         ap (of_kind left.pending) (sym (is_kind-true kind k this))
         ∙ (t.pending
-        ∙ sym (pending_of quiet k ∙ (ap (λ b. waiting_votes x then k (cond b [] (of_kind old.buffered.pending k))) this ∙ either_same (is_certified then k || is_skipped x.mode) []))))
+        ∙ sym (pending_of quiet k ∙ (ap (λ b. waiting_votes x then k (cond b [] (of_kind old.buffered.pending k))) this
+        ∙ either_same (is_certified then k || is_skipped x.mode) []))))
         (λ other.
         (t.others k other).pending
         ∙ (sym (stays k (of_kind old.buffered.pending k) (pending_wait x past old k stands))
         ∙ sym (pending_of quiet k ∙ ap (λ b. waiting_votes x then k (cond b [] (of_kind old.buffered.pending k))) other)))
         (cases_Bool (is_kind kind k))
 
-    left_good : of_kind left.verified kind ≡ waiting_votes x then kind (left_verified x (of_kind old.buffered.verified kind) (of_kind old.buffered.pending kind))
+    left_good : of_kind left.verified kind
+        ≡ waiting_votes x then kind (left_verified x (of_kind old.buffered.verified kind)
+        (of_kind old.buffered.pending kind))
     left_good =
         tells.verified
         ∙ (ap (λ b. cond b [] (left_verified x (of_kind old.buffered.verified kind) (of_kind old.buffered.pending kind))) (ap is_some none)
         ∙ sym (stays kind (left_verified x (of_kind old.buffered.verified kind) (of_kind old.buffered.pending kind))
-        (left_waits x past kind (of_kind old.buffered.verified kind) (of_kind old.buffered.pending kind) (verified_wait x past old kind stands) (pending_wait x past old kind stands))))
+        (left_waits x past kind (of_kind old.buffered.verified kind) (of_kind old.buffered.pending kind) (verified_wait x past old kind stands)
+        (pending_wait x past old kind stands))))
 
     left_proven : (k : Kind) → of_kind left.verified k ≡ verified_after x past old event k
     left_proven k =
         ⊎_elim
         (λ this.
-        subst (λ (j : Kind). of_kind left.verified j ≡ waiting_votes x then j (left_verified x (of_kind old.buffered.verified j) (of_kind old.buffered.pending j))) (is_kind-true kind k this) left_good
-        ∙ sym (verified_of quiet k ∙ ap (λ b. waiting_votes x then k (cond b (left_verified x (of_kind old.buffered.verified k) (of_kind old.buffered.pending k)) (of_kind old.buffered.verified k))) this))
+        subst (λ (j : Kind). of_kind left.verified j ≡ waiting_votes x then j
+        (left_verified x (of_kind old.buffered.verified j) (of_kind old.buffered.pending j))) (is_kind-true kind k this) left_good
+        ∙ sym (verified_of quiet k ∙ ap (λ b. waiting_votes x then k
+        (cond b (left_verified x (of_kind old.buffered.verified k) (of_kind old.buffered.pending k)) (of_kind old.buffered.verified k))) this))
         (λ other.
         (t.others k other).verified
         ∙ (sym (stays k (of_kind old.buffered.verified k) (verified_wait x past old k stands))
-        ∙ sym (verified_of quiet k ∙ ap (λ b. waiting_votes x then k (cond b (left_verified x (of_kind old.buffered.verified k) (of_kind old.buffered.pending k)) (of_kind old.buffered.verified k))) other)))
+        ∙ sym (verified_of quiet k ∙ ap (λ b. waiting_votes x then k
+        (cond b (left_verified x (of_kind old.buffered.verified k) (of_kind old.buffered.pending k)) (of_kind old.buffered.verified k))) other)))
         (cases_Bool (is_kind kind k))
 
     left_kind : (k : Kind) → MovesKind x past event (record old { buffered = left }) k
@@ -320,7 +371,8 @@ module _ {D K G C : Type 0} (x : Setting D K G C) (lawful : HasLaws x) (past : H
         moves_tracked x past event (record old { buffered = left }) k (open_left k ∙ sym (certified_stays k))
         (tracks_stay x past event refl old stands k (certified_stays k))
 
-    left_moves : Moves x past old ConstructCall (ConstructAnswer (Some batch)) (record old { buffered = left })
+    left_moves : Moves x past old ConstructCall (ConstructAnswer (Some batch))
+        (record old { buffered = left })
     left_moves =
         record {
           allowed = tt;
@@ -336,7 +388,8 @@ module _ {D K G C : Type 0} (x : Setting D K G C) (lawful : HasLaws x) (past : H
         }
 
 -- NO BATCH
-module _ {D K G C : Type 0} (x : Setting D K G C) (past : History D K G C) (old : Held G D) (stands : Stands x past old) (none : ready_kind x past ≡ None) where
+module _ {D K G C : Type 0} (x : Setting D K G C) (past : History D K G C) (old : Held G D)
+    (stands : Stands x past old) (none : ready_kind x past ≡ None) where
   abbrev idle : Event D K G C
   idle = constructed x past None
 
@@ -372,8 +425,11 @@ module _ {D K G C : Type 0} (x : Setting D K G C) (past : History D K G C) (old 
 
 -- A CONSTRUCTION
 module _ {D K G C : Type 0} (x : Setting D K G C) (lawful : HasLaws x) where
-  batch_moves : (past : History D K G C) (old : Held G D) (before after : Stream) (batch : Batch (Certificate C D)) (new : Held G D) → Stands x past old →
-      IsSound x.meaning x.same_digest x.number (quorum_in x) old.buffered → IfSome batch.certificate (λ c. certifies_itself x.meaning c ≡ true) → AfterBatch x old before batch new after →
+  batch_moves : (past : History D K G C) (old : Held G D) (before after : Stream)
+      (batch : Batch (Certificate C D)) (new : Held G D) → Stands x past old →
+      IsSound x.meaning x.same_digest x.number (quorum_in x) old.buffered
+      → IfSome batch.certificate (λ c. certifies_itself x.meaning c ≡ true)
+      → AfterBatch x old before batch new after →
       Moves x past old ConstructCall (ConstructAnswer (Some batch)) new
   batch_moves past old before after batch new stands sound certifies step = by_certificate batch.certificate refl
     where
@@ -386,23 +442,34 @@ module _ {D K G C : Type 0} (x : Setting D K G C) (lawful : HasLaws x) where
       told : Tells x old step.kind batch step.tried.left
       told = attempted x lawful old step.kind before after batch step.tried.left step.tried.tries sound is_ready_now certifies
 
-      by_certificate : (o : Option (Certificate C D)) → batch.certificate ≡ o → Moves x past old ConstructCall (ConstructAnswer (Some batch)) new
+      by_certificate : (o : Option (Certificate C D)) → batch.certificate ≡ o
+          → Moves x past old ConstructCall (ConstructAnswer (Some batch)) new
       by_certificate None e =
-          let same : new ≡ record old { buffered = step.tried.left } = subst (λ o. AfterGiven x (record old { buffered = step.tried.left }) step.kind o new) e step.tried.given in
-          let unfinished : is_certified past step.kind ≡ false = sym (stands.each_kind step.kind).certified_is ∙ not-true (of_kind old.buffered.certified step.kind) (and_parts _ _ is_ready_now).0 in
+          let same : new ≡ record old { buffered = step.tried.left } = subst (λ o. AfterGiven x (record old { buffered = step.tried.left }) step.kind o new) e
+          step.tried.given in
+          let unfinished : is_certified past step.kind ≡ false = sym (stands.each_kind step.kind).certified_is
+          ∙ not-true (of_kind old.buffered.certified step.kind) (and_parts _ _ is_ready_now).0 in
           subst (λ h. Moves x past old ConstructCall (ConstructAnswer (Some batch)) h) (sym same)
           (left_moves x lawful past old new stands step.kind is_first before after batch step.tried.left step.tried.tries told e unfinished)
       by_certificate (Some c) e =
           let settled = subst (λ o. AfterGiven x (record old { buffered = step.tried.left }) step.kind o new) e step.tried.given in
-          let w = witnessed x lawful past step.kind (of_kind old.buffered.verified step.kind) (of_kind old.buffered.pending step.kind) batch c told.attempt (stands.each_kind step.kind).verified_are (stands.each_kind step.kind).pending_are e in
+          let w = witnessed x lawful past step.kind (of_kind old.buffered.verified step.kind) (of_kind old.buffered.pending step.kind) batch c told.attempt
+          (stands.each_kind step.kind).verified_are (stands.each_kind step.kind).pending_are e in
           given_moves x lawful past old new stands step.kind is_first before after batch step.tried.left step.tried.tries told c e w.certified_kind settled
 
-  -- A construction is followed: it tries the first ready kind, answers as the history allows, and leaves what the longer one names.
-  pub construct_follows : (past : History D K G C) (old : Held G D) (before after : Stream) (answer : Option (Batch (Certificate C D))) (new : Held G D) → Stands x past old →
-      IsSound x.meaning x.same_digest x.number (quorum_in x) old.buffered → IfSome answer (λ batch. IfSome batch.certificate (λ c. certifies_itself x.meaning c ≡ true)) → AfterConstruct x old before answer new after →
+  -- A construction is followed: it tries the first ready kind, answers as the history allows, and
+  -- leaves what the longer one names.
+  pub construct_follows : (past : History D K G C) (old : Held G D) (before after : Stream)
+      (answer : Option (Batch (Certificate C D))) (new : Held G D) → Stands x past old →
+      IsSound x.meaning x.same_digest x.number (quorum_in x) old.buffered
+      → IfSome answer (λ batch. IfSome batch.certificate
+      (λ c. certifies_itself x.meaning c ≡ true)) → AfterConstruct x old before answer new after
+      →
       Follows x past old (ConstructCall, ConstructAnswer answer) new
   construct_follows past old before after None new stands sound certifies step =
       followed x lawful past old ConstructCall (ConstructAnswer None) new stands
-      (subst (λ h. Moves x past old ConstructCall (ConstructAnswer None) h) (sym step.held) (idle_moves x past old stands (sym (tried_is_ready x lawful past old stands) ∙ step.none)))
+      (subst (λ h. Moves x past old ConstructCall (ConstructAnswer None) h) (sym step.held)
+      (idle_moves x past old stands (sym (tried_is_ready x lawful past old stands) ∙ step.none)))
   construct_follows past old before after (Some batch) new stands sound certifies step =
-      followed x lawful past old ConstructCall (ConstructAnswer (Some batch)) new stands (batch_moves past old before after batch new stands sound certifies step)
+      followed x lawful past old ConstructCall (ConstructAnswer (Some batch)) new stands
+      (batch_moves past old before after batch new stands sound certifies step)

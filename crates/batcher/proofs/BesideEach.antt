@@ -10,7 +10,9 @@ use Rattle.batcher.proofs.BlockedPair.{selects_alike, blocked_by_both, blocked_b
 use Rattle.batcher.proofs.MissingPair.{missing_in_both}
 
 module _ {D K G C : Type 0} (x : Setting D K G C) where
-  pub beside_of : HasLaws x → (retained released : History D K G C) → AreAlike retained released → IsPossible (in_mode x Retaining) retained → IsPossible (in_mode x Releasing) released → IsBeside x retained released
+  pub beside_of : HasLaws x → (retained released : History D K G C) → AreAlike retained released
+      → IsPossible (in_mode x Retaining) retained → IsPossible (in_mode x Releasing) released
+      → IsBeside x retained released
   beside_of laws retained released alike possible also =
       record {
         select_alike = selects_alike x retained released alike;

@@ -1,4 +1,5 @@
--- Whom a vote blocks: until the release of its kind exactly who gives cause beside the first votes, and in every mode nobody without cause.
+-- Whom a vote blocks: until the release of its kind exactly who gives cause beside the first votes,
+-- and in every mode nobody without cause.
 use Rattle.std.proofs.Common.{◌≡◌, Bool, true, false, not, cond, ◌&&◌, ◌||◌, List, [], ◌∷◌, Option, Some, None, refl, ap, sym, ◌∙◌, ⊎_elim, eqb, ltb}
 use Rattle.std.specs.Prelude.{is_some}
 use Rattle.std.specs.List.{list_any}
@@ -32,7 +33,8 @@ module _ {D K G C : Type 0} (x : Setting D K G C) (past : History D K G C) (vote
   abbrev pub named_answer : Admission G D
   named_answer = admission_against x past (opposite_vote x past vote) vote
 
-  -- What is the same of all blocks without a report is so of the answer to a vote that doesn't name its sender.
+  -- What is the same of all blocks without a report is so of the answer to a vote that doesn't name
+  -- its sender.
   module _ {X : Type 0} (f : Admission G D → X) (other : X)
       (blocked : (reason : BlockReason) → f (block_for reason None) ≡ other) where
     by_name : (named : Bool) →

@@ -19,13 +19,18 @@ use Rattle.batcher.proofs.Selecting.{leaders_stays}
 
 -- HOW THE SELECTION CHANGES
 module _ {D : Type 0} where
-  fixed_by : (fixed evidence leaders after : Option (Proposal D)) (p : Proposal D) → selection_by fixed leaders ≡ FixedProposal p → selection_by (option_or fixed evidence) after ≡ FixedProposal p
+  fixed_by : (fixed evidence leaders after : Option (Proposal D)) (p : Proposal D)
+      → selection_by fixed leaders ≡ FixedProposal p → selection_by (option_or fixed evidence) after
+      ≡ FixedProposal p
   fixed_by (Some f) evidence leaders after p h = h
   fixed_by None evidence (Some l) after p h = absurd (cc)
   fixed_by None evidence None after p h = absurd (cc)
 
-  leaders_by : (fixed evidence leaders after : Option (Proposal D)) → ((p : Proposal D) → leaders ≡ Some p → after ≡ Some p) → (p : Proposal D) → selection_by fixed leaders ≡ LeadersProposal p →
-      (selection_by (option_or fixed evidence) after ≡ LeadersProposal p) ⊎ ((q : Proposal D) × (selection_by (option_or fixed evidence) after ≡ FixedProposal q))
+  leaders_by : (fixed evidence leaders after : Option (Proposal D))
+      → ((p : Proposal D) → leaders ≡ Some p → after ≡ Some p) → (p : Proposal D)
+      → selection_by fixed leaders ≡ LeadersProposal p →
+      (selection_by (option_or fixed evidence) after ≡ LeadersProposal p)
+      ⊎ ((q : Proposal D) × (selection_by (option_or fixed evidence) after ≡ FixedProposal q))
   leaders_by (Some f) evidence leaders after stays p h = absurd (cc)
   leaders_by None evidence None after stays p h = absurd (cc)
   leaders_by None None (Some l) after stays p h = inl (ap (selection_by None) (stays l refl) ∙ h)
@@ -39,19 +44,25 @@ module _ {D K G C : Type 0} (x : Setting D K G C) where
   pub keeps_fixed : (past : History D K G C) (event : Event D K G C) → KeepsFixed x past event
   keeps_fixed past event p h = fixed_by (fixed_proposal past) (fixing_evidence event) (leaders_proposal x past) (leaders_proposal x (event ∷ past)) p h
 
-  pub keeps_leaders : HasLaws x → (past : History D K G C) (event : Event D K G C) → KeepsLeaders x past event
+  pub keeps_leaders : HasLaws x → (past : History D K G C) (event : Event D K G C)
+      → KeepsLeaders x past event
   keeps_leaders laws past event p h =
-      leaders_by (fixed_proposal past) (fixing_evidence event) (leaders_proposal x past) (leaders_proposal x (event ∷ past)) (leaders_stays x laws past event) p h
+      leaders_by (fixed_proposal past) (fixing_evidence event) (leaders_proposal x past) (leaders_proposal x (event ∷ past)) (leaders_stays x laws past event) p
+      h
 
   -- nothing is replaced but by the first evidence that fixes a proposal
-  replaced_by_first : (fixed leaders evidence : Option (Proposal D)) (n : ℕ) → n ≤ cond (is_some fixed) 1 0 →
-      cond (is_some (option_and_then (λ p. cond (replaces x.same_digest (selection_by fixed leaders) p) (Some p) None) evidence)) 1 0 + n ≤ cond (is_some (option_or fixed evidence)) 1 0
+  replaced_by_first : (fixed leaders evidence : Option (Proposal D)) (n : ℕ) → n
+      ≤ cond (is_some fixed) 1 0 →
+      cond (is_some (option_and_then (λ p. cond
+      (replaces x.same_digest (selection_by fixed leaders) p) (Some p) None) evidence)) 1 0 + n
+      ≤ cond (is_some (option_or fixed evidence)) 1 0
   replaced_by_first (Some f) leaders None n h = omega (arith, h)
   replaced_by_first (Some f) leaders (Some e) n h = omega (arith, h)
   replaced_by_first None leaders None n h = omega (arith, h)
   replaced_by_first None leaders (Some e) n h = one_at_most _ n h
 
-  replaced_if_fixed : (past : History D K G C) → replacements x past ≤ cond (is_some (fixed_proposal past)) 1 0
+  replaced_if_fixed : (past : History D K G C) → replacements x past
+      ≤ cond (is_some (fixed_proposal past)) 1 0
   replaced_if_fixed [] = omega arith
   replaced_if_fixed (event ∷ past) =
       replaced_by_first (fixed_proposal past) (leaders_proposal x past) (fixing_evidence event) (replacements x past) (replaced_if_fixed past)

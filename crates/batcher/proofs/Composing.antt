@@ -5,7 +5,8 @@ use Rattle.std.proofs.lemmas.Bool.{cases_Bool, false≢true}
 use Rattle.batcher.specs.declared.run.Call.{Call}
 use Rattle.batcher.specs.declared.run.Call.TheVariants.{Network as NetworkCall, Own as OwnCall, Certificate as CertificateCall, Leader as LeaderCall, Construct as ConstructCall, Forward as ForwardCall, Missing as MissingCall}
 use Rattle.batcher.specs.declared.run.Answer.{Answer}
-use Rattle.batcher.specs.declared.run.Answer.TheVariants.{OutOfMemory, Network as NetworkAnswer, Own as OwnAnswer, OwnRefused, Certificate as CertificateAnswer, Leader as LeaderAnswer, Construct as ConstructAnswer, Forward as ForwardAnswer, Missing as MissingAnswer}
+use Rattle.batcher.specs.declared.run.Answer.TheVariants.{OutOfMemory, Network as NetworkAnswer, Own as OwnAnswer, OwnRefused, Certificate as CertificateAnswer, Leader as LeaderAnswer, Construct as ConstructAnswer}
+use Rattle.batcher.specs.declared.run.Answer.TheVariants.{Forward as ForwardAnswer, Missing as MissingAnswer}
 use Rattle.batcher.specs.Setting.{Setting}
 use Rattle.batcher.specs.Lists.{count}
 use Rattle.batcher.specs.History.{History, history}
@@ -19,12 +20,14 @@ use Rattle.batcher.proofs.Told.{answered_conflicts, added_are, gives_selected, f
 use Rattle.batcher.proofs.Laws.{HasLaws}
 
 -- ONE FORWARD CALL AT MOST ANSWERS A PROPOSAL
-none_before : {X : Type 0} (was leader : Bool) (o : Option X) → is_some (cond (was || leader) None o) ≡ true → was ≡ false
+none_before : {X : Type 0} (was leader : Bool) (o : Option X)
+    → is_some (cond (was || leader) None o) ≡ true → was ≡ false
 none_before true leader o h = absurd (false≢true h)
 none_before false leader o h = refl
 
 module _ {D K G C : Type 0} (x : Setting D K G C) where
-  forwards_first : (past : History D K G C) (call : Call K G C D) (answer : Answer G C D) → MayAnswer x past call answer → forwards answer ≡ true → was_forwarded past ≡ false
+  forwards_first : (past : History D K G C) (call : Call K G C D) (answer : Answer G C D)
+      → MayAnswer x past call answer → forwards answer ≡ true → was_forwarded past ≡ false
   forwards_first past (ForwardCall me) (ForwardAnswer proposal) may h =
       none_before (was_forwarded past) _ (selected_proposal x past) (sym (ap is_some may) ∙ h)
   forwards_first past (NetworkCall sender vote) (ForwardAnswer proposal) may h = absurd may
@@ -42,7 +45,8 @@ module _ {D K G C : Type 0} (x : Setting D K G C) where
   forwards_first past call (MissingAnswer missing) may h = absurd (false≢true h)
   forwards_first past call OutOfMemory may h = absurd (false≢true h)
 
-  pub forwarded_once : (past : History D K G C) → IsPossible x past → count (λ event. forwards event.1) past ≤ 1
+  pub forwarded_once : (past : History D K G C) → IsPossible x past
+      → count (λ event. forwards event.1) past ≤ 1
   forwarded_once [] possible = omega arith
   forwarded_once (event ∷ past) possible =
       ⊎_elim

@@ -1,4 +1,5 @@
--- Which first vote is contrary to a vote: one at most, of the kind of the vote or of the opposite one.
+-- Which first vote is contrary to a vote: one at most, of the kind of the vote or of the opposite
+-- one.
 use Rattle.std.proofs.Common.{◌≡◌, ℕ, ◌==◌, Bool, true, false, not, cond, ◌&&◌, List, [], ◌∷◌, Option, Some, None, refl, ap, sym, ◌∙◌, ⊎_elim, subst}
 use Rattle.std.specs.Prelude.{filter, find, is_some, option_and_then}
 use Rattle.std.proofs.Math.Bool.{and-true}
@@ -61,7 +62,8 @@ module _ {G D : Type 0} (p q : Vote G D → Bool) where
   first_fails true v vs fails = ap (λ c. cond c (Some v) (find p vs)) fails
   first_fails false v vs fails = refl
 
-  -- Where only the vote of a kind and signer passes a test, that is found by it among those that pass another.
+  -- Where only the vote of a kind and signer passes a test, that is found by it among those that
+  -- pass another.
   found_alone : (kind : Kind) (i : ℕ) (vs : List (Vote G D)) → AreApart vs →
       ((v : Vote G D) → IsAt vs v → p v ≡ true → is_vote_of kind i v ≡ true) →
       find p (filter q vs) ≡ if_passing (vote_at vs kind i)

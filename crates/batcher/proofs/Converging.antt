@@ -1,4 +1,5 @@
--- What three constructions certify where no bad vote was accepted, and that the order of the calls before them is free.
+-- What three constructions certify where no bad vote was accepted, and that the order of the calls
+-- before them is free.
 use Rattle.std.proofs.Common.{◌≡◌, ◌≤◌, ◌+◌, true, nat_le, ◌||◌, List, [], ◌∷◌, length, Option, refl, ap, sym, ◌∙◌, subst, arith, ⊎_elim}
 use Rattle.std.specs.List.{AllPass}
 use Rattle.std.proofs.lemmas.Bool.{or_left, or_right, or_cases, leb-true, le-leb}

@@ -1,4 +1,5 @@
--- Kinds that are done: there is nothing to try of them, a construction leaves them done, and the one that it tries is done by it.
+-- Kinds that are done: there is nothing to try of them, a construction leaves them done, and the
+-- one that it tries is done by it.
 use Rattle.std.proofs.Common.{◌≡◌, ◌≤◌, ◌<◌, ◌+◌, ℕ, Bool, true, false, not, cond, ◌&&◌, ◌||◌, nat_le, nat_lt, ◌∷◌, length, Some, None, is_none, refl, ap, sym, ◌∙◌, arith, ⊎_elim}
 use Rattle.std.proofs.lemmas.Bool.{cases_Bool, false_from_ne_true, le-ltb, leb-false, lt-leb, ltb-false, not-true, or_left, or_parts, true≢false}
 use Rattle.batcher.specs.declared.messages.Kind.{Kind}
@@ -26,7 +27,8 @@ use Rattle.batcher.proofs.Settling.{constructed}
 
 -- what is enough leaves something to try
 done_table : (certified full some one more unselected : Bool) →
-    (not certified && cond unselected (full && one) (full || (some && more))) ≡ true → (certified || not (full || some)) ≡ false
+    (not certified && cond unselected (full && one) (full || (some && more))) ≡ true
+    → (certified || not (full || some)) ≡ false
 done_table true full some one more unselected h = absurd (true≢false (sym h))
 done_table false true some one more unselected h = refl
 done_table false false true one more unselected h = refl
@@ -55,7 +57,8 @@ no_fewer false c stays = omega arith
 no_fewer true c stays = omega (arith, one_same c true (stays refl))
 
 -- three tests that make three are all true
-all_three : (a b c : Bool) → 3 ≤ one_if a + (one_if b + one_if c) → (a ≡ true) × (b ≡ true) × (c ≡ true)
+all_three : (a b c : Bool) → 3 ≤ one_if a + (one_if b + one_if c) → (a ≡ true) × (b ≡ true)
+    × (c ≡ true)
 all_three true true true h = (refl, refl, refl)
 all_three false b c h = absurd (omega (arith, h, no_fewer b true (λ _. refl), no_fewer c true (λ _. refl)))
 all_three true false c h = absurd (omega (arith, h, no_fewer c true (λ _. refl)))
@@ -71,20 +74,25 @@ module _ {D K G C : Type 0} (x : Setting D K G C) where
   kinds_done past = one_if (is_done past Notarization) + (one_if (is_done past Nullification) + one_if (is_done past Finalization))
 
   -- what is ready isn't done
-  pub ready_not_done : (past : History D K G C) (kind : Kind) → is_ready_by x (trials x past) past kind ≡ true → is_done past kind ≡ false
+  pub ready_not_done : (past : History D K G C) (kind : Kind)
+      → is_ready_by x (trials x past) past kind ≡ true → is_done past kind ≡ false
   ready_not_done past kind ready =
-      done_table (is_certified past kind) (nat_le (quorum_in x) (length (proven_votes x past kind))) (nat_lt 0 (length (fresh_votes x past kind))) (have_one_subject x.same_digest (proven_votes x past kind))
-      (not x.meaning.batchable || nat_le (quorum_in x) (length (proven_votes x past kind) + length (fresh_votes x past kind))) (has_proposals kind && is_none (selected_proposal x past)) ready
+      done_table (is_certified past kind) (nat_le (quorum_in x) (length (proven_votes x past kind))) (nat_lt 0 (length (fresh_votes x past kind)))
+      (have_one_subject x.same_digest (proven_votes x past kind))
+      (not x.meaning.batchable || nat_le (quorum_in x) (length (proven_votes x past kind) + length (fresh_votes x past kind)))
+      (has_proposals kind && is_none (selected_proposal x past)) ready
 
   -- With all three kinds done none is ready.
   pub done_rests : (past : History D K G C) → 3 ≤ kinds_done past → ready_kind x past ≡ None
   done_rests past all =
       ⊎_elim
       (λ none. none)
-      (λ (some : (kind : Kind) × (ready_kind x past ≡ Some kind)). absurd (true≢false (sym (each some.0) ∙ ready_not_done past some.0 (ready_is x past some.0 some.1))))
+      (λ (some : (kind : Kind) × (ready_kind x past ≡ Some kind)). absurd
+      (true≢false (sym (each some.0) ∙ ready_not_done past some.0 (ready_is x past some.0 some.1))))
       (option_cases (ready_kind x past))
     where
-      three : (is_done past Notarization ≡ true) × (is_done past Nullification ≡ true) × (is_done past Finalization ≡ true)
+      three : (is_done past Notarization ≡ true) × (is_done past Nullification ≡ true)
+          × (is_done past Finalization ≡ true)
       three = all_three (is_done past Notarization) (is_done past Nullification) (is_done past Finalization) all
 
       each : (kind : Kind) → is_done past kind ≡ true
@@ -93,7 +101,10 @@ module _ {D K G C : Type 0} (x : Setting D K G C) where
       each Finalization = three.2
 
   -- where it isn't certified, by how many votes are left
-  pub done_if : (past : History D K G C) (kind : Kind) → (is_certified past kind ≡ false → length (proven_votes x past kind) < quorum_in x) → (is_certified past kind ≡ false → length (fresh_votes x past kind) ≤ 0) → is_done past kind ≡ true
+  pub done_if : (past : History D K G C) (kind : Kind)
+      → (is_certified past kind ≡ false → length (proven_votes x past kind) < quorum_in x)
+      → (is_certified past kind ≡ false → length (fresh_votes x past kind) ≤ 0) → is_done past kind
+      ≡ true
   done_if past kind few none =
       ⊎_elim
       (λ certified. or_left (is_certified past kind) _ certified)
@@ -101,12 +112,16 @@ module _ {D K G C : Type 0} (x : Setting D K G C) where
       ∙ nothing_left (quorum_in x) (length (proven_votes x past kind)) (length (fresh_votes x past kind)) (few still) (none still))
       (cases_Bool (is_certified past kind))
 
-  done_then : (past : History D K G C) (kind : Kind) → is_done past kind ≡ true → is_certified past kind ≡ false → (length (proven_votes x past kind) < quorum_in x) × (length (fresh_votes x past kind) ≤ 0)
+  done_then : (past : History D K G C) (kind : Kind) → is_done past kind ≡ true
+      → is_certified past kind ≡ false → (length (proven_votes x past kind) < quorum_in x)
+      × (length (fresh_votes x past kind) ≤ 0)
   done_then past kind done still =
       left_few (quorum_in x) (length (proven_votes x past kind)) (length (fresh_votes x past kind))
       (sym (ap (λ b. b || not (nat_le (quorum_in x) (length (proven_votes x past kind)) || nat_lt 0 (length (fresh_votes x past kind)))) still) ∙ done)
 
-module _ {D K G C : Type 0} (x : Setting D K G C) (lawful : HasLaws x) (past : History D K G C) (batch : Batch (Certificate C D)) (possible : IsPossible x past) (may : MayAnswer x past ConstructCall (ConstructAnswer (Some batch))) where
+module _ {D K G C : Type 0} (x : Setting D K G C) (lawful : HasLaws x) (past : History D K G C)
+    (batch : Batch (Certificate C D)) (possible : IsPossible x past)
+    (may : MayAnswer x past ConstructCall (ConstructAnswer (Some batch))) where
   abbrev event : Event D K G C
   event = constructed x past (Some batch)
 
@@ -114,11 +129,16 @@ module _ {D K G C : Type 0} (x : Setting D K G C) (lawful : HasLaws x) (past : H
   holds = holds_before x past (Some batch) possible may
 
   -- the kind that is tried is done by it, and wasn't before
-  tried_done : (kind : Kind) → tries_kind x past event.1 kind ≡ true → is_done x (event ∷ past) kind ≡ true
-  tried_done kind tries = done_if x (event ∷ past) kind (tried_proven x lawful past (Some batch) may holds kind tries) (λ _. tried_fresh x lawful past (Some batch) may holds kind tries)
+  tried_done : (kind : Kind) → tries_kind x past event.1 kind ≡ true → is_done x (event ∷ past) kind
+      ≡ true
+  tried_done kind tries =
+      done_if x (event ∷ past) kind (tried_proven x lawful past (Some batch) may holds kind tries)
+      (λ _. tried_fresh x lawful past (Some batch) may holds kind tries)
 
-  tried_not_done : (kind : Kind) → tries_kind x past event.1 kind ≡ true → is_done x past kind ≡ false
-  tried_not_done kind tries = ready_not_done x past kind (ready_is x past kind (tries_by x past ConstructCall (ConstructAnswer (Some batch)) kind may tries).ready)
+  tried_not_done : (kind : Kind) → tries_kind x past event.1 kind ≡ true → is_done x past kind
+      ≡ false
+  tried_not_done kind tries =
+      ready_not_done x past kind (ready_is x past kind (tries_by x past ConstructCall (ConstructAnswer (Some batch)) kind may tries).ready)
 
   -- one that was done stays so
   stays_done : (kind : Kind) → is_done x past kind ≡ true → is_done x (event ∷ past) kind ≡ true
@@ -130,14 +150,20 @@ module _ {D K G C : Type 0} (x : Setting D K G C) (lawful : HasLaws x) (past : H
       untried : tries_kind x past event.1 kind ≡ false
       untried = false_from_ne_true _ (λ tries. true≢false (sym done ∙ tried_not_done kind tries))
 
-      left : is_certified (event ∷ past) kind ≡ false → (length (proven_votes x past kind) < quorum_in x) × (length (fresh_votes x past kind) ≤ 0)
+      left : is_certified (event ∷ past) kind ≡ false
+          → (length (proven_votes x past kind) < quorum_in x)
+          × (length (fresh_votes x past kind) ≤ 0)
       left still = done_then x past kind done (certified_before past event kind still)
 
   -- one that wasn't done is, and the others stay so
-  more_by : (kind : Kind) → is_done x past kind ≡ false → is_done x (event ∷ past) kind ≡ true → kinds_done x past < kinds_done x (event ∷ past)
-  more_by Notarization was now = omega (arith, one_same _ false was, one_same _ true now, no_fewer _ _ (stays_done Nullification), no_fewer _ _ (stays_done Finalization))
-  more_by Nullification was now = omega (arith, one_same _ false was, one_same _ true now, no_fewer _ _ (stays_done Notarization), no_fewer _ _ (stays_done Finalization))
-  more_by Finalization was now = omega (arith, one_same _ false was, one_same _ true now, no_fewer _ _ (stays_done Notarization), no_fewer _ _ (stays_done Nullification))
+  more_by : (kind : Kind) → is_done x past kind ≡ false → is_done x (event ∷ past) kind ≡ true
+      → kinds_done x past < kinds_done x (event ∷ past)
+  more_by Notarization was now =
+      omega (arith, one_same _ false was, one_same _ true now, no_fewer _ _ (stays_done Nullification), no_fewer _ _ (stays_done Finalization))
+  more_by Nullification was now =
+      omega (arith, one_same _ false was, one_same _ true now, no_fewer _ _ (stays_done Notarization), no_fewer _ _ (stays_done Finalization))
+  more_by Finalization was now =
+      omega (arith, one_same _ false was, one_same _ true now, no_fewer _ _ (stays_done Notarization), no_fewer _ _ (stays_done Nullification))
 
   -- With a batch one more kind is done.
   pub one_more_done : kinds_done x past < kinds_done x (event ∷ past)

@@ -1,4 +1,5 @@
--- What a flood of messages can cost: two votes of each participant are added at most, and no more are processed, or batches given.
+-- What a flood of messages can cost: two votes of each participant are added at most, and no more
+-- are processed, or batches given.
 use Rattle.std.proofs.Common.{◌≡◌, ◌≤◌, ◌<◌, ◌+◌, ◌*◌, ◌==◌, ℕ, zero, suc, Bool, true, false, not, cond, ◌&&◌, ◌||◌, nat_lt, List, [], ◌∷◌, length, Some, None, refl, ap, sym, ◌∙◌, arith, ⊎_elim}
 use Rattle.std.specs.Prelude.{is_some}
 use Rattle.std.proofs.lemmas.Bool.{cases_Bool, and_parts, and_from, or_parts, or_cases, or_left, or_right, false_from_ne_true, true≢false, false≢true, not-true}

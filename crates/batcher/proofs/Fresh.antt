@@ -19,15 +19,52 @@ released_at_first Retaining = refl
 released_at_first Releasing = refl
 released_at_first Skipped = refl
 
-none_counted : {X : Type 0} (test : X → Bool) (b : Bool) (q : X → Bool) → 0 ≡ count test (filter q (cond b [] []))
+none_counted : {X : Type 0} (test : X → Bool) (b : Bool) (q : X → Bool) → 0
+    ≡ count test (filter q (cond b [] []))
 none_counted test true q = refl
 none_counted test false q = refl
 
 module _ {D K G C : Type 0} (x : Setting D K G C) where
   by_kind : (kind : Kind) → StandsForKind x [] (nothing_held x.mode) kind
-  by_kind Notarization = record { certified_is = refl; compacted_is = released_at_first x.mode; kept_are = sym (either_same (is_released_in x.mode false) []); facts_are = sym (either_same (is_released_in x.mode false) []); pending_are = λ test. none_counted test (is_skipped x.mode) (λ v. not (is_trusted x [] v || stood_before [] v)); verified_are = λ test. none_counted test (is_skipped x.mode) (λ v. (is_trusted x [] v || stood_before [] v) && not (was_invalid [] v)) }
-  by_kind Nullification = record { certified_is = refl; compacted_is = released_at_first x.mode; kept_are = sym (either_same (is_released_in x.mode false) []); facts_are = sym (either_same (is_released_in x.mode false) []); pending_are = λ test. none_counted test (is_skipped x.mode) (λ v. not (is_trusted x [] v || stood_before [] v)); verified_are = λ test. none_counted test (is_skipped x.mode) (λ v. (is_trusted x [] v || stood_before [] v) && not (was_invalid [] v)) }
-  by_kind Finalization = record { certified_is = refl; compacted_is = released_at_first x.mode; kept_are = sym (either_same (is_released_in x.mode false) []); facts_are = sym (either_same (is_released_in x.mode false) []); pending_are = λ test. none_counted test (is_skipped x.mode) (λ v. not (is_trusted x [] v || stood_before [] v)); verified_are = λ test. none_counted test (is_skipped x.mode) (λ v. (is_trusted x [] v || stood_before [] v) && not (was_invalid [] v)) }
+  by_kind Notarization =
+      record {
+        certified_is = refl;
+        compacted_is = released_at_first x.mode;
+        kept_are = sym
+            (either_same (is_released_in x.mode false) []);
+        facts_are = sym
+            (either_same (is_released_in x.mode false) []);
+        pending_are = λ test. none_counted test (is_skipped x.mode)
+            (λ v. not (is_trusted x [] v || stood_before [] v));
+        verified_are = λ test. none_counted test (is_skipped x.mode)
+            (λ v. (is_trusted x [] v || stood_before [] v) && not (was_invalid [] v));
+      }
+  by_kind Nullification =
+      record {
+        certified_is = refl;
+        compacted_is = released_at_first x.mode;
+        kept_are = sym
+            (either_same (is_released_in x.mode false) []);
+        facts_are = sym
+            (either_same (is_released_in x.mode false) []);
+        pending_are = λ test. none_counted test (is_skipped x.mode)
+            (λ v. not (is_trusted x [] v || stood_before [] v));
+        verified_are = λ test. none_counted test (is_skipped x.mode)
+            (λ v. (is_trusted x [] v || stood_before [] v) && not (was_invalid [] v));
+      }
+  by_kind Finalization =
+      record {
+        certified_is = refl;
+        compacted_is = released_at_first x.mode;
+        kept_are = sym
+            (either_same (is_released_in x.mode false) []);
+        facts_are = sym
+            (either_same (is_released_in x.mode false) []);
+        pending_are = λ test. none_counted test (is_skipped x.mode)
+            (λ v. not (is_trusted x [] v || stood_before [] v));
+        verified_are = λ test. none_counted test (is_skipped x.mode)
+            (λ v. (is_trusted x [] v || stood_before [] v) && not (was_invalid [] v));
+      }
 
   pub fresh_stands : Stands x [] (nothing_held x.mode)
   fresh_stands =

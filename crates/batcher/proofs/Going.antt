@@ -26,7 +26,9 @@ use Rattle.batcher.proofs.Composing.{holds_throughout}
 use Rattle.batcher.proofs.ByDefinition.{follows_by_definition}
 
 -- what stays true of a run while it goes on
-pub record Goes {D K G C : Type 0} (x : Setting D K G C) (before : Stream) (calls : List (Call K G C D)) (answers : List (Answer G C D)) (held : Held G D) (after : Stream) : Type 0 where
+pub record Goes {D K G C : Type 0} (x : Setting D K G C) (before : Stream)
+    (calls : List (Call K G C D)) (answers : List (Answer G C D)) (held : Held G D) (after : Stream)
+    : Type 0 where
   pub runs : Runs x (nothing_held x.mode) before calls answers held after
   pub stands : Stands x (history calls answers) held
   pub answered : AreAnswered x [] calls answers
@@ -35,8 +37,12 @@ module _ {D K G C : Type 0} (x : Setting D K G C) where
   pub goes_first : (before : Stream) → Goes x before [] [] (nothing_held x.mode) before
   goes_first before = record { runs = (refl, refl); stands = fresh_stands x; answered = tt }
 
-  pub goes_more : (before : Stream) (calls : List (Call K G C D)) (answers : List (Answer G C D)) (held : Held G D) (stream : Stream) (call : Call K G C D) (answer : Answer G C D) (new : Held G D) (after : Stream) →
-      Goes x before calls answers held stream → Steps x held stream call answer new after → Meets x (history calls answers) held (call, answer) new → IsAnswered x (history calls answers) call answer →
+  pub goes_more : (before : Stream) (calls : List (Call K G C D)) (answers : List (Answer G C D))
+      (held : Held G D) (stream : Stream) (call : Call K G C D) (answer : Answer G C D)
+      (new : Held G D) (after : Stream) →
+      Goes x before calls answers held stream → Steps x held stream call answer new after
+      → Meets x (history calls answers) held (call, answer) new
+      → IsAnswered x (history calls answers) call answer →
       Goes x before (calls ++ call ∷ []) (answers ++ answer ∷ []) new after
   goes_more before calls answers held stream call answer new after goes step meets answered =
       record {
@@ -59,7 +65,9 @@ module _ {D K G C : Type 0} (x : Setting D K G C) where
         flood_bounded = flood_bounded x laws past possible;
       }
 
-  pub goes_to : HasLaws x → (before : Stream) (calls : List (Call K G C D)) (answers : List (Answer G C D)) (held : Held G D) (after : Stream) → Goes x before calls answers held after → IsRun x before calls answers held after
+  pub goes_to : HasLaws x → (before : Stream) (calls : List (Call K G C D))
+      (answers : List (Answer G C D)) (held : Held G D) (after : Stream)
+      → Goes x before calls answers held after → IsRun x before calls answers held after
   goes_to laws before calls answers held after goes =
       record {
         runs = goes.runs;

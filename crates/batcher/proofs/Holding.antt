@@ -41,12 +41,23 @@ module _ {D K G C : Type 0} (x : Setting D K G C) where
           kept = each_of (λ kind. cond (is_released x past kind) [] (first_by_signer x past kind));
           facts = each_of (λ kind. cond (is_released x past kind) (map (λ v. facts_of x past kind (signer_of v)) (first_by_signer x past kind)) []);
         };
-        buffered = record { leader = leader_of past; selection = selection x past; certified = each_of (is_certified past); pending = each_of pending; verified = each_of verified };
+        buffered =
+            record {
+              leader = leader_of past;
+              selection = selection x past;
+              certified = each_of
+                  (is_certified past);
+              pending = each_of pending;
+              verified = each_of verified;
+            };
         forwarded = was_forwarded past;
       }
 
-  held_stands : (past : History D K G C) (pending verified : Kind → List (Vote G D)) → IsPossible x past →
-      ((kind : Kind) → SameElements (pending kind) (fresh_votes x past kind)) → ((kind : Kind) → SameElements (verified kind) (proven_votes x past kind)) → Stands x past (held_with past pending verified)
+  held_stands : (past : History D K G C) (pending verified : Kind → List (Vote G D))
+      → IsPossible x past →
+      ((kind : Kind) → SameElements (pending kind) (fresh_votes x past kind))
+      → ((kind : Kind) → SameElements (verified kind) (proven_votes x past kind))
+      → Stands x past (held_with past pending verified)
   unfolding held_with
   held_stands past pending verified possible pending_are verified_are =
       record {
@@ -65,27 +76,34 @@ module _ {D K G C : Type 0} (x : Setting D K G C) where
       }
 
   -- What may be held where a construction is answered: a batch is an attempt with its buffers.
-  pub record Holds (past : History D K G C) (answer : Option (Batch (Certificate C D))) : Type 0 where
-    pub held : Held G D
-    pub stands : Stands x past held
-    pub buffers : TriesBuffers x past held (constructed x past answer)
+  pub record Holds (past : History D K G C) (answer : Option (Batch (Certificate C D))) : Type 0
+    where
+      pub held : Held G D
+      pub stands : Stands x past held
+      pub buffers : TriesBuffers x past held (constructed x past answer)
 
   -- the votes of an attempt in the place of those of its kind
-  attempted_are : (kind : Kind) (votes : List (Vote G D)) (others : Kind → List (Vote G D)) → SameElements votes (others kind) → (k : Kind) → SameElements (cond (is_kind kind k) votes (others k)) (others k)
+  attempted_are : (kind : Kind) (votes : List (Vote G D)) (others : Kind → List (Vote G D))
+      → SameElements votes (others kind) → (k : Kind)
+      → SameElements (cond (is_kind kind k) votes (others k)) (others k)
   attempted_are kind votes others same k test =
       ⊎_elim
       (λ this. ap (λ b. count test (cond b votes (others k))) this ∙ (same test ∙ ap (λ j. count test (others j)) (is_kind-true kind k this)))
       (λ other. ap (λ b. count test (cond b votes (others k))) other)
       (cases_Bool (is_kind kind k))
 
-  held_attempt : (past : History D K G C) (kind : Kind) (batch : Batch (Certificate C D)) (pending verified : Kind → List (Vote G D)) → Attempt x (verified kind) (pending kind) batch →
-      Attempt x (of_kind (held_with past pending verified).buffered.verified kind) (of_kind (held_with past pending verified).buffered.pending kind) batch
+  held_attempt : (past : History D K G C) (kind : Kind) (batch : Batch (Certificate C D))
+      (pending verified : Kind → List (Vote G D)) → Attempt x (verified kind) (pending kind) batch →
+      Attempt x (of_kind (held_with past pending verified).buffered.verified kind)
+      (of_kind (held_with past pending verified).buffered.pending kind) batch
   unfolding held_with
   held_attempt past kind batch pending verified a =
       subst (λ vs. Attempt x vs (of_kind (each_of pending) kind) batch) (sym (of_each verified kind))
       (subst (λ ps. Attempt x (verified kind) ps batch) (sym (of_each pending kind)) a)
 
-  pub holds_before : (past : History D K G C) (answer : Option (Batch (Certificate C D))) → IsPossible x past → MayAnswer x past ConstructCall (ConstructAnswer answer) → Holds past answer
+  pub holds_before : (past : History D K G C) (answer : Option (Batch (Certificate C D)))
+      → IsPossible x past → MayAnswer x past ConstructCall (ConstructAnswer answer)
+      → Holds past answer
   holds_before past None possible may =
       record {
         held = held_with past (fresh_votes x past) (proven_votes x past);
@@ -112,4 +130,5 @@ module _ {D K G C : Type 0} (x : Setting D K G C) where
 
       tried : Attempt x (verified may.0) (pending may.0) batch
       tried =
-          subst (λ (b : Bool). Attempt x (cond b after.verified (proven_votes x past may.0)) (cond b after.pending (fresh_votes x past may.0)) batch) (sym (is_kind-refl may.0)) after.attempt
+          subst (λ (b : Bool). Attempt x (cond b after.verified (proven_votes x past may.0)) (cond b after.pending (fresh_votes x past may.0)) batch)
+          (sym (is_kind-refl may.0)) after.attempt

@@ -1,4 +1,5 @@
--- What an honest participant can rely on: its votes are added, it is never named for what it didn't send, and a quorum of such completes.
+-- What an honest participant can rely on: its votes are added, it is never named for what it didn't
+-- send, and a quorum of such completes.
 use Rattle.std.proofs.Common.{◌≡◌, ◌≤◌, ◌+◌, ◌==◌, ℕ, zero, suc, Bool, true, false, not, cond, ◌&&◌, ◌||◌, nat_le, List, [], ◌∷◌, ◌++◌, length, map, filter, get_or, Option, Some, None, refl, ap, sym, ◌∙◌, arith, ⊎_elim, subst}
 use Rattle.std.specs.Prelude.{IfSome}
 use Rattle.std.specs.List.{list_any, range_with_len, AllPass}
@@ -370,7 +371,8 @@ module _ {D K G C : Type 0} (x : Setting D K G C) where
   module _
       (laws : HasLaws x) (past : History D K G C) (kind : Kind) (i : ℕ)
       (alone : contradicts_itself x (votes_cast x past) i ≡ false) where
-    -- Whoever doesn't contradict itself casts no two votes of which one excludes the other, but for one subject.
+    -- Whoever doesn't contradict itself casts no two votes of which one excludes the other, but for
+    -- one subject.
     one_subject :
         (u v : Vote G D) → IsAmong u (votes_cast x past) → IsAmong v (votes_cast x past)
         → signer_of u ≡ i → excludes u v ≡ true → subject_of u ≡ subject_of v

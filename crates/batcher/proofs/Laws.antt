@@ -1,4 +1,5 @@
--- What the lemmas over histories ask of a setting: its scheme is lawful, someone takes part, and digests are the same exactly
+-- What the lemmas over histories ask of a setting: its scheme is lawful, someone takes part, and
+-- digests are the same exactly
 -- where they are equal.
 use Rattle.std.proofs.Common.{◌≡◌, ◌≤◌, true}
 use Rattle.batcher.specs.Meaning.{IsLawful}

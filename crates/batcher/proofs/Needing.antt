@@ -40,7 +40,8 @@ none_if None h = refl
 none_if (Some v) h = absurd (cc)
 
 -- No own vote is at fault for memory.
-told_ok : (kind : Kind) (outcome : Outcome) → OutOfMemory ≡ fault_or_memory (unopposed_result kind outcome) → is_ok (unopposed_result kind outcome) ≡ true
+told_ok : (kind : Kind) (outcome : Outcome) → OutOfMemory
+    ≡ fault_or_memory (unopposed_result kind outcome) → is_ok (unopposed_result kind outcome) ≡ true
 told_ok kind (Added retained) h = refl
 told_ok Notarization (Duplicate true) h = absurd (cc)
 told_ok Nullification (Duplicate true) h = refl
@@ -53,7 +54,8 @@ never_opposed Notarization h = absurd (cc)
 never_opposed Nullification h = absurd (cc)
 never_opposed Finalization h = absurd (cc)
 
-pub memory_alone : {G D : Type 0} (o : Observed G D) (kind : Kind) (outcome : Outcome) → OutOfMemory ≡ fault_or_memory (own_result_by o kind outcome) → is_ok (own_result_by o kind outcome) ≡ true
+pub memory_alone : {G D : Type 0} (o : Observed G D) (kind : Kind) (outcome : Outcome) → OutOfMemory
+    ≡ fault_or_memory (own_result_by o kind outcome) → is_ok (own_result_by o kind outcome) ≡ true
 memory_alone unseen kind outcome h = told_ok kind outcome h
 memory_alone (in_full vote) kind outcome h = absurd (never_opposed kind h)
 memory_alone (as_facts facts) kind outcome h = absurd (never_opposed kind h)
@@ -68,14 +70,17 @@ module _ {D K G C : Type 0} (x : Setting D K G C) where
       (ap (λ b. b || is_seen (observed held.tracked Finalization i)) (seen_is x past held Nullification i stands)
       ∙ ap (λ b. is_some (first_vote x past Nullification i) || b) (seen_is x past held Finalization i stands))
 
-  either_wants : (known released : Bool) → (known ≡ true → released ≡ true → false ≡ true) → (not known || not released) ≡ true
+  either_wants : (known released : Bool) → (known ≡ true → released ≡ true → false ≡ true)
+      → (not known || not released) ≡ true
   either_wants true true refused = refused refl refl
   either_wants true false refused = refl
   either_wants false released refused = refl
 
-  pub network_needs : (past : History D K G C) (held : Held G D) (sender : K) (vote : Vote G D) → Stands x past held
+  pub network_needs : (past : History D K G C) (held : Held G D) (sender : K) (vote : Vote G D)
+      → Stands x past held
       → ((admission x held sender vote).added ≡ false → false ≡ true)
-      → (is_known held.tracked (signer_of vote) ≡ true → of_kind held.tracked.compacted (kind_of vote) ≡ true → false ≡ true)
+      → (is_known held.tracked (signer_of vote) ≡ true
+      → of_kind held.tracked.compacted (kind_of vote) ≡ true → false ≡ true)
       → needs_memory x past (NetworkCall sender vote) ≡ true
   network_needs past held sender vote stands refused spared =
       and_from _ _
@@ -85,46 +90,62 @@ module _ {D K G C : Type 0} (x : Setting D K G C) where
       spared (known_is past held (signer_of vote) stands ∙ known) ((stands.each_kind (kind_of vote)).compacted_is ∙ released)))
 
   -- the same of a result
-  pub network_needed : {X E : Type 0} → (past : History D K G C) (held : Held G D) (sender : K) (vote : Vote G D) (r : Result X E)
+  pub network_needed : {X E : Type 0}
+      → (past : History D K G C) (held : Held G D) (sender : K) (vote : Vote G D) (r : Result X E)
       → Stands x past held → ((admission x held sender vote).added ≡ false → IsOk r)
-      → (is_known held.tracked (signer_of vote) ≡ true → of_kind held.tracked.compacted (kind_of vote) ≡ true → IsOk r)
+      → (is_known held.tracked (signer_of vote) ≡ true
+      → of_kind held.tracked.compacted (kind_of vote) ≡ true → IsOk r)
       → OnErr r (needs_memory x past (NetworkCall sender vote) ≡ true)
   network_needed past held sender vote (Ok v) stands no_memory spared = tt
   network_needed past held sender vote (Err e) stands no_memory spared = network_needs past held sender vote stands no_memory spared
 
-  own_by : (r : Result Outcome OwnFault) → is_ok r ≡ true → ((outcome : Outcome) → r ≡ Ok outcome → is_added outcome ≡ false → false ≡ true) → is_some_and (result_ok r) is_added ≡ true
+  own_by : (r : Result Outcome OwnFault) → is_ok r ≡ true
+      → ((outcome : Outcome) → r ≡ Ok outcome → is_added outcome ≡ false → false ≡ true)
+      → is_some_and (result_ok r) is_added ≡ true
   own_by (Ok outcome) ok refused = only_if (is_added outcome) (refused outcome refl)
   own_by (Err fault) ok refused = absurd (cc)
 
-  pub own_needs : (past : History D K G C) (held : Held G D) (vote : Vote G D) → Stands x past held → is_ok (own_result x held vote) ≡ true →
-      ((outcome : Outcome) → own_result x held vote ≡ Ok outcome → is_added outcome ≡ false → false ≡ true) → needs_memory x past (OwnCall vote) ≡ true
-  own_needs past held vote stands ok refused = ap (λ r. is_some_and (result_ok r) is_added) (sym (own_same x past held vote stands)) ∙ own_by (own_result x held vote) ok refused
+  pub own_needs : (past : History D K G C) (held : Held G D) (vote : Vote G D) → Stands x past held
+      → is_ok (own_result x held vote) ≡ true →
+      ((outcome : Outcome) → own_result x held vote ≡ Ok outcome → is_added outcome ≡ false → false
+      ≡ true) → needs_memory x past (OwnCall vote) ≡ true
+  own_needs past held vote stands ok refused =
+      ap (λ r. is_some_and (result_ok r) is_added) (sym (own_same x past held vote stands)) ∙ own_by (own_result x held vote) ok refused
 
   -- an own vote is refused for memory where it may need some
-  pub own_needed : {X : Type 0} (past : History D K G C) (held : Held G D) (vote : Vote G D) (r : Result X OwnFault)
+  pub own_needed : {X : Type 0} (past : History D K G C) (held : Held G D) (vote : Vote G D)
+      (r : Result X OwnFault)
       → Stands x past held → IfErr r (λ fault. fault ≡ fault_or_memory (own_result x held vote))
-      → ((outcome : Outcome) → own_result x held vote ≡ Ok outcome → is_added outcome ≡ false → IsOk r)
+      → ((outcome : Outcome) → own_result x held vote ≡ Ok outcome → is_added outcome ≡ false
+      → IsOk r)
       → r ≡ Err OutOfMemory → needs_memory x past (OwnCall vote) ≡ true
   own_needed past held vote (Ok v) stands fault no_memory is = absurd (cc)
   own_needed past held vote (Err other) stands fault no_memory is =
       let same : other ≡ OutOfMemory = cc in
       own_needs past held vote stands (memory_alone _ _ _ (sym same ∙ fault)) no_memory
 
-  pub certificate_needs : (past : History D K G C) (held : Held G D) (c : Certificate C D) → Stands x past held → (((kind : Kind) → restored_with x held c kind ≡ []) → false ≡ true) → needs_memory x past (CertificateCall c) ≡ true
+  pub certificate_needs : (past : History D K G C) (held : Held G D) (c : Certificate C D)
+      → Stands x past held → (((kind : Kind) → restored_with x held c kind ≡ []) → false ≡ true)
+      → needs_memory x past (CertificateCall c) ≡ true
   certificate_needs past held c stands refused =
-      only_if _ (λ none. refused (nothing_restored x past held c (certificate_answer x past c) stands (not-false (is_empty (votes_restored_by x past (CertificateCall c, CertificateAnswer (certificate_answer x past c)))) none)))
+      only_if _ (λ none. refused (nothing_restored x past held c (certificate_answer x past c) stands
+      (not-false (is_empty (votes_restored_by x past (CertificateCall c, CertificateAnswer (certificate_answer x past c)))) none)))
 
-  pub certificate_needed : {X E : Type 0} → (past : History D K G C) (held : Held G D) (c : Certificate C D) (r : Result X E)
+  pub certificate_needed : {X E : Type 0}
+      → (past : History D K G C) (held : Held G D) (c : Certificate C D) (r : Result X E)
       → Stands x past held → (((kind : Kind) → restored_with x held c kind ≡ []) → IsOk r)
       → OnErr r (needs_memory x past (CertificateCall c) ≡ true)
   certificate_needed past held c (Ok v) stands no_memory = tt
   certificate_needed past held c (Err e) stands no_memory = certificate_needs past held c stands no_memory
 
-  pub construct_needs : HasLaws x → (past : History D K G C) (held : Held G D) → Stands x past held → (kind_tried x held ≡ None → false ≡ true) → needs_memory x past ConstructCall ≡ true
+  pub construct_needs : HasLaws x → (past : History D K G C) (held : Held G D) → Stands x past held
+      → (kind_tried x held ≡ None → false ≡ true) → needs_memory x past ConstructCall ≡ true
   construct_needs lawful past held stands refused =
       only_if _ (λ none. refused (tried_is_ready x lawful past held stands ∙ none_if (ready_kind x past) none))
 
   -- the same of a result
-  pub construct_needed : {X E : Type 0} → HasLaws x → (past : History D K G C) (held : Held G D) (r : Result X E) → Stands x past held → (kind_tried x held ≡ None → IsOk r) → OnErr r (needs_memory x past ConstructCall ≡ true)
+  pub construct_needed : {X E : Type 0} → HasLaws x
+      → (past : History D K G C) (held : Held G D) (r : Result X E) → Stands x past held
+      → (kind_tried x held ≡ None → IsOk r) → OnErr r (needs_memory x past ConstructCall ≡ true)
   construct_needed lawful past held (Ok v) stands no_memory = tt
   construct_needed lawful past held (Err e) stands no_memory = construct_needs lawful past held stands no_memory

@@ -1,4 +1,5 @@
--- Counts by several tests, and how many distinct numbers there are below a bound: what two quorums share.
+-- Counts by several tests, and how many distinct numbers there are below a bound: what two quorums
+-- share.
 use Rattle.std.proofs.Common.{◌≡◌, ◌≤◌, ◌+◌, ◌-◌, ◌/◌, ◌==◌, ◌&&◌, ℕ, zero, suc, Bool, true, false, not, cond, nat_lt, List, [], ◌∷◌, length, sym, ◌∙◌, ap, arith}
 use Rattle.std.specs.List.{list_all}
 use Rattle.std.proofs.lemmas.Bool.{and_parts}
@@ -26,7 +27,8 @@ module _ {X : Type 0} where
       one true n m l h = omega (arith, h)
       one false n m l h = omega (arith, h)
 
-  -- where all pass a test, none fails it, as many pass as there are, and those that pass another pass both
+  -- where all pass a test, none fails it, as many pass as there are, and those that pass another
+  -- pass both
   pub none_fails : (p : X → Bool) (xs : List X) → list_all p xs ≡ true
       → count (λ v. not (p v)) xs ≡ 0
   none_fails p [] all = omega arith
@@ -68,6 +70,7 @@ module _ {X : Type 0} (number : X → ℕ) where
   few_distinct n xs once below =
       omega (arith, count_split (λ v. nat_lt (number v) n) xs, few_below n xs once, below)
 
--- Two quorums of some participants are more than all of them, by more than the third that may be faulty.
+-- Two quorums of some participants are more than all of them, by more than the third that may be
+-- faulty.
 pub quorums_overlap : (n : ℕ) → 1 ≤ n → n + ((n - 1) / 3 + 1) ≤ quorum_of n + quorum_of n
 quorums_overlap n some = omega arith

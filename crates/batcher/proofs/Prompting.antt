@@ -1,4 +1,5 @@
--- How soon certificates come: at once where no bad vote was accepted, one kind that is due at each construction, and wherever a
+-- How soon certificates come: at once where no bad vote was accepted, one kind that is due at each
+-- construction, and wherever a
 -- quorum of the usable votes of the first ready kind attests.
 use Rattle.std.proofs.Common.{◌≡◌, ◌≤◌, ◌+◌, ℕ, Bool, true, false, not, cond, nat_le, nat_lt, ◌&&◌, ◌||◌, List, [], ◌∷◌, ◌++◌, length, length-append, map, Option, Some, None, refl, ap, sym, ◌∙◌, subst, arith, ⊎_elim}
 use Rattle.std.specs.Prelude.{filter, is_some, is_none}

@@ -313,7 +313,8 @@ module _ {D K G C : Type 0} (x : Setting D K G C) (laws : HasLaws x) where
           absurd (true≢false (sym (ap is_construction g.constructs) ∙ other)))
           (option_cases (certificate_given event.1))
 
-  -- So a proposal is fixed and a kind certified by the calls themselves, where nothing is constructed.
+  -- So a proposal is fixed and a kind certified by the calls themselves, where nothing is
+  -- constructed.
   fixed_first : (past : History D K G C) → IsPossible x past
       → list_any is_construction (calls_of past) ≡ false
       → fixed_proposal past ≡ first_of evidence_by (calls_of past)

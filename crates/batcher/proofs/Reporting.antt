@@ -1,4 +1,5 @@
--- What is reported: each vote that is added, and with each vote the kept one that is contrary to it.
+-- What is reported: each vote that is added, and with each vote the kept one that is contrary to
+-- it.
 use Rattle.std.proofs.Common.{◌≡◌, ℕ, ◌==◌, Bool, true, false, not, cond, ◌&&◌, ◌||◌, List, [], ◌∷◌, ◌++◌, Option, Some, None, refl, ap, sym, ◌∙◌, ⊎_elim, subst}
 use Rattle.std.specs.Prelude.{filter, is_some, IfSome, option_map, option_and_then}
 use Rattle.std.specs.List.{list_any}
@@ -88,7 +89,8 @@ module _ {D K G C : Type 0} (x : Setting D K G C) (P : Admission G D → Type 0)
     sort_against None =
         sort_by_first (first_like x past vote) (is_released x past (kind_of vote)) (conflicts x past vote)
 
-    -- What holds of an addition, of a refusal and of each block that doesn't report a vote alone, holds of each answer.
+    -- What holds of an addition, of a refusal and of each block that doesn't report a vote alone,
+    -- holds of each answer.
     of_answer : (sender : K) → P (network_answer x past sender vote)
     of_answer sender = by_index (sender_in x sender)
       where
@@ -357,7 +359,12 @@ module _ {D K G C : Type 0} (x : Setting D K G C) where
         × (signer_of (ordered_pair earlier vote).0 ≡ signer_of vote)
     are_pair (FinalizeVote a) (NullifyVote b) contrary before now =
         let signer = (contrary_parts (FinalizeVote a) (NullifyVote b) contrary (rounds_same _ _ (before.0 ∙ sym now.0))).0 in (
-          record { one_signer = sym signer; contradict = rounds_same _ _ (now.0 ∙ sym before.0); of_round = (now.0, before.0); both_cast = (now.1, before.1) },
+          record {
+            one_signer = sym signer;
+            contradict = rounds_same _ _ (now.0 ∙ sym before.0);
+            of_round = (now.0, before.0);
+            both_cast = (now.1, before.1);
+          },
           refl,
         )
     are_pair a b contrary before now =

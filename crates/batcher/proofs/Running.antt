@@ -8,8 +8,11 @@ use Rattle.batcher.specs.Held.{Held}
 use Rattle.batcher.specs.Runs.{Steps, Runs}
 
 module _ {D K G C : Type 0} (x : Setting D K G C) where
-  pub Runs-push : (old : Held G D) (before : Stream) (calls : List (Call K G C D)) (answers : List (Answer G C D)) (middle : Held G D) (stream : Stream) (call : Call K G C D) (answer : Answer G C D) (new : Held G D) (after : Stream)
-      → Runs x old before calls answers middle stream → Steps x middle stream call answer new after → Runs x old before (calls ++ call ∷ []) (answers ++ answer ∷ []) new after
+  pub Runs-push : (old : Held G D) (before : Stream) (calls : List (Call K G C D))
+      (answers : List (Answer G C D)) (middle : Held G D) (stream : Stream) (call : Call K G C D)
+      (answer : Answer G C D) (new : Held G D) (after : Stream)
+      → Runs x old before calls answers middle stream → Steps x middle stream call answer new after
+      → Runs x old before (calls ++ call ∷ []) (answers ++ answer ∷ []) new after
   Runs-push old before [] [] middle stream call answer new after h step =
       (new, (after, (subst (λ s. Steps x old s call answer new after) h.1 (subst (λ m. Steps x m stream call answer new after) h.0 step), (refl, refl))))
   Runs-push old before [] (a ∷ answers) middle stream call answer new after h step = absurd h

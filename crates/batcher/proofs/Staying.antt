@@ -23,7 +23,8 @@ use Rattle.batcher.specs.Stands.{tries_kind, pending_after, verified_after}
 use Rattle.batcher.proofs.Counts.{either_same, filter_twice, filter_none, first_only}
 
 -- two filters in either order
-filter_swap : {X : Type 0} (p q : X → Bool) (xs : List X) → filter p (filter q xs) ≡ filter q (filter p xs)
+filter_swap : {X : Type 0} (p q : X → Bool) (xs : List X) → filter p (filter q xs)
+    ≡ filter q (filter p xs)
 filter_swap p q xs = filter_twice p q xs ∙ (filter_agree (λ v. q v && p v) (λ v. p v && q v) (λ v. and_comm (q v) (p v)) xs ∙ sym (filter_twice q p xs))
   where
     and_comm : (a b : Bool) → (a && b) ≡ (b && a)
@@ -57,29 +58,42 @@ module _ {X : Type 0} (closed : Bool) (w : X → Bool) where
   staying_part false xs h = h
 
   -- where two lists stay, so does the first with some of the second
-  staying_left : (v : X → Bool) (b : Bool) (xs ys : List X) → staying xs ≡ xs → staying ys ≡ ys → staying (xs ++ filter v (cond b [] ys)) ≡ xs ++ filter v (cond b [] ys)
+  staying_left : (v : X → Bool) (b : Bool) (xs ys : List X) → staying xs ≡ xs → staying ys ≡ ys
+      → staying (xs ++ filter v (cond b [] ys)) ≡ xs ++ filter v (cond b [] ys)
   staying_left v b xs ys h k =
       staying_append xs (filter v (cond b [] ys))
       ∙ (ap (λ zs. zs ++ staying (filter v (cond b [] ys))) h
       ∙ ap (λ zs. xs ++ zs) (staying_filter v (cond b [] ys) ∙ ap (filter v) (staying_part b ys k)))
 
 module _ {D K G C : Type 0} (x : Setting D K G C) where
-  pub left_waits : (past : History D K G C) (kind : Kind) (verified pending : List (Vote G D)) → waiting_votes x past kind verified ≡ verified → waiting_votes x past kind pending ≡ pending →
-      waiting_votes x past kind (left_verified x verified pending) ≡ left_verified x verified pending
+  pub left_waits : (past : History D K G C) (kind : Kind) (verified pending : List (Vote G D))
+      → waiting_votes x past kind verified ≡ verified → waiting_votes x past kind pending ≡ pending
+      →
+      waiting_votes x past kind (left_verified x verified pending)
+      ≡ left_verified x verified pending
   left_waits past kind verified pending h k =
-      staying_left (is_certified past kind || is_skipped x.mode) (waits x.same_digest (selected_proposal x past)) (is_valid x) (nat_le (quorum_in x) (length verified)) verified pending h k
+      staying_left (is_certified past kind || is_skipped x.mode) (waits x.same_digest (selected_proposal x past)) (is_valid x)
+      (nat_le (quorum_in x) (length verified)) verified pending h k
 
   -- THE BUFFERS AFTER A CONSTRUCTION at which no vote comes back
-  module _ (past : History D K G C) (old : Held G D) (answer : Option (Batch (Certificate C D))) (none_back : (v : Vote G D) → comes_back x past (ConstructCall, ConstructAnswer answer) v ≡ false) (kind : Kind) where
+  module _ (past : History D K G C) (old : Held G D) (answer : Option (Batch (Certificate C D)))
+      (none_back : (v : Vote G D) → comes_back x past (ConstructCall, ConstructAnswer answer) v
+      ≡ false) (kind : Kind) where
     pub pending_left : pending_after x past old (ConstructCall, ConstructAnswer answer) kind
-        ≡ waiting_votes x ((ConstructCall, ConstructAnswer answer) ∷ past) kind (cond (tries_kind x past (ConstructAnswer answer) kind) [] (of_kind old.buffered.pending kind))
+        ≡ waiting_votes x ((ConstructCall, ConstructAnswer answer) ∷ past) kind
+        (cond (tries_kind x past (ConstructAnswer answer) kind) []
+        (of_kind old.buffered.pending kind))
     pending_left =
-        ap (waiting_votes x ((ConstructCall, ConstructAnswer answer) ∷ past) kind) (first_only (cond (tries_kind x past (ConstructAnswer answer) kind) [] (of_kind old.buffered.pending kind)) _
+        ap (waiting_votes x ((ConstructCall, ConstructAnswer answer) ∷ past) kind)
+        (first_only (cond (tries_kind x past (ConstructAnswer answer) kind) [] (of_kind old.buffered.pending kind)) _
         (filter_none (comes_back x past (ConstructCall, ConstructAnswer answer)) (of_kind old.tracked.kept kind) none_back))
 
     pub verified_left : verified_after x past old (ConstructCall, ConstructAnswer answer) kind
         ≡ waiting_votes x ((ConstructCall, ConstructAnswer answer) ∷ past) kind
-        (cond (tries_kind x past (ConstructAnswer answer) kind) (left_verified x (of_kind old.buffered.verified kind) (of_kind old.buffered.pending kind)) (of_kind old.buffered.verified kind))
+        (cond (tries_kind x past (ConstructAnswer answer) kind)
+        (left_verified x (of_kind old.buffered.verified kind)
+        (of_kind old.buffered.pending kind)) (of_kind old.buffered.verified kind))
     verified_left =
         ap (waiting_votes x ((ConstructCall, ConstructAnswer answer) ∷ past) kind)
-        (append-nil (cond (tries_kind x past (ConstructAnswer answer) kind) (left_verified x (of_kind old.buffered.verified kind) (of_kind old.buffered.pending kind)) (of_kind old.buffered.verified kind)))
+        (append-nil (cond (tries_kind x past (ConstructAnswer answer) kind)
+        (left_verified x (of_kind old.buffered.verified kind) (of_kind old.buffered.pending kind)) (of_kind old.buffered.verified kind)))

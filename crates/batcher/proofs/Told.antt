@@ -1,4 +1,5 @@
--- What answers tell: which votes were added, which conflict with another, and what is selected where a
+-- What answers tell: which votes were added, which conflict with another, and what is selected
+-- where a
 -- proposal is given, handed on or recorded.
 use Rattle.std.proofs.Common.{inl, inr, ◌≡◌, ◌≢◌, ◌⊎◌, Bool, true, false, not, cond, ◌&&◌, ◌||◌, List, [], ◌∷◌, ◌++◌, Option, Some, None, Result, Ok, Err, refl, ap, sym, ◌∙◌, eqb, subst}
 use Rattle.std.specs.Prelude.{is_none, IfSome, filter}
@@ -68,7 +69,8 @@ mismatch_is_none Finalization = refl
 
 module _ {G D : Type 0} where
   conflict_unless : (p s : Bool) (block : Admission G D)
-      → is_for_conflict (cond p (cond s refusal (block_for InvalidSignature None)) block) ≡ true → not p ≡ true
+      → is_for_conflict (cond p (cond s refusal (block_for InvalidSignature None)) block) ≡ true
+      → not p ≡ true
   conflict_unless true true block h = absurd (false≢true h)
   conflict_unless true false block h = absurd (false≢true h)
   conflict_unless false s block h = refl
@@ -88,14 +90,16 @@ module _ {G D : Type 0} where
   facts_are_none (FinalizeVote b) = refl
 
   either_none : (b : Bool) (one other : Admission G D)
-      → is_for_conflict one ≡ false → is_for_conflict other ≡ false → is_for_conflict (cond b one other) ≡ false
+      → is_for_conflict one ≡ false → is_for_conflict other ≡ false
+      → is_for_conflict (cond b one other) ≡ false
   either_none true one other e f = e
   either_none false one other e f = f
 
 module _ {G D : Type 0} (same : D → D → Bool) (equal : G → G → Bool) where
   -- beside the kept vote of its kind a vote conflicts where their proposals differ
   beside_conflict : (kept vote : Vote G D)
-      → is_for_conflict (admission_beside same equal kept vote) ≡ true → carry_different same kept vote ≡ true
+      → is_for_conflict (admission_beside same equal kept vote) ≡ true
+      → carry_different same kept vote ≡ true
   beside_conflict (NotarizeVote a) (NotarizeVote b) h = conflict_unless (same_proposal same a.proposal b.proposal) _ _ h
   beside_conflict (NotarizeVote a) (NullifyVote b) h = absurd (false≢true h)
   beside_conflict (NotarizeVote a) (FinalizeVote b) h = absurd (false≢true h)
@@ -116,12 +120,15 @@ module _ {D K G C : Type 0} (x : Setting D K G C) (laws : HasLaws x) where
   abbrev HasOther : History D K G C → Vote G D → Type 0
   HasOther past vote = list_any (differs vote) (votes_cast x past) ≡ true
 
-  conflict_has_other : (past : History D K G C) (vote : Vote G D) → conflicts x past vote ≡ true → HasOther past vote
+  conflict_has_other : (past : History D K G C) (vote : Vote G D) → conflicts x past vote ≡ true
+      → HasOther past vote
   conflict_has_other past vote c = compared_is_cast x (differs vote) past (conflict_with_compared x laws past vote c)
 
-  other_by_first : (past : History D K G C) (vote : Vote G D) (first : Option (Vote G D)) (released conflict : Bool)
+  other_by_first : (past : History D K G C) (vote : Vote G D) (first : Option (Vote G D))
+      (released conflict : Bool)
       → first_like x past vote ≡ first → conflicts x past vote ≡ conflict
-      → is_for_conflict (admission_by_first x first released conflict vote) ≡ true → HasOther past vote
+      → is_for_conflict (admission_by_first x first released conflict vote) ≡ true
+      → HasOther past vote
   other_by_first past vote None released conflict e c h = absurd (false≢true h)
   other_by_first past vote (Some kept) false conflict e c h =
       first_is_cast x (differs vote) past
@@ -148,7 +155,8 @@ module _ {D K G C : Type 0} (x : Setting D K G C) (laws : HasLaws x) where
   other_sent past vote (Some i) h = by_name (eqb i.0 (signer_of vote)) h
     where
       by_name : (b : Bool)
-          → is_for_conflict (cond b (admission_against x past (opposite_vote x past vote) vote) (block_for (mismatch_reason (kind_of vote)) None)) ≡ true
+          → is_for_conflict (cond b (admission_against x past (opposite_vote x past vote) vote)
+          (block_for (mismatch_reason (kind_of vote)) None)) ≡ true
           → (b ≡ true) × HasOther past vote
       by_name true blocked = (refl, other_against past vote (opposite_vote x past vote) blocked)
       by_name false blocked = absurd (false≢true (sym (mismatch_is_none (kind_of vote)) ∙ blocked))
@@ -157,11 +165,13 @@ module _ {D K G C : Type 0} (x : Setting D K G C) (laws : HasLaws x) where
       → cast_votes x (NetworkCall sender vote) ≡ vote ∷ []
   casts_it sender vote named = rw named refl
 
-  if_marked : {X : Type 0} (b : Bool) (v : X) (P : X → Type 0) → (b ≡ true → P v) → IfSome (cond b (Some v) None) P
+  if_marked : {X : Type 0} (b : Bool) (v : X) (P : X → Type 0) → (b ≡ true → P v)
+      → IfSome (cond b (Some v) None) P
   if_marked true v P h = h refl
   if_marked false v P h = tt
 
-  network_conflicts : (past : History D K G C) (sender : K) (vote : Vote G D) (admission : Admission G D)
+  network_conflicts : (past : History D K G C) (sender : K) (vote : Vote G D)
+      (admission : Admission G D)
       → admission ≡ network_answer x past sender vote
       → ConflictsWithAnother x past (NetworkCall sender vote) (NetworkAnswer admission)
   network_conflicts past sender vote admission is =
@@ -183,7 +193,8 @@ module _ {D K G C : Type 0} (x : Setting D K G C) (laws : HasLaws x) where
   duplicate_otherwise Finalization h = absurd (cc)
 
   own_by_first : (kind : Kind) (first : Option (Vote G D)) (released conflict : Bool)
-      → unopposed_result kind (outcome_by_first x first released conflict) ≡ Err ConflictingFault → conflict ≡ true
+      → unopposed_result kind (outcome_by_first x first released conflict) ≡ Err ConflictingFault
+      → conflict ≡ true
   own_by_first kind None released conflict h = absurd (cc)
   own_by_first kind (Some kept) false conflict h = absurd (duplicate_otherwise kind h)
   own_by_first kind (Some seen) true true h = refl
@@ -207,7 +218,8 @@ module _ {D K G C : Type 0} (x : Setting D K G C) (laws : HasLaws x) where
       (refl, own_conflicts past vote (opposite_vote x past vote) is)
   conflicts_with_another past call answer is = tt
 
-  pub answered_conflicts : (past : History D K G C) (calls : List (Call K G C D)) (answers : List (Answer G C D))
+  pub answered_conflicts : (past : History D K G C) (calls : List (Call K G C D))
+      (answers : List (Answer G C D))
       → AreAnswered x past calls answers → AtEachCall (ConflictsWithAnother x) past calls answers
   answered_conflicts past [] [] are = tt
   answered_conflicts past [] (answer ∷ answers) are = absurd are
@@ -222,8 +234,10 @@ module _ {D K G C : Type 0} (x : Setting D K G C) where
   added_alone p vote true = refl
   added_alone p vote false = refl
 
-  outcome_added : (kind : Kind) (first : Option (Vote G D)) (released conflict : Bool) (outcome : Outcome)
-      → unopposed_result kind (outcome_by_first x first released conflict) ≡ Ok outcome → is_added outcome ≡ is_none first
+  outcome_added : (kind : Kind) (first : Option (Vote G D)) (released conflict : Bool)
+      (outcome : Outcome)
+      → unopposed_result kind (outcome_by_first x first released conflict) ≡ Ok outcome
+      → is_added outcome ≡ is_none first
   outcome_added kind None released conflict outcome h = ap added_if (sym h)
     where
       added_if : Result Outcome OwnFault → Bool
@@ -286,17 +300,21 @@ module _ {D K G C : Type 0} (x : Setting D K G C) where
   adds_new past (MissingCall p, answer) possible = refl
 
   -- The votes that are answered as added are the first votes.
-  pub added_are : (past : History D K G C) → IsPossible x past → votes_added past ≡ first_votes x past
+  pub added_are : (past : History D K G C) → IsPossible x past → votes_added past
+      ≡ first_votes x past
   added_are [] possible = refl
   added_are (event ∷ past) possible = rw (adds_new past event possible, added_are past possible.1.1.1) refl
 
 -- WHAT IS GIVEN IS SELECTED
-pub if_some : {X : Type 0} (o : Option X) (P : X → Type 0) → ((v : X) → o ≡ Some v → P v) → IfSome o P
+pub if_some : {X : Type 0} (o : Option X) (P : X → Type 0) → ((v : X) → o ≡ Some v → P v)
+    → IfSome o P
 if_some None P h = tt
 if_some (Some v) P h = h v refl
 
-pub batch_with : {G C D : Type 0} (answer : Answer G C D) (c : Certificate C D) → certificate_given answer ≡ Some c
-    → (batch : Batch (Certificate C D)) × (batch_given answer ≡ Some batch) × (batch.certificate ≡ Some c)
+pub batch_with : {G C D : Type 0} (answer : Answer G C D) (c : Certificate C D)
+    → certificate_given answer ≡ Some c
+    → (batch : Batch (Certificate C D)) × (batch_given answer ≡ Some batch)
+    × (batch.certificate ≡ Some c)
 batch_with (ConstructAnswer (Some batch)) c h = (batch, refl, h)
 batch_with (ConstructAnswer None) c h = absurd (cc)
 batch_with (NetworkAnswer a) c h = absurd (cc)
@@ -310,12 +328,14 @@ batch_with OutOfMemory c h = absurd (cc)
 
 module _ {D : Type 0} where
   -- what is selected, or else the proposal, is the proposal
-  selected_or : (o : Option (Proposal D)) (p : Proposal D) → (o ≡ None) ⊎ (o ≡ Some p) → option_or o (Some p) ≡ Some p
+  selected_or : (o : Option (Proposal D)) (p : Proposal D) → (o ≡ None) ⊎ (o ≡ Some p)
+      → option_or o (Some p) ≡ Some p
   selected_or o p (inl h) = ap (λ s. option_or s (Some p)) h
   selected_or o p (inr h) = ap (λ s. option_or s (Some p)) h
 
   evidence_some : (e s : Option (Proposal D)) (p : Proposal D) → e ≡ Some p
-      → (e ≡ None) ⊎ ((q : Proposal D) × ((e ≡ Some q) × ((s ≡ None) ⊎ (s ≡ Some q)))) → (s ≡ None) ⊎ (s ≡ Some p)
+      → (e ≡ None) ⊎ ((q : Proposal D) × ((e ≡ Some q) × ((s ≡ None) ⊎ (s ≡ Some q)))) → (s ≡ None)
+      ⊎ (s ≡ Some p)
   evidence_some e s p is (inl none) = absurd (cc)
   evidence_some e s p is (inr some) =
       let same : some.0 ≡ p = same_Some some.0 p (sym some.1.0 ∙ is) in
@@ -341,7 +361,8 @@ module _ {D K G C : Type 0} (x : Setting D K G C) where
   unless false None = tt
   unless false (Some p) = refl
 
-  forwarded_is : (past : History D K G C) (call : Call K G C D) (answer : Answer G C D) → MayAnswer x past call answer
+  forwarded_is : (past : History D K G C) (call : Call K G C D) (answer : Answer G C D)
+      → MayAnswer x past call answer
       → IfSome (proposal_forwarded answer) (λ p. selected_proposal x past ≡ Some p)
   forwarded_is past (ForwardCall me) (ForwardAnswer proposal) may =
       subst (λ (o : Option (Proposal D)). IfSome o (λ p. selected_proposal x past ≡ Some p)) (sym may)
@@ -373,8 +394,10 @@ module _ {D K G C : Type 0} (x : Setting D K G C) where
   none_changes past p (NullificationCertificate c) fixed = refl
   none_changes past p (FinalizationCertificate c) fixed = refl
 
-  changed_by : (past : History D K G C) (call : Call K G C D) (answer : Answer G C D) (p : Proposal D)
-      → MayAnswer x past call answer → selection x past ≡ FixedProposal p → answer ≢ CertificateAnswer true
+  changed_by : (past : History D K G C) (call : Call K G C D) (answer : Answer G C D)
+      (p : Proposal D)
+      → MayAnswer x past call answer → selection x past ≡ FixedProposal p
+      → answer ≢ CertificateAnswer true
   changed_by past (CertificateCall c) (CertificateAnswer changed) p may fixed is =
       let none : changed ≡ false = may ∙ none_changes past p c fixed in absurd (cc)
   changed_by past (NetworkCall sender vote) (CertificateAnswer changed) p may fixed is = absurd may

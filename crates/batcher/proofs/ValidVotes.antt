@@ -1,4 +1,5 @@
--- Valid votes: a construction changes nothing of those of a settled kind, and where no bad vote was accepted they are a quorum
+-- Valid votes: a construction changes nothing of those of a settled kind, and where no bad vote was
+-- accepted they are a quorum
 -- where its usable votes are.
 use Rattle.std.proofs.Common.{inl, inr, ◌≡◌, ◌≤◌, ◌+◌, Bool, true, false, not, cond, ◌&&◌, ◌||◌, [], ◌∷◌, length, Option, Some, None, refl, ap, sym, ◌∙◌, subst, arith, ⊎_elim}
 use Rattle.std.specs.Prelude.{filter, is_some, option_and_then}

@@ -1,13 +1,16 @@
--- What is answered to votes: admission, block and report of a network vote; outcome, report and fault of an own vote.
+-- What is answered to votes: admission, block and report of a network vote; outcome, report and
+-- fault of an own vote.
 use Rattle.std.specs.Prelude.{Bool, true, false, cond, ◌&&◌, ◌==◌, Option, Some, None}
 use Rattle.batcher.specs.declared.messages.Vote.{Vote}
 use Rattle.batcher.specs.declared.messages.Vote.TheVariants.{Notarize as NotarizeVote, Nullify as NullifyVote, Finalize as FinalizeVote}
 use Rattle.batcher.specs.declared.messages.Kind.{Kind}
 use Rattle.batcher.specs.declared.messages.Kind.TheVariants.{Notarization, Nullification, Finalization}
 use Rattle.batcher.specs.declared.messages.Activity.{Activity}
-use Rattle.batcher.specs.declared.messages.Activity.TheVariants.{Notarize as ReportNotarize, Nullify as ReportNullify, Finalize as ReportFinalize, ConflictingNotarize as ReportConflictingNotarize, ConflictingFinalize as ReportConflictingFinalize, NullifyFinalize as ReportNullifyFinalize}
+use Rattle.batcher.specs.declared.messages.Activity.TheVariants.{Notarize as ReportNotarize, Nullify as ReportNullify, Finalize as ReportFinalize, ConflictingNotarize as ReportConflictingNotarize}
+use Rattle.batcher.specs.declared.messages.Activity.TheVariants.{ConflictingFinalize as ReportConflictingFinalize, NullifyFinalize as ReportNullifyFinalize}
 use Rattle.batcher.specs.declared.round.BlockReason.{BlockReason}
-use Rattle.batcher.specs.declared.round.BlockReason.TheVariants.{NotarizeSignerMismatch, NullifySignerMismatch, FinalizeSignerMismatch, ConflictingNotarize, ConflictingNullify, ConflictingFinalize, InvalidSignature, NullifyAfterFinalize, FinalizeAfterNullify}
+use Rattle.batcher.specs.declared.round.BlockReason.TheVariants.{NotarizeSignerMismatch, NullifySignerMismatch, FinalizeSignerMismatch, ConflictingNotarize, ConflictingNullify, ConflictingFinalize, InvalidSignature, NullifyAfterFinalize}
+use Rattle.batcher.specs.declared.round.BlockReason.TheVariants.{FinalizeAfterNullify}
 use Rattle.batcher.specs.declared.round.Admission.{Admission}
 use Rattle.batcher.specs.declared.votes.Outcome.{Outcome}
 use Rattle.batcher.specs.declared.votes.Outcome.TheVariants.{Added, Duplicate, Conflicting}
@@ -23,7 +26,8 @@ conflict_reason Notarization = ConflictingNotarize
 conflict_reason Nullification = ConflictingNullify
 conflict_reason Finalization = ConflictingFinalize
 
--- The three sorts of admission: a vote is added and reported, refused without a word, or its sender is blocked.
+-- The three sorts of admission: a vote is added and reported, refused without a word, or its sender
+-- is blocked.
 module _ {G D : Type 0} where
   abbrev pub report_of : Vote G D → Activity G D
   report_of (NotarizeVote vote) = ReportNotarize vote
@@ -45,10 +49,13 @@ module _ {G D : Type 0} where
   admission_of (Duplicate retained) vote = refusal
   admission_of Conflicting vote = block_for (conflict_reason (kind_of vote)) None
 
-  -- A nullify after a finalize of its signer, or the reverse: both are reported where the earlier one is kept in full.
+  -- A nullify after a finalize of its signer, or the reverse: both are reported where the earlier
+  -- one is kept in full.
   abbrev pub admission_after : Vote G D → Vote G D → Admission G D
-  admission_after (FinalizeVote earlier) (NullifyVote vote) = block_for NullifyAfterFinalize (Some (ReportNullifyFinalize vote earlier))
-  admission_after (NullifyVote earlier) (FinalizeVote vote) = block_for FinalizeAfterNullify (Some (ReportNullifyFinalize earlier vote))
+  admission_after (FinalizeVote earlier) (NullifyVote vote) =
+      block_for NullifyAfterFinalize (Some (ReportNullifyFinalize vote earlier))
+  admission_after (NullifyVote earlier) (FinalizeVote vote) =
+      block_for FinalizeAfterNullify (Some (ReportNullifyFinalize earlier vote))
   admission_after earlier vote = refusal
 
   -- the same, where facts alone are kept of the earlier one
@@ -62,19 +69,24 @@ module _ {G D : Type 0} (same : D → D → Bool) (equal : G → G → Bool) whe
   abbrev pub same_vote : Vote G D → Vote G D → Bool
   same_vote a b =
       same_subject same (subject_of a) (subject_of b)
-      && ((signer_of a == signer_of b) && equal (attestation_of a).signature (attestation_of b).signature)
+      && ((signer_of a == signer_of b) && equal (attestation_of a).signature
+      (attestation_of b).signature)
 
-  -- A vote beside the kept one of its kind and signer. With another proposal it is a conflict to report; with the same it
+  -- A vote beside the kept one of its kind and signer. With another proposal it is a conflict to
+  -- report; with the same it
   -- differs in its signature at most.
   abbrev pub admission_beside : Vote G D → Vote G D → Admission G D
   admission_beside (NotarizeVote kept) (NotarizeVote vote) =
       cond (same_proposal same kept.proposal vote.proposal)
-      (cond (same_vote (NotarizeVote kept) (NotarizeVote vote)) refusal (block_for InvalidSignature None))
+      (cond (same_vote (NotarizeVote kept) (NotarizeVote vote)) refusal
+      (block_for InvalidSignature None))
       (block_for ConflictingNotarize (Some (ReportConflictingNotarize kept vote)))
   admission_beside (NullifyVote kept) (NullifyVote vote) =
-      cond (same_vote (NullifyVote kept) (NullifyVote vote)) refusal (block_for ConflictingNullify None)
+      cond (same_vote (NullifyVote kept) (NullifyVote vote)) refusal
+      (block_for ConflictingNullify None)
   admission_beside (FinalizeVote kept) (FinalizeVote vote) =
       cond (same_proposal same kept.proposal vote.proposal)
-      (cond (same_vote (FinalizeVote kept) (FinalizeVote vote)) refusal (block_for InvalidSignature None))
+      (cond (same_vote (FinalizeVote kept) (FinalizeVote vote)) refusal
+      (block_for InvalidSignature None))
       (block_for ConflictingFinalize (Some (ReportConflictingFinalize kept vote)))
   admission_beside kept vote = refusal

@@ -19,7 +19,8 @@ module _ {G : Type 0} where
   failing test xs = filter (λ a. not (test a)) xs
 
   -- In order, those that pass the test, and the signers of those that fail it.
-  pub record Sorts (test : Attestation G → Bool) (pending : List (Attestation G)) (found : Verification G) : Type 0 where
+  pub record Sorts (test : Attestation G → Bool) (pending : List (Attestation G))
+      (found : Verification G) : Type 0 where
     pub valid : found.verified.items ≡ filter test pending
     pub failed : found.invalid.items ≡ signers (failing test pending)
 

@@ -82,7 +82,8 @@ module _ {D K G C : Type 0} (x : Setting D K G C) where
   abbrev pub NamesBadSigners : History D K G C → Event D K G C → Type 0
   NamesBadSigners past event =
       IfSome (batch_given event.1) (λ batch.
-      AllPass (λ i. is_some_and (ready_kind x past) (λ kind. has_bad_vote past kind i)) batch.invalid)
+      AllPass (λ i. is_some_and (ready_kind x past) (λ kind. has_bad_vote past kind i))
+      batch.invalid)
 
   -- A vote that is answered as one that conflicts was cast by the call, and its signer has cast
   -- another of its kind before, with another proposal.
@@ -125,7 +126,8 @@ module _ {D K G C : Type 0} (x : Setting D K G C) where
       pub conflicts_have_cause : AtEachCall ConflictsWithAnother [] calls answers
       pub at_each_time : AtEachTime HoldsThen (history calls answers)
       -- The votes that are answered as added are those that no earlier one excludes, in order.
-      pub added_are_first : votes_added (history calls answers) ≡ first_votes x (history calls answers)
+      pub added_are_first : votes_added (history calls answers)
+          ≡ first_votes x (history calls answers)
       pub named_signers_are_bad : AtEachEvent NamesBadSigners (history calls answers)
       pub given_are_selected : AtEachEvent GivesSelected (history calls answers)
       pub forwarded_are_selected : AtEachEvent ForwardsSelected (history calls answers)

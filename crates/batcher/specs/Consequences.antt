@@ -41,13 +41,16 @@ module _ {D K G C : Type 0} (x : Setting D K G C) where
     pub usable_once_each : (kind : Kind) → EachOnce signer_of (usable_votes x past kind)
     pub usable_for_selected :
         (kind : Kind) (p : Proposal D) → has_proposals kind ≡ true
-        → selected_proposal x past ≡ Some p → AllPass (is_for x.same_digest p) (usable_votes x past kind)
+        → selected_proposal x past ≡ Some p
+        → AllPass (is_for x.same_digest p) (usable_votes x past kind)
     -- No participant has both a first nullify and a first finalize.
     pub nullify_or_finalize :
         (i : ℕ)
-        → (is_some (first_vote x past Nullification i) && is_some (first_vote x past Finalization i))
+        → (is_some (first_vote x past Nullification i)
+        && is_some (first_vote x past Finalization i))
         ≡ false
-    -- A vote that conflicts has an earlier one of its kind and signer beside it, with another proposal.
+    -- A vote that conflicts has an earlier one of its kind and signer beside it, with another
+    -- proposal.
     pub conflicts_differ :
         (vote : Vote G D) → conflicts x past vote ≡ true
         → list_any

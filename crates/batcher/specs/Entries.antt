@@ -25,7 +25,8 @@ use Rattle.batcher.specs.Held.{PerKind, Facts, Tracked}
 use Rattle.batcher.specs.Tracking.{Observed, unseen, from_kept, from_facts, no_facts}
 
 abbrev pub marks_of : Marks → PerKind Bool
-marks_of marks = record { notarize = marks.notarize; nullify = marks.nullify; finalize = marks.finalize }
+marks_of marks =
+    record { notarize = marks.notarize; nullify = marks.nullify; finalize = marks.finalize }
 
 -- the marks, with this kind's
 abbrev pub with_mark : Kind → PerKind Bool → PerKind Bool
@@ -58,22 +59,30 @@ module _ {G D : Type 0} where
   abbrev pub proposed_outcome : Bool → Option Bool → Proposed G D → Outcome
   proposed_outcome true is_selected NothingProposed = Added false
   proposed_outcome true is_selected (KeptProposed proposal signature) = Added false
-  proposed_outcome true is_selected (CompactedProposed comparison) = cond (differs_from comparison is_selected) Conflicting (Duplicate false)
+  proposed_outcome true is_selected (CompactedProposed comparison) =
+      cond (differs_from comparison is_selected) Conflicting (Duplicate false)
   proposed_outcome false is_selected NothingProposed = Added true
   proposed_outcome false is_selected (KeptProposed proposal signature) = Duplicate true
   proposed_outcome false is_selected (CompactedProposed comparison) = Added true
 
   abbrev pub proposed_with : Bool → Proposal D → G → Option Bool → Proposed G D → Proposed G D
-  proposed_with true proposal signature is_selected NothingProposed = CompactedProposed (compared Never is_selected)
-  proposed_with true proposal signature is_selected (KeptProposed p s) = CompactedProposed (compared Never is_selected)
-  proposed_with true proposal signature is_selected (CompactedProposed comparison) = CompactedProposed (compared comparison is_selected)
-  proposed_with false proposal signature is_selected NothingProposed = KeptProposed proposal signature
+  proposed_with true proposal signature is_selected NothingProposed =
+      CompactedProposed (compared Never is_selected)
+  proposed_with true proposal signature is_selected (KeptProposed p s) =
+      CompactedProposed (compared Never is_selected)
+  proposed_with true proposal signature is_selected (CompactedProposed comparison) =
+      CompactedProposed (compared comparison is_selected)
+  proposed_with false proposal signature is_selected NothingProposed =
+      KeptProposed proposal signature
   proposed_with false proposal signature is_selected (KeptProposed p s) = KeptProposed p s
-  proposed_with false proposal signature is_selected (CompactedProposed comparison) = KeptProposed proposal signature
+  proposed_with false proposal signature is_selected (CompactedProposed comparison) =
+      KeptProposed proposal signature
 
-  abbrev pub kept_proposed : Participant → (Proposal D → Attestation G → Vote G D) → Proposed G D → Option (Vote G D)
+  abbrev pub kept_proposed : Participant → (Proposal D → Attestation G → Vote G D) → Proposed G D
+      → Option (Vote G D)
   kept_proposed i vote NothingProposed = None
-  kept_proposed i vote (KeptProposed proposal signature) = Some (vote proposal (record { signer = i; signature = signature }))
+  kept_proposed i vote (KeptProposed proposal signature) =
+      Some (vote proposal (record { signer = i; signature = signature }))
   kept_proposed i vote (CompactedProposed comparison) = None
 
   abbrev pub facts_proposed : ℕ → Proposed G D → Option Facts
@@ -115,7 +124,12 @@ module _ {G : Type 0} where
 module _ {G D : Type 0} where
   abbrev pub kept_nullified : Participant → Nullified G → Option (Vote G D)
   kept_nullified i NothingNullified = None
-  kept_nullified i (KeptNullified round signature) = Some (NullifyVote (record { round = round; attestation = record { signer = i; signature = signature } }))
+  kept_nullified i (KeptNullified round signature) =
+      Some (NullifyVote (record {
+        round = round;
+        attestation = record
+            { signer = i; signature = signature };
+      }))
   kept_nullified i CompactedNullified = None
 
   -- the entry's vote of a kind
@@ -151,7 +165,13 @@ module _ {G D : Type 0} where
   kept_of is_compacted kind (Some entry) = kept_at is_compacted kind entry
 
   abbrev pub nothing_seen : Participant → Entry G D
-  nothing_seen i = record { signer = i; notarize = NothingProposed; nullify = NothingNullified; finalize = NothingProposed }
+  nothing_seen i =
+      record {
+        signer = i;
+        notarize = NothingProposed;
+        nullify = NothingNullified;
+        finalize = NothingProposed;
+      }
 
   -- Of a kind that is compacted entries show facts, of another the votes that they keep.
   abbrev pub kept_among : Bool → Kind → List (Entry G D) → List (Vote G D)
@@ -181,10 +201,12 @@ module _ {G D : Type 0} where
 module _ {G D : Type 0} (same : D → D → Bool) where
   abbrev pub proposed_released : Option (Proposal D) → Proposed G D → Proposed G D
   proposed_released selected NothingProposed = NothingProposed
-  proposed_released selected (KeptProposed proposal signature) = CompactedProposed (compared Never (is_selected same selected proposal))
+  proposed_released selected (KeptProposed proposal signature) =
+      CompactedProposed (compared Never (is_selected same selected proposal))
   proposed_released selected (CompactedProposed comparison) = NothingProposed
 
-  -- whether a vote for the proposal was seen, or of votes that aren't kept, whether one was for the selected one
+  -- whether a vote for the proposal was seen, or of votes that aren't kept, whether one was for the
+  -- selected one
   abbrev pub is_proposed : Bool → Proposal D → Proposed G D → Bool
   is_proposed true p NothingProposed = false
   is_proposed true p (KeptProposed proposal signature) = false
@@ -198,13 +220,26 @@ module _ {G D : Type 0} (same : D → D → Bool) where
   -- the entry with a vote of its signer
   abbrev pub entry_with : Bool → Option (Proposal D) → Vote G D → Entry G D → Entry G D
   entry_with is_compacted selected (NotarizeVote vote) entry =
-      record entry { notarize = proposed_with is_compacted vote.proposal vote.attestation.signature (is_selected same selected vote.proposal) entry.notarize }
-  entry_with is_compacted selected (NullifyVote vote) entry = record entry { nullify = nullified_with is_compacted vote.round vote.attestation.signature entry.nullify }
+      record entry {
+        notarize = proposed_with is_compacted vote.proposal vote.attestation.signature
+            (is_selected same selected vote.proposal) entry.notarize;
+      }
+  entry_with is_compacted selected (NullifyVote vote) entry =
+      record entry {
+        nullify = nullified_with is_compacted vote.round vote.attestation.signature
+            entry.nullify;
+      }
   entry_with is_compacted selected (FinalizeVote vote) entry =
-      record entry { finalize = proposed_with is_compacted vote.proposal vote.attestation.signature (is_selected same selected vote.proposal) entry.finalize }
+      record entry {
+        finalize = proposed_with is_compacted vote.proposal vote.attestation.signature
+            (is_selected same selected vote.proposal) entry.finalize;
+      }
 
   -- the entry with facts in the place of a kept vote of the kind
   abbrev pub entry_released : Option (Proposal D) → Kind → Entry G D → Entry G D
-  entry_released selected Notarization entry = record entry { notarize = proposed_released selected entry.notarize }
-  entry_released selected Nullification entry = record entry { nullify = nullified_released entry.nullify }
-  entry_released selected Finalization entry = record entry { finalize = proposed_released selected entry.finalize }
+  entry_released selected Notarization entry =
+      record entry { notarize = proposed_released selected entry.notarize }
+  entry_released selected Nullification entry =
+      record entry { nullify = nullified_released entry.nullify }
+  entry_released selected Finalization entry =
+      record entry { finalize = proposed_released selected entry.finalize }

@@ -1,4 +1,5 @@
--- Rounds of a tiny scheme: keys and payloads are numbers, the signature 0 is good, and so is the certificate 0. What they answer to
+-- Rounds of a tiny scheme: keys and payloads are numbers, the signature 0 is good, and so is the
+-- certificate 0. What they answer to
 -- lists of calls is computed from the definitions over histories.
 use Rattle.std.specs.Prelude.{◌≡◌, ℕ, Bool, true, false, cond, ◌&&◌, ◌==◌, nat_lt, List, [], ◌∷◌, ◌++◌, length, filter, map, reverse, Option, Some, None, Result, Ok, Err}
 use Rattle.std.specs.List.{list_all, range_with_len}
@@ -30,7 +31,8 @@ use Rattle.batcher.specs.declared.verifier.ProposalState.TheVariants.{Unknown, C
 use Rattle.batcher.specs.declared.run.Call.{Call}
 use Rattle.batcher.specs.declared.run.Call.TheVariants.{Network as NetworkCall, Own as OwnCall, Certificate as CertificateCall, Leader as LeaderCall, Construct as ConstructCall, Forward as ForwardCall, Missing as MissingCall}
 use Rattle.batcher.specs.declared.run.Answer.{Answer}
-use Rattle.batcher.specs.declared.run.Answer.TheVariants.{Network as NetworkAnswer, Own as OwnAnswer, OwnRefused, Certificate as CertificateAnswer, Leader as LeaderAnswer, Construct as ConstructAnswer, Forward as ForwardAnswer, Missing as MissingAnswer}
+use Rattle.batcher.specs.declared.run.Answer.TheVariants.{Network as NetworkAnswer, Own as OwnAnswer, OwnRefused, Certificate as CertificateAnswer, Leader as LeaderAnswer, Construct as ConstructAnswer, Forward as ForwardAnswer}
+use Rattle.batcher.specs.declared.run.Answer.TheVariants.{Missing as MissingAnswer}
 use Rattle.batcher.specs.Meaning.{Meaning}
 use Rattle.batcher.specs.Setting.{Setting, quorum_in, setting}
 use Rattle.batcher.specs.Lists.{count}
@@ -85,7 +87,9 @@ listing n =
       attests = λ subject a. nat_lt a.signer.0 n && is_good a;
       certifies = λ subject c. c == 0;
       left_by_verifying = λ subject pending stream. stream;
-      assembled_at_once = λ subject pending verified stream. (cond (list_all is_good pending) (Some 0) None, stream);
+      assembled_at_once =
+          λ subject pending verified stream.
+          (cond (list_all is_good pending) (Some 0) None, stream);
       assembled = λ subject prior fresh. 0;
     }
 
@@ -158,14 +162,19 @@ missing v = MissingCall (p v)
 -- lists of them
 abbrev pub whole_round : List TinyCall
 whole_round =
-    lead 0 ∷ net 0 (notarize 0 1) ∷ net 1 (notarize 1 1) ∷ net 2 (bad_notarize 2 1) ∷ net 1 (nullify 1) ∷ net 2 (nullify 2) ∷ net 3 (nullify 3) ∷ net 0 (finalize 0 1)
+    lead 0 ∷ net 0 (notarize 0 1) ∷ net 1 (notarize 1 1) ∷ net 2 (bad_notarize 2 1) ∷ net 1
+    (nullify 1) ∷ net 2 (nullify 2) ∷ net 3 (nullify 3) ∷ net 0 (finalize 0 1)
     ∷ construct ∷ construct ∷ construct ∷ construct ∷ net 3 (notarize 3 1) ∷ construct ∷ []
 
 abbrev pub own_round : List TinyCall
-own_round = lead 0 ∷ own (notarize 0 1) ∷ own (notarize 1 2) ∷ own (notarize 2 2) ∷ own (notarize 3 2) ∷ own (finalize 1 2) ∷ construct ∷ []
+own_round =
+    lead 0 ∷ own (notarize 0 1) ∷ own (notarize 1 2) ∷ own (notarize 2 2) ∷ own (notarize 3 2) ∷ own
+    (finalize 1 2) ∷ construct ∷ []
 
 abbrev pub repeating_round : List TinyCall
-repeating_round = net 1 (notarize 1 1) ∷ net 2 (notarize 2 1) ∷ cert (notarization 1) ∷ net 1 (notarize 1 2) ∷ net 2 (bad_notarize 2 1) ∷ []
+repeating_round =
+    net 1 (notarize 1 1) ∷ net 2 (notarize 2 1) ∷ cert (notarization 1) ∷ net 1 (notarize 1 2) ∷ net
+    2 (bad_notarize 2 1) ∷ []
 
 -- a round that holds votes of one kind alone: those kept, the pending and the verified ones
 abbrev pub only : Kind → List TinyVote → PerKind (List TinyVote)
@@ -177,7 +186,15 @@ abbrev pub holding : Kind → List TinyVote → List TinyVote → List TinyVote 
 holding kind kept pending verified =
     record {
       tracked = record { compacted = for_each false; kept = only kind kept; facts = for_each [] };
-      buffered = record { leader = None; selection = Unknown; certified = for_each false; pending = only kind pending; verified = only kind verified };
+      buffered =
+          record {
+            leader = None;
+            selection = Unknown;
+            certified = for_each false;
+            pending = only
+                kind pending;
+            verified = only kind verified;
+          };
       forwarded = false;
     }
 
@@ -208,19 +225,29 @@ no_batch = ConstructAnswer None
 
 abbrev pub batch : ℕ → List ℕ → Option (Certificate ℕ ℕ) → Bool → TinyAnswer
 batch processed invalid certificate fallback =
-    ConstructAnswer (Some (record { processed = processed; invalid = map participant invalid; certificate = certificate; fallback = fallback }))
+    ConstructAnswer
+    (Some (record {
+      processed = processed;
+      invalid = map participant invalid;
+      certificate = certificate;
+      fallback = fallback;
+    }))
 
--- what is answered to a call after a history, with the votes of a batch in the order in which they came
+-- what is answered to a call after a history, with the votes of a batch in the order in which they
+-- came
 module _ (x : TinySetting) where
   abbrev pub attempt_answer : List TinyVote → List TinyVote → List TinyVote → TinyAnswer
   attempt_answer [] verified pending = no_batch
   attempt_answer (vote ∷ votes) verified pending =
-      ConstructAnswer (Some (batch_of (subject_of vote) (attempt_of x.meaning (subject_of vote) (quorum_in x) (attestations_of verified) (attestations_of pending) no_words).0))
+      ConstructAnswer (Some (batch_of (subject_of vote)
+      (attempt_of x.meaning (subject_of vote) (quorum_in x) (attestations_of verified)
+      (attestations_of pending) no_words).0))
 
   abbrev pub construct_answer : TinyHistory → Option Kind → TinyAnswer
   construct_answer past None = no_batch
   construct_answer past (Some kind) =
-      attempt_answer (reverse (proven_votes x past kind) ++ reverse (fresh_votes x past kind)) (reverse (proven_votes x past kind)) (reverse (fresh_votes x past kind))
+      attempt_answer (reverse (proven_votes x past kind) ++ reverse (fresh_votes x past kind))
+      (reverse (proven_votes x past kind)) (reverse (fresh_votes x past kind))
 
   abbrev pub own_answer_of : TinyVote → Result Outcome OwnFault → TinyAnswer
   own_answer_of vote (Ok outcome) = OwnAnswer outcome (report_by outcome vote)
@@ -229,7 +256,8 @@ module _ (x : TinySetting) where
   abbrev pub answer : TinyHistory → TinyCall → TinyAnswer
   answer past (NetworkCall sender vote) = NetworkAnswer (network_answer x past sender vote)
   answer past (OwnCall vote) = own_answer_of vote (own_answer x past vote)
-  answer past (CertificateCall certificate) = CertificateAnswer (certificate_answer x past certificate)
+  answer past (CertificateCall certificate) =
+      CertificateAnswer (certificate_answer x past certificate)
   answer past (LeaderCall leader) = LeaderAnswer (leader_set_answer (leader_of past) leader)
   answer past ConstructCall = construct_answer past (ready_kind x past)
   answer past (ForwardCall me) = ForwardAnswer (forward_after x past me)
@@ -243,7 +271,8 @@ module _ (x : TinySetting) where
   abbrev pub answers : List TinyCall → List TinyAnswer
   answers calls = answers_from [] calls
 
-  -- the history that calls leave, what is selected after it, and how many votes of a kind are pending and verified
+  -- the history that calls leave, what is selected after it, and how many votes of a kind are
+  -- pending and verified
   abbrev pub played : List TinyCall → TinyHistory
   played calls = history calls (answers calls)
 
@@ -256,7 +285,8 @@ module _ (x : TinySetting) where
 
   -- how many votes of a kind are counted, and how many of them are valid
   abbrev pub counts : List TinyCall → Kind → ℕ × ℕ
-  counts calls kind = (length (counted_votes x (played calls) kind), length (valid_votes x (played calls) kind))
+  counts calls kind =
+      (length (counted_votes x (played calls) kind), length (valid_votes x (played calls) kind))
 
   -- how often the leader's proposal was replaced, and the selected one handed on
   abbrev pub changes : List TinyCall → ℕ × ℕ
@@ -264,17 +294,25 @@ module _ (x : TinySetting) where
 
   -- whose votes of a kind can still make its certificate, and which participants have a bad one
   abbrev pub usable_and_bad : List TinyCall → Kind → List ℕ × List ℕ
-  usable_and_bad calls kind =
-      (map signer_of (usable_votes x (played calls) kind), filter (λ i. has_bad_vote x (played calls) kind (participant i)) (range_with_len 0 4))
+  usable_and_bad calls kind = (
+    map signer_of (usable_votes x (played calls) kind),
+    filter
+        (λ i. has_bad_vote x (played calls) kind (participant i)) (range_with_len 0 4),
+  )
 
   -- how many votes were processed, accepted from the network in time, and restored as own notarizes
   abbrev pub work : List TinyCall → ℕ × ℕ × ℕ
   work calls =
-      let past = played calls in
-      (processed_total past, length (votes_accepted_open x past), length (own_notarizes_restored x past))
+      let past = played calls in (
+        processed_total past,
+        length (votes_accepted_open x past),
+        length
+            (own_notarizes_restored x past),
+      )
 
   abbrev pub lengths : List TinyCall → Kind → ℕ × ℕ
-  lengths calls kind = (length (fresh_votes x (played calls) kind), length (proven_votes x (played calls) kind))
+  lengths calls kind =
+      (length (fresh_votes x (played calls) kind), length (proven_votes x (played calls) kind))
 
   -- which answers block the sender, and of which pairs of votes facts tell nothing
   abbrev pub blocking : List TinyCall → List Bool
@@ -283,15 +321,21 @@ module _ (x : TinySetting) where
   abbrev pub telling : List TinyCall → List (TinyVote × TinyVote) → List Bool
   telling calls votes = map (λ pair. tells_nothing x (played calls) pair.0 pair.1) votes
 
-  -- which of some calls may need memory after others, and the pending and the verified votes that one more call leaves
+  -- which of some calls may need memory after others, and the pending and the verified votes that
+  -- one more call leaves
   abbrev pub needs : List TinyCall → List TinyCall → List Bool
   needs calls next = map (needs_memory x (played calls)) next
 
-  abbrev pub buffers_after : List TinyCall → Held ℕ ℕ → TinyCall → Kind → List TinyVote × List TinyVote
-  buffers_after calls held call kind =
-      (pending_after x (played calls) held (call, answer (played calls) call) kind, verified_after x (played calls) held (call, answer (played calls) call) kind)
+  abbrev pub buffers_after : List TinyCall → Held ℕ ℕ → TinyCall → Kind → List TinyVote
+      × List TinyVote
+  buffers_after calls held call kind = (
+    pending_after x (played calls) held (call, answer (played calls) call) kind,
+    verified_after x
+        (played calls) held (call, answer (played calls) call) kind,
+  )
 
--- Answers that no round gives: after a finalization for P1 a notarization for P2 is told to change the
+-- Answers that no round gives: after a finalization for P1 a notarization for P2 is told to change
+-- the
 -- selected proposal, and P2 is handed on; and a repeat is blocked as another vote.
 abbrev pub changed_calls : List TinyCall
 changed_calls = cert (finalization 1) ∷ cert (notarization 2) ∷ forward 3 ∷ []
@@ -309,134 +353,206 @@ repeated_answers =
 pub record WorkedExamples : Type 0 where
   -- An equal repeat is refused, another proposal is blocked and reported.
   pub conflict_in_a_retaining_round :
-      answers (four Retaining) (net 1 (notarize 1 1) ∷ net 1 (notarize 1 1) ∷ net 1 (notarize 1 2) ∷ [])
+      answers (four Retaining) (net 1 (notarize 1 1) ∷ net 1 (notarize 1 1) ∷ net 1 (notarize 1 2) ∷
+      [])
       ≡ added (notarize 1 1) ∷ refused
-      ∷ blocked_and_reported ConflictingNotarize (ReportConflictingNotarize (record { proposal = p 1; attestation = signed 1 0 }) (record { proposal = p 2; attestation = signed 1 0 })) ∷ []
+      ∷ blocked_and_reported ConflictingNotarize
+      (ReportConflictingNotarize (record { proposal = p 1; attestation = signed 1 0 })
+      (record { proposal = p 2; attestation = signed 1 0 })) ∷ []
   -- A skipped round finds a conflict only between votes that came with the proposal known.
   pub conflict_in_a_skipped_round :
-      answers (four Skipped) (net 1 (notarize 1 1) ∷ net 1 (notarize 1 2) ∷ cert (notarization 2) ∷ net 1 (notarize 1 2) ∷ net 1 (notarize 1 1) ∷ [])
-      ≡ added (notarize 1 1) ∷ refused ∷ CertificateAnswer true ∷ refused ∷ blocked ConflictingNotarize ∷ []
+      answers (four Skipped) (net 1 (notarize 1 1) ∷ net 1 (notarize 1 2) ∷ cert (notarization 2) ∷
+      net 1 (notarize 1 2) ∷ net 1 (notarize 1 1) ∷ [])
+      ≡ added (notarize 1 1) ∷ refused ∷ CertificateAnswer true ∷ refused ∷ blocked
+      ConflictingNotarize ∷ []
   -- A released vote still convicts, with no report.
   pub conflict_in_a_releasing_round :
-      answers (four Releasing) (net 1 (notarize 1 1) ∷ cert (notarization 1) ∷ net 1 (notarize 1 2) ∷ [])
+      answers (four Releasing) (net 1 (notarize 1 1) ∷ cert (notarization 1) ∷ net 1 (notarize 1 2)
+      ∷ [])
       ≡ added (notarize 1 1) ∷ CertificateAnswer true ∷ blocked ConflictingNotarize ∷ []
   -- A notarization for another proposal than the leader's brings the finalizes for it back.
   pub finalizes_come_back :
-      answers (four Retaining) (lead 0 ∷ net 0 (notarize 0 1) ∷ net 1 (finalize 1 2) ∷ net 2 (finalize 2 2) ∷ net 3 (finalize 3 2) ∷ cert (notarization 2) ∷ construct ∷ [])
-      ≡ leads ∷ added (notarize 0 1) ∷ added (finalize 1 2) ∷ added (finalize 2 2) ∷ added (finalize 3 2) ∷ CertificateAnswer true ∷ batch 3 [] (Some (finalization 2)) false ∷ []
-  -- One participant makes a certificate of its own vote, which is not checked, and fixes the proposal.
+      answers (four Retaining) (lead 0 ∷ net 0 (notarize 0 1) ∷ net 1 (finalize 1 2) ∷ net 2
+      (finalize 2 2) ∷ net 3 (finalize 3 2) ∷ cert (notarization 2) ∷ construct ∷ [])
+      ≡ leads ∷ added (notarize 0 1) ∷ added (finalize 1 2) ∷ added (finalize 2 2) ∷ added
+      (finalize 3 2) ∷ CertificateAnswer true ∷ batch 3 [] (Some (finalization 2)) false ∷ []
+  -- One participant makes a certificate of its own vote, which is not checked, and fixes the
+  -- proposal.
   pub alone :
-      answers (round_of 1 Retaining) (own (notarize 0 1) ∷ construct ∷ []) ≡ own_added (notarize 0 1) ∷ batch 0 [] (Some (notarization 1)) false ∷ []
-  pub alone_it_is_fixed : selects (round_of 1 Retaining) (own (notarize 0 1) ∷ construct ∷ []) ≡ FixedProposal (p 1)
+      answers (round_of 1 Retaining) (own (notarize 0 1) ∷ construct ∷ [])
+      ≡ own_added (notarize 0 1) ∷ batch 0 [] (Some (notarization 1)) false ∷ []
+  pub alone_it_is_fixed : selects (round_of 1 Retaining) (own (notarize 0 1) ∷ construct ∷ [])
+      ≡ FixedProposal (p 1)
   -- A bad vote beside a quorum of good ones is found.
   pub bad_vote_in_a_quorum :
-      answers (four Releasing) (net 0 (nullify 0) ∷ net 1 (nullify 1) ∷ net 2 (nullify 2) ∷ net 3 (bad_nullify 3) ∷ construct ∷ [])
-      ≡ added (nullify 0) ∷ added (nullify 1) ∷ added (nullify 2) ∷ added (bad_nullify 3) ∷ batch 4 (3 ∷ []) (Some nullification) true ∷ []
+      answers (four Releasing) (net 0 (nullify 0) ∷ net 1 (nullify 1) ∷ net 2 (nullify 2) ∷ net 3
+      (bad_nullify 3) ∷ construct ∷ [])
+      ≡ added (nullify 0) ∷ added (nullify 1) ∷ added (nullify 2) ∷ added (bad_nullify 3) ∷ batch 4
+      (3 ∷ []) (Some nullification) true ∷ []
   -- An own finalize of a signer that has one is refused, and fixes nothing.
   pub own_finalize_twice :
-      answers (four Retaining) (net 1 (finalize 1 1) ∷ own (finalize 1 1) ∷ []) ≡ added (finalize 1 1) ∷ OwnRefused DuplicateFinalize ∷ []
-  pub own_finalize_twice_fixes_nothing : selects (four Retaining) (net 1 (finalize 1 1) ∷ own (finalize 1 1) ∷ []) ≡ Unknown
+      answers (four Retaining) (net 1 (finalize 1 1) ∷ own (finalize 1 1) ∷ [])
+      ≡ added (finalize 1 1) ∷ OwnRefused DuplicateFinalize ∷ []
+  pub own_finalize_twice_fixes_nothing : selects (four Retaining)
+      (net 1 (finalize 1 1) ∷ own (finalize 1 1) ∷ []) ≡ Unknown
   -- After the release an own vote is held against the facts.
   pub own_vote_after_release :
-      answers (four Releasing) (own (notarize 1 1) ∷ cert (notarization 1) ∷ own (notarize 1 2) ∷ own (notarize 1 1) ∷ [])
-      ≡ own_added (notarize 1 1) ∷ CertificateAnswer true ∷ OwnRefused Conflicting ∷ own_duplicate ∷ []
+      answers (four Releasing) (own (notarize 1 1) ∷ cert (notarization 1) ∷ own (notarize 1 2) ∷
+      own (notarize 1 1) ∷ [])
+      ≡ own_added (notarize 1 1) ∷ CertificateAnswer true ∷ OwnRefused Conflicting ∷ own_duplicate ∷
+      []
   -- Verified votes of two proposals make no certificate, and wait until the leader selects one.
   pub mixed_proposals :
-      answers (round_of 2 Retaining) (own (notarize 0 1) ∷ own (notarize 1 2) ∷ construct ∷ lead 0 ∷ construct ∷ [])
+      answers (round_of 2 Retaining) (own (notarize 0 1) ∷ own (notarize 1 2) ∷ construct ∷ lead 0 ∷
+      construct ∷ [])
       ≡ own_added (notarize 0 1) ∷ own_added (notarize 1 2) ∷ no_batch ∷ leads ∷ no_batch ∷ []
-  pub mixed_proposals_wait : lengths (round_of 2 Retaining) (own (notarize 0 1) ∷ own (notarize 1 2) ∷ construct ∷ []) Notarization ≡ (0, 2)
-  pub mixed_proposals_are_filtered : lengths (round_of 2 Retaining) (own (notarize 0 1) ∷ own (notarize 1 2) ∷ construct ∷ lead 0 ∷ []) Notarization ≡ (0, 1)
+  pub mixed_proposals_wait : lengths (round_of 2 Retaining)
+      (own (notarize 0 1) ∷ own (notarize 1 2) ∷ construct ∷ []) Notarization ≡ (0, 2)
+  pub mixed_proposals_are_filtered : lengths (round_of 2 Retaining)
+      (own (notarize 0 1) ∷ own (notarize 1 2) ∷ construct ∷ lead 0 ∷ []) Notarization ≡ (0, 1)
   -- A finalization fixes its proposal, which no later certificate changes. It is forwarded once.
   pub finalization_fixes :
-      answers (four Releasing) (lead 0 ∷ net 0 (notarize 0 1) ∷ net 1 (notarize 1 1) ∷ cert (finalization 2) ∷ construct ∷ forward 3 ∷ forward 3 ∷ cert (notarization 3) ∷ [])
-      ≡ leads ∷ added (notarize 0 1) ∷ added (notarize 1 1) ∷ CertificateAnswer false ∷ no_batch ∷ ForwardAnswer (Some (p 2)) ∷ ForwardAnswer None ∷ CertificateAnswer false ∷ []
+      answers (four Releasing) (lead 0 ∷ net 0 (notarize 0 1) ∷ net 1 (notarize 1 1) ∷ cert
+      (finalization 2) ∷ construct ∷ forward 3 ∷ forward 3 ∷ cert (notarization 3) ∷ [])
+      ≡ leads ∷ added (notarize 0 1) ∷ added (notarize 1 1) ∷ CertificateAnswer false ∷ no_batch ∷
+      ForwardAnswer (Some (p 2)) ∷ ForwardAnswer None ∷ CertificateAnswer false ∷ []
   -- A leader named late selects what it voted for.
   pub leader_named_late :
-      answers (four Retaining) (net 1 (notarize 1 1) ∷ net 2 (notarize 2 1) ∷ net 3 (notarize 3 1) ∷ construct ∷ lead 1 ∷ construct ∷ net 0 (notarize 0 1) ∷ [])
-      ≡ added (notarize 1 1) ∷ added (notarize 2 1) ∷ added (notarize 3 1) ∷ no_batch ∷ leads ∷ batch 3 [] (Some (notarization 1)) false ∷ added (notarize 0 1) ∷ []
-  -- An own finalize fixes its proposal: its own vote is verified, and those that come back are pending.
+      answers (four Retaining) (net 1 (notarize 1 1) ∷ net 2 (notarize 2 1) ∷ net 3 (notarize 3 1) ∷
+      construct ∷ lead 1 ∷ construct ∷ net 0 (notarize 0 1) ∷ [])
+      ≡ added (notarize 1 1) ∷ added (notarize 2 1) ∷ added (notarize 3 1) ∷ no_batch ∷ leads ∷
+      batch 3 [] (Some (notarization 1)) false ∷ added (notarize 0 1) ∷ []
+  -- An own finalize fixes its proposal: its own vote is verified, and those that come back are
+  -- pending.
   pub own_finalize :
-      answers (four Retaining) (lead 0 ∷ net 0 (notarize 0 1) ∷ net 1 (finalize 1 2) ∷ net 2 (finalize 2 2) ∷ own (finalize 3 2) ∷ construct ∷ [])
-      ≡ leads ∷ added (notarize 0 1) ∷ added (finalize 1 2) ∷ added (finalize 2 2) ∷ own_added (finalize 3 2) ∷ batch 2 [] (Some (finalization 2)) false ∷ []
-  pub own_finalize_waits : lengths (four Retaining) (lead 0 ∷ net 0 (notarize 0 1) ∷ net 1 (finalize 1 2) ∷ net 2 (finalize 2 2) ∷ own (finalize 3 2) ∷ []) Finalization ≡ (2, 1)
+      answers (four Retaining) (lead 0 ∷ net 0 (notarize 0 1) ∷ net 1 (finalize 1 2) ∷ net 2
+      (finalize 2 2) ∷ own (finalize 3 2) ∷ construct ∷ [])
+      ≡ leads ∷ added (notarize 0 1) ∷ added (finalize 1 2) ∷ added (finalize 2 2) ∷ own_added
+      (finalize 3 2) ∷ batch 2 [] (Some (finalization 2)) false ∷ []
+  pub own_finalize_waits : lengths (four Retaining)
+      (lead 0 ∷ net 0 (notarize 0 1) ∷ net 1 (finalize 1 2) ∷ net 2 (finalize 2 2) ∷ own
+      (finalize 3 2) ∷ []) Finalization ≡ (2, 1)
   -- A released nullify is known to have been seen, and no more.
   pub nullified :
-      answers (four Releasing) (net 1 (nullify 1) ∷ net 2 (nullify 2) ∷ net 3 (nullify 3) ∷ construct ∷ net 1 (bad_nullify 1) ∷ net 1 (finalize 1 1) ∷ net 0 (nullify 0) ∷ [])
-      ≡ added (nullify 1) ∷ added (nullify 2) ∷ added (nullify 3) ∷ batch 3 [] (Some nullification) false ∷ refused ∷ blocked FinalizeAfterNullify ∷ added (nullify 0) ∷ []
+      answers (four Releasing) (net 1 (nullify 1) ∷ net 2 (nullify 2) ∷ net 3 (nullify 3) ∷
+      construct ∷ net 1 (bad_nullify 1) ∷ net 1 (finalize 1 1) ∷ net 0 (nullify 0) ∷ [])
+      ≡ added (nullify 1) ∷ added (nullify 2) ∷ added (nullify 3) ∷ batch 3 [] (Some nullification)
+      false ∷ refused ∷ blocked FinalizeAfterNullify ∷ added (nullify 0) ∷ []
   -- A skipped round selects by an own finalize, though it is a duplicate.
   pub skipped :
-      answers (four Skipped) (net 1 (finalize 1 1) ∷ own (finalize 1 1) ∷ missing 9 ∷ forward 2 ∷ forward 2 ∷ construct ∷ [])
-      ≡ added (finalize 1 1) ∷ own_duplicate ∷ MissingAnswer (map participant (0 ∷ 2 ∷ 3 ∷ [])) ∷ ForwardAnswer (Some (p 1)) ∷ ForwardAnswer None ∷ no_batch ∷ []
+      answers (four Skipped) (net 1 (finalize 1 1) ∷ own (finalize 1 1) ∷ missing 9 ∷ forward 2 ∷
+      forward 2 ∷ construct ∷ [])
+      ≡ added (finalize 1 1) ∷ own_duplicate ∷ MissingAnswer (map participant (0 ∷ 2 ∷ 3 ∷ [])) ∷
+      ForwardAnswer (Some (p 1)) ∷ ForwardAnswer None ∷ no_batch ∷ []
   -- A bad vote is verified once, and the good ones are used again.
   pub whole :
       answers (four Retaining) whole_round
-      ≡ leads ∷ added (notarize 0 1) ∷ added (notarize 1 1) ∷ added (bad_notarize 2 1) ∷ added (nullify 1) ∷ added (nullify 2) ∷ added (nullify 3) ∷ added (finalize 0 1)
-      ∷ batch 3 (2 ∷ []) None true ∷ batch 3 [] (Some nullification) false ∷ no_batch ∷ no_batch ∷ added (notarize 3 1) ∷ batch 1 [] (Some (notarization 1)) false ∷ []
+      ≡ leads ∷ added (notarize 0 1) ∷ added (notarize 1 1) ∷ added (bad_notarize 2 1) ∷ added
+      (nullify 1) ∷ added (nullify 2) ∷ added (nullify 3) ∷ added (finalize 0 1)
+      ∷ batch 3 (2 ∷ []) None true ∷ batch 3 [] (Some nullification) false ∷ no_batch ∷ no_batch ∷
+      added (notarize 3 1) ∷ batch 1 [] (Some (notarization 1)) false ∷ []
   -- Own notarizes that come back are pending, and are tried like others.
   pub own_notarizes_come_back :
       answers (four Retaining) own_round
-      ≡ leads ∷ own_added (notarize 0 1) ∷ own_added (notarize 1 2) ∷ own_added (notarize 2 2) ∷ own_added (notarize 3 2) ∷ own_added (finalize 1 2) ∷ batch 3 [] (Some (notarization 2)) false ∷ []
+      ≡ leads ∷ own_added (notarize 0 1) ∷ own_added (notarize 1 2) ∷ own_added (notarize 2 2) ∷
+      own_added (notarize 3 2) ∷ own_added (finalize 1 2) ∷ batch 3 [] (Some (notarization 2))
+      false ∷ []
   -- Own votes keep nullify and finalize apart.
   pub own_votes_apart :
-      answers (four Skipped) (own (finalize 2 1) ∷ own (nullify 2) ∷ net 1 (nullify 1) ∷ own (finalize 1 1) ∷ [])
-      ≡ OwnAnswer (Added false) (Some (report_of (finalize 2 1))) ∷ OwnRefused NullifyAfterFinalizeFault ∷ added (nullify 1) ∷ OwnRefused FinalizeAfterNullifyFault ∷ []
+      answers (four Skipped) (own (finalize 2 1) ∷ own (nullify 2) ∷ net 1 (nullify 1) ∷ own
+      (finalize 1 1) ∷ [])
+      ≡ OwnAnswer (Added false) (Some (report_of (finalize 2 1))) ∷ OwnRefused
+      NullifyAfterFinalizeFault ∷ added (nullify 1) ∷ OwnRefused FinalizeAfterNullifyFault ∷ []
   -- Another leader than the first is refused.
-  pub second_leader : answers (four Retaining) (lead 0 ∷ lead 0 ∷ lead 1 ∷ []) ≡ leads ∷ leads ∷ LeaderAnswer (Err LeaderChanged) ∷ []
-  -- A vote that is added, a certificate with which votes come back, a batch and a list of participants may need memory; nothing else does.
+  pub second_leader : answers (four Retaining) (lead 0 ∷ lead 0 ∷ lead 1 ∷ [])
+      ≡ leads ∷ leads ∷ LeaderAnswer (Err LeaderChanged) ∷ []
+  -- A vote that is added, a certificate with which votes come back, a batch and a list of
+  -- participants may need memory; nothing else does.
   pub memory :
-      needs (four Retaining) (net 1 (notarize 1 1) ∷ []) (net 1 (notarize 1 1) ∷ net 2 (notarize 2 1) ∷ cert (notarization 1) ∷ lead 0 ∷ construct ∷ forward 3 ∷ missing 1 ∷ [])
+      needs (four Retaining) (net 1 (notarize 1 1) ∷ [])
+      (net 1 (notarize 1 1) ∷ net 2 (notarize 2 1) ∷ cert (notarization 1) ∷ lead 0 ∷ construct
+      ∷ forward 3 ∷ missing 1 ∷ [])
       ≡ false ∷ true ∷ false ∷ false ∷ false ∷ false ∷ true ∷ []
   pub memory_for_votes_that_come_back :
-      needs (four Retaining) (lead 0 ∷ net 0 (notarize 0 1) ∷ net 1 (finalize 1 2) ∷ []) (cert (notarization 1) ∷ cert (notarization 2) ∷ own (finalize 1 1) ∷ own (finalize 2 1) ∷ [])
+      needs (four Retaining) (lead 0 ∷ net 0 (notarize 0 1) ∷ net 1 (finalize 1 2) ∷ [])
+      (cert (notarization 1) ∷ cert (notarization 2) ∷ own (finalize 1 1) ∷ own (finalize 2 1) ∷
+      [])
       ≡ false ∷ true ∷ false ∷ true ∷ []
   -- A vote whose kind is released needs none where its signer has voted before.
   pub memory_after_a_release :
       needs (four Releasing) (net 1 (nullify 1) ∷ net 2 (nullify 2) ∷ cert (notarization 1) ∷ [])
       (net 1 (notarize 1 1) ∷ net 3 (notarize 3 1) ∷ net 1 (finalize 1 1) ∷ [])
       ≡ false ∷ true ∷ false ∷ []
-  pub memory_for_a_batch : needs (round_of 1 Retaining) (own (notarize 0 1) ∷ []) (construct ∷ []) ≡ true ∷ []
+  pub memory_for_a_batch : needs (round_of 1 Retaining) (own (notarize 0 1) ∷ []) (construct ∷ [])
+      ≡ true ∷ []
   -- Votes that come back stand in the order of their signers, and an own one among the verified.
   pub votes_come_back_in_order :
-      buffers_after (four Retaining) (lead 0 ∷ net 0 (notarize 0 1) ∷ net 2 (finalize 2 2) ∷ net 1 (finalize 1 2) ∷ []) (holding Finalization (finalize 1 2 ∷ finalize 2 2 ∷ []) [] []) (own (finalize 3 2)) Finalization
+      buffers_after (four Retaining) (lead 0 ∷ net 0 (notarize 0 1) ∷ net 2 (finalize 2 2) ∷ net 1
+      (finalize 1 2) ∷ []) (holding Finalization (finalize 1 2 ∷ finalize 2 2 ∷ []) [] [])
+      (own (finalize 3 2)) Finalization
       ≡ (finalize 1 2 ∷ finalize 2 2 ∷ [], finalize 3 2 ∷ [])
-  -- A batch without a certificate leaves none pending, and the good ones verified in the order in which they were pending.
+  -- A batch without a certificate leaves none pending, and the good ones verified in the order in
+  -- which they were pending.
   pub batch_leaves_the_good_ones :
-      buffers_after (four Retaining) (net 2 (nullify 2) ∷ net 1 (bad_nullify 1) ∷ net 0 (nullify 0) ∷ []) (holding Nullification [] (nullify 2 ∷ bad_nullify 1 ∷ nullify 0 ∷ []) []) construct Nullification
+      buffers_after (four Retaining) (net 2 (nullify 2) ∷ net 1 (bad_nullify 1) ∷ net 0 (nullify 0)
+      ∷ []) (holding Nullification [] (nullify 2 ∷ bad_nullify 1 ∷ nullify 0 ∷ []) []) construct
+      Nullification
       ≡ ([], nullify 2 ∷ nullify 0 ∷ [])
-  -- A repeat gives no cause to be blocked, nor does a vote that another one sends in its name: that one gives cause.
-  pub innocent : with_cause (four Retaining) (net 1 (notarize 1 1) ∷ net 1 (notarize 1 1) ∷ net 2 (notarize 1 2) ∷ net 0 (finalize 0 1) ∷ []) ≡ 2 ∷ []
-  -- Who contradicts itself gives cause, once with votes of one kind, once with its opposite one, and once with its own vote.
+  -- A repeat gives no cause to be blocked, nor does a vote that another one sends in its name: that
+  -- one gives cause.
+  pub innocent : with_cause (four Retaining)
+      (net 1 (notarize 1 1) ∷ net 1 (notarize 1 1) ∷ net 2 (notarize 1 2) ∷ net 0 (finalize 0 1) ∷
+      []) ≡ 2 ∷ []
+  -- Who contradicts itself gives cause, once with votes of one kind, once with its opposite one,
+  -- and once with its own vote.
   pub contradictions_give_cause :
       with_cause (four Releasing)
-      (net 1 (notarize 1 1) ∷ net 1 (notarize 1 2) ∷ net 2 (finalize 2 1) ∷ net 2 (nullify 2) ∷ net 3 (nullify 3) ∷ net 3 (bad_nullify 3) ∷ own (notarize 0 1) ∷ net 0 (bad_notarize 0 1) ∷ [])
+      (net 1 (notarize 1 1) ∷ net 1 (notarize 1 2) ∷ net 2 (finalize 2 1) ∷ net 2 (nullify 2) ∷ net
+      3 (nullify 3) ∷ net 3 (bad_nullify 3) ∷ own (notarize 0 1) ∷ net 0 (bad_notarize 0 1) ∷
+      [])
       ≡ 0 ∷ 1 ∷ 2 ∷ 3 ∷ []
-  -- Votes for the selected proposal count, the bad ones among them too, but no vote does while nothing is selected.
-  pub counted : counts (four Retaining) (lead 0 ∷ net 0 (notarize 0 1) ∷ net 1 (bad_notarize 1 1) ∷ net 2 (notarize 2 2) ∷ []) Notarization ≡ (2, 1)
-  pub none_counted : counts (four Retaining) (net 0 (notarize 0 1) ∷ net 1 (notarize 1 1) ∷ []) Notarization ≡ (0, 0)
+  -- Votes for the selected proposal count, the bad ones among them too, but no vote does while
+  -- nothing is selected.
+  pub counted : counts (four Retaining)
+      (lead 0 ∷ net 0 (notarize 0 1) ∷ net 1 (bad_notarize 1 1) ∷ net 2 (notarize 2 2) ∷ [])
+      Notarization ≡ (2, 1)
+  pub none_counted : counts (four Retaining) (net 0 (notarize 0 1) ∷ net 1 (notarize 1 1) ∷ [])
+      Notarization ≡ (0, 0)
   -- It takes three constructions to come to the last kind, and a fourth gives no batch.
   pub third_construction :
       answers (one_by_one Retaining)
-      (lead 0 ∷ net 0 (notarize 0 1) ∷ net 0 (nullify 0) ∷ net 1 (finalize 1 1) ∷ net 2 (finalize 2 1) ∷ net 3 (finalize 3 1) ∷ construct ∷ construct ∷ construct ∷ construct ∷ [])
-      ≡ leads ∷ added (notarize 0 1) ∷ added (nullify 0) ∷ added (finalize 1 1) ∷ added (finalize 2 1) ∷ added (finalize 3 1)
-      ∷ batch 1 [] None false ∷ batch 1 [] None false ∷ batch 3 [] (Some (finalization 1)) false ∷ no_batch ∷ []
+      (lead 0 ∷ net 0 (notarize 0 1) ∷ net 0 (nullify 0) ∷ net 1 (finalize 1 1) ∷ net 2
+      (finalize 2 1) ∷ net 3 (finalize 3 1) ∷ construct ∷ construct ∷ construct ∷ construct ∷
+      [])
+      ≡ leads ∷ added (notarize 0 1) ∷ added (nullify 0) ∷ added (finalize 1 1) ∷ added
+      (finalize 2 1) ∷ added (finalize 3 1)
+      ∷ batch 1 [] None false ∷ batch 1 [] None false ∷ batch 3 [] (Some (finalization 1)) false ∷
+      no_batch ∷ []
   -- Each vote is processed once at most, and an own notarize once it was restored.
   pub work_of_a_round : work (four Retaining) whole_round ≡ (7, 8, 0)
   pub work_of_own_votes : work (four Retaining) own_round ≡ (3, 0, 3)
-  -- The leader's proposal is replaced once, and later evidence changes nothing; one forward call is answered a proposal.
+  -- The leader's proposal is replaced once, and later evidence changes nothing; one forward call is
+  -- answered a proposal.
   pub replaced_and_forwarded_once :
-      changes (four Retaining) (lead 0 ∷ net 0 (notarize 0 1) ∷ forward 3 ∷ net 1 (finalize 1 2) ∷ cert (notarization 2) ∷ cert (finalization 3) ∷ forward 3 ∷ forward 2 ∷ []) ≡ (1, 1)
+      changes (four Retaining) (lead 0 ∷ net 0 (notarize 0 1) ∷ forward 3 ∷ net 1 (finalize 1 2) ∷
+      cert (notarization 2) ∷ cert (finalization 3) ∷ forward 3 ∷ forward 2 ∷ []) ≡ (1, 1)
   -- A vote that a batch found bad is of no more use; those of the others stay so.
   pub usable_after_a_bad_vote :
-      usable_and_bad (four Retaining) (lead 0 ∷ net 0 (notarize 0 1) ∷ net 1 (notarize 1 1) ∷ net 2 (bad_notarize 2 1) ∷ construct ∷ net 3 (notarize 3 1) ∷ []) Notarization
+      usable_and_bad (four Retaining) (lead 0 ∷ net 0 (notarize 0 1) ∷ net 1 (notarize 1 1) ∷ net 2
+      (bad_notarize 2 1) ∷ construct ∷ net 3 (notarize 3 1) ∷ []) Notarization
       ≡ (3 ∷ 1 ∷ 0 ∷ [], 2 ∷ [])
-  -- Once their kind is released, facts tell nothing of a repeat, nor of two votes that are both for other proposals than the selected one.
+  -- Once their kind is released, facts tell nothing of a repeat, nor of two votes that are both for
+  -- other proposals than the selected one.
   pub facts_tell_nothing :
-      telling (four Releasing) (lead 0 ∷ net 0 (notarize 0 1) ∷ cert (notarization 1) ∷ []) ((bad_notarize 1 1, notarize 1 1) ∷ (notarize 1 2, notarize 1 1) ∷ (notarize 1 2, notarize 1 3) ∷ [])
+      telling (four Releasing) (lead 0 ∷ net 0 (notarize 0 1) ∷ cert (notarization 1) ∷ [])
+      ((bad_notarize 1 1, notarize 1 1) ∷ (notarize 1 2, notarize 1 1) ∷
+      (notarize 1 2, notarize 1 3) ∷ [])
       ≡ true ∷ false ∷ true ∷ []
   -- A bad repeat of a released vote is blocked by the retaining round alone, another vote by both.
   pub blocked_by_one :
       blocking (four Retaining) repeating_round ∷ blocking (four Releasing) repeating_round ∷ []
-      ≡ (false ∷ false ∷ false ∷ true ∷ true ∷ []) ∷ (false ∷ false ∷ false ∷ true ∷ false ∷ []) ∷ []
+      ≡ (false ∷ false ∷ false ∷ true ∷ true ∷ []) ∷ (false ∷ false ∷ false ∷ true ∷ false ∷ []) ∷
+      []
   -- Both lists of garbage meet what follows by definition, and what holds throughout refuses them.
   pub changed_follows : FollowsByDefinition (four Retaining) (history changed_calls changed_answers)
   pub changed_is_refused : HoldsThroughout (four Retaining) changed_calls changed_answers → ⊥

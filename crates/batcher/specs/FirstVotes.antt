@@ -20,12 +20,14 @@ module _ {D K G C : Type 0} (x : Setting D K G C) where
   -- The votes that were cast and that no earlier one of these excludes.
   abbrev pub first_votes : History D K G C → List (Vote G D)
   first_votes [] = []
-  first_votes (event ∷ past) = filter (is_free (first_votes past)) (cast_votes x event.0) ++ first_votes past
+  first_votes (event ∷ past) =
+      filter (is_free (first_votes past)) (cast_votes x event.0) ++ first_votes past
 
   -- those of them that an own call cast
   abbrev pub own_first_votes : History D K G C → List (Vote G D)
   own_first_votes [] = []
-  own_first_votes (event ∷ past) = filter (is_free (first_votes past)) (own_votes event.0) ++ own_first_votes past
+  own_first_votes (event ∷ past) =
+      filter (is_free (first_votes past)) (own_votes event.0) ++ own_first_votes past
 
   -- the first vote of a kind and index
   abbrev pub first_vote : History D K G C → Kind → ℕ → Option (Vote G D)

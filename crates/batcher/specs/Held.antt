@@ -22,19 +22,22 @@ of_kind all Finalization = all.finalize
 abbrev pub for_each : {X : Type 0} → X → PerKind X
 for_each one = record { notarize = one; nullify = one; finalize = one }
 
--- what is known of a signer whose vote was seen and isn't kept: whether one was compared with the selected proposal, and one was for it
+-- what is known of a signer whose vote was seen and isn't kept: whether one was compared with the
+-- selected proposal, and one was for it
 pub record Facts : Type 0 where
   pub signer : ℕ
   pub has_compared : Bool
   pub has_matched : Bool
 
--- What a tracker holds, in the order of the signers: of a kind that is compacted facts, of another the first votes in full.
+-- What a tracker holds, in the order of the signers: of a kind that is compacted facts, of another
+-- the first votes in full.
 pub record Tracked (G D : Type 0) : Type 0 where
   pub compacted : PerKind Bool
   pub kept : PerKind (List (Vote G D))
   pub facts : PerKind (List Facts)
 
--- What a verifier holds: the leader and the selected proposal, which kinds are certified, and two buffers of votes a kind.
+-- What a verifier holds: the leader and the selected proposal, which kinds are certified, and two
+-- buffers of votes a kind.
 pub record Buffered (G D : Type 0) : Type 0 where
   pub leader : Option Participant
   pub selection : ProposalState D
@@ -42,7 +45,8 @@ pub record Buffered (G D : Type 0) : Type 0 where
   pub pending : PerKind (List (Vote G D))
   pub verified : PerKind (List (Vote G D))
 
--- a tracker of the signers below a bound: those of whom it has an entry, ascending, and room for so many more
+-- a tracker of the signers below a bound: those of whom it has an entry, ascending, and room for so
+-- many more
 pub record Tracker (G D : Type 0) : Type 0 where
   pub participants : ℕ
   pub mode : Mode

@@ -29,10 +29,12 @@ module _ {D K G C : Type 0} where
   abbrev pub history_after : History D K G C → Call K G C D → Answer G C D → History D K G C
   history_after past call answer = cond (is_made answer) ((call, answer) ∷ past) past
 
-  abbrev pub history_from : History D K G C → List (Call K G C D) → List (Answer G C D) → History D K G C
+  abbrev pub history_from : History D K G C → List (Call K G C D) → List (Answer G C D)
+      → History D K G C
   history_from past [] answers = past
   history_from past (call ∷ calls) [] = past
-  history_from past (call ∷ calls) (answer ∷ answers) = history_from (history_after past call answer) calls answers
+  history_from past (call ∷ calls) (answer ∷ answers) =
+      history_from (history_after past call answer) calls answers
 
   -- the history of these calls and answers, which stand the oldest first
   abbrev pub history : List (Call K G C D) → List (Answer G C D) → History D K G C

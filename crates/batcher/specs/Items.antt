@@ -3,7 +3,8 @@ use Rattle.std.specs.Prelude.{ℕ, Bool, nat_eq, nat_lt, ◌&&◌, ◌==◌, is_
 use Rattle.std.specs.List.{list_any}
 use Rattle.batcher.specs.Lists.{count}
 
--- What a map shows: the bound on signers, the items in the order of their signers, and for how many more there is room.
+-- What a map shows: the bound on signers, the items in the order of their signers, and for how many
+-- more there is room.
 pub record Items (T : Type 0) : Type 0 where
   pub participants : ℕ
   pub items : List T
@@ -15,12 +16,16 @@ item_of signer items i = find (λ x. nat_eq (signer x) i) items
 
 -- whether the item's signer is below the bound and has none yet
 abbrev pub is_new : {T : Type 0} → (T → ℕ) → Items T → T → Bool
-is_new signer m item = nat_lt (signer item) m.participants && is_none (item_of signer m.items (signer item))
+is_new signer m item =
+    nat_lt (signer item) m.participants && is_none (item_of signer m.items (signer item))
 
 -- the items, with this one in the place of its signer's
 unfoldable pub replace_by : {T : Type 0} → (T → ℕ) → T → List T → List T
 replace_by signer item items = map (λ x. if nat_eq (signer x) (signer item) then item else x) items
 
--- Where a signer stands among ascending ones, or if it isn't there where it would: after as many as are lower.
+-- Where a signer stands among ascending ones, or if it isn't there where it would: after as many as
+-- are lower.
 unfoldable pub place_of : List ℕ → ℕ → Result ℕ ℕ
-place_of signers i = if list_any (λ s. s == i) signers then Ok (count (λ s. nat_lt s i) signers) else Err (count (λ s. nat_lt s i) signers)
+place_of signers i =
+    if list_any (λ s. s == i) signers then Ok (count (λ s. nat_lt s i) signers) else Err
+    (count (λ s. nat_lt s i) signers)

@@ -14,9 +14,15 @@ module _ (n : ℕ) (root : List ℕ) (subject : Subject Sha256Digest) where
   -- whether it lists a quorum of n participants in ascending order, each with its signature
   abbrev pub is_listed : List (Attestation (List ℕ)) → Bool
   is_listed certificate =
-      nat_le 1 n && (nat_le (quorum_of n) (length certificate) && (is_ascending index_of_signer certificate && list_all (is_signed n root subject) certificate))
+      nat_le 1 n && (nat_le (quorum_of n) (length certificate)
+      && (is_ascending index_of_signer certificate
+      && list_all (is_signed n root subject) certificate))
 
   -- the certificate where all pending ones attest, and the stream, which is left as it was
-  abbrev pub listed_at_once : List (Attestation (List ℕ)) → List (Attestation (List ℕ)) → Stream → Option (List (Attestation (List ℕ))) × Stream
-  listed_at_once pending verified stream =
-      (if list_all (is_signed n root subject) pending then Some (ordered_by index_of_signer (verified ++ pending)) else None, stream)
+  abbrev pub listed_at_once : List (Attestation (List ℕ)) → List (Attestation (List ℕ)) → Stream
+      → Option (List (Attestation (List ℕ))) × Stream
+  listed_at_once pending verified stream = (
+    if list_all (is_signed n root subject) pending then Some
+        (ordered_by index_of_signer (verified ++ pending)) else None,
+    stream,
+  )

@@ -11,7 +11,8 @@ use Rattle.batcher.specs.declared.votes.Mode.TheVariants.{Retaining, Releasing}
 use Rattle.batcher.specs.declared.run.Call.{Call}
 use Rattle.batcher.specs.declared.run.Call.TheVariants.{Network as NetworkCall, Missing as MissingCall}
 use Rattle.batcher.specs.declared.run.Answer.{Answer}
-use Rattle.batcher.specs.declared.run.Answer.TheVariants.{OutOfMemory, Network as NetworkAnswer, Own as OwnAnswer, OwnRefused, Certificate as CertificateAnswer, Leader as LeaderAnswer, Construct as ConstructAnswer, Forward as ForwardAnswer, Missing as MissingAnswer}
+use Rattle.batcher.specs.declared.run.Answer.TheVariants.{OutOfMemory, Network as NetworkAnswer, Own as OwnAnswer, OwnRefused, Certificate as CertificateAnswer, Leader as LeaderAnswer, Construct as ConstructAnswer}
+use Rattle.batcher.specs.declared.run.Answer.TheVariants.{Forward as ForwardAnswer, Missing as MissingAnswer}
 use Rattle.batcher.specs.Setting.{Setting, sender_in}
 use Rattle.batcher.specs.Lists.{is_some_and}
 use Rattle.batcher.specs.Votes.{kind_of, is_for, subject_of, proposal_in, same_proposal}
@@ -59,18 +60,21 @@ module _ {D K G C : Type 0} (x : Setting D K G C) where
 
   -- whether a call is of the participant and blocks it
   abbrev pub blocks_participant : ℕ → Event D K G C → Bool
-  blocks_participant i (NetworkCall sender vote, answer) = is_some_and (sender_in x sender) (λ p. p.0 == i) && blocks answer
+  blocks_participant i (NetworkCall sender vote, answer) =
+      is_some_and (sender_in x sender) (λ p. p.0 == i) && blocks answer
   blocks_participant i event = false
 
   -- whether the sender of a call was blocked before it
   abbrev pub was_blocked : History D K G C → K → Bool
-  was_blocked past sender = is_some_and (sender_in x sender) (λ p. list_any (blocks_participant p.0) past)
+  was_blocked past sender =
+      is_some_and (sender_in x sender) (λ p. list_any (blocks_participant p.0) past)
 
   -- whether two votes carry one proposal, or none, or neither is for the selected one
   abbrev pub tells_nothing : History D K G C → Vote G D → Vote G D → Bool
   tells_nothing past vote first =
       same_selected x.same_digest (proposal_in (subject_of vote)) (proposal_in (subject_of first))
-      || not (is_some_and (selected_proposal x past) (λ p. is_for x.same_digest p vote || is_for x.same_digest p first))
+      || not (is_some_and (selected_proposal x past)
+      (λ p. is_for x.same_digest p vote || is_for x.same_digest p first))
 
   -- whether a proposal is selected, and another one than this
   abbrev pub is_other_selected : History D K G C → Proposal D → Bool
@@ -84,30 +88,39 @@ AnsweredAlike (a ∷ retained) (b ∷ released) = IsAlike a b × AnsweredAlike r
 AnsweredAlike retained released = ⊥
 
 -- what holds of the events of two histories as long, and of the histories before them
-abbrev pub AtEachPlace : {D K G C : Type 0} → (Event D K G C → History D K G C → Event D K G C → History D K G C → Type 0) → History D K G C → History D K G C → Type 0
+abbrev pub AtEachPlace : {D K G C : Type 0}
+    → (Event D K G C → History D K G C → Event D K G C → History D K G C → Type 0) → History D K G C
+    → History D K G C → Type 0
 AtEachPlace holds [] [] = ⊤
-AtEachPlace holds (a ∷ retained) (b ∷ released) = holds a retained b released × AtEachPlace holds retained released
+AtEachPlace holds (a ∷ retained) (b ∷ released) =
+    holds a retained b released × AtEachPlace holds retained released
 AtEachPlace holds retained released = ⊥
 
 module _ {D K G C : Type 0} (x : Setting D K G C) where
   -- Both select the same proposal by the same source, and have the same kinds certified.
-  abbrev pub SelectsAlike : Event D K G C → History D K G C → Event D K G C → History D K G C → Type 0
+  abbrev pub SelectsAlike : Event D K G C → History D K G C → Event D K G C → History D K G C
+      → Type 0
   SelectsAlike a retained b released =
-      (selection (in_mode x Retaining) (a ∷ retained) ≡ selection (in_mode x Releasing) (b ∷ released))
+      (selection (in_mode x Retaining) (a ∷ retained)
+      ≡ selection (in_mode x Releasing) (b ∷ released))
       × ((kind : Kind) → is_certified (a ∷ retained) kind ≡ is_certified (b ∷ released) kind)
 
   -- Whom the releasing round blocks the retaining one blocks too, or has blocked before.
-  abbrev pub IsBlockedByBoth : Event D K G C → History D K G C → Event D K G C → History D K G C → Type 0
+  abbrev pub IsBlockedByBoth : Event D K G C → History D K G C → Event D K G C → History D K G C
+      → Type 0
   IsBlockedByBoth a retained (NetworkCall sender vote, answer) released =
       blocks answer ≡ true → (blocks a.1 || was_blocked x retained sender) ≡ true
   IsBlockedByBoth a retained b released = ⊤
 
-  -- Whom the retaining round blocks, and the releasing one neither then nor before, has sent a vote of a kind that is released, and
+  -- Whom the retaining round blocks, and the releasing one neither then nor before, has sent a vote
+  -- of a kind that is released, and
   -- of which facts tell nothing.
-  abbrev pub IsBlockedByOne : Event D K G C → History D K G C → Event D K G C → History D K G C → Type 0
+  abbrev pub IsBlockedByOne : Event D K G C → History D K G C → Event D K G C → History D K G C
+      → Type 0
   IsBlockedByOne (NetworkCall sender vote, answer) retained b released =
       blocks answer ≡ true → (blocks b.1 || was_blocked x released sender) ≡ false
-      → (is_released (in_mode x Releasing) released (kind_of vote) && is_some_and (first_like x released vote) (tells_nothing x released vote)) ≡ true
+      → (is_released (in_mode x Releasing) released (kind_of vote)
+      && is_some_and (first_like x released vote) (tells_nothing x released vote)) ≡ true
   IsBlockedByOne a retained b released = ⊤
 
   -- Unless another proposal is selected than the one that is asked about, whom the releasing round
@@ -133,14 +146,19 @@ module _ {G C D : Type 0} where
 
   -- so many answers and one that ends it
   abbrev pub EndsAt : ℕ → List (Answer G C D) → Type 0
-  EndsAt n answers = (length answers ≡ n + 1) × ((list_any ends_pair (take n answers) ≡ false) × (list_any ends_pair answers ≡ true))
+  EndsAt n answers =
+      (length answers ≡ n + 1) × ((list_any ends_pair (take n answers) ≡ false)
+      × (list_any ends_pair answers ≡ true))
 
-  -- A pair of so many calls stops nowhere, or at the first call that one of the rounds refuses; the retaining round goes first,
+  -- A pair of so many calls stops nowhere, or at the first call that one of the rounds refuses; the
+  -- retaining round goes first,
   -- and what it has made the releasing one refuses for memory alone.
   abbrev pub StopsAt : Option ℕ → ℕ → List (Answer G C D) → List (Answer G C D) → Type 0
   StopsAt None n retained released = GoesOn n retained × GoesOn n released
   StopsAt (Some place) n retained released =
-      (place < n) × ((EndsAt place retained × GoesOn place released) ⊎ (GoesOn (place + 1) retained × (EndsAt place released × (list_any is_own_fault released ≡ false))))
+      (place < n) × ((EndsAt place retained × GoesOn place released)
+      ⊎ (GoesOn (place + 1) retained ×
+      (EndsAt place released × (list_any is_own_fault released ≡ false))))
 
 -- those of the calls, or of their answers, that both rounds have made
 abbrev pub made_by_both : {X : Type 0} → Option ℕ → List X → List X
@@ -162,13 +180,22 @@ module _ {D K G C : Type 0} (x : Setting D K G C) where
       → list_any test (blocked_senders calls released) ≡ true
       → list_any test (blocked_senders calls retained) ≡ true
 
-  -- What a run of a pair leaves. Each round has run in its own mode, over the calls that it has made; over those that both have
-  -- made they are beside each other; and where none was refused they hold the same, but for kept votes and facts.
-  pub record IsPairRun (before : Stream) (calls : List (Call K G C D)) (stopped : Option ℕ) (retained : List (Answer G C D)) (retaining : Held G D) (after : Stream) (released : List (Answer G C D)) (releasing : Held G D) (left : Stream) : Type 0 where
-    pub retaining_run : IsRun (in_mode x Retaining) before (take (length retained) calls) retained retaining after
-    pub releasing_run : IsRun (in_mode x Releasing) before (take (length released) calls) released releasing left
+  -- What a run of a pair leaves. Each round has run in its own mode, over the calls that it has
+  -- made; over those that both have
+  -- made they are beside each other; and where none was refused they hold the same, but for kept
+  -- votes and facts.
+  pub record IsPairRun (before : Stream) (calls : List (Call K G C D)) (stopped : Option ℕ)
+      (retained : List (Answer G C D)) (retaining : Held G D) (after : Stream)
+      (released : List (Answer G C D)) (releasing : Held G D) (left : Stream) : Type 0 where
+    pub retaining_run : IsRun (in_mode x Retaining) before (take (length retained) calls) retained
+        retaining after
+    pub releasing_run : IsRun (in_mode x Releasing) before (take (length released) calls) released
+        releasing left
     pub stops : StopsAt stopped (length calls) retained released
-    pub answered_alike : AnsweredAlike (made_by_both stopped retained) (made_by_both stopped released)
-    pub beside : IsBeside x (history (made_by_both stopped calls) (made_by_both stopped retained)) (history (made_by_both stopped calls) (made_by_both stopped released))
+    pub answered_alike : AnsweredAlike (made_by_both stopped retained)
+        (made_by_both stopped released)
+    pub beside : IsBeside x (history (made_by_both stopped calls) (made_by_both stopped retained))
+        (history (made_by_both stopped calls) (made_by_both stopped released))
     pub blocks_no_more : BlocksNoMore calls retained released
-    pub held_alike : stopped ≡ None → (retaining.buffered ≡ releasing.buffered) × ((retaining.forwarded ≡ releasing.forwarded) × (after ≡ left))
+    pub held_alike : stopped ≡ None → (retaining.buffered ≡ releasing.buffered)
+        × ((retaining.forwarded ≡ releasing.forwarded) × (after ≡ left))

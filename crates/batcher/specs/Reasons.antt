@@ -1,7 +1,8 @@
 -- The texts of the reasons for a block.
 use Rattle.std.specs.Prelude.{ℕ, List, codes}
 use Rattle.batcher.specs.declared.round.BlockReason.{BlockReason}
-use Rattle.batcher.specs.declared.round.BlockReason.TheVariants.{UnknownParticipant, NotarizeSignerMismatch, NullifySignerMismatch, FinalizeSignerMismatch, ConflictingNotarize, ConflictingNullify, ConflictingFinalize, InvalidSignature, NullifyAfterFinalize, FinalizeAfterNullify}
+use Rattle.batcher.specs.declared.round.BlockReason.TheVariants.{UnknownParticipant, NotarizeSignerMismatch, NullifySignerMismatch, FinalizeSignerMismatch, ConflictingNotarize, ConflictingNullify, ConflictingFinalize, InvalidSignature}
+use Rattle.batcher.specs.declared.round.BlockReason.TheVariants.{NullifyAfterFinalize, FinalizeAfterNullify}
 
 abbrev pub text_of : BlockReason → List ℕ
 text_of UnknownParticipant = codes "unknown participant"

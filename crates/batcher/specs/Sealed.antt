@@ -13,6 +13,10 @@ module _ (n : ℕ) (root : List ℕ) (subject : Subject Sha256Digest) where
   is_sealed certificate = nat_le 1 n && same_bytes certificate (seal_of root subject)
 
   -- the seal where a quorum attests, and the stream, which is left as it was
-  abbrev pub sealed_at_once : List (Attestation (List ℕ)) → List (Attestation (List ℕ)) → Stream → Option (List ℕ) × Stream
-  sealed_at_once pending verified stream =
-      (if nat_le (quorum_of n) (length verified + length (filter (is_signed n root subject) pending)) then Some (seal_of root subject) else None, stream)
+  abbrev pub sealed_at_once : List (Attestation (List ℕ)) → List (Attestation (List ℕ)) → Stream
+      → Option (List ℕ) × Stream
+  sealed_at_once pending verified stream = (
+    if nat_le (quorum_of n) (length verified + length
+        (filter (is_signed n root subject) pending)) then Some (seal_of root subject) else None,
+    stream,
+  )

@@ -11,7 +11,8 @@ module _ {D : Type 0} where
   proposal_of (LeadersProposal proposal) = Some proposal
   proposal_of (FixedProposal proposal) = Some proposal
 
-  -- Where none is selected either source is taken, and a fixed proposal in the place of the leader's. Nothing else changes it.
+  -- Where none is selected either source is taken, and a fixed proposal in the place of the
+  -- leader's. Nothing else changes it.
   abbrev pub updated : ProposalState D → ProposalState D → ProposalState D
   updated Unknown next = next
   updated (LeadersProposal earlier) (FixedProposal proposal) = FixedProposal proposal

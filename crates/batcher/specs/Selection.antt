@@ -49,7 +49,9 @@ module _ {D K G C : Type 0} where
 
   -- whether a certificate of the kind was recorded or given
   abbrev pub is_certified : History D K G C → Kind → Bool
-  is_certified past kind = list_any (λ event. is_some_and (certificate_of event) (λ c. is_kind (kind_certified c) kind)) past
+  is_certified past kind =
+      list_any (λ event. is_some_and (certificate_of event) (λ c. is_kind (kind_certified c) kind))
+      past
 
   -- an own finalize fixes its proposal
   abbrev pub finalized_by : Call K G C D → Option (Proposal D)
@@ -59,7 +61,8 @@ module _ {D K G C : Type 0} where
   -- Evidence that fixes a proposal: an own finalize, or a certificate with a proposal.
   abbrev pub fixing_evidence : Event D K G C → Option (Proposal D)
   fixing_evidence event =
-      option_or (finalized_by event.0) (option_and_then (λ c. proposal_in (subject_certified c)) (certificate_of event))
+      option_or (finalized_by event.0) (option_and_then (λ c. proposal_in (subject_certified c))
+      (certificate_of event))
 
   -- the proposal of the first fixing evidence
   abbrev pub fixed_proposal : History D K G C → Option (Proposal D)
@@ -88,12 +91,14 @@ module _ {D K G C : Type 0} (x : Setting D K G C) where
   -- the proposal that takes the place of the leader's at an event
   abbrev pub replacement : History D K G C → Event D K G C → Option (Proposal D)
   replacement past event =
-      option_and_then (λ p. cond (replaces x.same_digest (selection past) p) (Some p) None) (fixing_evidence event)
+      option_and_then (λ p. cond (replaces x.same_digest (selection past) p) (Some p) None)
+      (fixing_evidence event)
 
   -- The first votes for it come back, of the kinds that aren't certified by then.
   abbrev pub comes_back : History D K G C → Event D K G C → Vote G D → Bool
   comes_back past event vote =
-      is_some_and (replacement past event) (λ p. is_for x.same_digest p vote) && not (is_certified (event ∷ past) (kind_of vote))
+      is_some_and (replacement past event) (λ p. is_for x.same_digest p vote)
+      && not (is_certified (event ∷ past) (kind_of vote))
 
   abbrev pub votes_restored_by : History D K G C → Event D K G C → List (Vote G D)
   votes_restored_by past event = filter (comes_back past event) (first_votes x past)

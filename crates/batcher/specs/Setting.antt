@@ -1,4 +1,5 @@
--- What a round is judged by: its scheme, which keys, signatures and digests are the same, its number, and how it keeps votes.
+-- What a round is judged by: its scheme, which keys, signatures and digests are the same, its
+-- number, and how it keeps votes.
 use Rattle.std.specs.Prelude.{ℕ, Bool, Option, length}
 use Rattle.std.specs.declared.cmp.Ordering.{Ordering}
 use Rattle.batcher.specs.declared.positions.Round.{Round}
@@ -29,7 +30,8 @@ module _ {D K G C : Type 0} (x : Setting D K G C) where
   abbrev pub sender_in : K → Option Participant
   sender_in key = index_of x.compare_keys x.meaning.participants key
 
-abbrev pub setting : {D K G C : Type 0} → Meaning D K G C → (K → K → Ordering) → (G → G → Bool) → (D → D → Bool) → Round → Mode → Setting D K G C
+abbrev pub setting : {D K G C : Type 0} → Meaning D K G C → (K → K → Ordering) → (G → G → Bool)
+    → (D → D → Bool) → Round → Mode → Setting D K G C
 setting meaning compare_keys same_signature same_digest number mode =
     record {
       meaning = meaning;

@@ -23,9 +23,11 @@ module _ {D : Type 0} (same : D → D → Bool) where
   is_about (Some wanted) subject = same_subject same wanted subject
 
 module _ {G D : Type 0} (same : D → D → Bool) (number : Round) where
-  -- Whether the vote may stand in the buffers of a kind: it is of the kind, and about its subject where that is known.
+  -- Whether the vote may stand in the buffers of a kind: it is of the kind, and about its subject
+  -- where that is known.
   abbrev pub may_stand : Option (Proposal D) → Kind → Vote G D → Bool
-  may_stand proposal kind vote = is_of_kind kind vote && is_about same (subject_from kind number proposal) (subject_of vote)
+  may_stand proposal kind vote =
+      is_of_kind kind vote && is_about same (subject_from kind number proposal) (subject_of vote)
 
 module _ {D K G C : Type 0} (m : Meaning D K G C) (same : D → D → Bool) (number : Round) where
   abbrev pub attests_itself : Vote G D → Bool
@@ -33,8 +35,10 @@ module _ {D K G C : Type 0} (m : Meaning D K G C) (same : D → D → Bool) (num
 
   -- The buffers of one kind.
   pub record IsSoundKind (held : Buffered G D) (kind : Kind) : Type 0 where
-    pub pending : AllPass (may_stand same number (proposal_of held.selection) kind) (of_kind held.pending kind)
-    pub verified : AllPass (may_stand same number (proposal_of held.selection) kind) (of_kind held.verified kind)
+    pub pending : AllPass (may_stand same number (proposal_of held.selection) kind)
+        (of_kind held.pending kind)
+    pub verified : AllPass (may_stand same number (proposal_of held.selection) kind)
+        (of_kind held.verified kind)
     pub attested : AllPass attests_itself (of_kind held.verified kind)
     pub once : EachOnce signer_of (of_kind held.verified kind ++ of_kind held.pending kind)
     pub none_pending : of_kind held.certified kind ≡ true → of_kind held.pending kind ≡ []
@@ -46,40 +50,54 @@ module _ {D K G C : Type 0} (m : Meaning D K G C) (same : D → D → Bool) (num
     pub enough : quorum_of (length m.participants) ≤ q
     pub kinds : (kind : Kind) → IsSoundKind held kind
 
--- What the code needs to know of the buffers of one kind: each vote waits with the selected proposal, and those of a certified kind are gone.
-pub record IsTidy {G D : Type 0} (same : D → D → Bool) (held : Buffered G D) (kind : Kind) : Type 0 where
-  pub pending : AllPass (waits same (proposal_of held.selection)) (of_kind held.pending kind)
-  pub verified : AllPass (waits same (proposal_of held.selection)) (of_kind held.verified kind)
-  pub none_pending : of_kind held.certified kind ≡ true → of_kind held.pending kind ≡ []
-  pub none_verified : of_kind held.certified kind ≡ true → of_kind held.verified kind ≡ []
+-- What the code needs to know of the buffers of one kind: each vote waits with the selected
+-- proposal, and those of a certified kind are gone.
+pub record IsTidy {G D : Type 0} (same : D → D → Bool) (held : Buffered G D) (kind : Kind) : Type 0
+  where
+    pub pending : AllPass (waits same (proposal_of held.selection)) (of_kind held.pending kind)
+    pub verified : AllPass (waits same (proposal_of held.selection)) (of_kind held.verified kind)
+    pub none_pending : of_kind held.certified kind ≡ true → of_kind held.pending kind ≡ []
+    pub none_verified : of_kind held.certified kind ≡ true → of_kind held.verified kind ≡ []
 
 -- The votes of each kind that do not wait with the proposal go, and nothing else changes.
-pub record RetainsKind {G D : Type 0} (same : D → D → Bool) (old : Buffered G D) (proposal : Proposal D) (new : Buffered G D) (kind : Kind) : Type 0 where
+pub record RetainsKind {G D : Type 0} (same : D → D → Bool) (old : Buffered G D)
+    (proposal : Proposal D) (new : Buffered G D) (kind : Kind) : Type 0 where
   pub certified : of_kind new.certified kind ≡ of_kind old.certified kind
-  pub pending : of_kind new.pending kind ≡ filter (waits same (Some proposal)) (of_kind old.pending kind)
-  pub verified : of_kind new.verified kind ≡ filter (waits same (Some proposal)) (of_kind old.verified kind)
+  pub pending : of_kind new.pending kind
+      ≡ filter (waits same (Some proposal)) (of_kind old.pending kind)
+  pub verified : of_kind new.verified kind
+      ≡ filter (waits same (Some proposal)) (of_kind old.verified kind)
 
-pub record Retains {G D : Type 0} (same : D → D → Bool) (old : Buffered G D) (proposal : Proposal D) (new : Buffered G D) : Type 0 where
+pub record Retains {G D : Type 0} (same : D → D → Bool) (old : Buffered G D) (proposal : Proposal D)
+    (new : Buffered G D) : Type 0 where
   pub leader : new.leader ≡ old.leader
   pub selection : new.selection ≡ old.selection
   pub kinds : (kind : Kind) → RetainsKind same old proposal new kind
 
--- Votes of a kind join its pending ones, where they wait with the proposal and the kind isn't certified. Nothing else changes.
-pub record Restores {G D : Type 0} (same : D → D → Bool) (old : Buffered G D) (restored : Kind) (proposal : Proposal D) (votes : List (Vote G D)) (new : Buffered G D) : Type 0 where
+-- Votes of a kind join its pending ones, where they wait with the proposal and the kind isn't
+-- certified. Nothing else changes.
+pub record Restores {G D : Type 0} (same : D → D → Bool) (old : Buffered G D) (restored : Kind)
+    (proposal : Proposal D) (votes : List (Vote G D)) (new : Buffered G D) : Type 0 where
   pub leader : new.leader ≡ old.leader
   pub selection : new.selection ≡ old.selection
   pub others : (kind : Kind) → is_kind restored kind ≡ false → SameBuffered old new kind
   pub certified : of_kind new.certified restored ≡ of_kind old.certified restored
-  pub pending : of_kind new.pending restored ≡ of_kind old.pending restored ++ cond (of_kind old.certified restored) [] (filter (waits same (Some proposal)) votes)
+  pub pending : of_kind new.pending restored ≡ of_kind old.pending restored
+      ++ cond (of_kind old.certified restored) [] (filter (waits same (Some proposal)) votes)
   pub verified : of_kind new.verified restored ≡ of_kind old.verified restored
 
 -- Where the kind isn't certified, there is room for those of the votes that wait with the proposal.
-abbrev pub HasRoomFor : {G D : Type 0} → (D → D → Bool) → PerKind Bool → PerKind (List (Vote G D)) → Proposal D → PerKind ℕ → Kind → Type 0
-HasRoomFor same certified kept p room kind = of_kind certified kind ≡ false → length (filter (waits same (Some p)) (of_kind kept kind)) ≤ of_kind room kind
+abbrev pub HasRoomFor : {G D : Type 0} → (D → D → Bool) → PerKind Bool → PerKind (List (Vote G D))
+    → Proposal D → PerKind ℕ → Kind → Type 0
+HasRoomFor same certified kept p room kind =
+    of_kind certified kind ≡ false → length (filter (waits same (Some p)) (of_kind kept kind))
+    ≤ of_kind room kind
 
 -- the room stays, but that of the pending votes of a kind
-pub record RestoresRoom (restored : Kind) (old_pending old_verified new_pending new_verified : PerKind ℕ) : Type 0 where
-  pub pending : (kind : Kind) → is_kind restored kind ≡ false → of_kind old_pending kind ≤ of_kind new_pending kind
+pub record RestoresRoom (restored : Kind)
+    (old_pending old_verified new_pending new_verified : PerKind ℕ) : Type 0 where
+  pub pending : (kind : Kind) → is_kind restored kind ≡ false → of_kind old_pending kind
+      ≤ of_kind new_pending kind
   pub verified : (kind : Kind) → of_kind old_verified kind ≤ of_kind new_verified kind
 
 -- whether there is at least the room that there was, in each buffer
@@ -88,24 +106,30 @@ pub record KeepsRoom (old_pending old_verified new_pending new_verified : PerKin
   pub verified : (kind : Kind) → of_kind old_verified kind ≤ of_kind new_verified kind
 
 -- The vote joins the end of one buffer of its kind, and nothing else changes.
-pub record PlacesKind {G D : Type 0} (old : Buffered G D) (vote : Vote G D) (is_verified : Bool) (new : Buffered G D) (kind : Kind) : Type 0 where
+pub record PlacesKind {G D : Type 0} (old : Buffered G D) (vote : Vote G D) (is_verified : Bool)
+    (new : Buffered G D) (kind : Kind) : Type 0 where
   pub certified : of_kind new.certified kind ≡ of_kind old.certified kind
-  pub pending : of_kind new.pending kind ≡ of_kind old.pending kind ++ cond (is_of_kind kind vote && not is_verified) (vote ∷ []) []
-  pub verified : of_kind new.verified kind ≡ of_kind old.verified kind ++ cond (is_of_kind kind vote && is_verified) (vote ∷ []) []
+  pub pending : of_kind new.pending kind ≡ of_kind old.pending kind
+      ++ cond (is_of_kind kind vote && not is_verified) (vote ∷ []) []
+  pub verified : of_kind new.verified kind ≡ of_kind old.verified kind
+      ++ cond (is_of_kind kind vote && is_verified) (vote ∷ []) []
 
-pub record Places {G D : Type 0} (old : Buffered G D) (vote : Vote G D) (is_verified : Bool) (new : Buffered G D) : Type 0 where
+pub record Places {G D : Type 0} (old : Buffered G D) (vote : Vote G D) (is_verified : Bool)
+    (new : Buffered G D) : Type 0 where
   pub leader : new.leader ≡ old.leader
   pub selection : new.selection ≡ old.selection
   pub kinds : (kind : Kind) → PlacesKind old vote is_verified new kind
 
 -- An attempt gave no certificate: what it verified joins the verified votes, and none is pending.
-pub record Absorbs {G D : Type 0} (old : Buffered G D) (kind : Kind) (subject : Subject D) (joining : List (Attestation G)) (new : Buffered G D) : Type 0 where
+pub record Absorbs {G D : Type 0} (old : Buffered G D) (kind : Kind) (subject : Subject D)
+    (joining : List (Attestation G)) (new : Buffered G D) : Type 0 where
   pub leader : new.leader ≡ old.leader
   pub selection : new.selection ≡ old.selection
   pub others : (other : Kind) → is_kind kind other ≡ false → SameBuffered old new other
   pub certified : of_kind new.certified kind ≡ of_kind old.certified kind
   pub pending : of_kind new.pending kind ≡ []
-  pub verified : of_kind new.verified kind ≡ of_kind old.verified kind ++ map (vote_for subject) joining
+  pub verified : of_kind new.verified kind ≡ of_kind old.verified kind
+      ++ map (vote_for subject) joining
 
 -- the same of two verifiers
 abbrev pub KeepsAllRoom : {S G D : Type 0} → Verifying S G D → Verifying S G D → Type 0

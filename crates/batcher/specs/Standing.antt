@@ -1,4 +1,5 @@
--- The votes that can still make a certificate: counted, standing, proven and fresh ones, and which kind is ready.
+-- The votes that can still make a certificate: counted, standing, proven and fresh ones, and which
+-- kind is ready.
 use Rattle.std.specs.Prelude.{ℕ, Bool, not, cond, ◌&&◌, ◌||◌, ◌==◌, List, [], ◌∷◌, Option, Some, None, filter, map}
 use Rattle.std.specs.List.{list_any}
 use Rattle.std.specs.Option.{option_map_or}
@@ -17,7 +18,8 @@ use Rattle.batcher.specs.History.{History, batch_given}
 use Rattle.batcher.specs.FirstVotes.{first_votes, own_first_votes}
 use Rattle.batcher.specs.Selection.{selected_proposal, is_certified, restored_votes}
 
--- what a batch has tried: its kind, the signers whose votes were standing, and those that it found invalid
+-- what a batch has tried: its kind, the signers whose votes were standing, and those that it found
+-- invalid
 pub record Trial : Type 0 where
   pub kind : Kind
   pub stood : List ℕ
@@ -29,11 +31,13 @@ is_among i signers = list_any (λ j. j == i) signers
 module _ {G D : Type 0} where
   -- whether the vote was standing at a batch of its kind
   abbrev pub stood_before : List Trial → Vote G D → Bool
-  stood_before trials vote = list_any (λ t. is_kind t.kind (kind_of vote) && is_among (signer_of vote) t.stood) trials
+  stood_before trials vote =
+      list_any (λ t. is_kind t.kind (kind_of vote) && is_among (signer_of vote) t.stood) trials
 
   -- whether a batch of its kind found its signer invalid
   abbrev pub was_invalid : List Trial → Vote G D → Bool
-  was_invalid trials vote = list_any (λ t. is_kind t.kind (kind_of vote) && is_among (signer_of vote) t.invalid) trials
+  was_invalid trials vote =
+      list_any (λ t. is_kind t.kind (kind_of vote) && is_among (signer_of vote) t.invalid) trials
 
   -- whether one of the votes is of its kind and signer
   abbrev pub holds_vote : List (Vote G D) → Vote G D → Bool
@@ -44,14 +48,17 @@ module _ {D K G C : Type 0} (x : Setting D K G C) where
   abbrev pub is_valid : Vote G D → Bool
   is_valid vote = x.meaning.attests (subject_of vote) (attestation_of vote)
 
-  -- The votes of a kind that count towards its certificate: those for the selected proposal, and all nullifies.
+  -- The votes of a kind that count towards its certificate: those for the selected proposal, and
+  -- all nullifies.
   abbrev pub is_counted : Option (Proposal D) → Vote G D → Bool
-  is_counted proposal vote = not (has_proposals (kind_of vote)) || is_some_and proposal (λ p. is_for x.same_digest p vote)
+  is_counted proposal vote =
+      not (has_proposals (kind_of vote)) || is_some_and proposal (λ p. is_for x.same_digest p vote)
 
   abbrev pub counted_votes : History D K G C → Kind → List (Vote G D)
   counted_votes past kind =
       cond (is_skipped x.mode) []
-      (filter (λ v. is_of_kind kind v && is_counted (selected_proposal x past) v) (first_votes x past))
+      (filter (λ v. is_of_kind kind v && is_counted (selected_proposal x past) v)
+      (first_votes x past))
 
   -- the counted votes that attest
   abbrev pub valid_votes : History D K G C → Kind → List (Vote G D)
@@ -60,7 +67,8 @@ module _ {D K G C : Type 0} (x : Setting D K G C) where
   -- those of the votes of a kind that wait for its certificate
   abbrev pub waiting_votes : History D K G C → Kind → List (Vote G D) → List (Vote G D)
   waiting_votes past kind votes =
-      cond (is_certified past kind || is_skipped x.mode) [] (filter (waits x.same_digest (selected_proposal x past)) votes)
+      cond (is_certified past kind || is_skipped x.mode) []
+      (filter (waits x.same_digest (selected_proposal x past)) votes)
 
   -- the first votes that do
   abbrev pub standing_votes : History D K G C → Kind → List (Vote G D)
@@ -68,22 +76,27 @@ module _ {D K G C : Type 0} (x : Setting D K G C) where
 
   -- An own vote is trusted to attest, unless a replacement has restored it.
   abbrev pub is_trusted : History D K G C → Vote G D → Bool
-  is_trusted past vote = holds_vote (own_first_votes x past) vote && not (holds_vote (restored_votes x past) vote)
+  is_trusted past vote =
+      holds_vote (own_first_votes x past) vote && not (holds_vote (restored_votes x past) vote)
 
-  -- By the trials so far, the proven votes: standing ones that are trusted or stood before, less those found invalid;
+  -- By the trials so far, the proven votes: standing ones that are trusted or stood before, less
+  -- those found invalid;
   abbrev pub proven_by : List Trial → History D K G C → Kind → List (Vote G D)
   proven_by trials past kind =
-      filter (λ v. (is_trusted past v || stood_before trials v) && not (was_invalid trials v)) (standing_votes past kind)
+      filter (λ v. (is_trusted past v || stood_before trials v) && not (was_invalid trials v))
+      (standing_votes past kind)
 
   -- the fresh votes: standing ones that neither are trusted nor stood before;
   abbrev pub fresh_by : List Trial → History D K G C → Kind → List (Vote G D)
-  fresh_by trials past kind = filter (λ v. not (is_trusted past v || stood_before trials v)) (standing_votes past kind)
+  fresh_by trials past kind =
+      filter (λ v. not (is_trusted past v || stood_before trials v)) (standing_votes past kind)
 
   -- whether a kind is ready;
   abbrev pub is_ready_by : List Trial → History D K G C → Kind → Bool
   is_ready_by trials past kind =
       not (is_certified past kind)
-      && is_enough x.same_digest x.meaning.batchable (quorum_in x) kind (selected_proposal x past) (proven_by trials past kind) (fresh_by trials past kind)
+      && is_enough x.same_digest x.meaning.batchable (quorum_in x) kind (selected_proposal x past)
+      (proven_by trials past kind) (fresh_by trials past kind)
 
   -- and the first that is.
   abbrev pub ready_kind_by : List Trial → History D K G C → Option Kind
@@ -94,14 +107,21 @@ module _ {D K G C : Type 0} (x : Setting D K G C) where
 
   abbrev pub trial_of : History D K G C → Kind → Batch (Certificate C D) → Trial
   trial_of past kind batch =
-      record { kind = kind; stood = map signer_of (standing_votes past kind); invalid = map (λ i. i.0) batch.invalid }
+      record {
+        kind = kind;
+        stood = map signer_of (standing_votes past kind);
+        invalid = map
+            (λ i. i.0) batch.invalid;
+      }
 
-  abbrev pub with_batch : History D K G C → List Trial → Option (Batch (Certificate C D)) → List Trial
+  abbrev pub with_batch : History D K G C → List Trial → Option (Batch (Certificate C D))
+      → List Trial
   with_batch past trials None = trials
   with_batch past trials (Some batch) =
       option_map_or (λ kind. trial_of past kind batch ∷ trials) (ready_kind_by trials past) trials
 
-  -- The trials of a history, the newest first. A batch is of the kind that was the first ready one before it.
+  -- The trials of a history, the newest first. A batch is of the kind that was the first ready one
+  -- before it.
   abbrev pub trials : History D K G C → List Trial
   trials [] = []
   trials (event ∷ past) = with_batch past (trials past) (batch_given event.1)

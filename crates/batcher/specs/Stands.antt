@@ -23,15 +23,21 @@ module _ {D K G C : Type 0} (x : Setting D K G C) where
 
   abbrev pub facts_of : History D K G C → Kind → ℕ → Facts
   facts_of past kind i =
-      record { signer = i; has_compared = not (is_empty (compared_votes_of x past kind i)); has_matched = is_matched x past kind i }
+      record {
+        signer = i;
+        has_compared = not (is_empty (compared_votes_of x past kind i));
+        has_matched = is_matched x past kind i;
+      }
 
   pub record StandsForKind (past : History D K G C) (held : Held G D) (kind : Kind) : Type 0 where
     pub certified_is : of_kind held.buffered.certified kind ≡ is_certified past kind
     pub compacted_is : of_kind held.tracked.compacted kind ≡ is_released x past kind
-    pub kept_are : of_kind held.tracked.kept kind ≡ cond (is_released x past kind) [] (first_by_signer past kind)
+    pub kept_are : of_kind held.tracked.kept kind
+        ≡ cond (is_released x past kind) [] (first_by_signer past kind)
     pub facts_are :
         of_kind held.tracked.facts kind
-        ≡ cond (is_released x past kind) (map (λ v. facts_of past kind (signer_of v)) (first_by_signer past kind)) []
+        ≡ cond (is_released x past kind)
+        (map (λ v. facts_of past kind (signer_of v)) (first_by_signer past kind)) []
     pub pending_are : SameElements (of_kind held.buffered.pending kind) (fresh_votes x past kind)
     pub verified_are : SameElements (of_kind held.buffered.verified kind) (proven_votes x past kind)
 
@@ -49,33 +55,43 @@ module _ {D K G C : Type 0} (x : Setting D K G C) where
 
   -- whether an answer gives a batch of the kind
   abbrev pub tries_kind : History D K G C → Answer G C D → Kind → Bool
-  tries_kind past answer kind = is_some (batch_given answer) && is_some_and (ready_kind x past) (λ k. is_kind k kind)
+  tries_kind past answer kind =
+      is_some (batch_given answer) && is_some_and (ready_kind x past) (λ k. is_kind k kind)
 
-  -- The buffers of a kind after a call, in order. A batch leaves none of its votes pending, and the good ones verified.
-  -- Restored votes and then an added one come last, an own one among the verified. What no longer waits is dropped.
+  -- The buffers of a kind after a call, in order. A batch leaves none of its votes pending, and the
+  -- good ones verified.
+  -- Restored votes and then an added one come last, an own one among the verified. What no longer
+  -- waits is dropped.
   abbrev pub pending_after : History D K G C → Held G D → Event D K G C → Kind → List (Vote G D)
   pending_after past old event kind =
       let left = cond (tries_kind past event.1 kind) [] (of_kind old.buffered.pending kind) in
       let restored = filter (comes_back x past event) (of_kind old.tracked.kept kind) in
-      waiting_votes x (event ∷ past) kind (left ++ restored ++ arrivals past kind (sent_votes x event.0))
+      waiting_votes x (event ∷ past) kind
+      (left ++ restored ++ arrivals past kind (sent_votes x event.0))
 
   abbrev pub verified_after : History D K G C → Held G D → Event D K G C → Kind → List (Vote G D)
   verified_after past old event kind =
       let verified = of_kind old.buffered.verified kind in
-      let left = cond (tries_kind past event.1 kind) (left_verified x verified (of_kind old.buffered.pending kind)) verified in
+      let left = cond (tries_kind past event.1 kind)
+      (left_verified x verified (of_kind old.buffered.pending kind)) verified in
       waiting_votes x (event ∷ past) kind (left ++ arrivals past kind (own_votes event.0))
 
   -- a batch is an attempt at the first ready kind, with its buffers
   abbrev pub TriesBuffers : History D K G C → Held G D → Event D K G C → Type 0
   TriesBuffers past old event =
       IfSome (batch_given event.1) (λ batch.
-      (kind : Kind) × ((ready_kind x past ≡ Some kind) × Attempt x (of_kind old.buffered.verified kind) (of_kind old.buffered.pending kind) batch))
+      (kind : Kind) × ((ready_kind x past ≡ Some kind)
+      × Attempt x (of_kind old.buffered.verified kind) (of_kind old.buffered.pending kind)
+      batch))
 
   -- A made call leaves a round that stands, with its buffers in order.
-  pub record Follows (past : History D K G C) (old : Held G D) (event : Event D K G C) (new : Held G D) : Type 0 where
+  pub record Follows (past : History D K G C) (old : Held G D) (event : Event D K G C)
+      (new : Held G D) : Type 0 where
     pub stands : Stands (event ∷ past) new
-    pub pending_are : (kind : Kind) → of_kind new.buffered.pending kind ≡ pending_after past old event kind
-    pub verified_are : (kind : Kind) → of_kind new.buffered.verified kind ≡ verified_after past old event kind
+    pub pending_are : (kind : Kind) → of_kind new.buffered.pending kind
+        ≡ pending_after past old event kind
+    pub verified_are : (kind : Kind) → of_kind new.buffered.verified kind
+        ≡ verified_after past old event kind
     pub attempt : TriesBuffers past old event
 
   -- Each call meets the model: a made one is followed, and one that is refused changes nothing.

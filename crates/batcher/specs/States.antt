@@ -9,7 +9,13 @@ use Rattle.batcher.specs.Held.{PerKind, Buffered}
 module _ {G D : Type 0} where
   -- what the votes of each kind are, in three fields
   abbrev pub per_kind : {X : Type 0} → (Certification G D → X) → State G D → PerKind X
-  per_kind f state = record { notarize = f state.notarizes; nullify = f state.nullifies; finalize = f state.finalizes }
+  per_kind f state =
+      record {
+        notarize = f state.notarizes;
+        nullify = f state.nullifies;
+        finalize = f
+            state.finalizes;
+      }
 
   abbrev pub certification_of : State G D → Kind → Certification G D
   certification_of state Notarization = state.notarizes

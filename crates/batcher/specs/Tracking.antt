@@ -55,12 +55,15 @@ module _ {G D : Type 0} where
   known_facts held kind i = find (λ f. f.signer == i) (of_kind held.facts kind)
 
   abbrev pub observed : Tracked G D → Kind → ℕ → Observed G D
-  observed held kind i = cond (of_kind held.compacted kind) (from_facts (known_facts held kind i)) (from_kept (kept_vote held kind i))
+  observed held kind i =
+      cond (of_kind held.compacted kind) (from_facts (known_facts held kind i))
+      (from_kept (kept_vote held kind i))
 
   -- whether any vote of the signer was seen
   abbrev pub is_known : Tracked G D → ℕ → Bool
   is_known held i =
-      is_seen (observed held Notarization i) || (is_seen (observed held Nullification i) || is_seen (observed held Finalization i))
+      is_seen (observed held Notarization i)
+      || (is_seen (observed held Nullification i) || is_seen (observed held Finalization i))
 
   -- what is known of the other of nullify and finalize
   abbrev pub observed_opposite : Tracked G D → Vote G D → Observed G D
@@ -68,7 +71,8 @@ module _ {G D : Type 0} where
   observed_opposite held (NullifyVote vote) = observed held Finalization vote.attestation.signer.0
   observed_opposite held (FinalizeVote vote) = observed held Nullification vote.attestation.signer.0
 
-  -- what a tracker shows of a signer's votes of a kind: none was seen, or one is kept, or one isn't kept
+  -- what a tracker shows of a signer's votes of a kind: none was seen, or one is kept, or one isn't
+  -- kept
   abbrev pub shown : Observed G D → Option (ObservedVote (Vote G D))
   shown unseen = None
   shown (in_full vote) = Some (Retained vote)
@@ -76,7 +80,8 @@ module _ {G D : Type 0} where
 
   -- what a tracker holds at first
   abbrev pub nothing_tracked : Mode → Tracked G D
-  nothing_tracked mode = record { compacted = for_each (is_skipped mode); kept = for_each []; facts = for_each [] }
+  nothing_tracked mode =
+      record { compacted = for_each (is_skipped mode); kept = for_each []; facts = for_each [] }
 
   -- a kind of which nothing changes
   pub record SameTracked (old new : Tracked G D) (kind : Kind) : Type 0 where
@@ -87,7 +92,8 @@ module _ {G D : Type 0} where
 -- The votes of a kind that are kept are of that kind, and no signer has two.
 pub record KeepsEach {G D : Type 0} (held : Tracked G D) (kind : Kind) : Type 0 where
   pub kinds : AllPass (is_of_kind kind) (of_kind held.kept kind)
-  pub once : (i : ℕ) → count (λ v. signer_of v == i) (of_kind held.kept kind) ≤ cond (is_some (kept_vote held kind i)) 1 0
+  pub once : (i : ℕ) → count (λ v. signer_of v == i) (of_kind held.kept kind)
+      ≤ cond (is_some (kept_vote held kind i)) 1 0
 
 abbrev pub no_facts : ℕ → Facts
 no_facts i = record { signer = i; has_compared = false; has_matched = false }
@@ -98,33 +104,45 @@ observed_map f (Retained vote) = Retained (f vote)
 observed_map f Compacted = Compacted
 
 module _ {G D : Type 0} (same : D → D → Bool) where
-  -- whether a signer is known to have voted for the proposal. Of votes that aren't kept only the selected proposal is known, whatever this one is.
+  -- whether a signer is known to have voted for the proposal. Of votes that aren't kept only the
+  -- selected proposal is known, whatever this one is.
   abbrev pub is_seen_for : Proposal D → Observed G D → Bool
   is_seen_for p unseen = false
   is_seen_for p (in_full vote) = is_for same p vote
   is_seen_for p (as_facts facts) = facts.has_matched
 
-  -- whether the vote and an earlier one of its signer, of which facts are known, differ in being for the selected proposal
+  -- whether the vote and an earlier one of its signer, of which facts are known, differ in being
+  -- for the selected proposal
   abbrev pub conflicts_with : Option (Proposal D) → Vote G D → Facts → Bool
-  conflicts_with selected vote facts = facts.has_compared && is_some_and selected (λ p. exactly_one (is_for same p vote) facts.has_matched)
+  conflicts_with selected vote facts =
+      facts.has_compared && is_some_and selected
+      (λ p. exactly_one (is_for same p vote) facts.has_matched)
 
   abbrev pub outcome_by : Option (Proposal D) → Bool → Observed G D → Vote G D → Outcome
   outcome_by selected compacted unseen vote = Added (not compacted)
   outcome_by selected compacted (in_full kept) vote = Duplicate true
-  outcome_by selected compacted (as_facts facts) vote = cond (conflicts_with selected vote facts) Conflicting (Duplicate false)
+  outcome_by selected compacted (as_facts facts) vote =
+      cond (conflicts_with selected vote facts) Conflicting (Duplicate false)
 
   -- what comes of recording a vote among the signers below a bound, with this proposal selected
   abbrev pub outcome_of : ℕ → Tracked G D → Option (Proposal D) → Vote G D → Outcome
   outcome_of participants held selected vote =
       cond (nat_lt (signer_of vote) participants)
-      (outcome_by selected (of_kind held.compacted (kind_of vote)) (observed held (kind_of vote) (signer_of vote)) vote)
+      (outcome_by selected (of_kind held.compacted (kind_of vote))
+      (observed held (kind_of vote) (signer_of vote)) vote)
       (Duplicate (not (of_kind held.compacted (kind_of vote))))
 
-  -- The facts of a signer with one more vote: it is compared with the selected proposal, where one is known. A nullify never is.
+  -- The facts of a signer with one more vote: it is compared with the selected proposal, where one
+  -- is known. A nullify never is.
   abbrev pub facts_with : Option (Proposal D) → Vote G D → Facts → Facts
   facts_with None vote facts = facts
   facts_with (Some p) vote facts =
-      cond (has_proposals (kind_of vote)) (record facts { has_compared = true; has_matched = is_for same p vote || facts.has_matched }) facts
+      cond (has_proposals (kind_of vote))
+      (record facts {
+        has_compared = true;
+        has_matched = is_for same p vote
+            || facts.has_matched;
+      }) facts
 
   abbrev pub facts_of_kept : Option (Proposal D) → Vote G D → Facts
   facts_of_kept selected vote = facts_with selected vote (no_facts (signer_of vote))
@@ -136,22 +154,30 @@ module _ {G D : Type 0} (same : D → D → Bool) where
       (map (λ f. cond (f.signer == signer_of vote) (facts_with selected vote f) f) facts)
       (insert_by (λ f. f.signer) (facts_of_kept selected vote) facts)
 
-  -- What recording a vote changes of a kind, where it is recorded: it is kept in full where it is new, or goes into its signer's facts.
-  pub record RecordsKind (old new : Tracked G D) (selected : Option (Proposal D)) (is_recorded : Bool) (vote : Vote G D) (kind : Kind) : Type 0 where
+  -- What recording a vote changes of a kind, where it is recorded: it is kept in full where it is
+  -- new, or goes into its signer's facts.
+  pub record RecordsKind (old new : Tracked G D) (selected : Option (Proposal D))
+      (is_recorded : Bool) (vote : Vote G D) (kind : Kind) : Type 0 where
     pub compacted : of_kind new.compacted kind ≡ of_kind old.compacted kind
     pub kept :
         of_kind new.kept kind
-        ≡ cond ((is_of_kind kind vote && is_recorded) && (not (of_kind old.compacted kind) && not (is_seen (observed old kind (signer_of vote)))))
+        ≡ cond ((is_of_kind kind vote && is_recorded)
+        && (not (of_kind old.compacted kind)
+        && not (is_seen (observed old kind (signer_of vote)))))
         (insert_by signer_of vote (of_kind old.kept kind)) (of_kind old.kept kind)
     pub facts :
         of_kind new.facts kind
-        ≡ cond ((is_of_kind kind vote && is_recorded) && of_kind old.compacted kind) (recorded_facts selected vote (of_kind old.facts kind)) (of_kind old.facts kind)
+        ≡ cond ((is_of_kind kind vote && is_recorded) && of_kind old.compacted kind)
+        (recorded_facts selected vote (of_kind old.facts kind)) (of_kind old.facts kind)
 
-  -- What releasing a kind changes of it: its votes become facts, compared with the selected proposal where they carry one.
-  pub record ReleasesKind (old new : Tracked G D) (selected : Option (Proposal D)) (is_released : Bool) (kind : Kind) : Type 0 where
+  -- What releasing a kind changes of it: its votes become facts, compared with the selected
+  -- proposal where they carry one.
+  pub record ReleasesKind (old new : Tracked G D) (selected : Option (Proposal D))
+      (is_released : Bool) (kind : Kind) : Type 0 where
     pub compacted : of_kind new.compacted kind ≡ (is_released || of_kind old.compacted kind)
     pub kept : of_kind new.kept kind ≡ cond (of_kind new.compacted kind) [] (of_kind old.kept kind)
     pub facts :
         of_kind new.facts kind
         ≡ cond (of_kind old.compacted kind) (of_kind old.facts kind)
-        (cond (of_kind new.compacted kind) (map (facts_of_kept selected) (of_kind old.kept kind)) [])
+        (cond (of_kind new.compacted kind) (map (facts_of_kept selected) (of_kind old.kept kind))
+        [])

@@ -20,12 +20,14 @@ is_of_round number (FinalizeVote vote) = true
 
 -- whether the certificate certifies what it names
 abbrev pub certifies_itself : {D K G C : Type 0} → Meaning D K G C → Certificate C D → Bool
-certifies_itself m certificate = m.certifies (subject_certified certificate) (content_of certificate)
+certifies_itself m certificate =
+    m.certifies (subject_certified certificate) (content_of certificate)
 
 module _ {G D : Type 0} (same : D → D → Bool) where
   -- what is tried of a kind, where it is ready
   abbrev pub subject_ready : Bool → ℕ → Buffered G D → Round → Kind → Option (Subject D)
-  subject_ready batchable q held number kind = cond (is_ready same batchable q held kind) (subject_tried held number kind) None
+  subject_ready batchable q held number kind =
+      cond (is_ready same batchable q held kind) (subject_tried held number kind) None
 
 -- what holds of the batch that a construction gives, if it gives one
 abbrev pub IfGiven : {B E : Type 0} → Result (Option B) E → (B → Type 0) → Type 0

@@ -1,4 +1,5 @@
--- Votes and certificates: their kinds, signers and subjects, and which votes exclude each other or are the same.
+-- Votes and certificates: their kinds, signers and subjects, and which votes exclude each other or
+-- are the same.
 use Rattle.std.specs.Prelude.{ℕ, Bool, true, false, not, ◌&&◌, ◌||◌, ◌==◌, Option, Some, None}
 use Rattle.batcher.specs.declared.positions.Round.{Round}
 use Rattle.batcher.specs.declared.messages.Proposal.{Proposal}
@@ -57,7 +58,9 @@ module _ {G D : Type 0} where
 
   -- Votes of one signer exclude each other where they are of one kind, or a nullify and a finalize.
   abbrev pub excludes : Vote G D → Vote G D → Bool
-  excludes a b = (signer_of a == signer_of b) && (is_kind (kind_of a) (kind_of b) || are_opposite (kind_of a) (kind_of b))
+  excludes a b =
+      (signer_of a == signer_of b) && (is_kind (kind_of a) (kind_of b)
+      || are_opposite (kind_of a) (kind_of b))
 
   -- whether the two are a nullify and a finalize of one signer
   abbrev pub opposes : Vote G D → Vote G D → Bool
@@ -96,7 +99,8 @@ same_round a b = (a.epoch.0 == b.epoch.0) && (a.view.0 == b.view.0)
 -- By a test of whether two digests are the same.
 module _ {D : Type 0} (same : D → D → Bool) where
   abbrev pub same_proposal : Proposal D → Proposal D → Bool
-  same_proposal a b = same_round a.round b.round && ((a.parent.0 == b.parent.0) && same a.payload b.payload)
+  same_proposal a b =
+      same_round a.round b.round && ((a.parent.0 == b.parent.0) && same a.payload b.payload)
 
   abbrev pub same_subject : Subject D → Subject D → Bool
   same_subject (NotarizeSubject p) (NotarizeSubject q) = same_proposal p q

@@ -26,12 +26,18 @@ module _ {D K G C : Type 0} (x : Setting D K G C) where
   abbrev pub votes_accepted_open : History D K G C → List (Vote G D)
   votes_accepted_open [] = []
   votes_accepted_open (event ∷ past) =
-      filter (λ v. is_free (first_votes x past) v && not (is_certified past (kind_of v))) (sent_votes x event.0) ++ votes_accepted_open past
+      filter (λ v. is_free (first_votes x past) v && not (is_certified past (kind_of v)))
+      (sent_votes x event.0) ++ votes_accepted_open past
 
   -- the own notarizes that a replacement has restored
   abbrev pub own_notarizes_restored : History D K G C → List (Vote G D)
-  own_notarizes_restored past = filter (λ v. is_of_kind Notarization v && holds_vote (own_first_votes x past) v) (restored_votes x past)
+  own_notarizes_restored past =
+      filter (λ v. is_of_kind Notarization v && holds_vote (own_first_votes x past) v)
+      (restored_votes x past)
 
-  -- No more votes are processed than were accepted from the network in time, and own notarizes restored.
+  -- No more votes are processed than were accepted from the network in time, and own notarizes
+  -- restored.
   abbrev pub IsWorkBounded : History D K G C → Type 0
-  IsWorkBounded past = processed_total past ≤ length (votes_accepted_open past) + length (own_notarizes_restored past)
+  IsWorkBounded past =
+      processed_total past ≤ length (votes_accepted_open past) + length
+      (own_notarizes_restored past)

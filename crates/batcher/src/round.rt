@@ -18,13 +18,16 @@ ghost use Rattle.batcher.specs.Buffering.{AddsVote, FixesProposal, MayFix};
 ghost use Rattle.batcher.specs.Quorum.{quorum_of};
 ghost use Rattle.batcher.specs.Sound.{IsSound, HasRoomFor, KeepsAllRoom, WhereItReplaces};
 ghost use Rattle.batcher.specs.Admissions.{refusal, mismatch_reason, admission_of};
-ghost use Rattle.batcher.specs.Steps.{nothing_held, has_block as has_block_held, missing_in, leader_set_answer, forward_answer, AfterLeader, AfterNetwork, admission, objection_by, own_result_by, admission_by, kind_tried, restored_with, AfterConstruct, TriesHeld, Fixes, is_ready_in, IsRight, WaitsWhereKept, AfterOwn, own_result, fault_or_memory, fixed_by, opposite_fault, unopposed_result, report_by, is_added, is_kept, AfterCertificate};
+ghost use Rattle.batcher.specs.Steps.{nothing_held, has_block as has_block_held, missing_in, leader_set_answer, forward_answer, AfterLeader, AfterNetwork, admission, objection_by, own_result_by, admission_by, kind_tried, restored_with};
+ghost use Rattle.batcher.specs.Steps.{AfterConstruct, TriesHeld, Fixes, is_ready_in, IsRight, WaitsWhereKept, AfterOwn, own_result, fault_or_memory, fixed_by, opposite_fault, unopposed_result, report_by, is_added, is_kept};
+ghost use Rattle.batcher.specs.Steps.{AfterCertificate};
 ghost use Rattle.batcher.specs.History.{History};
 ghost use Rattle.batcher.specs.Selection.{is_certified, leader_of};
 ghost use Rattle.batcher.specs.Comparison.{has_block};
 ghost use Rattle.batcher.specs.Answers.{keeps_nullify, own_answer, needs_memory};
 ghost use Rattle.batcher.specs.declared.run.Call.TheVariants.{Network as NetworkCall, Own as OwnCall, Construct as ConstructCall, Leader as LeaderCall, Forward as ForwardCall, Missing as MissingCall, Certificate as CertificateCall};
-ghost use Rattle.batcher.specs.declared.run.Answer.TheVariants.{Network as NetworkAnswer, Own as OwnAnswer, Construct as ConstructAnswer, Leader as LeaderAnswer, Forward as ForwardAnswer, Missing as MissingAnswer, Certificate as CertificateAnswer};
+ghost use Rattle.batcher.specs.declared.run.Answer.TheVariants.{Network as NetworkAnswer, Own as OwnAnswer, Construct as ConstructAnswer, Leader as LeaderAnswer, Forward as ForwardAnswer, Missing as MissingAnswer};
+ghost use Rattle.batcher.specs.declared.run.Answer.TheVariants.{Certificate as CertificateAnswer};
 ghost use Rattle.batcher.specs.Runs.{MayCall};
 ghost use Rattle.batcher.specs.Judged.{WhereverItStands, FollowsOnOk, IsRefusedForNeed};
 ghost use Rattle.batcher.specs.Stands.{Stands, Follows, Meets};
@@ -131,7 +134,8 @@ pub trait Judge<D: Digest>: Scheme<D> {
     ghost use Rattle.batcher.specs.Setting.{Setting};
     ghost use Rattle.batcher.specs.Held.{RoundView};
 
-    ghost of: { RoundView Self Self.Signature D → Setting D Self.PublicKey Self.Signature Self.Certificate };
+    ghost of: { RoundView Self Self.Signature D
+        → Setting D Self.PublicKey Self.Signature Self.Certificate };
 }
 
 impl<D: Digest, S: Scheme<D>> Judge<D> for S {
@@ -158,9 +162,19 @@ impl<S: Scheme<D>, D: Digest> Model for Round<S, D> {
 
     ghost Value = { RoundView S S.Signature D };
 
-    ghost view = { λ r. record { scheme = r.verifier.scheme; number = r.verifier.number; mode = r.votes.mode; holds = record { tracked = r.votes.holds; buffered = r.verifier.holds; forwarded = r.forwarded } } };
+    ghost view = { λ r. record {
+      scheme = r.verifier.scheme;
+      number = r.verifier.number;
+      mode = r.votes.mode;
+      holds = record {
+        tracked = r.votes.holds;
+        buffered = r.verifier.holds;
+        forwarded = r.forwarded;
+      };
+    } };
 
-    ghost invariant = { λ r. IsRight (S.meaning r.verifier.scheme) r.votes r.verifier.holds r.verifier.quorum };
+    ghost invariant = { λ r.
+        IsRight (S.meaning r.verifier.scheme) r.votes r.verifier.holds r.verifier.quorum };
 }
 
 impl<S: Scheme<D>, D: Digest> Round<S, D> {
@@ -175,7 +189,8 @@ impl<S: Scheme<D>, D: Digest> Round<S, D> {
         requires { 1 ≤ length (S.meaning scheme.value).participants }
         ensures scheme { result.scheme ≡ scheme.value }
         ensures number { result.number ≡ round }
-        ensures mode { result.mode ≡ (if track_historical_votes then Mode.Retaining else Mode.Releasing) }
+        ensures mode { result.mode ≡ (if track_historical_votes then Mode.Retaining else
+            Mode.Releasing) }
         ensures holds { result.holds ≡ nothing_held result.mode }
         ensures stands { Stands (⟦<S as Judge<D>>⟧.of result) [] result.holds }
     {
@@ -230,7 +245,9 @@ impl<S: Scheme<D>, D: Digest> Round<S, D> {
     /// Whether the vote is of this round. Its parent view isn't looked at.
     pub fn belongs(&self, vote: &Vote<S::Signature, D>) -> bool
         ensures number { IsTrue result ↔ (round_in (subject_of vote.now) ≡ self.now.number) }
-        ensures may { (sender : S.PublicKey) → IsTrue result ↔ MayCall (S.meaning self.now.scheme) self.now.number (NetworkCall sender vote.now) }
+        ensures may { (sender : S.PublicKey)
+            → IsTrue result ↔ MayCall (S.meaning self.now.scheme) self.now.number
+            (NetworkCall sender vote.now) }
     {
         self.verifier.round()
             == match vote {
@@ -242,8 +259,10 @@ impl<S: Scheme<D>, D: Digest> Round<S, D> {
 
     /// Whether the certificate is of this round. Its parent view isn't looked at.
     pub fn belongs_certificate(&self, certificate: &Certificate<S::Certificate, D>) -> bool
-        ensures number { IsTrue result ↔ (round_in (subject_certified certificate.now) ≡ self.now.number) }
-        ensures may { IsTrue result ↔ MayCall (S.meaning self.now.scheme) self.now.number (CertificateCall certificate.now) }
+        ensures number { IsTrue result ↔
+            (round_in (subject_certified certificate.now) ≡ self.now.number) }
+        ensures may { IsTrue result ↔ MayCall (S.meaning self.now.scheme) self.now.number
+            (CertificateCall certificate.now) }
     {
         self.verifier.round()
             == match certificate {
@@ -274,9 +293,11 @@ impl<S: Scheme<D>, D: Digest> Round<S, D> {
     /// Whether the participant isn't known to have the proposal's block, which its notarize or
     /// finalize for it shows. An index out of range is of no one who has it.
     pub fn is_missing_voter(&self, proposal: &Proposal<D>, participant: Participant) -> bool
-        ensures held { result ≡ not (has_block_held D.eq self.now.holds participant.0 proposal.now) }
+        ensures held { result ≡ not (has_block_held D.eq self.now.holds participant.0
+            proposal.now) }
         ensures meets { WhereverItStands (⟦<S as Judge<D>>⟧.of self.now) self.now.holds
-            (λ past. result ≡ not (has_block (⟦<S as Judge<D>>⟧.of self.now) past participant.0 proposal.now)) }
+            (λ past. result ≡ not (has_block (⟦<S as Judge<D>>⟧.of self.now) past participant.0
+            proposal.now)) }
     {
         !self.has_block(proposal, participant)
     }
@@ -291,7 +312,9 @@ impl<S: Scheme<D>, D: Digest> Round<S, D> {
 
     /// The participants that aren't known to have the proposal's block, in ascending order.
     pub fn missing_voters(&self, proposal: &Proposal<D>) -> Result<Participants, AllocError>
-        ensures held { IfOk result (λ list. list ≡ missing_in D.eq self.now.holds proposal.now (length (S.meaning self.now.scheme).participants)) }
+        ensures held { IfOk result (λ list. list
+            ≡ missing_in D.eq self.now.holds proposal.now
+            (length (S.meaning self.now.scheme).participants)) }
         ensures meets { FollowsOnOk (⟦<S as Judge<D>>⟧.of self.now) self.now.holds
             (MissingCall proposal.now) MissingAnswer result self.now.holds }
     {
@@ -314,8 +337,10 @@ impl<S: Scheme<D>, D: Digest> Round<S, D> {
         ensures named { WhereverItStands (⟦<S as Judge<D>>⟧.of self.old) self.old.holds
             (λ past. result ≡ leader_set_answer (leader_of past) leader) }
         ensures meets { WhereverItStands (⟦<S as Judge<D>>⟧.of self.old) self.old.holds
-            (λ past. Meets (⟦<S as Judge<D>>⟧.of self.old) past self.old.holds (LeaderCall leader, LeaderAnswer result) self.new.holds) }
-        ensures step { OnOk result (AfterLeader (⟦<S as Judge<D>>⟧.of self.old) self.old.holds leader self.new.holds) }
+            (λ past. Meets (⟦<S as Judge<D>>⟧.of self.old) past self.old.holds
+            (LeaderCall leader, LeaderAnswer result) self.new.holds) }
+        ensures step { OnOk result (AfterLeader (⟦<S as Judge<D>>⟧.of self.old) self.old.holds
+            leader self.new.holds) }
         ensures refused { OnErr result (self.new ≡ self.old) }
         ensures same { SameRound self.old self.new }
     {
@@ -328,8 +353,10 @@ impl<S: Scheme<D>, D: Digest> Round<S, D> {
     pub fn try_forward_proposal(&mut self, me: Participant) -> Option<Proposal<D>>
         ensures answer { result ≡ forward_answer self.old.holds me }
         ensures meets { WhereverItStands (⟦<S as Judge<D>>⟧.of self.old) self.old.holds
-            (λ past. Follows (⟦<S as Judge<D>>⟧.of self.old) past self.old.holds (ForwardCall me, ForwardAnswer result) self.new.holds) }
-        ensures holds { self.new.holds ≡ record self.old.holds { forwarded = is_some result || self.old.holds.forwarded } }
+            (λ past. Follows (⟦<S as Judge<D>>⟧.of self.old) past self.old.holds
+            (ForwardCall me, ForwardAnswer result) self.new.holds) }
+        ensures holds { self.new.holds ≡ record self.old.holds
+            { forwarded = is_some result || self.old.holds.forwarded } }
         ensures same { SameRound self.old self.new }
     {
         if self.forwarded || self.verifier.leader() == Some(me) {
@@ -352,11 +379,14 @@ impl<S: Scheme<D>, D: Digest> Round<S, D> {
         vote: Vote<S::Signature, D>,
     ) -> Result<Admission<S::Signature, D>, AllocError>
         requires { round_in (subject_of vote) ≡ self.old.number }
-        ensures step { IfOk result (λ answer. AfterNetwork (⟦<S as Judge<D>>⟧.of self.old) self.old.holds sender vote answer self.new.holds) }
+        ensures step { IfOk result (λ answer. AfterNetwork (⟦<S as Judge<D>>⟧.of self.old)
+            self.old.holds sender vote answer self.new.holds) }
         ensures meets { FollowsOnOk (⟦<S as Judge<D>>⟧.of self.old) self.old.holds
             (NetworkCall sender vote) NetworkAnswer result self.new.holds }
-        ensures no_memory { (admission (⟦<S as Judge<D>>⟧.of self.old) self.old.holds sender vote).added ≡ false → IsOk result }
-        ensures needed { IsRefusedForNeed (⟦<S as Judge<D>>⟧.of self.old) self.old.holds (NetworkCall sender vote) result }
+        ensures no_memory { (admission (⟦<S as Judge<D>>⟧.of self.old) self.old.holds sender
+            vote).added ≡ false → IsOk result }
+        ensures needed { IsRefusedForNeed (⟦<S as Judge<D>>⟧.of self.old) self.old.holds
+            (NetworkCall sender vote) result }
         ensures refused { OnErr result (self.new ≡ self.old) }
         ensures same { SameRound self.old self.new }
     {
@@ -386,16 +416,24 @@ impl<S: Scheme<D>, D: Digest> Round<S, D> {
         vote: Vote<S::Signature, D>,
     ) -> Result<(Outcome, Option<Activity<S::Signature, D>>), OwnFault>
         requires belongs { round_in (subject_of vote) ≡ self.old.number }
-        requires attests { (S.meaning self.old.scheme).attests (subject_of vote) (attestation_of vote) ≡ true }
-        ensures step { IfOk result (λ answer. AfterOwn (⟦<S as Judge<D>>⟧.of self.old) self.old.holds vote answer.0 answer.1 self.new.holds) }
+        requires attests { (S.meaning self.old.scheme).attests (subject_of vote)
+            (attestation_of vote) ≡ true }
+        ensures step { IfOk result (λ answer. AfterOwn (⟦<S as Judge<D>>⟧.of self.old)
+            self.old.holds vote answer.0 answer.1 self.new.holds) }
         ensures meets { WhereverItStands (⟦<S as Judge<D>>⟧.of self.old) self.old.holds
-            (λ past. IfOk result (λ answer. Follows (⟦<S as Judge<D>>⟧.of self.old) past self.old.holds (OwnCall vote, OwnAnswer answer.0 answer.1) self.new.holds)) }
+            (λ past. IfOk result (λ answer. Follows (⟦<S as Judge<D>>⟧.of self.old) past
+            self.old.holds (OwnCall vote, OwnAnswer answer.0 answer.1) self.new.holds)) }
         ensures named { WhereverItStands (⟦<S as Judge<D>>⟧.of self.old) self.old.holds
-            (λ past. IfErr result (λ fault. fault ≡ fault_or_memory (own_answer (⟦<S as Judge<D>>⟧.of self.old) past vote))) }
+            (λ past. IfErr result (λ fault. fault
+            ≡ fault_or_memory (own_answer (⟦<S as Judge<D>>⟧.of self.old) past vote))) }
         ensures needed { WhereverItStands (⟦<S as Judge<D>>⟧.of self.old) self.old.holds
-            (λ past. result ≡ Err OutOfMemoryFault → needs_memory (⟦<S as Judge<D>>⟧.of self.old) past (OwnCall vote) ≡ true) }
-        ensures no_memory { (outcome : Outcome) → own_result (⟦<S as Judge<D>>⟧.of self.old) self.old.holds vote ≡ Ok outcome → is_added outcome ≡ false → IsOk result }
-        ensures fault { IfErr result (λ fault. fault ≡ fault_or_memory (own_result (⟦<S as Judge<D>>⟧.of self.old) self.old.holds vote)) }
+            (λ past. result ≡ Err OutOfMemoryFault
+            → needs_memory (⟦<S as Judge<D>>⟧.of self.old) past (OwnCall vote) ≡ true) }
+        ensures no_memory { (outcome : Outcome)
+            → own_result (⟦<S as Judge<D>>⟧.of self.old) self.old.holds vote ≡ Ok outcome
+            → is_added outcome ≡ false → IsOk result }
+        ensures fault { IfErr result (λ fault. fault
+            ≡ fault_or_memory (own_result (⟦<S as Judge<D>>⟧.of self.old) self.old.holds vote)) }
         ensures refused { OnErr result (self.new ≡ self.old) }
         ensures same { SameRound self.old self.new }
     {
@@ -419,11 +457,15 @@ impl<S: Scheme<D>, D: Digest> Round<S, D> {
         certificate: &Certificate<S::Certificate, D>,
     ) -> Result<bool, AllocError>
         requires { round_in (subject_certified certificate.now) ≡ self.old.number }
-        ensures step { IfOk result (λ answer. AfterCertificate (⟦<S as Judge<D>>⟧.of self.old) self.old.holds certificate.now answer self.new.holds) }
+        ensures step { IfOk result (λ answer. AfterCertificate (⟦<S as Judge<D>>⟧.of self.old)
+            self.old.holds certificate.now answer self.new.holds) }
         ensures meets { FollowsOnOk (⟦<S as Judge<D>>⟧.of self.old) self.old.holds
             (CertificateCall certificate.now) CertificateAnswer result self.new.holds }
-        ensures needed { IsRefusedForNeed (⟦<S as Judge<D>>⟧.of self.old) self.old.holds (CertificateCall certificate.now) result }
-        ensures no_memory { ((kind : TheKind) → restored_with (⟦<S as Judge<D>>⟧.of self.old) self.old.holds certificate.now kind ≡ []) → IsOk result }
+        ensures needed { IsRefusedForNeed (⟦<S as Judge<D>>⟧.of self.old) self.old.holds
+            (CertificateCall certificate.now) result }
+        ensures no_memory { ((kind : TheKind)
+            → restored_with (⟦<S as Judge<D>>⟧.of self.old) self.old.holds certificate.now kind
+            ≡ []) → IsOk result }
         ensures refused { OnErr result (self.new ≡ self.old) }
         ensures same { SameRound self.old self.new }
     {
@@ -444,11 +486,14 @@ impl<S: Scheme<D>, D: Digest> Round<S, D> {
         &mut self,
         rng: &mut R,
     ) -> Result<Option<Batch<Certificate<S::Certificate, D>>>, AllocError>
-        ensures step { IfOk result (λ answer. AfterConstruct (⟦<S as Judge<D>>⟧.of self.old) self.old.holds (R.stream rng.old) answer self.new.holds (R.stream rng.new)) }
+        ensures step { IfOk result (λ answer. AfterConstruct (⟦<S as Judge<D>>⟧.of self.old)
+            self.old.holds (R.stream rng.old) answer self.new.holds (R.stream rng.new)) }
         ensures meets { FollowsOnOk (⟦<S as Judge<D>>⟧.of self.old) self.old.holds
             (ConstructCall) ConstructAnswer result self.new.holds }
-        ensures no_memory { kind_tried (⟦<S as Judge<D>>⟧.of self.old) self.old.holds ≡ None → IsOk result }
-        ensures needed { IsRefusedForNeed (⟦<S as Judge<D>>⟧.of self.old) self.old.holds ConstructCall result }
+        ensures no_memory { kind_tried (⟦<S as Judge<D>>⟧.of self.old) self.old.holds ≡ None
+            → IsOk result }
+        ensures needed { IsRefusedForNeed (⟦<S as Judge<D>>⟧.of self.old) self.old.holds
+            ConstructCall result }
         ensures certifies { IfGiven result (BatchCertifies (S.meaning self.old.scheme)) }
         ensures refused { OnErr result (self.new ≡ self.old) }
         ensures same { SameRound self.old self.new }
@@ -468,10 +513,14 @@ impl<S: Scheme<D>, D: Digest> Round<S, D> {
         kind: Kind,
         rng: &mut R,
     ) -> Result<Option<Batch<Certificate<S::Certificate, D>>>, AllocError>
-        ensures ready { IfOk result (λ given. is_some given ≡ is_ready_in (⟦<S as Judge<D>>⟧.of self.old) self.old.holds kind) }
-        ensures tries { IfGiven result (λ batch. TriesHeld (⟦<S as Judge<D>>⟧.of self.old) self.old.holds kind (R.stream rng.old) batch self.new.holds (R.stream rng.new)) }
-        ensures sound { IsSound (S.meaning self.old.scheme) D.eq self.old.number (quorum_of (length (S.meaning self.old.scheme).participants)) self.old.holds.buffered }
-        ensures none { is_ready_in (⟦<S as Judge<D>>⟧.of self.old) self.old.holds kind ≡ false → (IsOk result) × (self.new ≡ self.old) × (R.stream rng.new ≡ R.stream rng.old) }
+        ensures ready { IfOk result (λ given. is_some given
+            ≡ is_ready_in (⟦<S as Judge<D>>⟧.of self.old) self.old.holds kind) }
+        ensures tries { IfGiven result (λ batch. TriesHeld (⟦<S as Judge<D>>⟧.of self.old)
+            self.old.holds kind (R.stream rng.old) batch self.new.holds (R.stream rng.new)) }
+        ensures sound { IsSound (S.meaning self.old.scheme) D.eq self.old.number
+            (quorum_of (length (S.meaning self.old.scheme).participants)) self.old.holds.buffered }
+        ensures none { is_ready_in (⟦<S as Judge<D>>⟧.of self.old) self.old.holds kind ≡ false
+            → (IsOk result) × (self.new ≡ self.old) × (R.stream rng.new ≡ R.stream rng.old) }
         ensures certifies { IfGiven result (BatchCertifies (S.meaning self.old.scheme)) }
         ensures refused { OnErr result (self.new ≡ self.old) }
         ensures same { SameRound self.old self.new }
@@ -494,7 +543,11 @@ impl<S: Scheme<D>, D: Digest> Round<S, D> {
         vote: &Vote<S::Signature, D>,
     ) -> Option<Admission<S::Signature, D>>
         requires { place ≡ place_of votes.now.signers (signer_of vote.now) }
-        ensures { (m : Meaning D S.PublicKey S.Signature S.Certificate) (number : TheNumber) (mode : TheMode) → result ≡ objection_by (setting m S.PublicKey.cmp S.Signature.eq D.eq number mode) (observed_opposite votes.now.holds vote.now) (observed votes.now.holds (kind_of vote.now) (signer_of vote.now)) vote.now }
+        ensures { (m : Meaning D S.PublicKey S.Signature S.Certificate) (number : TheNumber)
+            (mode : TheMode) → result ≡ objection_by
+            (setting m S.PublicKey.cmp S.Signature.eq D.eq number mode)
+            (observed_opposite votes.now.holds vote.now)
+            (observed votes.now.holds (kind_of vote.now) (signer_of vote.now)) vote.now }
     {
         match saw_opposite(votes, place, vote) {
             Some(ObservedVote::Retained(earlier)) => Some(after_opposite(earlier, *vote)),
@@ -532,18 +585,35 @@ fn admit<S: Scheme<D>, D: Digest>(
     place: Place,
     vote: Vote<S::Signature, D>,
 ) -> Result<Admission<S::Signature, D>, AllocError>
-    requires right { IsRight (S.meaning verifier.old.scheme) votes.old verifier.old.holds verifier.old.quorum }
+    requires right { IsRight (S.meaning verifier.old.scheme) votes.old verifier.old.holds
+        verifier.old.quorum }
     requires place { place ≡ place_of votes.old.signers (signer_of vote) }
-    requires unopposed { objection_by (⟦<S as Judge<D>>⟧.of (round_of verifier.old votes.old)) (observed_opposite votes.old.holds vote) (observed votes.old.holds (kind_of vote) (signer_of vote)) vote ≡ None }
+    requires unopposed { objection_by (⟦<S as Judge<D>>⟧.of (round_of verifier.old votes.old))
+        (observed_opposite votes.old.holds vote)
+        (observed votes.old.holds (kind_of vote) (signer_of vote)) vote ≡ None }
     requires range { signer_of vote < length (S.meaning verifier.old.scheme).participants }
     requires belongs { round_in (subject_of vote) ≡ verifier.old.number }
-    ensures answer { IfOk result (λ answer. answer ≡ admission_by (⟦<S as Judge<D>>⟧.of (round_of verifier.old votes.old)) (proposal_of verifier.old.holds.selection) (observed votes.old.holds (kind_of vote) (signer_of vote)) vote) }
-    ensures spared { is_known votes.old.holds (signer_of vote) ≡ true → of_kind votes.old.holds.compacted (kind_of vote) ≡ true → IsOk result }
-    ensures no_memory { (admission_by (⟦<S as Judge<D>>⟧.of (round_of verifier.old votes.old)) (proposal_of verifier.old.holds.selection) (observed votes.old.holds (kind_of vote) (signer_of vote)) vote).added ≡ false → IsOk result }
-    ensures tracked { OnOk result ((kind : TheKind) → RecordsKind D.eq votes.old.holds votes.new.holds (proposal_of verifier.old.holds.selection) true vote kind) }
-    ensures buffered { IfOk result (λ answer. MatchBool (answer.added && not (of_kind votes.old.holds.compacted (kind_of vote))) (AddsVote D.eq verifier.old.holds vote false verifier.new.holds) (verifier.new.holds ≡ verifier.old.holds)) }
-    ensures refused { OnErr result ((verifier.new.holds ≡ verifier.old.holds) × (votes.new.holds ≡ votes.old.holds)) }
-    ensures right { IsRight (S.meaning verifier.old.scheme) votes.new verifier.new.holds verifier.old.quorum }
+    ensures answer { IfOk result (λ answer. answer
+        ≡ admission_by (⟦<S as Judge<D>>⟧.of (round_of verifier.old votes.old))
+        (proposal_of verifier.old.holds.selection)
+        (observed votes.old.holds (kind_of vote) (signer_of vote)) vote) }
+    ensures spared { is_known votes.old.holds (signer_of vote) ≡ true
+        → of_kind votes.old.holds.compacted (kind_of vote) ≡ true → IsOk result }
+    ensures no_memory { (admission_by (⟦<S as Judge<D>>⟧.of (round_of verifier.old votes.old))
+        (proposal_of verifier.old.holds.selection)
+        (observed votes.old.holds (kind_of vote) (signer_of vote)) vote).added ≡ false
+        → IsOk result }
+    ensures tracked { OnOk result ((kind : TheKind)
+        → RecordsKind D.eq votes.old.holds votes.new.holds
+        (proposal_of verifier.old.holds.selection) true vote kind) }
+    ensures buffered { IfOk result (λ answer. MatchBool
+        (answer.added && not (of_kind votes.old.holds.compacted (kind_of vote)))
+        (AddsVote D.eq verifier.old.holds vote false verifier.new.holds)
+        (verifier.new.holds ≡ verifier.old.holds)) }
+    ensures refused { OnErr result ((verifier.new.holds ≡ verifier.old.holds)
+        × (votes.new.holds ≡ votes.old.holds)) }
+    ensures right { IsRight (S.meaning verifier.old.scheme) votes.new verifier.new.holds
+        verifier.old.quorum }
     ensures same { SameVerifier verifier.old verifier.new }
     ensures mode { SameTracker votes.old votes.new }
 {
@@ -562,7 +632,10 @@ fn own_result<S: Scheme<D>, D: Digest>(
     vote: Vote<S::Signature, D>,
 ) -> Result<Outcome, OwnFault>
     requires { place ≡ place_of votes.now.signers (signer_of vote) }
-    ensures { result ≡ own_result_by (observed_opposite votes.now.holds vote) (kind_of vote) (outcome_by D.eq (proposal_of (fixes verifier.now.holds.selection (fixed_by vote))) (of_kind votes.now.holds.compacted (kind_of vote)) (observed votes.now.holds (kind_of vote) (signer_of vote)) vote) }
+    ensures { result ≡ own_result_by (observed_opposite votes.now.holds vote) (kind_of vote)
+        (outcome_by D.eq (proposal_of (fixes verifier.now.holds.selection (fixed_by vote)))
+        (of_kind votes.now.holds.compacted (kind_of vote))
+        (observed votes.now.holds (kind_of vote) (signer_of vote)) vote) }
 {
     if saw_opposite(votes, place, &vote).is_some() {
         return Err(opposite_fault(vote.kind()));
@@ -605,17 +678,32 @@ fn take_in<S: Scheme<D>, D: Digest>(
     verified: bool,
 ) -> Result<Outcome, AllocError>
     requires place { place ≡ place_of votes.old.signers (signer_of vote) }
-    requires right { IsRight (S.meaning verifier.old.scheme) votes.old verifier.old.holds verifier.old.quorum }
+    requires right { IsRight (S.meaning verifier.old.scheme) votes.old verifier.old.holds
+        verifier.old.quorum }
     requires range { signer_of vote < length (S.meaning verifier.old.scheme).participants }
     requires belongs { round_in (subject_of vote) ≡ verifier.old.number }
-    requires attests { verified ≡ true → (S.meaning verifier.old.scheme).attests (subject_of vote) (attestation_of vote) ≡ true }
-    requires room { of_kind votes.old.holds.compacted (kind_of vote) ≡ false → outcome_of D.eq votes.old.participants votes.old.holds (proposal_of verifier.old.holds.selection) vote ≡ AddedOutcome true → 1 ≤ cond verified (of_kind verifier.old.verified_room (kind_of vote)) (of_kind verifier.old.pending_room (kind_of vote)) }
-    ensures outcome { IfOk result (λ outcome. outcome ≡ outcome_of D.eq votes.old.participants votes.old.holds (proposal_of verifier.old.holds.selection) vote) }
-    ensures tracked { OnOk result ((kind : TheKind) → RecordsKind D.eq votes.old.holds votes.new.holds (proposal_of verifier.old.holds.selection) true vote kind) }
-    ensures buffered { IfOk result (λ outcome. MatchBool (is_kept outcome) (AddsVote D.eq verifier.old.holds vote verified verifier.new.holds) (verifier.new.holds ≡ verifier.old.holds)) }
-    ensures refused { OnErr result ((verifier.new.holds ≡ verifier.old.holds) × (votes.new.holds ≡ votes.old.holds)) }
-    ensures right { IsRight (S.meaning verifier.old.scheme) votes.new verifier.new.holds verifier.old.quorum }
-    ensures with_room { (is_known votes.old.holds (signer_of vote) ≡ false → 1 ≤ votes.old.room) → IsOk result }
+    requires attests { verified ≡ true
+        → (S.meaning verifier.old.scheme).attests (subject_of vote) (attestation_of vote) ≡ true }
+    requires room { of_kind votes.old.holds.compacted (kind_of vote) ≡ false
+        → outcome_of D.eq votes.old.participants votes.old.holds
+        (proposal_of verifier.old.holds.selection) vote ≡ AddedOutcome true → 1
+        ≤ cond verified (of_kind verifier.old.verified_room (kind_of vote))
+        (of_kind verifier.old.pending_room (kind_of vote)) }
+    ensures outcome { IfOk result (λ outcome. outcome
+        ≡ outcome_of D.eq votes.old.participants votes.old.holds
+        (proposal_of verifier.old.holds.selection) vote) }
+    ensures tracked { OnOk result ((kind : TheKind)
+        → RecordsKind D.eq votes.old.holds votes.new.holds
+        (proposal_of verifier.old.holds.selection) true vote kind) }
+    ensures buffered { IfOk result (λ outcome. MatchBool (is_kept outcome)
+        (AddsVote D.eq verifier.old.holds vote verified verifier.new.holds)
+        (verifier.new.holds ≡ verifier.old.holds)) }
+    ensures refused { OnErr result ((verifier.new.holds ≡ verifier.old.holds)
+        × (votes.new.holds ≡ votes.old.holds)) }
+    ensures right { IsRight (S.meaning verifier.old.scheme) votes.new verifier.new.holds
+        verifier.old.quorum }
+    ensures with_room { (is_known votes.old.holds (signer_of vote) ≡ false → 1 ≤ votes.old.room)
+        → IsOk result }
     ensures same { SameVerifier verifier.old verifier.new }
     ensures mode { SameTracker votes.old votes.new }
 {
@@ -635,8 +723,13 @@ fn make_room_for<S: Scheme<D>, D: Digest>(
     completed: Option<Kind>,
     kind: Kind,
 ) -> Result<(), AllocError>
-    ensures room { OnOk result (is_some_and completed (is_kind kind) ≡ false → HasRoomFor D.eq verifier.old.holds.certified votes.now.holds.kept proposal.now verifier.new.pending_room kind) }
-    ensures no_memory { (is_some_and completed (is_kind kind) ≡ false → of_kind votes.now.holds.compacted kind ≡ false → HasRoomFor D.eq verifier.old.holds.certified votes.now.holds.kept proposal.now verifier.old.pending_room kind) → IsOk result }
+    ensures room { OnOk result (is_some_and completed (is_kind kind) ≡ false
+        → HasRoomFor D.eq verifier.old.holds.certified votes.now.holds.kept proposal.now
+        verifier.new.pending_room kind) }
+    ensures no_memory { (is_some_and completed (is_kind kind) ≡ false
+        → of_kind votes.now.holds.compacted kind ≡ false
+        → HasRoomFor D.eq verifier.old.holds.certified votes.now.holds.kept proposal.now
+        verifier.old.pending_room kind) → IsOk result }
     ensures holds { verifier.new.holds ≡ verifier.old.holds }
     ensures kept { KeepsAllRoom verifier.old verifier.new }
     ensures same { SameVerifier verifier.old verifier.new }
@@ -654,10 +747,15 @@ fn make_room_to_fix<S: Scheme<D>, D: Digest>(
     proposal: Option<Proposal<D>>,
     completed: Option<Kind>,
 ) -> Result<(), AllocError>
-    ensures room { OnOk result (WhereItReplaces D.eq verifier.old.holds.selection (proposal) (λ fixed kind.
-        is_some_and completed (is_kind kind) ≡ false → HasRoomFor D.eq verifier.old.holds.certified votes.now.holds.kept fixed verifier.new.pending_room kind)) }
+    ensures room { OnOk result (WhereItReplaces D.eq verifier.old.holds.selection (proposal)
+        (λ fixed kind.
+        is_some_and completed (is_kind kind) ≡ false
+        → HasRoomFor D.eq verifier.old.holds.certified votes.now.holds.kept fixed
+        verifier.new.pending_room kind)) }
     ensures no_memory { (WhereItReplaces D.eq verifier.old.holds.selection (proposal) (λ fixed kind.
-        is_some_and completed (is_kind kind) ≡ false → of_kind votes.now.holds.compacted kind ≡ false → HasRoomFor D.eq verifier.old.holds.certified votes.now.holds.kept fixed verifier.old.pending_room kind)) → IsOk result }
+        is_some_and completed (is_kind kind) ≡ false → of_kind votes.now.holds.compacted kind
+        ≡ false → HasRoomFor D.eq verifier.old.holds.certified votes.now.holds.kept fixed
+        verifier.old.pending_room kind)) → IsOk result }
     ensures holds { verifier.new.holds ≡ verifier.old.holds }
     ensures kept { KeepsAllRoom verifier.old verifier.new }
     ensures same { SameVerifier verifier.old verifier.new }
@@ -679,12 +777,18 @@ fn make_room_to_accept<S: Scheme<D>, D: Digest>(
     vote: &Vote<S::Signature, D>,
     outcome: Outcome,
 ) -> Result<(), AllocError>
-    ensures to_fix { OnOk result (WhereItReplaces D.eq verifier.old.holds.selection (fixed_by vote.now) (λ proposal kind.
-        HasRoomFor D.eq verifier.old.holds.certified votes.old.holds.kept proposal verifier.new.pending_room kind)) }
+    ensures to_fix { OnOk result (WhereItReplaces D.eq verifier.old.holds.selection
+        (fixed_by vote.now) (λ proposal kind.
+        HasRoomFor D.eq verifier.old.holds.certified votes.old.holds.kept proposal
+        verifier.new.pending_room kind)) }
     ensures to_record { OnOk result (is_added outcome ≡ true → 1 ≤ votes.new.room) }
-    ensures to_wait { OnOk result (is_kept outcome ≡ true → 1 ≤ of_kind verifier.new.verified_room (kind_of vote.now)) }
-    ensures no_memory { is_added outcome ≡ false → (WhereItReplaces D.eq verifier.old.holds.selection (fixed_by vote.now) (λ proposal kind.
-        of_kind votes.old.holds.compacted kind ≡ false → HasRoomFor D.eq verifier.old.holds.certified votes.old.holds.kept proposal verifier.old.pending_room kind)) → IsOk result }
+    ensures to_wait { OnOk result (is_kept outcome ≡ true → 1
+        ≤ of_kind verifier.new.verified_room (kind_of vote.now)) }
+    ensures no_memory { is_added outcome ≡ false
+        → (WhereItReplaces D.eq verifier.old.holds.selection (fixed_by vote.now) (λ proposal kind.
+        of_kind votes.old.holds.compacted kind ≡ false
+        → HasRoomFor D.eq verifier.old.holds.certified votes.old.holds.kept proposal
+        verifier.old.pending_room kind)) → IsOk result }
     ensures holds { verifier.new.holds ≡ verifier.old.holds }
     ensures votes { votes.new.holds ≡ votes.old.holds }
     ensures signers { votes.new.signers ≡ votes.old.signers }
@@ -709,11 +813,16 @@ fn fix<S: Scheme<D>, D: Digest>(
     proposal: Proposal<D>,
 ) -> bool
     requires within { WaitsWhereKept votes.now.holds verifier.old.holds }
-    requires room { replaces D.eq verifier.old.holds.selection proposal ≡ true → (kind : TheKind) → has_proposals kind ≡ true → HasRoomFor D.eq verifier.old.holds.certified votes.now.holds.kept proposal verifier.old.pending_room kind }
-    ensures fixes { FixesProposal D.eq verifier.old.holds votes.now.holds.kept proposal verifier.new.holds }
-    ensures changed { result ≡ not (same_selected D.eq (proposal_of verifier.old.holds.selection) (proposal_of verifier.new.holds.selection)) }
+    requires room { replaces D.eq verifier.old.holds.selection proposal ≡ true → (kind : TheKind)
+        → has_proposals kind ≡ true → HasRoomFor D.eq verifier.old.holds.certified
+        votes.now.holds.kept proposal verifier.old.pending_room kind }
+    ensures fixes { FixesProposal D.eq verifier.old.holds votes.now.holds.kept proposal
+        verifier.new.holds }
+    ensures changed { result ≡ not (same_selected D.eq (proposal_of verifier.old.holds.selection)
+        (proposal_of verifier.new.holds.selection)) }
     ensures within { WaitsWhereKept votes.now.holds verifier.new.holds }
-    ensures room { (kind : TheKind) → of_kind verifier.old.verified_room kind ≤ of_kind verifier.new.verified_room kind }
+    ensures room { (kind : TheKind) → of_kind verifier.old.verified_room kind
+        ≤ of_kind verifier.new.verified_room kind }
     ensures same { SameVerifier verifier.old verifier.new }
 {
     let update = verifier.set_proposal(ProposalState::Certificate(proposal));
@@ -732,11 +841,15 @@ fn may_fix<S: Scheme<D>, D: Digest>(
 ) -> bool
     requires within { WaitsWhereKept votes.now.holds verifier.old.holds }
     requires room { WhereItReplaces D.eq verifier.old.holds.selection (proposal) (λ fixed kind.
-        HasRoomFor D.eq verifier.old.holds.certified votes.now.holds.kept fixed verifier.old.pending_room kind) }
-    ensures fixes { MayFix D.eq verifier.old.holds votes.now.holds.kept proposal verifier.new.holds }
-    ensures changed { result ≡ not (same_selected D.eq (proposal_of verifier.old.holds.selection) (proposal_of verifier.new.holds.selection)) }
+        HasRoomFor D.eq verifier.old.holds.certified votes.now.holds.kept fixed
+        verifier.old.pending_room kind) }
+    ensures fixes { MayFix D.eq verifier.old.holds votes.now.holds.kept proposal
+        verifier.new.holds }
+    ensures changed { result ≡ not (same_selected D.eq (proposal_of verifier.old.holds.selection)
+        (proposal_of verifier.new.holds.selection)) }
     ensures within { WaitsWhereKept votes.now.holds verifier.new.holds }
-    ensures room { (kind : TheKind) → of_kind verifier.old.verified_room kind ≤ of_kind verifier.new.verified_room kind }
+    ensures room { (kind : TheKind) → of_kind verifier.old.verified_room kind
+        ≤ of_kind verifier.new.verified_room kind }
     ensures same { SameVerifier verifier.old verifier.new }
 {
     match proposal {
@@ -748,7 +861,8 @@ fn may_fix<S: Scheme<D>, D: Digest>(
 // A certificate of the round's own making fixes its proposal, where none is fixed. It never takes
 // another's place, so no vote comes back.
 fn settle<S: Scheme<D>, D: Digest>(verifier: &mut Verifier<S, D>, proposal: Option<Proposal<D>>)
-    ensures fixes { Fixes (setting (S.meaning verifier.old.scheme) S.PublicKey.cmp S.Signature.eq D.eq verifier.old.number Mode.Retaining) verifier.old.holds proposal verifier.new.holds }
+    ensures fixes { Fixes (setting (S.meaning verifier.old.scheme) S.PublicKey.cmp S.Signature.eq
+        D.eq verifier.old.number Mode.Retaining) verifier.old.holds proposal verifier.new.holds }
     ensures same { SameVerifier verifier.old verifier.new }
 {
     if let Some(proposal) = proposal {

@@ -77,7 +77,8 @@ pub fn run<S: Scheme<D>, D: Digest, R: CryptoRng>(
 ) -> Result<Ran<S, D>, AllocError>
     requires fresh { round.holds ≡ nothing_held round.mode }
     requires calls { All (MayCall (S.meaning round.scheme) round.number) calls.now }
-    ensures ran { IfOk result (λ ran. IsRun (⟦<S as Judge<D>>⟧.of round) (R.stream rng.old) calls.now ran.answers.items ran.round.holds (R.stream rng.new)) }
+    ensures ran { IfOk result (λ ran. IsRun (⟦<S as Judge<D>>⟧.of round) (R.stream rng.old)
+        calls.now ran.answers.items ran.round.holds (R.stream rng.new)) }
     ensures drawn { OnErr result (R.stream rng.new ≡ R.stream rng.old) }
     ensures same { IfOk result (λ ran. SameRound round ran.round) }
 {
@@ -96,9 +97,11 @@ fn step<S: Scheme<D>, D: Digest, R: CryptoRng>(
     call: &Call<S::PublicKey, S::Signature, S::Certificate, D>,
 ) -> Answer<S::Signature, S::Certificate, D>
     requires { MayCall (S.meaning round.old.scheme) round.old.number call.now }
-    ensures steps { Steps (⟦<S as Judge<D>>⟧.of round.old) round.old.holds (R.stream rng.old) call.now result round.new.holds (R.stream rng.new) }
+    ensures steps { Steps (⟦<S as Judge<D>>⟧.of round.old) round.old.holds (R.stream rng.old)
+        call.now result round.new.holds (R.stream rng.new) }
     ensures meets { WhereverItStands (⟦<S as Judge<D>>⟧.of round.old) round.old.holds
-        (λ past. (Meets (⟦<S as Judge<D>>⟧.of round.old) past round.old.holds (call.now, result) round.new.holds) × (IsAnswered (⟦<S as Judge<D>>⟧.of round.old) past call.now result)) }
+        (λ past. (Meets (⟦<S as Judge<D>>⟧.of round.old) past round.old.holds (call.now, result)
+        round.new.holds) × (IsAnswered (⟦<S as Judge<D>>⟧.of round.old) past call.now result)) }
     ensures same { SameRound round.old round.new }
 {
     match call {
@@ -138,7 +141,8 @@ pub fn blocked<P: Copy + Ord, G, C, D>(
     answers: &[Answer<G, C, D>],
 ) -> Result<Vec<P>, AllocError>
     ensures ascending { IfOk result (λ keys. IsStrictlySortedBy P.cmp keys.items) }
-    ensures senders { IfOk result (λ keys. (key : P) → list_any (P.eq key) keys.items ≡ list_any (P.eq key) (blocked_senders calls.now answers.now)) }
+    ensures senders { IfOk result (λ keys. (key : P) → list_any (P.eq key) keys.items
+        ≡ list_any (P.eq key) (blocked_senders calls.now answers.now)) }
 {
     let mut senders = blocked_in_order(alloc, calls, answers)?;
     senders.sort_unstable();

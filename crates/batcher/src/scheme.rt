@@ -59,7 +59,8 @@ pub trait Scheme<D: Digest>: Drop {
         pending: &[Attestation<Self::Signature>],
     ) -> Result<Verification<Self::Signature>, AllocError>
         ensures sorts { IfOk result (Sorts ((meaning self.now).attests subject) pending.now) }
-        ensures stream { OnOk result (R.stream rng.new ≡ (meaning self.now).left_by_verifying subject pending.now (R.stream rng.old)) };
+        ensures stream { OnOk result (R.stream rng.new
+            ≡ (meaning self.now).left_by_verifying subject pending.now (R.stream rng.old)) };
 
     /// Gives a certificate of a quorum of attestations at once, or verifies the pending ones.
     ///
@@ -74,10 +75,14 @@ pub trait Scheme<D: Digest>: Drop {
         verified: &[Attestation<Self::Signature>],
     ) -> Result<Result<Self::Certificate, Verification<Self::Signature>>, AllocError>
         requires some { 1 ≤ length (meaning self.now).participants }
-        requires quorum { IsQuorum (length (meaning self.now).participants) (verified.now ++ pending.now) }
+        requires quorum { IsQuorum (length (meaning self.now).participants)
+            (verified.now ++ pending.now) }
         requires attested { AllPass ((meaning self.now).attests subject) verified.now }
-        ensures sorts { IfOk result (λ answer. IfErr answer (Sorts ((meaning self.now).attests subject) pending.now)) }
-        ensures function { IfOk result (λ answer. (result_ok answer, R.stream rng.new) ≡ (meaning self.now).assembled_at_once subject pending.now verified.now (R.stream rng.old)) };
+        ensures sorts { IfOk result (λ answer. IfErr answer
+            (Sorts ((meaning self.now).attests subject) pending.now)) }
+        ensures function { IfOk result (λ answer. (result_ok answer, R.stream rng.new)
+            ≡ (meaning self.now).assembled_at_once subject pending.now verified.now
+            (R.stream rng.old)) };
 
     /// The certificate of a quorum of attestations that all attest.
     fn assemble(
@@ -88,9 +93,11 @@ pub trait Scheme<D: Digest>: Drop {
         fresh: &[Attestation<Self::Signature>],
     ) -> Result<Self::Certificate, AllocError>
         requires some { 1 ≤ length (meaning self.now).participants }
-        requires quorum { IsQuorum (length (meaning self.now).participants) (prior.now ++ fresh.now) }
+        requires quorum { IsQuorum (length (meaning self.now).participants)
+            (prior.now ++ fresh.now) }
         requires attested { AllPass ((meaning self.now).attests subject) (prior.now ++ fresh.now) }
-        ensures function { IfOk result (λ certificate. certificate ≡ (meaning self.now).assembled subject prior.now fresh.now) };
+        ensures function { IfOk result (λ certificate. certificate
+            ≡ (meaning self.now).assembled subject prior.now fresh.now) };
 
     /// Whether the certificate certifies the subject.
     fn verify_certificate(&self, subject: Subject<D>, certificate: &Self::Certificate) -> bool

@@ -57,7 +57,8 @@ pub struct Batch<C> {
     /// vote was verified by itself, and the list is empty.
     pub invalid: Participants,
     pub certificate: Option<C>,
-    /// Whether the votes could have been a quorum, but the pending ones had to be verified one by one.
+    /// Whether the votes could have been a quorum, but the pending ones had to be verified one by
+    /// one.
     pub fallback: bool,
 }
 
@@ -91,9 +92,18 @@ impl<S: Scheme<D>, D: Digest> Model for Verifier<S, D> {
     ghost use Rattle.batcher.specs.States.{held_by, pending_room_of, verified_room_of};
     ghost use Rattle.batcher.specs.Sound.{IsSound};
 
-    ghost view = { λ v. record { scheme = v.scheme.value; number = v.round; quorum = v.quorum; holds = held_by v.state; pending_room = pending_room_of v.state; verified_room = verified_room_of v.state } };
+    ghost view = { λ v. record {
+      scheme = v.scheme.value;
+      number = v.round;
+      quorum = v.quorum;
+      holds = held_by v.state;
+      pending_room = pending_room_of v.state;
+      verified_room = verified_room_of
+          v.state;
+    } };
 
-    ghost invariant = { λ v. IsSound (S.meaning v.scheme.value) D.eq v.round v.quorum (held_by v.state) };
+    ghost invariant = { λ v.
+        IsSound (S.meaning v.scheme.value) D.eq v.round v.quorum (held_by v.state) };
 }
 
 impl<S: Scheme<D>, D: Digest> Verifier<S, D> {
@@ -138,15 +148,19 @@ impl<S: Scheme<D>, D: Digest> Verifier<S, D> {
 
     /// Takes a vote in, where it can still count. The leader's notarize selects its proposal.
     pub fn add(&mut self, vote: Vote<S::Signature, D>, verified: bool) -> Result<(), AllocError>
-        requires attests { verified ≡ true → (S.meaning self.old.scheme).attests (subject_of vote) (attestation_of vote) ≡ true }
+        requires attests { verified ≡ true
+            → (S.meaning self.old.scheme).attests (subject_of vote) (attestation_of vote) ≡ true }
         requires of_round { is_of_round self.old.number vote ≡ true }
         requires fresh { is_buffered self.old.holds (kind_of vote) (signer_of vote) ≡ false }
         ensures adds { OnOk result (AddsVote D.eq self.old.holds vote verified self.new.holds) }
         ensures unchanged { OnErr result (self.new.holds ≡ self.old.holds) }
         ensures dropped { is_dropped D.eq self.old.holds vote ≡ true → IsOk result }
-        ensures no_memory { 1 ≤ cond verified (of_kind self.old.verified_room (kind_of vote)) (of_kind self.old.pending_room (kind_of vote)) → IsOk result }
-        ensures pending_room { (kind : TheKind) → of_kind self.old.pending_room kind ≤ of_kind self.new.pending_room kind + cond (is_of_kind kind vote && not verified) 1 0 }
-        ensures verified_room { (kind : TheKind) → of_kind self.old.verified_room kind ≤ of_kind self.new.verified_room kind + cond (is_of_kind kind vote && verified) 1 0 }
+        ensures no_memory { 1 ≤ cond verified (of_kind self.old.verified_room (kind_of vote))
+            (of_kind self.old.pending_room (kind_of vote)) → IsOk result }
+        ensures pending_room { (kind : TheKind) → of_kind self.old.pending_room kind
+            ≤ of_kind self.new.pending_room kind + cond (is_of_kind kind vote && not verified) 1 0 }
+        ensures verified_room { (kind : TheKind) → of_kind self.old.verified_room kind
+            ≤ of_kind self.new.verified_room kind + cond (is_of_kind kind vote && verified) 1 0 }
         ensures same { SameVerifier self.old self.new }
     {
         self.state.add(vote, verified)
@@ -158,10 +172,13 @@ impl<S: Scheme<D>, D: Digest> Verifier<S, D> {
         leader: Participant,
         notarize: Option<&Notarize<S::Signature, D>>,
     ) -> Result<(), LeaderFault>
-        ensures answer { result ≡ leader_answer self.old.holds.leader leader (option_copied notarize.entry) }
+        ensures answer { result ≡ leader_answer self.old.holds.leader leader
+            (option_copied notarize.entry) }
         ensures again { is_some self.old.holds.leader ≡ true → self.new.holds ≡ self.old.holds }
         ensures refused { OnErr result (self.new.holds ≡ self.old.holds) }
-        ensures sets { is_some self.old.holds.leader ≡ false → OnOk result (SetsLeader D.eq self.old.holds leader (option_map (λ vote. vote.proposal) (option_copied notarize.entry)) self.new.holds) }
+        ensures sets { is_some self.old.holds.leader ≡ false
+            → OnOk result (SetsLeader D.eq self.old.holds leader
+            (option_map (λ vote. vote.proposal) (option_copied notarize.entry)) self.new.holds) }
         ensures room { KeepsAllRoom self.old self.new }
         ensures same { SameVerifier self.old self.new }
     {
@@ -170,10 +187,16 @@ impl<S: Scheme<D>, D: Digest> Verifier<S, D> {
 
     /// Changes the selected proposal as the new source allows. It takes no memory.
     pub(crate) fn set_proposal(&mut self, next: ProposalState<D>) -> ProposalUpdate
-        ensures sets { SetsProposal D.eq self.old.holds (updated self.old.holds.selection next) self.new.holds }
-        ensures changed { result.changed ≡ not (same_selected D.eq (proposal_of self.old.holds.selection) (proposal_of self.new.holds.selection)) }
-        ensures replaced { result.replaced ≡ (result.changed && is_some (proposal_of self.old.holds.selection)) }
-        ensures none_wait { result.replaced ≡ true → (kind : TheKind) → has_proposals kind ≡ true → (of_kind self.new.holds.pending kind ≡ []) × (of_kind self.new.holds.verified kind ≡ []) }
+        ensures sets { SetsProposal D.eq self.old.holds (updated self.old.holds.selection next)
+            self.new.holds }
+        ensures changed { result.changed
+            ≡ not (same_selected D.eq (proposal_of self.old.holds.selection)
+            (proposal_of self.new.holds.selection)) }
+        ensures replaced { result.replaced
+            ≡ (result.changed && is_some (proposal_of self.old.holds.selection)) }
+        ensures none_wait { result.replaced ≡ true → (kind : TheKind) → has_proposals kind ≡ true
+            → (of_kind self.new.holds.pending kind ≡ [])
+            × (of_kind self.new.holds.verified kind ≡ []) }
         ensures room { KeepsAllRoom self.old self.new }
         ensures same { SameVerifier self.old self.new }
     {
@@ -208,12 +231,18 @@ impl<S: Scheme<D>, D: Digest> Verifier<S, D> {
         requires selected { is_some (proposal_of self.old.holds.selection) ≡ true }
         requires kinds { AllPass (is_of_kind kind) votes }
         requires once { EachOnce signer_of votes }
-        requires none_wait { (of_kind self.old.holds.pending kind ≡ []) × (of_kind self.old.holds.verified kind ≡ []) }
-        requires room { of_kind self.old.holds.certified kind ≡ false → length (filter (waits D.eq (proposal_of self.old.holds.selection)) votes) ≤ of_kind self.old.pending_room kind }
+        requires none_wait { (of_kind self.old.holds.pending kind ≡ [])
+            × (of_kind self.old.holds.verified kind ≡ []) }
+        requires room { of_kind self.old.holds.certified kind ≡ false
+            → length (filter (waits D.eq (proposal_of self.old.holds.selection)) votes)
+            ≤ of_kind self.old.pending_room kind }
         ensures leader { self.new.holds.leader ≡ self.old.holds.leader }
         ensures selection { self.new.holds.selection ≡ self.old.holds.selection }
-        ensures buffers { (other : TheKind) → Buffers D.eq self.old.holds self.new.holds other (cond (is_kind kind other) votes.entry []) [] }
-        ensures room { RestoresRoom kind self.old.pending_room self.old.verified_room self.new.pending_room self.new.verified_room }
+        ensures buffers { (other : TheKind)
+            → Buffers D.eq self.old.holds self.new.holds other
+            (cond (is_kind kind other) votes.entry []) [] }
+        ensures room { RestoresRoom kind self.old.pending_room self.old.verified_room
+            self.new.pending_room self.new.verified_room }
         ensures same { SameVerifier self.old self.new }
     {
         if let Some(proposal) = selected(&self.state.proposal).copied() {
@@ -274,8 +303,11 @@ impl<S: Scheme<D>, D: Digest> Verifier<S, D> {
     ) -> Result<(), AllocError>
         ensures holds { self.new.holds ≡ self.old.holds }
         ensures kept { KeepsAllRoom self.old self.new }
-        ensures room { OnOk result (additional ≤ cond verified (of_kind self.new.verified_room kind) (of_kind self.new.pending_room kind)) }
-        ensures no_memory { additional ≤ cond verified (of_kind self.old.verified_room kind) (of_kind self.old.pending_room kind) → IsOk result }
+        ensures room { OnOk result (additional
+            ≤ cond verified (of_kind self.new.verified_room kind)
+            (of_kind self.new.pending_room kind)) }
+        ensures no_memory { additional ≤ cond verified (of_kind self.old.verified_room kind)
+            (of_kind self.old.pending_room kind) → IsOk result }
         ensures same { SameVerifier self.old self.new }
     {
         self.state.make_room(kind, verified, additional)
@@ -286,12 +318,17 @@ impl<S: Scheme<D>, D: Digest> Verifier<S, D> {
         &mut self,
         rng: &mut R,
     ) -> Result<Option<Batch<Certificate<S::Certificate, D>>>, AllocError>
-        ensures ready { IfOk result (λ given. is_some given ≡ is_ready D.eq (S.meaning self.old.scheme).batchable self.old.quorum self.old.holds TheNotarization) }
+        ensures ready { IfOk result (λ given. is_some given
+            ≡ is_ready D.eq (S.meaning self.old.scheme).batchable self.old.quorum self.old.holds
+            TheNotarization) }
         ensures tries { IfGiven result (λ batch.
-            TriesKind (S.meaning self.old.scheme) self.old.number self.old.quorum self.old.holds TheNotarization (R.stream rng.old) batch (R.stream rng.new) self.new.holds) }
+            TriesKind (S.meaning self.old.scheme) self.old.number self.old.quorum self.old.holds
+            TheNotarization (R.stream rng.old) batch (R.stream rng.new) self.new.holds) }
         ensures certifies { IfGiven result (BatchCertifies (S.meaning self.old.scheme)) }
         ensures names { IfGiven result NamesSomebody }
-        ensures not_ready { is_ready D.eq (S.meaning self.old.scheme).batchable self.old.quorum self.old.holds TheNotarization ≡ false → (IsOk result) × (self.new ≡ self.old) × (R.stream rng.new ≡ R.stream rng.old) }
+        ensures not_ready { is_ready D.eq (S.meaning self.old.scheme).batchable self.old.quorum
+            self.old.holds TheNotarization ≡ false → (IsOk result) × (self.new ≡ self.old)
+            × (R.stream rng.new ≡ R.stream rng.old) }
         ensures unchanged { OnErr result (self.new.holds ≡ self.old.holds) }
         ensures same { SameVerifier self.old self.new }
     {
@@ -303,12 +340,17 @@ impl<S: Scheme<D>, D: Digest> Verifier<S, D> {
         &mut self,
         rng: &mut R,
     ) -> Result<Option<Batch<Certificate<S::Certificate, D>>>, AllocError>
-        ensures ready { IfOk result (λ given. is_some given ≡ is_ready D.eq (S.meaning self.old.scheme).batchable self.old.quorum self.old.holds TheNullification) }
+        ensures ready { IfOk result (λ given. is_some given
+            ≡ is_ready D.eq (S.meaning self.old.scheme).batchable self.old.quorum self.old.holds
+            TheNullification) }
         ensures tries { IfGiven result (λ batch.
-            TriesKind (S.meaning self.old.scheme) self.old.number self.old.quorum self.old.holds TheNullification (R.stream rng.old) batch (R.stream rng.new) self.new.holds) }
+            TriesKind (S.meaning self.old.scheme) self.old.number self.old.quorum self.old.holds
+            TheNullification (R.stream rng.old) batch (R.stream rng.new) self.new.holds) }
         ensures certifies { IfGiven result (BatchCertifies (S.meaning self.old.scheme)) }
         ensures names { IfGiven result NamesSomebody }
-        ensures not_ready { is_ready D.eq (S.meaning self.old.scheme).batchable self.old.quorum self.old.holds TheNullification ≡ false → (IsOk result) × (self.new ≡ self.old) × (R.stream rng.new ≡ R.stream rng.old) }
+        ensures not_ready { is_ready D.eq (S.meaning self.old.scheme).batchable self.old.quorum
+            self.old.holds TheNullification ≡ false → (IsOk result) × (self.new ≡ self.old)
+            × (R.stream rng.new ≡ R.stream rng.old) }
         ensures unchanged { OnErr result (self.new.holds ≡ self.old.holds) }
         ensures same { SameVerifier self.old self.new }
     {
@@ -320,12 +362,17 @@ impl<S: Scheme<D>, D: Digest> Verifier<S, D> {
         &mut self,
         rng: &mut R,
     ) -> Result<Option<Batch<Certificate<S::Certificate, D>>>, AllocError>
-        ensures ready { IfOk result (λ given. is_some given ≡ is_ready D.eq (S.meaning self.old.scheme).batchable self.old.quorum self.old.holds TheFinalization) }
+        ensures ready { IfOk result (λ given. is_some given
+            ≡ is_ready D.eq (S.meaning self.old.scheme).batchable self.old.quorum self.old.holds
+            TheFinalization) }
         ensures tries { IfGiven result (λ batch.
-            TriesKind (S.meaning self.old.scheme) self.old.number self.old.quorum self.old.holds TheFinalization (R.stream rng.old) batch (R.stream rng.new) self.new.holds) }
+            TriesKind (S.meaning self.old.scheme) self.old.number self.old.quorum self.old.holds
+            TheFinalization (R.stream rng.old) batch (R.stream rng.new) self.new.holds) }
         ensures certifies { IfGiven result (BatchCertifies (S.meaning self.old.scheme)) }
         ensures names { IfGiven result NamesSomebody }
-        ensures not_ready { is_ready D.eq (S.meaning self.old.scheme).batchable self.old.quorum self.old.holds TheFinalization ≡ false → (IsOk result) × (self.new ≡ self.old) × (R.stream rng.new ≡ R.stream rng.old) }
+        ensures not_ready { is_ready D.eq (S.meaning self.old.scheme).batchable self.old.quorum
+            self.old.holds TheFinalization ≡ false → (IsOk result) × (self.new ≡ self.old)
+            × (R.stream rng.new ≡ R.stream rng.old) }
         ensures unchanged { OnErr result (self.new.holds ≡ self.old.holds) }
         ensures same { SameVerifier self.old self.new }
     {
@@ -338,13 +385,19 @@ impl<S: Scheme<D>, D: Digest> Verifier<S, D> {
         kind: Kind,
         rng: &mut R,
     ) -> Result<Option<Batch<Certificate<S::Certificate, D>>>, AllocError>
-        ensures ready { IfOk result (λ given. is_some given ≡ is_ready D.eq (S.meaning self.old.scheme).batchable self.old.quorum self.old.holds kind) }
+        ensures ready { IfOk result (λ given. is_some given
+            ≡ is_ready D.eq (S.meaning self.old.scheme).batchable self.old.quorum self.old.holds
+            kind) }
         ensures tries { IfGiven result (λ batch.
-            TriesKind (S.meaning self.old.scheme) self.old.number self.old.quorum self.old.holds kind (R.stream rng.old) batch (R.stream rng.new) self.new.holds) }
+            TriesKind (S.meaning self.old.scheme) self.old.number self.old.quorum self.old.holds
+            kind (R.stream rng.old) batch (R.stream rng.new) self.new.holds) }
         ensures certifies { IfGiven result (BatchCertifies (S.meaning self.old.scheme)) }
         ensures names { IfGiven result NamesSomebody }
-        ensures sound { IsSound (S.meaning self.old.scheme) D.eq self.old.number self.old.quorum self.old.holds }
-        ensures not_ready { is_ready D.eq (S.meaning self.old.scheme).batchable self.old.quorum self.old.holds kind ≡ false → (IsOk result) × (self.new ≡ self.old) × (R.stream rng.new ≡ R.stream rng.old) }
+        ensures sound { IsSound (S.meaning self.old.scheme) D.eq self.old.number self.old.quorum
+            self.old.holds }
+        ensures not_ready { is_ready D.eq (S.meaning self.old.scheme).batchable self.old.quorum
+            self.old.holds kind ≡ false → (IsOk result) × (self.new ≡ self.old)
+            × (R.stream rng.new ≡ R.stream rng.old) }
         ensures unchanged { OnErr result (self.new.holds ≡ self.old.holds) }
         ensures same { SameVerifier self.old self.new }
     {
@@ -356,9 +409,12 @@ impl<S: Scheme<D>, D: Digest> Verifier<S, D> {
 
     // What is to be tried of a kind, where it is ready.
     fn subject_ready(&self, kind: Kind) -> Option<Subject<D>>
-        ensures subject { result ≡ subject_ready D.eq (S.meaning self.now.scheme).batchable self.now.quorum self.now.holds self.now.number kind }
-        ensures ready { is_some result ≡ is_ready D.eq (S.meaning self.now.scheme).batchable self.now.quorum self.now.holds kind }
-        ensures sound { IsSound (S.meaning self.now.scheme) D.eq self.now.number self.now.quorum self.now.holds }
+        ensures subject { result ≡ subject_ready D.eq (S.meaning self.now.scheme).batchable
+            self.now.quorum self.now.holds self.now.number kind }
+        ensures ready { is_some result ≡ is_ready D.eq (S.meaning self.now.scheme).batchable
+            self.now.quorum self.now.holds kind }
+        ensures sound { IsSound (S.meaning self.now.scheme) D.eq self.now.number self.now.quorum
+            self.now.holds }
     {
         self.state
             .subject_ready(S::is_batchable(), self.quorum, self.round, kind)
@@ -371,8 +427,23 @@ impl<S: Scheme<D>, D: Digest> Verifier<S, D> {
         subject: Subject<D>,
         rng: &mut R,
     ) -> Result<Attempted<S::Certificate, S::Signature>, AllocError>
-        requires { subject_ready D.eq (S.meaning self.now.scheme).batchable self.now.quorum self.now.holds self.now.number kind ≡ Some subject }
-        ensures { IfOk result (λ a. (record { processed = a.batch.processed; invalid = a.batch.invalid; certificate = a.batch.certificate; fallback = a.batch.fallback; verified = (if is_some a.batch.certificate then [] else attestations_of (of_kind self.now.holds.verified kind) ++ a.joining.items) }, R.stream rng.new) ≡ attempt_of (S.meaning self.now.scheme) subject self.now.quorum (attestations_of (of_kind self.now.holds.verified kind)) (attestations_of (of_kind self.now.holds.pending kind)) (R.stream rng.old)) }
+        requires { subject_ready D.eq (S.meaning self.now.scheme).batchable self.now.quorum
+            self.now.holds self.now.number kind ≡ Some subject }
+        ensures { IfOk result (λ a. (
+          record {
+            processed = a.batch.processed;
+            invalid = a.batch.invalid;
+            certificate = a.batch.certificate;
+            fallback = a.batch.fallback;
+            verified =
+                (if is_some a.batch.certificate then [] else attestations_of
+                (of_kind self.now.holds.verified kind) ++ a.joining.items);
+          },
+          R.stream rng.new,
+        )
+            ≡ attempt_of (S.meaning self.now.scheme) subject self.now.quorum
+            (attestations_of (of_kind self.now.holds.verified kind))
+            (attestations_of (of_kind self.now.holds.pending kind)) (R.stream rng.old)) }
     {
         let scheme: &S = &self.scheme;
         let buffers = self.state.buffers(kind);
@@ -394,8 +465,11 @@ impl<S: Scheme<D>, D: Digest> Verifier<S, D> {
         subject: Subject<D>,
         rng: &mut R,
     ) -> Result<Batch<Certificate<S::Certificate, D>>, AllocError>
-        requires { subject_ready D.eq (S.meaning self.old.scheme).batchable self.old.quorum self.old.holds self.old.number kind ≡ Some subject }
-        ensures tries { IfOk result (λ batch. TriesKind (S.meaning self.old.scheme) self.old.number self.old.quorum self.old.holds kind (R.stream rng.old) batch (R.stream rng.new) self.new.holds) }
+        requires { subject_ready D.eq (S.meaning self.old.scheme).batchable self.old.quorum
+            self.old.holds self.old.number kind ≡ Some subject }
+        ensures tries { IfOk result (λ batch. TriesKind (S.meaning self.old.scheme) self.old.number
+            self.old.quorum self.old.holds kind (R.stream rng.old) batch (R.stream rng.new)
+            self.new.holds) }
         ensures certifies { IfOk result (BatchCertifies (S.meaning self.old.scheme)) }
         ensures names { IfOk result NamesSomebody }
         ensures unchanged { OnErr result (self.new.holds ≡ self.old.holds) }

@@ -157,7 +157,15 @@ impl<G: Copy, D: Digest> Model for VoteTracker<G, D> {
     ghost use Rattle.std.specs.Prelude.{map};
     ghost use Rattle.batcher.specs.Entries.{tracked_by, marks_of};
 
-    ghost view = { λ t. record { participants = t.entries.participants; mode = t.mode; holds = tracked_by (marks_of t.compacted) t.entries.items; signers = map (λ entry. entry.signer.0) t.entries.items; room = t.entries.room } };
+    ghost view = { λ t. record {
+      participants = t.entries.participants;
+      mode = t.mode;
+      holds = tracked_by
+          (marks_of t.compacted) t.entries.items;
+      signers = map (λ entry. entry.signer.0)
+          t.entries.items;
+      room = t.entries.room;
+    } };
 }
 
 impl<G: Copy, D: Digest> VoteTracker<G, D> {
@@ -177,7 +185,8 @@ impl<G: Copy, D: Digest> VoteTracker<G, D> {
         retain_votes_after_certification: bool,
     ) -> Self
         ensures participants { result.participants ≡ participants }
-        ensures mode { result.mode ≡ (if retain_votes_after_certification then Retaining else Releasing) }
+        ensures mode { result.mode ≡ (if retain_votes_after_certification then Retaining else
+            Releasing) }
         ensures holds { result.holds ≡ nothing_tracked result.mode }
     {
         let mode = if retain_votes_after_certification {
@@ -219,13 +228,18 @@ impl<G: Copy, D: Digest> VoteTracker<G, D> {
         vote: &Vote<G, D>,
         proposal: Option<&Proposal<D>>,
     ) -> Result<Outcome, AllocError>
-        ensures outcome { IfOk result (λ outcome. outcome ≡ outcome_of D.eq self.old.participants self.old.holds (option_copied proposal.entry) vote.now) }
-        ensures records { OnOk result ((kind : Kind) → RecordsKind D.eq self.old.holds self.new.holds (option_copied proposal.entry) (nat_lt (signer_of vote.now) self.old.participants) vote.now kind) }
+        ensures outcome { IfOk result (λ outcome. outcome
+            ≡ outcome_of D.eq self.old.participants self.old.holds (option_copied proposal.entry)
+            vote.now) }
+        ensures records { OnOk result ((kind : Kind)
+            → RecordsKind D.eq self.old.holds self.new.holds (option_copied proposal.entry)
+            (nat_lt (signer_of vote.now) self.old.participants) vote.now kind) }
         ensures err { OnErr result (self.new.holds ≡ self.old.holds) }
         ensures participants { self.new.participants ≡ self.old.participants }
         ensures mode { self.new.mode ≡ self.old.mode }
 
-        // It takes memory for a signer in range of whom no vote was recorded, and none after `make_room`.
+        // It takes memory for a signer in range of whom no vote was recorded, and none after
+        // `make_room`.
         ensures known { is_known self.old.holds (signer_of vote.now) ≡ true → IsOk result }
         ensures out_of_range { self.old.participants ≤ signer_of vote.now → IsOk result }
         ensures with_room { OnErr result (self.old.room ≡ 0) }
@@ -258,8 +272,12 @@ impl<G: Copy, D: Digest> VoteTracker<G, D> {
     ) -> Result<Outcome, AllocError>
         requires place { place ≡ place_of self.old.signers (signer_of vote.now) }
         requires range { signer_of vote.now < self.old.participants }
-        ensures outcome { IfOk result (λ outcome. outcome ≡ outcome_of D.eq self.old.participants self.old.holds (option_copied proposal.entry) vote.now) }
-        ensures records { OnOk result ((kind : Kind) → RecordsKind D.eq self.old.holds self.new.holds (option_copied proposal.entry) true vote.now kind) }
+        ensures outcome { IfOk result (λ outcome. outcome
+            ≡ outcome_of D.eq self.old.participants self.old.holds (option_copied proposal.entry)
+            vote.now) }
+        ensures records { OnOk result ((kind : Kind)
+            → RecordsKind D.eq self.old.holds self.new.holds (option_copied proposal.entry) true
+            vote.now kind) }
         ensures err { OnErr result (self.new.holds ≡ self.old.holds) }
         ensures participants { self.new.participants ≡ self.old.participants }
         ensures mode { self.new.mode ≡ self.old.mode }
@@ -295,7 +313,9 @@ impl<G: Copy, D: Digest> VoteTracker<G, D> {
         proposal: Option<Proposal<D>>,
     ) -> Outcome
         requires { place ≡ place_of self.now.signers (signer_of vote.now) }
-        ensures { result ≡ outcome_by D.eq proposal (of_kind self.now.holds.compacted (kind_of vote.now)) (observed self.now.holds (kind_of vote.now) (signer_of vote.now)) vote.now }
+        ensures { result ≡ outcome_by D.eq proposal
+            (of_kind self.now.holds.compacted (kind_of vote.now))
+            (observed self.now.holds (kind_of vote.now) (signer_of vote.now)) vote.now }
     {
         let is_compacted = self.compacted.of(kind_of(vote));
         match self.entry_at(place) {
@@ -320,7 +340,9 @@ impl<G: Copy, D: Digest> VoteTracker<G, D> {
 
     /// Releases the notarizes with a certificate for the proposal, unless votes are retained.
     pub(crate) fn release_notarizes(&mut self, proposal: &Proposal<D>)
-        ensures releases { (kind : Kind) → ReleasesKind D.eq self.old.holds self.new.holds (Some proposal.now) (is_kind Notarization kind && is_released_in self.old.mode true) kind }
+        ensures releases { (kind : Kind)
+            → ReleasesKind D.eq self.old.holds self.new.holds (Some proposal.now)
+            (is_kind Notarization kind && is_released_in self.old.mode true) kind }
         ensures participants { self.new.participants ≡ self.old.participants }
         ensures mode { self.new.mode ≡ self.old.mode }
         ensures room { self.new.room ≡ self.old.room }
@@ -330,7 +352,9 @@ impl<G: Copy, D: Digest> VoteTracker<G, D> {
 
     /// Releases the nullifies, unless votes are retained.
     pub(crate) fn release_nullifies(&mut self)
-        ensures releases { (kind : Kind) → ReleasesKind D.eq self.old.holds self.new.holds None (is_kind Nullification kind && is_released_in self.old.mode true) kind }
+        ensures releases { (kind : Kind)
+            → ReleasesKind D.eq self.old.holds self.new.holds None
+            (is_kind Nullification kind && is_released_in self.old.mode true) kind }
         ensures participants { self.new.participants ≡ self.old.participants }
         ensures mode { self.new.mode ≡ self.old.mode }
         ensures room { self.new.room ≡ self.old.room }
@@ -340,7 +364,9 @@ impl<G: Copy, D: Digest> VoteTracker<G, D> {
 
     /// Releases the finalizes with a certificate for the proposal, unless votes are retained.
     pub(crate) fn release_finalizes(&mut self, proposal: &Proposal<D>)
-        ensures releases { (kind : Kind) → ReleasesKind D.eq self.old.holds self.new.holds (Some proposal.now) (is_kind Finalization kind && is_released_in self.old.mode true) kind }
+        ensures releases { (kind : Kind)
+            → ReleasesKind D.eq self.old.holds self.new.holds (Some proposal.now)
+            (is_kind Finalization kind && is_released_in self.old.mode true) kind }
         ensures participants { self.new.participants ≡ self.old.participants }
         ensures mode { self.new.mode ≡ self.old.mode }
         ensures room { self.new.room ≡ self.old.room }
@@ -351,8 +377,11 @@ impl<G: Copy, D: Digest> VoteTracker<G, D> {
     /// Releases the votes of a kind, unless votes are retained: facts take their place, compared
     /// with the proposal. It takes no memory.
     pub(crate) fn release(&mut self, released: Kind, selected: Option<Proposal<D>>)
-        ensures releases { (kind : Kind) → ReleasesKind D.eq self.old.holds self.new.holds selected (is_kind released kind && is_released_in self.old.mode true) kind }
-        ensures others { (kind : Kind) → is_kind released kind ≡ false → SameTracked self.old.holds self.new.holds kind }
+        ensures releases { (kind : Kind)
+            → ReleasesKind D.eq self.old.holds self.new.holds selected
+            (is_kind released kind && is_released_in self.old.mode true) kind }
+        ensures others { (kind : Kind) → is_kind released kind ≡ false
+            → SameTracked self.old.holds self.new.holds kind }
         ensures participants { self.new.participants ≡ self.old.participants }
         ensures mode { self.new.mode ≡ self.old.mode }
         ensures room { self.new.room ≡ self.old.room }
@@ -386,7 +415,8 @@ impl<G: Copy, D: Digest> VoteTracker<G, D> {
 
     /// The vote of the kind, where one was seen of the signer whose place `place` gave.
     pub(crate) fn saw_at(&self, place: Place, kind: Kind) -> Option<ObservedVote<Vote<G, D>>>
-        ensures { (i : ℕ) → place ≡ place_of self.now.signers i → result ≡ shown (observed self.now.holds kind i) }
+        ensures { (i : ℕ) → place ≡ place_of self.now.signers i → result
+            ≡ shown (observed self.now.holds kind i) }
     {
         self.entry_at(place)?.seen(self.compacted.of(kind), kind)
     }
@@ -400,14 +430,16 @@ impl<G: Copy, D: Digest> VoteTracker<G, D> {
 
     /// The nullify of the signer, where one was seen.
     pub(crate) fn saw_nullify(&self, signer: Participant) -> Option<ObservedVote<Nullify<G>>>
-        ensures { option_map (observed_map NullifyVote) result ≡ shown (observed self.now.holds Nullification signer.0) }
+        ensures { option_map (observed_map NullifyVote) result
+            ≡ shown (observed self.now.holds Nullification signer.0) }
     {
         self.entry(signer)?.seen_nullify(self.compacted.nullify)
     }
 
     /// The finalize of the signer, where one was seen.
     pub(crate) fn saw_finalize(&self, signer: Participant) -> Option<ObservedVote<Finalize<G, D>>>
-        ensures { option_map (observed_map FinalizeVote) result ≡ shown (observed self.now.holds Finalization signer.0) }
+        ensures { option_map (observed_map FinalizeVote) result
+            ≡ shown (observed self.now.holds Finalization signer.0) }
     {
         self.entry(signer)?.seen_finalize(self.compacted.finalize)
     }
@@ -415,7 +447,8 @@ impl<G: Copy, D: Digest> VoteTracker<G, D> {
     /// Whether the signer is known to have notarized the proposal. Of notarizes that aren't kept
     /// it is known whether one was for the selected proposal, so another one isn't told from it.
     pub(crate) fn has_notarize_for(&self, signer: Participant, proposal: &Proposal<D>) -> bool
-        ensures { result ≡ is_seen_for D.eq proposal.now (observed self.now.holds Notarization signer.0) }
+        ensures { result ≡ is_seen_for D.eq proposal.now
+            (observed self.now.holds Notarization signer.0) }
     {
         match self.entry(signer) {
             Some(entry) => entry.has_notarize_for(self.compacted.notarize, proposal),
@@ -426,7 +459,8 @@ impl<G: Copy, D: Digest> VoteTracker<G, D> {
     /// Whether the signer is known to have finalized the proposal. Of finalizes that aren't kept
     /// it is known whether one was for the selected proposal, so another one isn't told from it.
     pub(crate) fn has_finalize_for(&self, signer: Participant, proposal: &Proposal<D>) -> bool
-        ensures { result ≡ is_seen_for D.eq proposal.now (observed self.now.holds Finalization signer.0) }
+        ensures { result ≡ is_seen_for D.eq proposal.now
+            (observed self.now.holds Finalization signer.0) }
     {
         match self.entry(signer) {
             Some(entry) => entry.has_finalize_for(self.compacted.finalize, proposal),
@@ -443,15 +477,19 @@ impl<G: Copy, D: Digest> VoteTracker<G, D> {
 
     // The entry of the signer.
     fn entry(&self, signer: Participant) -> Option<&Entry<G, D>>
-        ensures observed { (kind : Kind) → observed self.now.holds kind signer.0 ≡ observed_of (of_kind self.now.holds.compacted kind) kind (option_copied result) }
-        ensures kept { (kind : Kind) → kept_vote self.now.holds kind signer.0 ≡ kept_of (of_kind self.now.holds.compacted kind) kind (option_copied result) }
+        ensures observed { (kind : Kind) → observed self.now.holds kind signer.0
+            ≡ observed_of (of_kind self.now.holds.compacted kind) kind (option_copied result) }
+        ensures kept { (kind : Kind) → kept_vote self.now.holds kind signer.0
+            ≡ kept_of (of_kind self.now.holds.compacted kind) kind (option_copied result) }
     {
         self.entries.get(signer)
     }
 
     // The entry at a place.
     fn entry_at(&self, place: Place) -> Option<&Entry<G, D>>
-        ensures { (i : ℕ) → place ≡ place_of self.now.signers i → (kind : Kind) → observed self.now.holds kind i ≡ observed_of (of_kind self.now.holds.compacted kind) kind (option_copied result) }
+        ensures { (i : ℕ) → place ≡ place_of self.now.signers i → (kind : Kind)
+            → observed self.now.holds kind i
+            ≡ observed_of (of_kind self.now.holds.compacted kind) kind (option_copied result) }
     {
         self.entries.get_at(place)
     }
@@ -492,7 +530,8 @@ impl<G: Copy, D: Digest> VoteTracker<G, D> {
 
     /// How many of the kept votes of a kind wait with the proposal.
     pub(crate) fn count_for(&self, kind: Kind, proposal: &Proposal<D>) -> usize
-        ensures count { result ≡ length (filter (waits D.eq (Some proposal.now)) (of_kind self.now.holds.kept kind)) }
+        ensures count { result ≡ length (filter (waits D.eq (Some proposal.now))
+            (of_kind self.now.holds.kept kind)) }
         ensures none { of_kind self.now.holds.compacted kind ≡ true → result ≡ 0 }
     {
         if self.compacted.of(kind) {
@@ -508,7 +547,9 @@ fn count_for<G: Copy, D: Digest>(
     kind: Kind,
     proposal: &Proposal<D>,
 ) -> usize
-    ensures { result ≡ length (filter (λ entry. is_some_and (kept_part kind entry) (waits D.eq (Some proposal.now))) entries.now) }
+    ensures { result ≡ length (filter
+        (λ entry. is_some_and (kept_part kind entry) (waits D.eq (Some proposal.now)))
+        entries.now) }
 {
     entries
         .iter()

@@ -1,6 +1,7 @@
 //! A map from signers to their items.
 
-ghost use Rattle.std.specs.Prelude.{ℕ, ◌≡◌, ◌+◌, ◌-◌, ◌<◌, ◌≤◌, ◌↔◌, List, [], Some, None, false, length, IsTrue, IsOk, IfOk, OnOk, OnErr, IfErr, vec_len, vec_capacity, slice_get, slice_index_or, slice_set, insert, map, Err, if◌then◌else◌, MatchResult};
+ghost use Rattle.std.specs.Prelude.{ℕ, ◌≡◌, ◌+◌, ◌-◌, ◌<◌, ◌≤◌, ◌↔◌, List, [], Some, None, false, length, IsTrue, IsOk, IfOk, OnOk, OnErr, IfErr, vec_len, vec_capacity, slice_get, slice_index_or, slice_set, insert, map, Err, if◌then◌else◌};
+ghost use Rattle.std.specs.Prelude.{MatchResult};
 ghost use Rattle.std.specs.List.{All};
 ghost use Rattle.std.specs.Option.{option_copied};
 ghost use Rattle.std.specs.Iterator.{YieldsFirstRef, item_count};
@@ -28,9 +29,15 @@ pub struct AttributableMap<T: Attributable> {
 impl<T: Attributable> Model for AttributableMap<T> {
     ghost Value = { Items T };
 
-    ghost view = { λ m. record { participants = m.participants; items = m.items.items; room = vec_capacity m.items - vec_len m.items } };
+    ghost view = { λ m. record {
+      participants = m.participants;
+      items = m.items.items;
+      room = vec_capacity
+          m.items - vec_len m.items;
+    } };
 
-    ghost invariant = { λ m. IsAscending (λ x. (T.signed_by x).0) m.items.items × All (λ x. (T.signed_by x).0 < m.participants) m.items.items };
+    ghost invariant = { λ m. IsAscending (λ x. (T.signed_by x).0) m.items.items
+        × All (λ x. (T.signed_by x).0 < m.participants) m.items.items };
 }
 
 impl<T: Attributable> AttributableMap<T> {
@@ -49,7 +56,9 @@ impl<T: Attributable> AttributableMap<T> {
     /// it did. Where it answers false it takes no memory, nor after `make_room`.
     pub fn insert(&mut self, item: T) -> Result<bool, AllocError>
         ensures kept { IfOk result (λ kept. kept ≡ is_new (λ x. (T.signed_by x).0) self.old item) }
-        ensures items { MatchResult result (λ kept. self.new.items ≡ (if kept then insert_by (λ x. (T.signed_by x).0) item self.old.items else self.old.items)) (λ _. self.new.items ≡ self.old.items) }
+        ensures items { MatchResult result
+            (λ kept. self.new.items ≡ (if kept then insert_by (λ x. (T.signed_by x).0) item
+            self.old.items else self.old.items)) (λ _. self.new.items ≡ self.old.items) }
         ensures participants { self.new.participants ≡ self.old.participants }
         ensures no_memory { is_new (λ x. (T.signed_by x).0) self.old item ≡ false → IsOk result }
         ensures with_room { OnErr result (self.old.room ≡ 0) }
@@ -69,7 +78,8 @@ impl<T: Attributable> AttributableMap<T> {
 
     /// The item of the signer.
     pub fn get(&self, signer: Participant) -> Option<&T>
-        ensures item { option_copied result ≡ item_of (λ x. (T.signed_by x).0) self.now.items signer.0 }
+        ensures item { option_copied result
+            ≡ item_of (λ x. (T.signed_by x).0) self.now.items signer.0 }
         ensures ascending { IsAscending (λ x. (T.signed_by x).0) self.now.items }
     {
         self.get_at(self.place(signer))
@@ -77,7 +87,8 @@ impl<T: Attributable> AttributableMap<T> {
 
     /// The item at a place that `place` gave for its signer.
     pub(crate) fn get_at(&self, place: Place) -> Option<&T>
-        ensures item { (i : ℕ) → place ≡ place_of (map (λ x. (T.signed_by x).0) self.now.items) i → option_copied result ≡ item_of (λ x. (T.signed_by x).0) self.now.items i }
+        ensures item { (i : ℕ) → place ≡ place_of (map (λ x. (T.signed_by x).0) self.now.items) i
+            → option_copied result ≡ item_of (λ x. (T.signed_by x).0) self.now.items i }
         ensures ascending { IsAscending (λ x. (T.signed_by x).0) self.now.items }
     {
         match place {
@@ -121,7 +132,8 @@ impl<T: Attributable> AttributableMap<T> {
 
     /// Puts the item in the place of its signer's, and answers that one. It takes no memory.
     pub fn replace(&mut self, item: T) -> Option<T>
-        ensures before { result ≡ item_of (λ x. (T.signed_by x).0) self.old.items (T.signed_by item).0 }
+        ensures before { result ≡ item_of (λ x. (T.signed_by x).0) self.old.items
+            (T.signed_by item).0 }
         ensures items { self.new.items ≡ replace_by (λ x. (T.signed_by x).0) item self.old.items }
         ensures participants { self.new.participants ≡ self.old.participants }
         ensures room { self.new.room ≡ self.old.room }
@@ -159,7 +171,8 @@ impl<T: Attributable> AttributableMap<T> {
     /// Puts the item in the place of one of the same signer. It takes no memory.
     pub(crate) fn replace_at(&mut self, place: usize, item: T)
         requires place { place < length self.old.items }
-        requires signer { T.signed_by (slice_index_or self.old.items place item) ≡ T.signed_by item }
+        requires signer { T.signed_by (slice_index_or self.old.items place item)
+            ≡ T.signed_by item }
         ensures items { self.new.items ≡ slice_set self.old.items place item }
         ensures participants { self.new.participants ≡ self.old.participants }
         ensures room { self.new.room ≡ self.old.room }
@@ -171,8 +184,11 @@ impl<T: Attributable> AttributableMap<T> {
     /// `make_room` it takes no memory.
     pub(crate) fn insert_at(&mut self, place: usize, item: T) -> Result<(), AllocError>
         requires signer { (T.signed_by item).0 < self.old.participants }
-        requires place { place_of (map (λ x. (T.signed_by x).0) self.old.items) (T.signed_by item).0 ≡ Err place }
-        ensures items { MatchResult result (λ _. self.new.items ≡ insert_by (λ x. (T.signed_by x).0) item self.old.items) (λ _. self.new.items ≡ self.old.items) }
+        requires place { place_of (map (λ x. (T.signed_by x).0) self.old.items) (T.signed_by item).0
+            ≡ Err place }
+        ensures items { MatchResult result
+            (λ _. self.new.items ≡ insert_by (λ x. (T.signed_by x).0) item self.old.items)
+            (λ _. self.new.items ≡ self.old.items) }
         ensures ascending { IsAscending (λ x. (T.signed_by x).0) self.old.items }
         ensures participants { self.new.participants ≡ self.old.participants }
         ensures with_room { OnErr result (self.old.room ≡ 0) }
@@ -194,8 +210,13 @@ impl<T: Attributable> AttributableMap<T> {
     pub(crate) fn place(&self, signer: Participant) -> Place
         ensures place { result ≡ place_of (map (λ x. (T.signed_by x).0) self.now.items) signer.0 }
         ensures ascending { IsAscending (λ x. (T.signed_by x).0) self.now.items }
-        ensures found { IfOk result (λ i. (i < length self.now.items) × ((d : T) → item_of (λ x. (T.signed_by x).0) self.now.items signer.0 ≡ Some (slice_index_or self.now.items i d))) }
-        ensures absent { IfErr result (λ i. (i ≤ length self.now.items) × (item_of (λ x. (T.signed_by x).0) self.now.items signer.0 ≡ None) × ((x : T) → (T.signed_by x).0 ≡ signer.0 → insert self.now.items i x ≡ insert_by (λ x. (T.signed_by x).0) x self.now.items)) }
+        ensures found { IfOk result (λ i. (i < length self.now.items)
+            × ((d : T) → item_of (λ x. (T.signed_by x).0) self.now.items signer.0
+            ≡ Some (slice_index_or self.now.items i d))) }
+        ensures absent { IfErr result (λ i. (i ≤ length self.now.items)
+            × (item_of (λ x. (T.signed_by x).0) self.now.items signer.0 ≡ None)
+            × ((x : T) → (T.signed_by x).0 ≡ signer.0 → insert self.now.items i x
+            ≡ insert_by (λ x. (T.signed_by x).0) x self.now.items)) }
     {
         if self.is_below(signer) {
             Err(self.items.len())
@@ -218,8 +239,13 @@ impl<T: Attributable> AttributableMap<T> {
     // Where the signer's item stands, else where it would, by halves.
     fn searched_place(&self, signer: Participant) -> Place
         ensures place { result ≡ place_of (map (λ x. (T.signed_by x).0) self.now.items) signer.0 }
-        ensures found { IfOk result (λ i. (i < length self.now.items) × ((d : T) → item_of (λ x. (T.signed_by x).0) self.now.items signer.0 ≡ Some (slice_index_or self.now.items i d))) }
-        ensures absent { IfErr result (λ i. (i ≤ length self.now.items) × (item_of (λ x. (T.signed_by x).0) self.now.items signer.0 ≡ None) × ((x : T) → (T.signed_by x).0 ≡ signer.0 → insert self.now.items i x ≡ insert_by (λ x. (T.signed_by x).0) x self.now.items)) }
+        ensures found { IfOk result (λ i. (i < length self.now.items)
+            × ((d : T) → item_of (λ x. (T.signed_by x).0) self.now.items signer.0
+            ≡ Some (slice_index_or self.now.items i d))) }
+        ensures absent { IfErr result (λ i. (i ≤ length self.now.items)
+            × (item_of (λ x. (T.signed_by x).0) self.now.items signer.0 ≡ None)
+            × ((x : T) → (T.signed_by x).0 ≡ signer.0 → insert self.now.items i x
+            ≡ insert_by (λ x. (T.signed_by x).0) x self.now.items)) }
     {
         self.items
             .binary_search_by_key(&signer.0, |item| item.signer().0)

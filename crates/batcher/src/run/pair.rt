@@ -42,12 +42,20 @@ pub fn run_pair<S: Scheme<D>, D: Digest, R: CryptoRng>(
 ) -> Result<PairRan<S, D>, AllocError>
     requires modes { (retaining.mode ≡ Mode.Retaining) × (releasing.mode ≡ Mode.Releasing) }
     requires same { (releasing.scheme ≡ retaining.scheme) × (releasing.number ≡ retaining.number) }
-    requires fresh { (retaining.holds ≡ nothing_held Mode.Retaining) × (releasing.holds ≡ nothing_held Mode.Releasing) }
+    requires fresh { (retaining.holds ≡ nothing_held Mode.Retaining)
+        × (releasing.holds ≡ nothing_held Mode.Releasing) }
     requires streams { R.stream rng_b.old ≡ R.stream rng_a.old }
     requires calls { All (MayCall (S.meaning retaining.scheme) retaining.number) calls.now }
-    ensures ran { IfOk result (λ pair. IsPairRun (setting (S.meaning retaining.scheme) S.PublicKey.cmp S.Signature.eq D.eq retaining.number Mode.Retaining) (R.stream rng_a.old) calls.now pair.stopped pair.retaining.answers.items pair.retaining.round.holds (R.stream rng_a.new) pair.releasing.answers.items pair.releasing.round.holds (R.stream rng_b.new)) }
-    ensures drawn { OnErr result ((R.stream rng_a.new ≡ R.stream rng_a.old) × (R.stream rng_b.new ≡ R.stream rng_b.old)) }
-    ensures kept { IfOk result (λ pair. (pair.retaining.round ≡ record retaining { holds = pair.retaining.round.holds }) × (pair.releasing.round ≡ record releasing { holds = pair.releasing.round.holds })) }
+    ensures ran { IfOk result (λ pair. IsPairRun
+        (setting (S.meaning retaining.scheme) S.PublicKey.cmp S.Signature.eq D.eq retaining.number
+        Mode.Retaining) (R.stream rng_a.old) calls.now pair.stopped pair.retaining.answers.items
+        pair.retaining.round.holds (R.stream rng_a.new) pair.releasing.answers.items
+        pair.releasing.round.holds (R.stream rng_b.new)) }
+    ensures drawn { OnErr result ((R.stream rng_a.new ≡ R.stream rng_a.old)
+        × (R.stream rng_b.new ≡ R.stream rng_b.old)) }
+    ensures kept { IfOk result (λ pair.
+        (pair.retaining.round ≡ record retaining { holds = pair.retaining.round.holds })
+        × (pair.releasing.round ≡ record releasing { holds = pair.releasing.round.holds })) }
 {
     let mut retained = Vec::with_capacity(alloc, calls.len())?;
     let mut released = Vec::with_capacity(alloc, calls.len())?;
@@ -86,14 +94,21 @@ fn step_both<S: Scheme<D>, D: Digest, R: CryptoRng>(
     released: &mut Vec<Answer<S::Signature, S::Certificate, D>>,
 ) -> Option<usize>
     requires modes { (retaining.old.mode ≡ Mode.Retaining) × (releasing.old.mode ≡ Mode.Releasing) }
-    requires same { (releasing.old.scheme ≡ retaining.old.scheme) × (releasing.old.number ≡ retaining.old.number) }
-    requires fresh { (retaining.old.holds ≡ nothing_held Mode.Retaining) × (releasing.old.holds ≡ nothing_held Mode.Releasing) }
+    requires same { (releasing.old.scheme ≡ retaining.old.scheme)
+        × (releasing.old.number ≡ retaining.old.number) }
+    requires fresh { (retaining.old.holds ≡ nothing_held Mode.Retaining)
+        × (releasing.old.holds ≡ nothing_held Mode.Releasing) }
     requires streams { R.stream rng_b.old ≡ R.stream rng_a.old }
     requires calls { All (MayCall (S.meaning retaining.old.scheme) retaining.old.number) calls.now }
     requires empty { (retained.old.items ≡ []) × (released.old.items ≡ []) }
-    requires room { (length calls.now ≤ vec_capacity retained.old) × (length calls.now ≤ vec_capacity released.old) }
-    ensures ran { IsPairRun (setting (S.meaning retaining.old.scheme) S.PublicKey.cmp S.Signature.eq D.eq retaining.old.number Mode.Retaining) (R.stream rng_a.old) calls.now result retained.new.items retaining.new.holds (R.stream rng_a.new) released.new.items releasing.new.holds (R.stream rng_b.new) }
-    ensures kept { (retaining.new ≡ record retaining.old { holds = retaining.new.holds }) × (releasing.new ≡ record releasing.old { holds = releasing.new.holds }) }
+    requires room { (length calls.now ≤ vec_capacity retained.old)
+        × (length calls.now ≤ vec_capacity released.old) }
+    ensures ran { IsPairRun (setting (S.meaning retaining.old.scheme) S.PublicKey.cmp S.Signature.eq
+        D.eq retaining.old.number Mode.Retaining) (R.stream rng_a.old) calls.now result
+        retained.new.items retaining.new.holds (R.stream rng_a.new) released.new.items
+        releasing.new.holds (R.stream rng_b.new) }
+    ensures kept { (retaining.new ≡ record retaining.old { holds = retaining.new.holds })
+        × (releasing.new ≡ record releasing.old { holds = releasing.new.holds }) }
 {
     retaining.has_participants();
     for call in calls {

@@ -16,7 +16,8 @@ fn add_round(hasher: &mut Sha256, round: Round)
 }
 
 fn add_proposal(hasher: &mut Sha256, proposal: Proposal<Sha256Digest>)
-    ensures { (m : List ℕ) → Holds256 hasher.old m → Holds256 hasher.new (m ++ proposal_bytes proposal) }
+    ensures { (m : List ℕ) → Holds256 hasher.old m
+        → Holds256 hasher.new (m ++ proposal_bytes proposal) }
 {
     add_round(hasher, proposal.round);
     hasher.update(proposal.parent.0.to_be_bytes().as_slice());
@@ -24,7 +25,8 @@ fn add_proposal(hasher: &mut Sha256, proposal: Proposal<Sha256Digest>)
 }
 
 fn add_subject(hasher: &mut Sha256, subject: Subject<Sha256Digest>)
-    ensures { (m : List ℕ) → Holds256 hasher.old m → Holds256 hasher.new (m ++ subject_bytes subject) }
+    ensures { (m : List ℕ) → Holds256 hasher.old m
+        → Holds256 hasher.new (m ++ subject_bytes subject) }
 {
     match subject {
         Subject::Notarize { proposal } => {

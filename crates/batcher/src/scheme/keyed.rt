@@ -137,7 +137,8 @@ impl<const BATCHABLE: bool> Keyed<BATCHABLE> {
     pub fn sign(&self, signer: Participant, subject: Subject<Sha256Digest>) -> Attestation<[u8; 32]>
         ensures signer { result.signer ≡ signer }
         ensures signature { result.signature ≡ signature_of self.now.root signer.0 subject }
-        ensures attests { signer.0 < length self.now.participants → is_signed (length self.now.participants) self.now.root subject result ≡ true }
+        ensures attests { signer.0 < length self.now.participants
+            → is_signed (length self.now.participants) self.now.root subject result ≡ true }
     {
         attestation(&self.root, signer, subject)
     }
@@ -156,7 +157,9 @@ impl<const BATCHABLE: bool> Scheme<Sha256Digest> for Keyed<BATCHABLE> {
       attests = λ subject a. is_signed (length s.participants) s.root subject a;
       certifies = λ subject c. is_listed (length s.participants) s.root subject c;
       left_by_verifying = λ subject pending stream. stream;
-      assembled_at_once = λ subject pending verified stream. listed_at_once (length s.participants) s.root subject pending verified stream;
+      assembled_at_once =
+          λ subject pending verified stream. listed_at_once (length s.participants) s.root subject
+          pending verified stream;
       assembled = λ subject prior fresh. ordered_by index_of_signer (prior ++ fresh);
     } };
 
@@ -164,9 +167,15 @@ impl<const BATCHABLE: bool> Scheme<Sha256Digest> for Keyed<BATCHABLE> {
 
     ghost lawful = { λ s. record {
       signers_in_range = λ subject a h. is_signed-range (length s.participants) s.root subject a h;
-      optimistic_certifies = λ subject pending verified stream c may e. list_certifies (length s.participants) s.root subject pending verified stream c may.some may.quorum may.attested e;
-      optimistic_gives = λ subject pending verified stream may all. list_gives (length s.participants) s.root subject pending verified stream all;
-      assembled_certifies = λ subject prior fresh some quorum pass. listed (length s.participants) s.root subject (prior ++ fresh) some quorum pass;
+      optimistic_certifies =
+          λ subject pending verified stream c may e. list_certifies (length s.participants) s.root
+          subject pending verified stream c may.some may.quorum may.attested e;
+      optimistic_gives =
+          λ subject pending verified stream may all. list_gives (length s.participants) s.root
+          subject pending verified stream all;
+      assembled_certifies =
+          λ subject prior fresh some quorum pass. listed (length s.participants) s.root subject
+          (prior ++ fresh) some quorum pass;
     } };
 
     fn participants(&self) -> &Set<Name> {
@@ -184,7 +193,8 @@ impl<const BATCHABLE: bool> Scheme<Sha256Digest> for Keyed<BATCHABLE> {
         subject: Subject<Sha256Digest>,
         pending: &[Attestation<[u8; 32]>],
     ) -> Result<Verification<[u8; 32]>, AllocError>
-        ensures sorts { IfOk result (Sorts (is_signed (length self.now.participants) self.now.root subject) pending.now) }
+        ensures sorts { IfOk result (Sorts
+            (is_signed (length self.now.participants) self.now.root subject) pending.now) }
         ensures stream { OnOk result (R.stream rng.new ≡ R.stream rng.old) }
         ensures drawn { R.stream rng.new ≡ R.stream rng.old }
     {
@@ -202,9 +212,13 @@ impl<const BATCHABLE: bool> Scheme<Sha256Digest> for Keyed<BATCHABLE> {
     ) -> Result<Result<AttestationList, Verification<[u8; 32]>>, AllocError>
         requires some { 1 ≤ length self.now.participants }
         requires quorum { IsQuorum (length self.now.participants) (verified.now ++ pending.now) }
-        requires attested { AllPass (is_signed (length self.now.participants) self.now.root subject) verified.now }
-        ensures sorts { IfOk result (λ answer. IfErr answer (Sorts (is_signed (length self.now.participants) self.now.root subject) pending.now)) }
-        ensures function { IfOk result (λ answer. (result_ok answer, R.stream rng.new) ≡ listed_at_once (length self.now.participants) self.now.root subject pending.now verified.now (R.stream rng.old)) }
+        requires attested { AllPass (is_signed (length self.now.participants) self.now.root subject)
+            verified.now }
+        ensures sorts { IfOk result (λ answer. IfErr answer
+            (Sorts (is_signed (length self.now.participants) self.now.root subject) pending.now)) }
+        ensures function { IfOk result (λ answer. (result_ok answer, R.stream rng.new)
+            ≡ listed_at_once (length self.now.participants) self.now.root subject pending.now
+            verified.now (R.stream rng.old)) }
         ensures drawn { R.stream rng.new ≡ R.stream rng.old }
     {
         let found = self.verify_attestations(alloc, rng, subject, pending)?;
@@ -225,8 +239,10 @@ impl<const BATCHABLE: bool> Scheme<Sha256Digest> for Keyed<BATCHABLE> {
     ) -> Result<AttestationList, AllocError>
         requires some { 1 ≤ length self.now.participants }
         requires quorum { IsQuorum (length self.now.participants) (prior.now ++ fresh.now) }
-        requires attested { AllPass (is_signed (length self.now.participants) self.now.root subject) (prior.now ++ fresh.now) }
-        ensures function { IfOk result (λ certificate. certificate ≡ ordered_by index_of_signer (prior.now ++ fresh.now)) }
+        requires attested { AllPass (is_signed (length self.now.participants) self.now.root subject)
+            (prior.now ++ fresh.now) }
+        ensures function { IfOk result (λ certificate. certificate
+            ≡ ordered_by index_of_signer (prior.now ++ fresh.now)) }
     {
         let _ = subject;
         let attestations = in_order(alloc, prior, fresh)?;
@@ -238,7 +254,8 @@ impl<const BATCHABLE: bool> Scheme<Sha256Digest> for Keyed<BATCHABLE> {
         subject: Subject<Sha256Digest>,
         certificate: &AttestationList,
     ) -> bool
-        ensures { result ≡ is_listed (length self.now.participants) self.now.root subject certificate.now }
+        ensures { result ≡ is_listed (length self.now.participants) self.now.root subject
+            certificate.now }
     {
         let n = self.participants.len();
         let listed = certificate.attestations.as_slice();

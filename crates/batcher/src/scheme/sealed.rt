@@ -38,7 +38,8 @@ impl Sealed {
     pub fn sign(&self, signer: Participant, subject: Subject<Sha256Digest>) -> Attestation<[u8; 32]>
         ensures signer { result.signer ≡ signer }
         ensures signature { result.signature ≡ signature_of self.now.root signer.0 subject }
-        ensures attests { signer.0 < length self.now.participants → is_signed (length self.now.participants) self.now.root subject result ≡ true }
+        ensures attests { signer.0 < length self.now.participants
+            → is_signed (length self.now.participants) self.now.root subject result ≡ true }
     {
         attestation(&self.root, signer, subject)
     }
@@ -57,7 +58,9 @@ impl Scheme<Sha256Digest> for Sealed {
       attests = λ subject a. is_signed (length s.participants) s.root subject a;
       certifies = λ subject c. is_sealed (length s.participants) s.root subject c;
       left_by_verifying = λ subject pending stream. stream;
-      assembled_at_once = λ subject pending verified stream. sealed_at_once (length s.participants) s.root subject pending verified stream;
+      assembled_at_once =
+          λ subject pending verified stream. sealed_at_once (length s.participants) s.root subject
+          pending verified stream;
       assembled = λ subject prior fresh. seal_of s.root subject;
     } };
 
@@ -65,9 +68,15 @@ impl Scheme<Sha256Digest> for Sealed {
 
     ghost lawful = { λ s. record {
       signers_in_range = λ subject a h. is_signed-range (length s.participants) s.root subject a h;
-      optimistic_certifies = λ subject pending verified stream c may e. seal_certifies (length s.participants) s.root subject pending verified stream c may.some e;
-      optimistic_gives = λ subject pending verified stream may all. seal_gives (length s.participants) s.root subject pending verified stream may.quorum all;
-      assembled_certifies = λ subject prior fresh some quorum pass. sealed (length s.participants) s.root subject some;
+      optimistic_certifies =
+          λ subject pending verified stream c may e. seal_certifies (length s.participants) s.root
+          subject pending verified stream c may.some e;
+      optimistic_gives =
+          λ subject pending verified stream may all. seal_gives (length s.participants) s.root
+          subject pending verified stream may.quorum all;
+      assembled_certifies =
+          λ subject prior fresh some quorum pass. sealed (length s.participants) s.root subject
+          some;
     } };
 
     fn participants(&self) -> &Set<Name> {
@@ -85,7 +94,8 @@ impl Scheme<Sha256Digest> for Sealed {
         subject: Subject<Sha256Digest>,
         pending: &[Attestation<[u8; 32]>],
     ) -> Result<Verification<[u8; 32]>, AllocError>
-        ensures sorts { IfOk result (Sorts (is_signed (length self.now.participants) self.now.root subject) pending.now) }
+        ensures sorts { IfOk result (Sorts
+            (is_signed (length self.now.participants) self.now.root subject) pending.now) }
         ensures stream { OnOk result (R.stream rng.new ≡ R.stream rng.old) }
         ensures drawn { R.stream rng.new ≡ R.stream rng.old }
     {
@@ -103,9 +113,13 @@ impl Scheme<Sha256Digest> for Sealed {
     ) -> Result<Result<[u8; 32], Verification<[u8; 32]>>, AllocError>
         requires some { 1 ≤ length self.now.participants }
         requires quorum { IsQuorum (length self.now.participants) (verified.now ++ pending.now) }
-        requires attested { AllPass (is_signed (length self.now.participants) self.now.root subject) verified.now }
-        ensures sorts { IfOk result (λ answer. IfErr answer (Sorts (is_signed (length self.now.participants) self.now.root subject) pending.now)) }
-        ensures function { IfOk result (λ answer. (result_ok answer, R.stream rng.new) ≡ sealed_at_once (length self.now.participants) self.now.root subject pending.now verified.now (R.stream rng.old)) }
+        requires attested { AllPass (is_signed (length self.now.participants) self.now.root subject)
+            verified.now }
+        ensures sorts { IfOk result (λ answer. IfErr answer
+            (Sorts (is_signed (length self.now.participants) self.now.root subject) pending.now)) }
+        ensures function { IfOk result (λ answer. (result_ok answer, R.stream rng.new)
+            ≡ sealed_at_once (length self.now.participants) self.now.root subject pending.now
+            verified.now (R.stream rng.old)) }
         ensures drawn { R.stream rng.new ≡ R.stream rng.old }
     {
         let _ = rng;
@@ -127,7 +141,8 @@ impl Scheme<Sha256Digest> for Sealed {
     ) -> Result<[u8; 32], AllocError>
         requires some { 1 ≤ length self.now.participants }
         requires quorum { IsQuorum (length self.now.participants) (prior.now ++ fresh.now) }
-        requires attested { AllPass (is_signed (length self.now.participants) self.now.root subject) (prior.now ++ fresh.now) }
+        requires attested { AllPass (is_signed (length self.now.participants) self.now.root subject)
+            (prior.now ++ fresh.now) }
         ensures function { IfOk result (λ c. c ≡ seal_of self.now.root subject) }
     {
         let _ = alloc;
@@ -137,7 +152,8 @@ impl Scheme<Sha256Digest> for Sealed {
     }
 
     fn verify_certificate(&self, subject: Subject<Sha256Digest>, certificate: &[u8; 32]) -> bool
-        ensures { result ≡ is_sealed (length self.now.participants) self.now.root subject certificate.now }
+        ensures { result ≡ is_sealed (length self.now.participants) self.now.root subject
+            certificate.now }
     {
         self.participants.len() >= 1 && *certificate == seal(&self.root, subject)
     }

@@ -52,7 +52,18 @@ pub(crate) fn attempt<S: Scheme<D>, D: Digest, R: CryptoRng>(
     requires enough { quorum_of (length (S.meaning scheme.now).participants) ≤ quorum }
     requires once { EachOnce index_of_signer (verified.now ++ pending.now) }
     requires attested { AllPass ((S.meaning scheme.now).attests subject) verified.now }
-    ensures attempt { IfOk result (λ a. (record { processed = a.batch.processed; invalid = a.batch.invalid; certificate = a.batch.certificate; fallback = a.batch.fallback; verified = (if is_some a.batch.certificate then [] else verified.now ++ a.joining.items) }, R.stream rng.new) ≡ attempt_of (S.meaning scheme.now) subject quorum verified.now pending.now (R.stream rng.old)) }
+    ensures attempt { IfOk result (λ a. (
+      record {
+        processed = a.batch.processed;
+        invalid = a.batch.invalid;
+        certificate = a.batch.certificate;
+        fallback = a.batch.fallback;
+        verified = (if is_some a.batch.certificate then [] else verified.now ++ a.joining.items);
+      },
+      R.stream
+          rng.new,
+    ) ≡ attempt_of (S.meaning scheme.now) subject quorum verified.now pending.now
+        (R.stream rng.old)) }
 {
     let pending = looked_at(quorum, verified, pending);
     if verified.len().saturating_add(pending.len()) >= quorum {

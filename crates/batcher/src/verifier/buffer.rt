@@ -26,7 +26,12 @@ impl<G, D> Model for Buffer<G, D> {
 
     ghost Value = { Waiting G D };
 
-    ghost view = { λ b. record { votes = votes_from b.subjects.items b.attestations.items; room = min (vec_capacity b.subjects - vec_len b.subjects) (vec_capacity b.attestations - vec_len b.attestations) } };
+    ghost view = { λ b. record {
+      votes = votes_from b.subjects.items b.attestations.items;
+      room = min
+          (vec_capacity b.subjects - vec_len b.subjects)
+          (vec_capacity b.attestations - vec_len b.attestations);
+    } };
 
     ghost invariant = { λ b. length b.subjects.items ≡ length b.attestations.items };
 }
@@ -118,7 +123,8 @@ impl<G: Copy, D: Digest> Buffer<G, D> {
     /// room that it asks for it takes no memory.
     pub(crate) fn restore(&mut self, mut votes: KeptVotes<'_, G, D>, proposal: &Proposal<D>)
         requires { length (filter (waits D.eq (Some proposal.now)) votes) ≤ self.old.room }
-        ensures { self.new.votes ≡ self.old.votes ++ filter (waits D.eq (Some proposal.now)) votes.entry }
+        ensures { self.new.votes ≡ self.old.votes
+            ++ filter (waits D.eq (Some proposal.now)) votes.entry }
     {
         while let Some(vote) = votes.next() {
             if vote.waits_with(proposal) {
@@ -235,7 +241,8 @@ fn keep<G: Copy, D: Digest>(
 ) -> usize
     requires { length subjects.old ≡ length attestations.old }
     ensures within { result ≤ length subjects.old }
-    ensures votes { take result (votes_from subjects.new attestations.new) ≡ filter (waits D.eq (Some proposal.now)) (votes_from subjects.old attestations.old) }
+    ensures votes { take result (votes_from subjects.new attestations.new)
+        ≡ filter (waits D.eq (Some proposal.now)) (votes_from subjects.old attestations.old) }
 {
     let mut kept = 0;
     for i in 0..subjects.len() {

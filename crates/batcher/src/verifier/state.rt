@@ -64,10 +64,15 @@ impl<G: Copy, D: Digest> Certification<G, D> {
 
     // Makes room in one of the buffers.
     fn make_room(&mut self, verified: bool, additional: usize) -> Result<(), AllocError>
-        ensures votes { (self.new.complete ≡ self.old.complete) × (self.new.pending.votes ≡ self.old.pending.votes) × (self.new.verified.votes ≡ self.old.verified.votes) }
-        ensures kept { (self.old.pending.room ≤ self.new.pending.room) × (self.old.verified.room ≤ self.new.verified.room) }
-        ensures room { OnOk result (additional ≤ cond verified self.new.verified.room self.new.pending.room) }
-        ensures no_memory { additional ≤ cond verified self.old.verified.room self.old.pending.room → IsOk result }
+        ensures votes { (self.new.complete ≡ self.old.complete)
+            × (self.new.pending.votes ≡ self.old.pending.votes)
+            × (self.new.verified.votes ≡ self.old.verified.votes) }
+        ensures kept { (self.old.pending.room ≤ self.new.pending.room)
+            × (self.old.verified.room ≤ self.new.verified.room) }
+        ensures room { OnOk result (additional
+            ≤ cond verified self.new.verified.room self.new.pending.room) }
+        ensures no_memory { additional ≤ cond verified self.old.verified.room self.old.pending.room
+            → IsOk result }
     {
         if verified {
             self.verified.make_room(additional)
@@ -80,9 +85,12 @@ impl<G: Copy, D: Digest> Certification<G, D> {
     fn place(&mut self, vote: Vote<G, D>, verified: bool)
         requires { 1 ≤ cond verified self.old.verified.room self.old.pending.room }
         ensures complete { self.new.complete ≡ self.old.complete }
-        ensures pending { self.new.pending.votes ≡ self.old.pending.votes ++ cond (not verified) (vote ∷ []) [] }
-        ensures verified { self.new.verified.votes ≡ self.old.verified.votes ++ cond verified (vote ∷ []) [] }
-        ensures room { (self.old.pending.room ≤ self.new.pending.room + cond (not verified) 1 0) × (self.old.verified.room ≤ self.new.verified.room + cond verified 1 0) }
+        ensures pending { self.new.pending.votes ≡ self.old.pending.votes
+            ++ cond (not verified) (vote ∷ []) [] }
+        ensures verified { self.new.verified.votes ≡ self.old.verified.votes
+            ++ cond verified (vote ∷ []) [] }
+        ensures room { (self.old.pending.room ≤ self.new.pending.room + cond (not verified) 1 0)
+            × (self.old.verified.room ≤ self.new.verified.room + cond verified 1 0) }
     {
         if verified {
             self.verified.push(vote);
@@ -94,9 +102,12 @@ impl<G: Copy, D: Digest> Certification<G, D> {
     // Drops the votes for other proposals.
     fn retain(&mut self, proposal: &Proposal<D>)
         ensures complete { self.new.complete ≡ self.old.complete }
-        ensures pending { self.new.pending.votes ≡ filter (waits D.eq (Some proposal.now)) self.old.pending.votes }
-        ensures verified { self.new.verified.votes ≡ filter (waits D.eq (Some proposal.now)) self.old.verified.votes }
-        ensures room { (self.old.pending.room ≤ self.new.pending.room) × (self.old.verified.room ≤ self.new.verified.room) }
+        ensures pending { self.new.pending.votes
+            ≡ filter (waits D.eq (Some proposal.now)) self.old.pending.votes }
+        ensures verified { self.new.verified.votes
+            ≡ filter (waits D.eq (Some proposal.now)) self.old.verified.votes }
+        ensures room { (self.old.pending.room ≤ self.new.pending.room)
+            × (self.old.verified.room ≤ self.new.verified.room) }
     {
         self.pending.retain(proposal);
         self.verified.retain(proposal);
@@ -106,7 +117,8 @@ impl<G: Copy, D: Digest> Certification<G, D> {
     fn restore(&mut self, votes: KeptVotes<'_, G, D>, proposal: &Proposal<D>)
         requires { length (filter (waits D.eq (Some proposal.now)) votes) ≤ self.old.pending.room }
         ensures complete { self.new.complete ≡ self.old.complete }
-        ensures pending { self.new.pending.votes ≡ self.old.pending.votes ++ filter (waits D.eq (Some proposal.now)) votes.entry }
+        ensures pending { self.new.pending.votes ≡ self.old.pending.votes
+            ++ filter (waits D.eq (Some proposal.now)) votes.entry }
         ensures verified { self.new.verified.votes ≡ self.old.verified.votes }
         ensures room { self.new.verified.room ≡ self.old.verified.room }
     {
@@ -118,7 +130,8 @@ impl<G: Copy, D: Digest> Certification<G, D> {
         ensures complete { self.new.complete ≡ true }
         ensures pending { self.new.pending.votes ≡ [] }
         ensures verified { self.new.verified.votes ≡ [] }
-        ensures room { (self.old.pending.room ≤ self.new.pending.room) × (self.old.verified.room ≤ self.new.verified.room) }
+        ensures room { (self.old.pending.room ≤ self.new.pending.room)
+            × (self.old.verified.room ≤ self.new.verified.room) }
     {
         self.complete = true;
         self.pending.clear();
@@ -130,7 +143,8 @@ impl<G: Copy, D: Digest> Certification<G, D> {
         requires { length joining.now ≤ self.old.verified.room }
         ensures complete { self.new.complete ≡ self.old.complete }
         ensures pending { self.new.pending.votes ≡ [] }
-        ensures verified { self.new.verified.votes ≡ self.old.verified.votes ++ map (vote_for subject) joining.now }
+        ensures verified { self.new.verified.votes ≡ self.old.verified.votes
+            ++ map (vote_for subject) joining.now }
     {
         self.pending.clear();
         self.verified.extend(subject, joining);
@@ -139,7 +153,13 @@ impl<G: Copy, D: Digest> Certification<G, D> {
     // Whether an attempt is to be made. While votes for any proposal wait, only verified ones
     // that carry one proposal are tried.
     fn is_enough(&self, batchable: bool, quorum: usize, any_proposal: bool) -> bool
-        ensures { result ≡ cond any_proposal (nat_le quorum (length self.now.verified.votes) && have_one_subject D.eq self.now.verified.votes) (nat_le quorum (length self.now.verified.votes) || (nat_lt 0 (length self.now.pending.votes) && (not batchable || nat_le quorum (length self.now.verified.votes + length self.now.pending.votes)))) }
+        ensures { result ≡ cond any_proposal
+            (nat_le quorum (length self.now.verified.votes)
+            && have_one_subject D.eq self.now.verified.votes)
+            (nat_le quorum (length self.now.verified.votes)
+            || (nat_lt 0 (length self.now.pending.votes)
+            && (not batchable || nat_le quorum
+            (length self.now.verified.votes + length self.now.pending.votes)))) }
     {
         let verified = self.verified.len();
         if any_proposal {
@@ -152,7 +172,8 @@ impl<G: Copy, D: Digest> Certification<G, D> {
 
     // Whether a vote of the signer is buffered.
     pub(crate) fn contains(&self, signer: Participant) -> bool
-        ensures { result ≡ (list_any (λ vote. signer_of vote == signer.0) self.now.verified.votes || list_any (λ vote. signer_of vote == signer.0) self.now.pending.votes) }
+        ensures { result ≡ (list_any (λ vote. signer_of vote == signer.0) self.now.verified.votes
+            || list_any (λ vote. signer_of vote == signer.0) self.now.pending.votes) }
     {
         self.verified.contains(signer) || self.pending.contains(signer)
     }
@@ -190,9 +211,13 @@ impl<G: Copy, D: Digest> State<G, D> {
         additional: usize,
     ) -> Result<(), AllocError>
         ensures held { held_by self.new ≡ held_by self.old }
-        ensures kept { KeepsRoom (pending_room_of self.old) (verified_room_of self.old) (pending_room_of self.new) (verified_room_of self.new) }
-        ensures room { OnOk result (additional ≤ cond verified (of_kind (verified_room_of self.new) kind) (of_kind (pending_room_of self.new) kind)) }
-        ensures no_memory { additional ≤ cond verified (of_kind (verified_room_of self.old) kind) (of_kind (pending_room_of self.old) kind) → IsOk result }
+        ensures kept { KeepsRoom (pending_room_of self.old) (verified_room_of self.old)
+            (pending_room_of self.new) (verified_room_of self.new) }
+        ensures room { OnOk result (additional
+            ≤ cond verified (of_kind (verified_room_of self.new) kind)
+            (of_kind (pending_room_of self.new) kind)) }
+        ensures no_memory { additional ≤ cond verified (of_kind (verified_room_of self.old) kind)
+            (of_kind (pending_room_of self.old) kind) → IsOk result }
     {
         match kind {
             Kind::Notarization => self.notarizes.make_room(verified, additional),
@@ -203,10 +228,15 @@ impl<G: Copy, D: Digest> State<G, D> {
 
     // Takes the vote to the end of one of the buffers of its kind, in which there is room.
     fn place(&mut self, vote: Vote<G, D>, verified: bool)
-        requires { 1 ≤ cond verified (of_kind (verified_room_of self.old) (kind_of vote)) (of_kind (pending_room_of self.old) (kind_of vote)) }
+        requires { 1 ≤ cond verified (of_kind (verified_room_of self.old) (kind_of vote))
+            (of_kind (pending_room_of self.old) (kind_of vote)) }
         ensures places { Places (held_by self.old) vote verified (held_by self.new) }
-        ensures pending_room { (kind : TheKind) → of_kind (pending_room_of self.old) kind ≤ of_kind (pending_room_of self.new) kind + cond (is_of_kind kind vote && not verified) 1 0 }
-        ensures verified_room { (kind : TheKind) → of_kind (verified_room_of self.old) kind ≤ of_kind (verified_room_of self.new) kind + cond (is_of_kind kind vote && verified) 1 0 }
+        ensures pending_room { (kind : TheKind) → of_kind (pending_room_of self.old) kind
+            ≤ of_kind (pending_room_of self.new) kind + cond (is_of_kind kind vote && not verified)
+            1 0 }
+        ensures verified_room { (kind : TheKind) → of_kind (verified_room_of self.old) kind
+            ≤ of_kind (verified_room_of self.new) kind + cond (is_of_kind kind vote && verified) 1
+            0 }
     {
         match vote {
             Vote::Notarize(_) => self.notarizes.place(vote, verified),
@@ -218,7 +248,8 @@ impl<G: Copy, D: Digest> State<G, D> {
     // Drops the votes for other proposals. Nullifies are for none, and stay.
     fn retain(&mut self, proposal: &Proposal<D>)
         ensures retains { Retains D.eq (held_by self.old) proposal.now (held_by self.new) }
-        ensures room { KeepsRoom (pending_room_of self.old) (verified_room_of self.old) (pending_room_of self.new) (verified_room_of self.new) }
+        ensures room { KeepsRoom (pending_room_of self.old) (verified_room_of self.old)
+            (pending_room_of self.new) (verified_room_of self.new) }
     {
         self.notarizes.retain(proposal);
         self.nullifies.retain(proposal);
@@ -228,9 +259,13 @@ impl<G: Copy, D: Digest> State<G, D> {
     /// Votes of a kind that were kept come back as pending, where they wait with the proposal and
     /// the kind isn't certified.
     pub(crate) fn restore(&mut self, kind: Kind, votes: KeptVotes<'_, G, D>, proposal: &Proposal<D>)
-        requires { of_kind (held_by self.old).certified kind ≡ false → length (filter (waits D.eq (Some proposal.now)) votes) ≤ of_kind (pending_room_of self.old) kind }
-        ensures restores { Restores D.eq (held_by self.old) kind proposal.now votes.entry (held_by self.new) }
-        ensures room { RestoresRoom kind (pending_room_of self.old) (verified_room_of self.old) (pending_room_of self.new) (verified_room_of self.new) }
+        requires { of_kind (held_by self.old).certified kind ≡ false
+            → length (filter (waits D.eq (Some proposal.now)) votes)
+            ≤ of_kind (pending_room_of self.old) kind }
+        ensures restores { Restores D.eq (held_by self.old) kind proposal.now votes.entry
+            (held_by self.new) }
+        ensures room { RestoresRoom kind (pending_room_of self.old) (verified_room_of self.old)
+            (pending_room_of self.new) (verified_room_of self.new) }
     {
         if self.buffers(kind).complete {
             return;
@@ -245,7 +280,8 @@ impl<G: Copy, D: Digest> State<G, D> {
     /// A certificate of the kind is there, so its votes go.
     pub(crate) fn record_certificate(&mut self, kind: Kind)
         ensures completes { CompletesKind D.eq (held_by self.old) kind (held_by self.new) }
-        ensures room { KeepsRoom (pending_room_of self.old) (verified_room_of self.old) (pending_room_of self.new) (verified_room_of self.new) }
+        ensures room { KeepsRoom (pending_room_of self.old) (verified_room_of self.old)
+            (pending_room_of self.new) (verified_room_of self.new) }
     {
         match kind {
             Kind::Notarization => self.notarizes.finish(),
@@ -293,10 +329,15 @@ impl<G: Copy, D: Digest> State<G, D> {
     /// Changes the selected proposal as the new source allows, and drops votes for others.
     pub(crate) fn set_proposal(&mut self, next: ProposalState<D>) -> ProposalUpdate
         requires { (kind : TheKind) → IsTidy D.eq (held_by self.old) kind }
-        ensures sets { SetsProposal D.eq (held_by self.old) (updated self.old.proposal next) (held_by self.new) }
-        ensures changed { result.changed ≡ not (same_selected D.eq (proposal_of self.old.proposal) (proposal_of self.new.proposal)) }
-        ensures replaced { result.replaced ≡ (result.changed && is_some (proposal_of self.old.proposal)) }
-        ensures room { KeepsRoom (pending_room_of self.old) (verified_room_of self.old) (pending_room_of self.new) (verified_room_of self.new) }
+        ensures sets { SetsProposal D.eq (held_by self.old) (updated self.old.proposal next)
+            (held_by self.new) }
+        ensures changed { result.changed
+            ≡ not (same_selected D.eq (proposal_of self.old.proposal)
+            (proposal_of self.new.proposal)) }
+        ensures replaced { result.replaced
+            ≡ (result.changed && is_some (proposal_of self.old.proposal)) }
+        ensures room { KeepsRoom (pending_room_of self.old) (verified_room_of self.old)
+            (pending_room_of self.new) (verified_room_of self.new) }
     {
         let before = self.proposal;
         let after = update(before, next);
@@ -318,7 +359,8 @@ impl<G: Copy, D: Digest> State<G, D> {
 
     // The selected proposal with its source, once the vote is there.
     fn selection_after(&self, vote: &Vote<G, D>) -> ProposalState<D>
-        ensures { result ≡ selects self.now.proposal (leaders_vote D.eq (held_by self.now) vote.now) }
+        ensures { result ≡ selects self.now.proposal
+            (leaders_vote D.eq (held_by self.now) vote.now) }
     {
         match (vote, self.leader) {
             (Vote::Notarize(vote), Some(leader)) => {
@@ -342,12 +384,18 @@ impl<G: Copy, D: Digest> State<G, D> {
     /// Takes a vote in, where it can still count. The leader's notarize selects its proposal.
     pub(crate) fn add(&mut self, vote: Vote<G, D>, verified: bool) -> Result<(), AllocError>
         requires { (kind : TheKind) → IsTidy D.eq (held_by self.old) kind }
-        ensures adds { OnOk result (AddsVote D.eq (held_by self.old) vote verified (held_by self.new)) }
+        ensures adds { OnOk result (AddsVote D.eq (held_by self.old) vote verified
+            (held_by self.new)) }
         ensures unchanged { OnErr result (held_by self.new ≡ held_by self.old) }
         ensures dropped { is_dropped D.eq (held_by self.old) vote ≡ true → IsOk result }
-        ensures no_memory { 1 ≤ cond verified (of_kind (verified_room_of self.old) (kind_of vote)) (of_kind (pending_room_of self.old) (kind_of vote)) → IsOk result }
-        ensures pending_room { (kind : TheKind) → of_kind (pending_room_of self.old) kind ≤ of_kind (pending_room_of self.new) kind + cond (is_of_kind kind vote && not verified) 1 0 }
-        ensures verified_room { (kind : TheKind) → of_kind (verified_room_of self.old) kind ≤ of_kind (verified_room_of self.new) kind + cond (is_of_kind kind vote && verified) 1 0 }
+        ensures no_memory { 1 ≤ cond verified (of_kind (verified_room_of self.old) (kind_of vote))
+            (of_kind (pending_room_of self.old) (kind_of vote)) → IsOk result }
+        ensures pending_room { (kind : TheKind) → of_kind (pending_room_of self.old) kind
+            ≤ of_kind (pending_room_of self.new) kind + cond (is_of_kind kind vote && not verified)
+            1 0 }
+        ensures verified_room { (kind : TheKind) → of_kind (verified_room_of self.old) kind
+            ≤ of_kind (verified_room_of self.new) kind + cond (is_of_kind kind vote && verified) 1
+            0 }
     {
         let next = self.selection_after(&vote);
         if self.drops(&vote) {
@@ -367,11 +415,16 @@ impl<G: Copy, D: Digest> State<G, D> {
         notarize: Option<&Notarize<G, D>>,
     ) -> Result<(), LeaderFault>
         requires { (kind : TheKind) → IsTidy D.eq (held_by self.old) kind }
-        ensures answer { result ≡ leader_answer self.old.leader leader (option_copied notarize.entry) }
+        ensures answer { result ≡ leader_answer self.old.leader leader
+            (option_copied notarize.entry) }
         ensures again { is_some self.old.leader ≡ true → held_by self.new ≡ held_by self.old }
         ensures refused { OnErr result (held_by self.new ≡ held_by self.old) }
-        ensures sets { is_some self.old.leader ≡ false → OnOk result (SetsLeader D.eq (held_by self.old) leader (option_map (λ vote. vote.proposal) (option_copied notarize.entry)) (held_by self.new)) }
-        ensures room { KeepsRoom (pending_room_of self.old) (verified_room_of self.old) (pending_room_of self.new) (verified_room_of self.new) }
+        ensures sets { is_some self.old.leader ≡ false
+            → OnOk result (SetsLeader D.eq (held_by self.old) leader
+            (option_map (λ vote. vote.proposal) (option_copied notarize.entry))
+            (held_by self.new)) }
+        ensures room { KeepsRoom (pending_room_of self.old) (verified_room_of self.old)
+            (pending_room_of self.new) (verified_room_of self.new) }
     {
         if let Some(known) = self.leader {
             return if known.0 == leader.0 {
@@ -458,7 +511,8 @@ fn update<D: Digest>(before: ProposalState<D>, next: ProposalState<D>) -> Propos
 // The proposal that is selected after a change, where it is another than before.
 fn changed<D: Digest>(before: ProposalState<D>, after: ProposalState<D>) -> Option<Proposal<D>>
     requires { is_some (proposal_of before) ≡ true → is_some (proposal_of after) ≡ true }
-    ensures { result ≡ cond (same_selected D.eq (proposal_of before) (proposal_of after)) None (proposal_of after) }
+    ensures { result ≡ cond (same_selected D.eq (proposal_of before) (proposal_of after)) None
+        (proposal_of after) }
 {
     let proposal = *selected(&after)?;
     match selected(&before) {

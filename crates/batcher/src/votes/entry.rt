@@ -228,7 +228,8 @@ impl<G: Copy, D: Digest> Entry<G, D> {
         vote: &Vote<G, D>,
         selected: Option<Proposal<D>>,
     ) -> Outcome
-        ensures { result ≡ outcome_by D.eq selected is_compacted (observed_at is_compacted (kind_of vote.now) self.now) vote.now }
+        ensures { result ≡ outcome_by D.eq selected is_compacted
+            (observed_at is_compacted (kind_of vote.now) self.now) vote.now }
     {
         match vote {
             Vote::Notarize(vote) => self
@@ -383,7 +384,8 @@ impl<G: Copy, D: Digest> Entry<G, D> {
 
     /// The nullify that was seen.
     pub(crate) fn seen_nullify(&self, is_compacted: bool) -> Option<ObservedVote<Nullify<G>>>
-        ensures { option_map (observed_map NullifyVote) result ≡ shown (observed_at is_compacted Nullification self.now) }
+        ensures { option_map (observed_map NullifyVote) result
+            ≡ shown (observed_at is_compacted Nullification self.now) }
     {
         match self.nullify {
             Nullified::Kept { round, signature } if !is_compacted => {
@@ -399,7 +401,8 @@ impl<G: Copy, D: Digest> Entry<G, D> {
 
     /// The finalize that was seen.
     pub(crate) fn seen_finalize(&self, is_compacted: bool) -> Option<ObservedVote<Finalize<G, D>>>
-        ensures { option_map (observed_map FinalizeVote) result ≡ shown (observed_at is_compacted Finalization self.now) }
+        ensures { option_map (observed_map FinalizeVote) result
+            ≡ shown (observed_at is_compacted Finalization self.now) }
     {
         match self.finalize {
             Proposed::Kept {
@@ -416,14 +419,16 @@ impl<G: Copy, D: Digest> Entry<G, D> {
 
     /// Whether the signer is known to have notarized the proposal.
     pub(crate) fn has_notarize_for(&self, is_compacted: bool, proposal: &Proposal<D>) -> bool
-        ensures { result ≡ is_seen_for D.eq proposal.now (observed_at is_compacted Notarization self.now) }
+        ensures { result ≡ is_seen_for D.eq proposal.now
+            (observed_at is_compacted Notarization self.now) }
     {
         self.notarize.is_for(is_compacted, proposal)
     }
 
     /// Whether the signer is known to have finalized the proposal.
     pub(crate) fn has_finalize_for(&self, is_compacted: bool, proposal: &Proposal<D>) -> bool
-        ensures { result ≡ is_seen_for D.eq proposal.now (observed_at is_compacted Finalization self.now) }
+        ensures { result ≡ is_seen_for D.eq proposal.now
+            (observed_at is_compacted Finalization self.now) }
     {
         self.finalize.is_for(is_compacted, proposal)
     }

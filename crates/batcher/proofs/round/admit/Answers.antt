@@ -26,7 +26,8 @@ returns-clause-answer g c =
     let range = c.requires.range in
     let below : nat_lt (signer_of vote) votes.participants ≡ true = rw c.requires.right.bound (grind (arith, nat_tests, range)) in
     let outcome : c.in_ok-outcome.outcome ≡ outcome_by same selected compacted own vote =
-    c.in_ok-outcome.ensures.outcome ∙ in_range same votes.participants held _ vote below ∙ ap (λ h. outcome_by same (proposal_of h.selection) compacted own vote) c.in_ok-make_room.ensures.holds in
+    c.in_ok-outcome.ensures.outcome ∙ in_range same votes.participants held _ vote below
+    ∙ ap (λ h. outcome_by same (proposal_of h.selection) compacted own vote) c.in_ok-make_room.ensures.holds in
     c.admission_of.ensures ∙ ap (λ o. admission_of o vote) outcome ∙ admitted x selected compacted vote (observed_opposite held vote) own c.requires.unopposed
 
 pub returns-clause-buffered : goal.returns-clause-buffered
@@ -44,10 +45,12 @@ returns-clause-buffered g c =
     let range = c.requires.range in
     let below : nat_lt (signer_of vote) votes.participants ≡ true = rw c.requires.right.bound (grind (arith, nat_tests, range)) in
     let outcome : c.in_ok-outcome.outcome ≡ outcome_by same selected compacted own vote =
-    c.in_ok-outcome.ensures.outcome ∙ in_range same votes.participants held _ vote below ∙ ap (λ h. outcome_by same (proposal_of h.selection) compacted own vote) c.in_ok-make_room.ensures.holds in
+    c.in_ok-outcome.ensures.outcome ∙ in_range same votes.participants held _ vote below
+    ∙ ap (λ h. outcome_by same (proposal_of h.selection) compacted own vote) c.in_ok-make_room.ensures.holds in
     let kept : is_kept c.in_ok-outcome.outcome ≡ ((admission_of c.in_ok-outcome.outcome vote).added && not compacted) =
     subst (λ o. is_kept o ≡ ((admission_of o vote).added && not compacted)) (sym outcome) (kept_so x selected compacted vote own) in
     let new = c.take_in.new.verifier.holds in
     let waits : MatchBool (is_kept c.in_ok-outcome.outcome) (AddsVote same old vote false new) (new ≡ old) =
-    subst (λ h. MatchBool (is_kept c.in_ok-outcome.outcome) (AddsVote same h vote false new) (new ≡ h)) c.in_ok-make_room.ensures.holds c.in_ok-outcome.ensures.buffered in
+    subst (λ h. MatchBool (is_kept c.in_ok-outcome.outcome) (AddsVote same h vote false new) (new ≡ h)) c.in_ok-make_room.ensures.holds
+    c.in_ok-outcome.ensures.buffered in
     rw c.admission_of.ensures (subst (λ k. MatchBool k (AddsVote same old vote false new) (new ≡ old)) kept waits)

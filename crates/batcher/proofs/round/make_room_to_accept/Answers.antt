@@ -8,18 +8,23 @@ use Rattle.batcher.proofs.Owning.{kept_outcome}
 use Rattle.batcher.proofs.round.make_room_to_accept.Goals as goal
 use Rattle.batcher.proofs.round.make_room_to_accept.Goals.{then-is_added+in_ok-make_room, else-is_added}
 
-pub returns-in_err-make_room_to_fix-clause-to_fix : goal.returns-in_err-make_room_to_fix-clause-to_fix
+pub returns-in_err-make_room_to_fix-clause-to_fix :
+    goal.returns-in_err-make_room_to_fix-clause-to_fix
 returns-in_err-make_room_to_fix-clause-to_fix g c = no_value _ c.from_residual.result c.from_residual.ensures.0
 
-pub returns-in_err-make_room_to_fix-clause-to_record : goal.returns-in_err-make_room_to_fix-clause-to_record
+pub returns-in_err-make_room_to_fix-clause-to_record :
+    goal.returns-in_err-make_room_to_fix-clause-to_record
 returns-in_err-make_room_to_fix-clause-to_record g c = no_value _ c.from_residual.result c.from_residual.ensures.0
 
-pub returns-in_err-make_room_to_fix-clause-to_wait : goal.returns-in_err-make_room_to_fix-clause-to_wait
+pub returns-in_err-make_room_to_fix-clause-to_wait :
+    goal.returns-in_err-make_room_to_fix-clause-to_wait
 returns-in_err-make_room_to_fix-clause-to_wait g c = no_value _ c.from_residual.result c.from_residual.ensures.0
 
-pub returns-in_err-make_room_to_fix-clause-no_memory : goal.returns-in_err-make_room_to_fix-clause-no_memory
+pub returns-in_err-make_room_to_fix-clause-no_memory :
+    goal.returns-in_err-make_room_to_fix-clause-no_memory
 returns-in_err-make_room_to_fix-clause-no_memory g c = λ not_added enough.
-    absurd (false≢true (c.in_err-make_room_to_fix.ensures.no_memory (λ fixed is takes kind has own full. enough fixed (sym c.fixed_by.ensures ∙ is) takes kind has full)))
+    absurd (false≢true (c.in_err-make_room_to_fix.ensures.no_memory
+    (λ fixed is takes kind has own full. enough fixed (sym c.fixed_by.ensures ∙ is) takes kind has full)))
 
 pub returns-in_err-make_room-clause-to_fix : goal.returns-in_err-make_room-clause-to_fix
 returns-in_err-make_room-clause-to_fix g c = no_value _ c.from_residual-in_err-make_room.result c.from_residual-in_err-make_room.ensures.0
@@ -51,7 +56,12 @@ pub returns-in_err-make_room-2-clause-holds : goal.returns-in_err-make_room-2-cl
 returns-in_err-make_room-2-clause-holds g c = c.in_err-make_room-2.ensures.holds ∙ c.in_ok-make_room_to_fix.ensures.holds
 
 pub returns-in_err-make_room-2-clause-same : goal.returns-in_err-make_room-2-clause-same
-returns-in_err-make_room-2-clause-same g c = (c.in_err-make_room-2.ensures.same.0 ∙ c.in_ok-make_room_to_fix.ensures.same.0, c.in_err-make_room-2.ensures.same.1 ∙ c.in_ok-make_room_to_fix.ensures.same.1, c.in_err-make_room-2.ensures.same.2 ∙ c.in_ok-make_room_to_fix.ensures.same.2)
+returns-in_err-make_room-2-clause-same g c = (
+  c.in_err-make_room-2.ensures.same.0 ∙ c.in_ok-make_room_to_fix.ensures.same.0,
+  c.in_err-make_room-2.ensures.same.1
+      ∙ c.in_ok-make_room_to_fix.ensures.same.1,
+  c.in_err-make_room-2.ensures.same.2 ∙ c.in_ok-make_room_to_fix.ensures.same.2,
+)
 
 pub returns-in_err-make_room-2-clause-votes : goal.returns-in_err-make_room-2-clause-votes
 returns-in_err-make_room-2-clause-votes g c =
@@ -70,7 +80,11 @@ returns-in_err-make_room-2-clause-signers g c =
 pub returns-in_err-make_room-2-clause-mode : goal.returns-in_err-make_room-2-clause-mode
 returns-in_err-make_room-2-clause-mode g c =
     elim c.if-is_added.branch [
-      | then-is_added+in_ok-make_room w ↦ (ap (λ v. v.mode) w.votes-is ∙ w.in_ok-make_room.ensures.mode, ap (λ v. v.participants) w.votes-is ∙ w.in_ok-make_room.ensures.participants)
+      | then-is_added+in_ok-make_room w ↦ (
+        ap (λ v. v.mode) w.votes-is ∙ w.in_ok-make_room.ensures.mode,
+        ap (λ v. v.participants) w.votes-is
+            ∙ w.in_ok-make_room.ensures.participants,
+      )
       | else-is_added w ↦ (ap (λ v. v.mode) w.votes-is, ap (λ v. v.participants) w.votes-is)
     ]
 
@@ -78,14 +92,21 @@ pub returns-in_ok-make_room-2-clause-holds : goal.returns-in_ok-make_room-2-clau
 returns-in_ok-make_room-2-clause-holds g c = c.in_ok-make_room-2.ensures.holds ∙ c.in_ok-make_room_to_fix.ensures.holds
 
 pub returns-in_ok-make_room-2-clause-same : goal.returns-in_ok-make_room-2-clause-same
-returns-in_ok-make_room-2-clause-same g c = (c.in_ok-make_room-2.ensures.same.0 ∙ c.in_ok-make_room_to_fix.ensures.same.0, c.in_ok-make_room-2.ensures.same.1 ∙ c.in_ok-make_room_to_fix.ensures.same.1, c.in_ok-make_room-2.ensures.same.2 ∙ c.in_ok-make_room_to_fix.ensures.same.2)
+returns-in_ok-make_room-2-clause-same g c = (
+  c.in_ok-make_room-2.ensures.same.0 ∙ c.in_ok-make_room_to_fix.ensures.same.0,
+  c.in_ok-make_room-2.ensures.same.1
+      ∙ c.in_ok-make_room_to_fix.ensures.same.1,
+  c.in_ok-make_room-2.ensures.same.2 ∙ c.in_ok-make_room_to_fix.ensures.same.2,
+)
 
 pub returns-in_ok-make_room-2-clause-to_fix : goal.returns-in_ok-make_room-2-clause-to_fix
 returns-in_ok-make_room-2-clause-to_fix g c = λ proposal is takes kind has uncertified.
-    le_trans (c.in_ok-make_room_to_fix.ensures.room proposal (c.fixed_by.ensures ∙ is) takes kind has refl uncertified) (c.in_ok-make_room-2.ensures.kept.pending kind)
+    le_trans (c.in_ok-make_room_to_fix.ensures.room proposal (c.fixed_by.ensures ∙ is) takes kind has refl uncertified)
+    (c.in_ok-make_room-2.ensures.kept.pending kind)
 
 pub returns-in_ok-make_room-2-clause-to_wait : goal.returns-in_ok-make_room-2-clause-to_wait
-returns-in_ok-make_room-2-clause-to_wait g c = λ kept. subst (λ k. 1 ≤ of_kind c.make_room-then-is_kept.new.self.verified_room k) c.kind.ensures c.in_ok-make_room-2.ensures.room
+returns-in_ok-make_room-2-clause-to_wait g c =
+    λ kept. subst (λ k. 1 ≤ of_kind c.make_room-then-is_kept.new.self.verified_room k) c.kind.ensures c.in_ok-make_room-2.ensures.room
 
 pub returns-in_ok-make_room-2-clause-to_record : goal.returns-in_ok-make_room-2-clause-to_record
 returns-in_ok-make_room-2-clause-to_record g c = λ added.
@@ -111,12 +132,17 @@ returns-in_ok-make_room-2-clause-signers g c =
 pub returns-in_ok-make_room-2-clause-mode : goal.returns-in_ok-make_room-2-clause-mode
 returns-in_ok-make_room-2-clause-mode g c =
     elim c.if-is_added.branch [
-      | then-is_added+in_ok-make_room w ↦ (ap (λ v. v.mode) w.votes-is ∙ w.in_ok-make_room.ensures.mode, ap (λ v. v.participants) w.votes-is ∙ w.in_ok-make_room.ensures.participants)
+      | then-is_added+in_ok-make_room w ↦ (
+        ap (λ v. v.mode) w.votes-is ∙ w.in_ok-make_room.ensures.mode,
+        ap (λ v. v.participants) w.votes-is
+            ∙ w.in_ok-make_room.ensures.participants,
+      )
       | else-is_added w ↦ (ap (λ v. v.mode) w.votes-is, ap (λ v. v.participants) w.votes-is)
     ]
 
 pub returns-else-is_kept-clause-to_fix : goal.returns-else-is_kept-clause-to_fix
-returns-else-is_kept-clause-to_fix g c = λ proposal is takes kind has. c.in_ok-make_room_to_fix.ensures.room proposal (c.fixed_by.ensures ∙ is) takes kind has refl
+returns-else-is_kept-clause-to_fix g c =
+    λ proposal is takes kind has. c.in_ok-make_room_to_fix.ensures.room proposal (c.fixed_by.ensures ∙ is) takes kind has refl
 
 pub returns-else-is_kept-clause-to_wait : goal.returns-else-is_kept-clause-to_wait
 returns-else-is_kept-clause-to_wait g c = λ kept. absurd (false≢true (sym c.if-is_kept.false ∙ c.is_kept.ensures ∙ kept))
@@ -145,6 +171,10 @@ returns-else-is_kept-clause-signers g c =
 pub returns-else-is_kept-clause-mode : goal.returns-else-is_kept-clause-mode
 returns-else-is_kept-clause-mode g c =
     elim c.if-is_added.branch [
-      | then-is_added+in_ok-make_room w ↦ (ap (λ v. v.mode) w.votes-is ∙ w.in_ok-make_room.ensures.mode, ap (λ v. v.participants) w.votes-is ∙ w.in_ok-make_room.ensures.participants)
+      | then-is_added+in_ok-make_room w ↦ (
+        ap (λ v. v.mode) w.votes-is ∙ w.in_ok-make_room.ensures.mode,
+        ap (λ v. v.participants) w.votes-is
+            ∙ w.in_ok-make_room.ensures.participants,
+      )
       | else-is_added w ↦ (ap (λ v. v.mode) w.votes-is, ap (λ v. v.participants) w.votes-is)
     ]

@@ -10,7 +10,8 @@ module _ {D : Type 0} (same : D → D → Bool) (reflexive : (a : D) → same a 
   same_self : (p : Proposal D) → same_proposal same p p ≡ true
   same_self p = let payload = reflexive p.payload in search rules
 
-  unchanged : (s : ProposalState D) → false ≡ not (same_selected same (proposal_of s) (proposal_of s))
+  unchanged : (s : ProposalState D) → false
+      ≡ not (same_selected same (proposal_of s) (proposal_of s))
   unchanged Unknown = refl
   unchanged (LeadersProposal p) = ap not (sym (same_self p))
   unchanged (FixedProposal p) = ap not (sym (same_self p))

@@ -16,9 +16,12 @@ use Rattle.batcher.proofs.round.take_in.Goals as goal
 
 -- a vote that is kept has the room that one of its kind needs
 room_for :
-    {G D : Type 0} {Room : Type 0} (same : D → D → Bool) (participants : ℕ) (held : Tracked G D) (vote : Vote G D) (copied selected : Option (Proposal D)) (outcome : Outcome)
-    → outcome ≡ outcome_of same participants held copied vote → copied ≡ selected → is_kept outcome ≡ true
-    → (of_kind held.compacted (kind_of vote) ≡ false → outcome_of same participants held selected vote ≡ Added true → Room) → Room
+    {G D : Type 0} {Room : Type 0} (same : D → D → Bool) (participants : ℕ) (held : Tracked G D)
+    (vote : Vote G D) (copied selected : Option (Proposal D)) (outcome : Outcome)
+    → outcome ≡ outcome_of same participants held copied vote → copied ≡ selected → is_kept outcome
+    ≡ true
+    → (of_kind held.compacted (kind_of vote) ≡ false
+    → outcome_of same participants held selected vote ≡ Added true → Room) → Room
 room_for same participants held vote copied selected outcome e f kept room =
     let added = sym e ∙ kept_outcome outcome kept in
     let new : IsNew held vote = added_new same held copied vote participants added in
@@ -39,7 +42,8 @@ returns-in_ok-add-clause-right g c =
     let verifier = c.args.verifier.now in
     let added = sym c.in_ok-outcome.ensures.outcome ∙ kept_outcome c.in_ok-outcome.outcome (sym c.is_kept.ensures ∙ c.if-is_kept.true) in
     let new : IsNew held vote = added_new _ held _ vote c.args.votes.now.participants added in
-    right_waiting (g.S.Scheme.meaning verifier.scheme) g.D.PartialEq.eq c.args.votes.now c.record_at.new.self verifier.holds verifier.quorum c.requires.right _ _ vote
+    right_waiting (g.S.Scheme.meaning verifier.scheme) g.D.PartialEq.eq c.args.votes.now c.record_at.new.self verifier.holds verifier.quorum c.requires.right _
+    _ vote
     c.in_ok-outcome.ensures.participants c.in_ok-outcome.ensures.mode c.in_ok-outcome.ensures.records
     c.add.new.self.holds c.args.verified c.in_ok-add.ensures.adds new refl
 
@@ -73,23 +77,31 @@ returns-in_err-add-clause-buffered g c = no_value _ c.from_residual-in_err-add.r
 
 pub returns-in_err-add-clause-refused : goal.returns-in_err-add-clause-refused
 returns-in_err-add-clause-refused g c =
-    absurd (false≢true (c.in_err-add.ensures.no_memory (room_for g.D.PartialEq.eq c.args.votes.now.participants c.args.votes.now.holds c.args.vote _ _ c.in_ok-outcome.outcome c.in_ok-outcome.ensures.outcome c.proposal.ensures (sym c.is_kept.ensures ∙ c.if-is_kept.true) c.requires.room)))
+    absurd (false≢true (c.in_err-add.ensures.no_memory
+    (room_for g.D.PartialEq.eq c.args.votes.now.participants c.args.votes.now.holds c.args.vote _ _ c.in_ok-outcome.outcome c.in_ok-outcome.ensures.outcome
+    c.proposal.ensures (sym c.is_kept.ensures ∙ c.if-is_kept.true) c.requires.room)))
 
 pub returns-in_err-add-clause-right : goal.returns-in_err-add-clause-right
 returns-in_err-add-clause-right g c =
-    absurd (false≢true (c.in_err-add.ensures.no_memory (room_for g.D.PartialEq.eq c.args.votes.now.participants c.args.votes.now.holds c.args.vote _ _ c.in_ok-outcome.outcome c.in_ok-outcome.ensures.outcome c.proposal.ensures (sym c.is_kept.ensures ∙ c.if-is_kept.true) c.requires.room)))
+    absurd (false≢true (c.in_err-add.ensures.no_memory
+    (room_for g.D.PartialEq.eq c.args.votes.now.participants c.args.votes.now.holds c.args.vote _ _ c.in_ok-outcome.outcome c.in_ok-outcome.ensures.outcome
+    c.proposal.ensures (sym c.is_kept.ensures ∙ c.if-is_kept.true) c.requires.room)))
 
 pub returns-in_err-add-clause-with_room : goal.returns-in_err-add-clause-with_room
 returns-in_err-add-clause-with_room g c = λ h.
-    absurd (false≢true (c.in_err-add.ensures.no_memory (room_for g.D.PartialEq.eq c.args.votes.now.participants c.args.votes.now.holds c.args.vote _ _ c.in_ok-outcome.outcome c.in_ok-outcome.ensures.outcome c.proposal.ensures (sym c.is_kept.ensures ∙ c.if-is_kept.true) c.requires.room)))
+    absurd (false≢true (c.in_err-add.ensures.no_memory
+    (room_for g.D.PartialEq.eq c.args.votes.now.participants c.args.votes.now.holds c.args.vote _ _ c.in_ok-outcome.outcome c.in_ok-outcome.ensures.outcome
+    c.proposal.ensures (sym c.is_kept.ensures ∙ c.if-is_kept.true) c.requires.room)))
 
 pub returns-in_ok-add-clause-outcome : goal.returns-in_ok-add-clause-outcome
 returns-in_ok-add-clause-outcome g c =
-    c.in_ok-outcome.ensures.outcome ∙ ap (λ s. outcome_of g.D.PartialEq.eq c.args.votes.now.participants c.args.votes.now.holds s c.args.vote) c.proposal.ensures
+    c.in_ok-outcome.ensures.outcome ∙ ap (λ s. outcome_of g.D.PartialEq.eq c.args.votes.now.participants c.args.votes.now.holds s c.args.vote)
+    c.proposal.ensures
 
 pub returns-in_ok-add-clause-tracked : goal.returns-in_ok-add-clause-tracked
 returns-in_ok-add-clause-tracked g c = λ kind.
-    subst (λ s. RecordsKind g.D.PartialEq.eq c.args.votes.now.holds c.record_at.new.self.holds s true c.args.vote kind) c.proposal.ensures (c.in_ok-outcome.ensures.records kind)
+    subst (λ s. RecordsKind g.D.PartialEq.eq c.args.votes.now.holds c.record_at.new.self.holds s true c.args.vote kind) c.proposal.ensures
+    (c.in_ok-outcome.ensures.records kind)
 
 pub returns-in_ok-add-clause-buffered : goal.returns-in_ok-add-clause-buffered
 returns-in_ok-add-clause-buffered g c =
@@ -100,11 +112,13 @@ returns-in_ok-add-clause-buffered g c =
 
 pub returns-else-is_kept-clause-outcome : goal.returns-else-is_kept-clause-outcome
 returns-else-is_kept-clause-outcome g c =
-    c.in_ok-outcome.ensures.outcome ∙ ap (λ s. outcome_of g.D.PartialEq.eq c.args.votes.now.participants c.args.votes.now.holds s c.args.vote) c.proposal.ensures
+    c.in_ok-outcome.ensures.outcome ∙ ap (λ s. outcome_of g.D.PartialEq.eq c.args.votes.now.participants c.args.votes.now.holds s c.args.vote)
+    c.proposal.ensures
 
 pub returns-else-is_kept-clause-tracked : goal.returns-else-is_kept-clause-tracked
 returns-else-is_kept-clause-tracked g c = λ kind.
-    subst (λ s. RecordsKind g.D.PartialEq.eq c.args.votes.now.holds c.record_at.new.self.holds s true c.args.vote kind) c.proposal.ensures (c.in_ok-outcome.ensures.records kind)
+    subst (λ s. RecordsKind g.D.PartialEq.eq c.args.votes.now.holds c.record_at.new.self.holds s true c.args.vote kind) c.proposal.ensures
+    (c.in_ok-outcome.ensures.records kind)
 
 pub returns-else-is_kept-clause-buffered : goal.returns-else-is_kept-clause-buffered
 returns-else-is_kept-clause-buffered g c =
@@ -115,5 +129,6 @@ returns-else-is_kept-clause-buffered g c =
 pub returns-else-is_kept-clause-right : goal.returns-else-is_kept-clause-right
 returns-else-is_kept-clause-right g c =
     let verifier = c.args.verifier.now in
-    right_recorded (g.S.Scheme.meaning verifier.scheme) g.D.PartialEq.eq c.args.votes.now c.record_at.new.self verifier.holds verifier.quorum c.requires.right _ _ c.args.vote
+    right_recorded (g.S.Scheme.meaning verifier.scheme) g.D.PartialEq.eq c.args.votes.now c.record_at.new.self verifier.holds verifier.quorum c.requires.right _
+    _ c.args.vote
     c.in_ok-outcome.ensures.participants c.in_ok-outcome.ensures.mode c.in_ok-outcome.ensures.records

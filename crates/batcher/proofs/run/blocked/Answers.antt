@@ -15,7 +15,8 @@ module _ {K : Type 0} {E : K → K → Bool} (e : IsEquivalence E) (k : K) where
   alike : (x y : K) → E y x ≡ true → E k x ≡ E k y
   alike x y tie = e.symm k x ∙ sym (e.congr y x k tie) ∙ e.symm y k
 
-  list_any-dedup_from : (x : K) (xs : List K) → list_any (E k) (dedup_from E x xs) ≡ (E k x || list_any (E k) xs)
+  list_any-dedup_from : (x : K) (xs : List K) → list_any (E k) (dedup_from E x xs)
+      ≡ (E k x || list_any (E k) xs)
   list_any-dedup_from x [] = refl
   list_any-dedup_from x (y ∷ ys) =
       cond_both (E y x) (dedup_from E x ys) (x ∷ dedup_from E y ys) (λ zs. list_any (E k) zs ≡ (E k x || (E k y || list_any (E k) ys)))

@@ -8,7 +8,8 @@ use Rattle.batcher.proofs.Going.{Goes, goes_first, goes_more, goes_to}
 use Rattle.batcher.proofs.run.run.Goals as goal
 
 pub step-requires : goal.step-requires
-step-requires g c = rw (c.loop-call.invariant.scheme, c.loop-call.invariant.number, c.call-item.is) (c.requires.calls c.loop-call.call-index c.call-item.result (omega arith))
+step-requires g c =
+    rw (c.loop-call.invariant.scheme, c.loop-call.invariant.number, c.call-item.is) (c.requires.calls c.loop-call.call-index c.call-item.result (omega arith))
 
 pub loop-call-init : goal.loop-call-init
 loop-call-init g c =
@@ -33,11 +34,13 @@ loop-call-preserved g c =
     let more : take (c.loop-call.call-index + 1) c.args.calls.now ≡ calls ++ c.call-item.result ∷ []
     = take_more c.args.calls.now c.loop-call.call-index c.call-item.result (omega arith) ∙ ap (λ y. calls ++ y ∷ []) (sym c.call-item.is) in
     let stepped = rw (c.loop-call.invariant.scheme, c.loop-call.invariant.number, c.loop-call.invariant.mode) at c.step.ensures.steps in
-    let met = (rw (c.loop-call.invariant.scheme, c.loop-call.invariant.number, c.loop-call.invariant.mode) at c.step.ensures.meets) (history calls answers) c.loop-call.invariant.goes.stands in
+    let met = (rw (c.loop-call.invariant.scheme, c.loop-call.invariant.number, c.loop-call.invariant.mode) at c.step.ensures.meets) (history calls answers)
+    c.loop-call.invariant.goes.stands in
     record {
       goes =
           rw (more, c.push_reserved.ensures.items)
-          (goes_more x (g.R.Rng.stream c.args.rng.now) calls answers c.loop-call.round.holds (g.R.Rng.stream c.loop-call.rng) c.call-item.result c.step.result c.step.new.round.holds (g.R.Rng.stream c.step.new.rng)
+          (goes_more x (g.R.Rng.stream c.args.rng.now) calls answers c.loop-call.round.holds (g.R.Rng.stream c.loop-call.rng) c.call-item.result c.step.result
+          c.step.new.round.holds (g.R.Rng.stream c.step.new.rng)
           c.loop-call.invariant.goes stepped met.0 met.1);
       told = rw c.push_reserved.ensures.items (omega (arith, length-append answers (c.step.result ∷ []), c.loop-call.invariant.told));
       room = rw c.push_reserved.ensures.capacity c.loop-call.invariant.room;
@@ -50,6 +53,12 @@ pub returns-clause-ran : goal.returns-clause-ran
 returns-clause-ran g c =
     let round = c.args.round in
     let x = setting (g.S.Scheme.meaning round.scheme) g.S.PublicKey.Ord.cmp g.S.Signature.PartialEq.eq g.D.PartialEq.eq round.number round.mode in
-    let laws : HasLaws x = record { scheme = g.met.S.Scheme.lawful round.scheme; some_participant = c.has_participants.ensures; digests_equal = g.met.D.Digest.identical; digests_same = g.met.D.Eq.laws.refl } in
+    let laws : HasLaws x = record {
+      scheme = g.met.S.Scheme.lawful round.scheme;
+      some_participant = c.has_participants.ensures;
+      digests_equal = g.met.D.Digest.identical;
+      digests_same = g.met.D.Eq.laws.refl;
+    } in
     let all : take c.loop-call.call-index c.args.calls.now ≡ c.args.calls.now = grind (arith, common_steps) in
-    goes_to x laws (g.R.Rng.stream c.args.rng.now) c.args.calls.now c.loop-call.answers.items c.loop-call.round.holds (g.R.Rng.stream c.loop-call.rng) (rw all at c.loop-call.invariant.goes)
+    goes_to x laws (g.R.Rng.stream c.args.rng.now) c.args.calls.now c.loop-call.answers.items c.loop-call.round.holds (g.R.Rng.stream c.loop-call.rng)
+    (rw all at c.loop-call.invariant.goes)

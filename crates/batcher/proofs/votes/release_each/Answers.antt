@@ -8,7 +8,8 @@ loop-place-preserved g c = record {
   items =
       c.replace_at.ensures.items
       ∙ ap (λ e. set c.loop-place.entries.items c.loop-place.place e) c.released.ensures
-      ∙ map_over_more (entry_released g.D.PartialEq.eq c.args.selected c.args.kind) c.args.entries.now.items c.loop-place.entries.items c.loop-place.place c.item_at-entry.result.now
+      ∙ map_over_more (entry_released g.D.PartialEq.eq c.args.selected c.args.kind) c.args.entries.now.items c.loop-place.entries.items c.loop-place.place
+      c.item_at-entry.result.now
       (omega arith) c.loop-place.invariant.items (c.item_at-entry.ensures.item c.item_at-entry.result.now);
   participants = c.replace_at.ensures.participants ∙ c.loop-place.invariant.participants;
   room = c.replace_at.ensures.room ∙ c.loop-place.invariant.room;

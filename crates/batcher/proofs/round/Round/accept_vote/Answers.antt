@@ -14,7 +14,8 @@ use Rattle.batcher.proofs.Owning.{err_only, known_signer, ok_is, own_step, resul
 use Rattle.batcher.proofs.Needing.{own_needed}
 use Rattle.batcher.proofs.round.Round.accept_vote.Goals as goal
 
-pub returns-in_err-make_room_to_accept-clause-fault : goal.returns-in_err-make_room_to_accept-clause-fault
+pub returns-in_err-make_room_to_accept-clause-fault :
+    goal.returns-in_err-make_room_to_accept-clause-fault
 returns-in_err-make_room_to_accept-clause-fault g c =
     let result = sym c.own_result.ensures ∙ c.in_ok-outcome.was in
     rw (← c.self.view_is, result) (err_only _ c.from_residual-in_err-make_room_to_accept.result c.from_residual-in_err-make_room_to_accept.ensures.1)
@@ -24,14 +25,17 @@ returns-clause-step g c =
     let b = c.self.inside in
     let result = sym c.own_result.ensures ∙ c.in_ok-outcome.was in
     let fixes_it = rw (c.in_ok-make_room_to_accept.ensures.holds, c.in_ok-make_room_to_accept.ensures.votes, c.fixed_by.ensures) at c.may_fix.ensures.fixes in
-    let signer = (g.met.S.Scheme.lawful b.verifier.scheme).signers_in_range (subject_of c.args.vote) (attestation_of c.args.vote) (rw (← c.self.view_is) at c.requires.attests) in
+    let signer = (g.met.S.Scheme.lawful b.verifier.scheme).signers_in_range (subject_of c.args.vote) (attestation_of c.args.vote)
+    (rw (← c.self.view_is) at c.requires.attests) in
     let below : nat_lt (signer_of c.args.vote) b.votes.participants ≡ true = rw c.self.invariant.bound (grind (arith, nat_tests, signer)) in
     let took = rw c.in_ok-make_room_to_accept.ensures.mode.1 at c.in_ok-take_in.ensures.outcome in
     rw (← c.self.view_is)
-    (own_step _ _ _ c.args.vote _ c.in_ok-take_in.field-0 c.may_fix.new.verifier.holds b.votes.participants c.make_room_to_accept.new.votes.holds _ result c.report_by.ensures refl fixes_it
+    (own_step _ _ _ c.args.vote _ c.in_ok-take_in.field-0 c.may_fix.new.verifier.holds b.votes.participants c.make_room_to_accept.new.votes.holds _ result
+    c.report_by.ensures refl fixes_it
     c.in_ok-make_room_to_accept.ensures.votes below took c.in_ok-take_in.ensures.tracked c.in_ok-take_in.ensures.buffered)
 
-pub returns-in_err-make_room_to_accept-clause-no_memory : goal.returns-in_err-make_room_to_accept-clause-no_memory
+pub returns-in_err-make_room_to_accept-clause-no_memory :
+    goal.returns-in_err-make_room_to_accept-clause-no_memory
 returns-in_err-make_room_to_accept-clause-no_memory g c =
     let b = c.self.inside in
     let result = sym c.own_result.ensures ∙ c.in_ok-outcome.was in
@@ -41,7 +45,8 @@ returns-in_err-make_room_to_accept-clause-no_memory g c =
     let wrong =
     c.in_err-make_room_to_accept.ensures.no_memory (rw same not_added)
     (λ fixed fixes_it takes kind has full.
-    fixes_no_more (g.S.Scheme.meaning b.verifier.scheme) g.D.PartialEq.eq b.votes b.verifier.holds b.verifier.quorum c.self.invariant fixed kind takes full _ (observed_opposite b.votes.holds c.args.vote) _ outcome c.args.vote fixes_it is not_added) in
+    fixes_no_more (g.S.Scheme.meaning b.verifier.scheme) g.D.PartialEq.eq b.votes b.verifier.holds b.verifier.quorum c.self.invariant fixed kind takes full _
+    (observed_opposite b.votes.holds c.args.vote) _ outcome c.args.vote fixes_it is not_added) in
     absurd (cc))
 
 pub returns-in_err-take_in-clause-no_memory : goal.returns-in_err-take_in-clause-no_memory
@@ -63,7 +68,12 @@ pub returns-clause-meets : goal.returns-clause-meets
 returns-clause-meets g c =
     let b = c.self.inside in
     let x = setting (g.S.Scheme.meaning b.verifier.scheme) g.S.PublicKey.Ord.cmp g.S.Signature.PartialEq.eq g.D.PartialEq.eq b.verifier.number b.votes.mode in
-    let laws : HasLaws x = record { scheme = g.met.S.Scheme.lawful b.verifier.scheme; some_participant = c.self.invariant.some; digests_equal = g.met.D.Digest.identical; digests_same = g.met.D.Eq.laws.refl } in
+    let laws : HasLaws x = record {
+      scheme = g.met.S.Scheme.lawful b.verifier.scheme;
+      some_participant = c.self.invariant.some;
+      digests_equal = g.met.D.Digest.identical;
+      digests_same = g.met.D.Eq.laws.refl;
+    } in
     let held : Held g.row.S-Signature.Denot g.row.D.Denot = record { tracked = b.votes.holds; buffered = b.verifier.holds; forwarded = b.forwarded } in
     let step = rw (← c.self.view_is) at (returns-clause-step g c) in
     let allowed = rw (← c.self.view_is) at c.requires in
@@ -82,17 +92,21 @@ returns-in_err-take_in-clause-fault g c =
 pub returns-in_err-outcome-clause-named : goal.returns-in_err-outcome-clause-named
 returns-in_err-outcome-clause-named g c =
     let fault = rw (← c.self.view_is) at (returns-in_err-outcome-clause-fault g c) in
-    rw (← c.self.view_is) (λ past stands. subst (λ r. IfErr c.from_residual.result (λ fault. fault ≡ fault_or_memory r)) (own_same _ past _ c.args.vote stands) fault)
+    rw (← c.self.view_is) (λ past stands. subst (λ r. IfErr c.from_residual.result (λ fault. fault ≡ fault_or_memory r)) (own_same _ past _ c.args.vote stands)
+    fault)
 
-pub returns-in_err-make_room_to_accept-clause-named : goal.returns-in_err-make_room_to_accept-clause-named
+pub returns-in_err-make_room_to_accept-clause-named :
+    goal.returns-in_err-make_room_to_accept-clause-named
 returns-in_err-make_room_to_accept-clause-named g c =
     let fault = rw (← c.self.view_is) at (returns-in_err-make_room_to_accept-clause-fault g c) in
-    rw (← c.self.view_is) (λ past stands. subst (λ r. IfErr c.from_residual-in_err-make_room_to_accept.result (λ fault. fault ≡ fault_or_memory r)) (own_same _ past _ c.args.vote stands) fault)
+    rw (← c.self.view_is) (λ past stands. subst (λ r. IfErr c.from_residual-in_err-make_room_to_accept.result (λ fault. fault ≡ fault_or_memory r))
+    (own_same _ past _ c.args.vote stands) fault)
 
 pub returns-in_err-take_in-clause-named : goal.returns-in_err-take_in-clause-named
 returns-in_err-take_in-clause-named g c =
     let fault = rw (← c.self.view_is) at (returns-in_err-take_in-clause-fault g c) in
-    rw (← c.self.view_is) (λ past stands. subst (λ r. IfErr c.from_residual-in_err-take_in.result (λ fault. fault ≡ fault_or_memory r)) (own_same _ past _ c.args.vote stands) fault)
+    rw (← c.self.view_is) (λ past stands. subst (λ r. IfErr c.from_residual-in_err-take_in.result (λ fault. fault ≡ fault_or_memory r))
+    (own_same _ past _ c.args.vote stands) fault)
 
 pub returns-in_err-outcome-clause-no_memory : goal.returns-in_err-outcome-clause-no_memory
 returns-in_err-outcome-clause-no_memory g c = search rules
@@ -106,7 +120,8 @@ returns-in_err-outcome-clause-needed g c =
     let no_memory = rw (← c.self.view_is) at (returns-in_err-outcome-clause-no_memory g c) in
     rw (← c.self.view_is) (λ past stands. own_needed x past held c.args.vote _ stands fault no_memory)
 
-pub returns-in_err-make_room_to_accept-clause-needed : goal.returns-in_err-make_room_to_accept-clause-needed
+pub returns-in_err-make_room_to_accept-clause-needed :
+    goal.returns-in_err-make_room_to_accept-clause-needed
 returns-in_err-make_room_to_accept-clause-needed g c =
     let b = c.self.inside in
     let x = setting (g.S.Scheme.meaning b.verifier.scheme) g.S.PublicKey.Ord.cmp g.S.Signature.PartialEq.eq g.D.PartialEq.eq b.verifier.number b.votes.mode in

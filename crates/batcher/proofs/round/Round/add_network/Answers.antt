@@ -20,7 +20,8 @@ returns-in-Some-objection-clause-step g c =
     let h = c.objection.ensures (g.S.Scheme.meaning b.verifier.scheme) b.verifier.number b.votes.mode in
     let own = same_number c.in-Some.index.0 c.signer.result.0 (sym c.ne.ensures ∙ c.if-ne.false) ∙ ap (λ p. p.0) c.signer.ensures in
     rw (← c.self.view_is)
-    (objected _ _ c.args.sender c.in-Some.index c.args.vote c.in-Some-objection.answer (rw (← c.participants.ensures, ← c.in-Some.is) (sym c.index.ensures.index)) own
+    (objected _ _ c.args.sender c.in-Some.index c.args.vote c.in-Some-objection.answer
+    (rw (← c.participants.ensures, ← c.in-Some.is) (sym c.index.ensures.index)) own
     (rw (← c.in-Some-objection.is) (sym h)))
 
 pub returns-in-None-objection-clause-step : goal.returns-in-None-objection-clause-step
@@ -40,7 +41,9 @@ returns-in-None-objection-clause-no_memory g c =
     let x = setting (g.S.Scheme.meaning b.verifier.scheme) g.S.PublicKey.Ord.cmp g.S.Signature.PartialEq.eq g.D.PartialEq.eq b.verifier.number b.votes.mode in
     let sent : sender_in x c.args.sender ≡ Some c.in-Some.index = rw (← c.participants.ensures, ← c.in-Some.is) (sym c.index.ensures.index) in
     rw (← c.self.view_is)
-    (λ not_added. c.admit.ensures.no_memory (ap (λ a. a.added) (sym (unopposed_admission x (record { tracked = b.votes.holds; buffered = b.verifier.holds; forwarded = b.forwarded }) c.args.sender c.in-Some.index c.args.vote sent own none)) ∙ not_added))
+    (λ not_added. c.admit.ensures.no_memory (ap (λ a. a.added)
+    (sym (unopposed_admission x (record { tracked = b.votes.holds; buffered = b.verifier.holds; forwarded = b.forwarded }) c.args.sender c.in-Some.index
+    c.args.vote sent own none)) ∙ not_added))
 
 pub returns-in-None-clause-step : goal.returns-in-None-clause-step
 returns-in-None-clause-step g c = search rules
@@ -49,14 +52,20 @@ pub returns-then-ne-clause-step : goal.returns-then-ne-clause-step
 returns-then-ne-clause-step g c =
     let other = not-true (c.in-Some.index.0 == c.signer.result.0) (sym c.ne.ensures ∙ c.if-ne.true) in
     rw (← c.self.view_is)
-    (mismatched _ _ c.args.sender c.in-Some.index c.args.vote _ (rw (← c.participants.ensures, ← c.in-Some.is) (sym c.index.ensures.index)) (ap (λ n. c.in-Some.index.0 == n) (ap (λ p. p.0) (sym c.signer.ensures)) ∙ other)
+    (mismatched _ _ c.args.sender c.in-Some.index c.args.vote _ (rw (← c.participants.ensures, ← c.in-Some.is) (sym c.index.ensures.index))
+    (ap (λ n. c.in-Some.index.0 == n) (ap (λ p. p.0) (sym c.signer.ensures)) ∙ other)
     (c.blocked-then-ne.ensures ∙ ap (λ r. block_for r None) (c.mismatch_reason.ensures ∙ ap mismatch_reason c.kind.ensures)))
 
 pub returns-in-None-clause-meets : goal.returns-in-None-clause-meets
 returns-in-None-clause-meets g c =
     let b = c.self.inside in
     let x = setting (g.S.Scheme.meaning b.verifier.scheme) g.S.PublicKey.Ord.cmp g.S.Signature.PartialEq.eq g.D.PartialEq.eq b.verifier.number b.votes.mode in
-    let laws : HasLaws x = record { scheme = g.met.S.Scheme.lawful b.verifier.scheme; some_participant = c.self.invariant.some; digests_equal = g.met.D.Digest.identical; digests_same = g.met.D.Eq.laws.refl } in
+    let laws : HasLaws x = record {
+      scheme = g.met.S.Scheme.lawful b.verifier.scheme;
+      some_participant = c.self.invariant.some;
+      digests_equal = g.met.D.Digest.identical;
+      digests_same = g.met.D.Eq.laws.refl;
+    } in
     let held : Held g.row.S-Signature.Denot g.row.D.Denot = record { tracked = b.votes.holds; buffered = b.verifier.holds; forwarded = b.forwarded } in
     let step = rw (← c.self.view_is) at (returns-in-None-clause-step g c) in
     let allowed = rw (← c.self.view_is) at c.requires in
@@ -66,7 +75,12 @@ pub returns-then-ne-clause-meets : goal.returns-then-ne-clause-meets
 returns-then-ne-clause-meets g c =
     let b = c.self.inside in
     let x = setting (g.S.Scheme.meaning b.verifier.scheme) g.S.PublicKey.Ord.cmp g.S.Signature.PartialEq.eq g.D.PartialEq.eq b.verifier.number b.votes.mode in
-    let laws : HasLaws x = record { scheme = g.met.S.Scheme.lawful b.verifier.scheme; some_participant = c.self.invariant.some; digests_equal = g.met.D.Digest.identical; digests_same = g.met.D.Eq.laws.refl } in
+    let laws : HasLaws x = record {
+      scheme = g.met.S.Scheme.lawful b.verifier.scheme;
+      some_participant = c.self.invariant.some;
+      digests_equal = g.met.D.Digest.identical;
+      digests_same = g.met.D.Eq.laws.refl;
+    } in
     let held : Held g.row.S-Signature.Denot g.row.D.Denot = record { tracked = b.votes.holds; buffered = b.verifier.holds; forwarded = b.forwarded } in
     let step = rw (← c.self.view_is) at (returns-then-ne-clause-step g c) in
     let allowed = rw (← c.self.view_is) at c.requires in
@@ -76,7 +90,12 @@ pub returns-in-Some-objection-clause-meets : goal.returns-in-Some-objection-clau
 returns-in-Some-objection-clause-meets g c =
     let b = c.self.inside in
     let x = setting (g.S.Scheme.meaning b.verifier.scheme) g.S.PublicKey.Ord.cmp g.S.Signature.PartialEq.eq g.D.PartialEq.eq b.verifier.number b.votes.mode in
-    let laws : HasLaws x = record { scheme = g.met.S.Scheme.lawful b.verifier.scheme; some_participant = c.self.invariant.some; digests_equal = g.met.D.Digest.identical; digests_same = g.met.D.Eq.laws.refl } in
+    let laws : HasLaws x = record {
+      scheme = g.met.S.Scheme.lawful b.verifier.scheme;
+      some_participant = c.self.invariant.some;
+      digests_equal = g.met.D.Digest.identical;
+      digests_same = g.met.D.Eq.laws.refl;
+    } in
     let held : Held g.row.S-Signature.Denot g.row.D.Denot = record { tracked = b.votes.holds; buffered = b.verifier.holds; forwarded = b.forwarded } in
     let step = rw (← c.self.view_is) at (returns-in-Some-objection-clause-step g c) in
     let allowed = rw (← c.self.view_is) at c.requires in
@@ -86,14 +105,21 @@ pub returns-in-None-objection-clause-meets : goal.returns-in-None-objection-clau
 returns-in-None-objection-clause-meets g c =
     let b = c.self.inside in
     let x = setting (g.S.Scheme.meaning b.verifier.scheme) g.S.PublicKey.Ord.cmp g.S.Signature.PartialEq.eq g.D.PartialEq.eq b.verifier.number b.votes.mode in
-    let laws : HasLaws x = record { scheme = g.met.S.Scheme.lawful b.verifier.scheme; some_participant = c.self.invariant.some; digests_equal = g.met.D.Digest.identical; digests_same = g.met.D.Eq.laws.refl } in
+    let laws : HasLaws x = record {
+      scheme = g.met.S.Scheme.lawful b.verifier.scheme;
+      some_participant = c.self.invariant.some;
+      digests_equal = g.met.D.Digest.identical;
+      digests_same = g.met.D.Eq.laws.refl;
+    } in
     let held : Held g.row.S-Signature.Denot g.row.D.Denot = record { tracked = b.votes.holds; buffered = b.verifier.holds; forwarded = b.forwarded } in
-    let new : Held g.row.S-Signature.Denot g.row.D.Denot = record { tracked = c.admit.new.votes.holds; buffered = c.admit.new.verifier.holds; forwarded = b.forwarded } in
+    let new : Held g.row.S-Signature.Denot g.row.D.Denot = record
+    { tracked = c.admit.new.votes.holds; buffered = c.admit.new.verifier.holds; forwarded = b.forwarded } in
     let step = rw (← c.self.view_is) at (returns-in-None-objection-clause-step g c) in
     let allowed = rw (← c.self.view_is) at c.requires in
     rw (← c.self.view_is)
     (λ past stands.
-    IfOk-weaker c.admit.result (λ answer. AfterNetwork x held c.args.sender c.args.vote answer new) (λ answer. Follows x past held (NetworkCall c.args.sender c.args.vote, NetworkAnswer answer) new)
+    IfOk-weaker c.admit.result (λ answer. AfterNetwork x held c.args.sender c.args.vote answer new)
+    (λ answer. Follows x past held (NetworkCall c.args.sender c.args.vote, NetworkAnswer answer) new)
     (λ answer after. network_follows x laws past held c.args.sender c.args.vote answer new stands allowed after) step)
 
 pub returns-in-None-objection-clause-needed : goal.returns-in-None-objection-clause-needed

@@ -11,12 +11,20 @@ use Rattle.batcher.proofs.round.Round.missing_voters.Goals.{then-is_missing_vote
 pub loop-index-preserved : goal.loop-index-preserved
 loop-index-preserved g c = elim c.if-is_missing_voter.branch [
   | then-is_missing_voter w ↦ record {
-    found = rw (w.missing-is, w.push_reserved.ensures.items) (missing_one g.D.PartialEq.eq c.args.self.now.holds c.args.proposal.now c.loop-index.index c.from_usize-participant.result c.loop-index.missing.items c.from_usize-participant.ensures (sym c.is_missing_voter.ensures.held ∙ w.if-is_missing_voter.true) c.loop-index.invariant.found);
-    few = rw (w.missing-is, w.push_reserved.ensures.items) (omega (arith, length-append c.loop-index.missing.items (c.from_usize-participant.result ∷ []), c.loop-index.invariant.few));
+    found =
+        rw (w.missing-is, w.push_reserved.ensures.items)
+        (missing_one g.D.PartialEq.eq c.args.self.now.holds c.args.proposal.now c.loop-index.index c.from_usize-participant.result c.loop-index.missing.items
+        c.from_usize-participant.ensures (sym c.is_missing_voter.ensures.held ∙ w.if-is_missing_voter.true) c.loop-index.invariant.found);
+    few =
+        rw (w.missing-is, w.push_reserved.ensures.items)
+        (omega (arith, length-append c.loop-index.missing.items (c.from_usize-participant.result ∷ []), c.loop-index.invariant.few));
     room = rw (w.missing-is, w.push_reserved.ensures.capacity) c.loop-index.invariant.room;
   }
   | else-is_missing_voter w ↦ record {
-    found = rw w.missing-is (missing_none g.D.PartialEq.eq c.args.self.now.holds c.args.proposal.now c.loop-index.index c.from_usize-participant.result c.loop-index.missing.items c.from_usize-participant.ensures (sym c.is_missing_voter.ensures.held ∙ w.if-is_missing_voter.false) c.loop-index.invariant.found);
+    found =
+        rw w.missing-is (missing_none g.D.PartialEq.eq c.args.self.now.holds c.args.proposal.now c.loop-index.index c.from_usize-participant.result
+        c.loop-index.missing.items c.from_usize-participant.ensures (sym c.is_missing_voter.ensures.held ∙ w.if-is_missing_voter.false)
+        c.loop-index.invariant.found);
     few = rw w.missing-is (omega (arith, c.loop-index.invariant.few));
     room = rw w.missing-is c.loop-index.invariant.room;
   }
@@ -30,8 +38,14 @@ returns-clause-meets g c =
     let all = ended ∙ c.len-participants.ensures.count ∙ ap length c.participants.ensures in
     let b = c.self.inside in
     let x = setting (g.S.Scheme.meaning b.verifier.scheme) g.S.PublicKey.Ord.cmp g.S.Signature.PartialEq.eq g.D.PartialEq.eq b.verifier.number b.votes.mode in
-    let laws : HasLaws x = record { scheme = g.met.S.Scheme.lawful b.verifier.scheme; some_participant = c.self.invariant.some; digests_equal = g.met.D.Digest.identical; digests_same = g.met.D.Eq.laws.refl } in
+    let laws : HasLaws x = record {
+      scheme = g.met.S.Scheme.lawful b.verifier.scheme;
+      some_participant = c.self.invariant.some;
+      digests_equal = g.met.D.Digest.identical;
+      digests_same = g.met.D.Eq.laws.refl;
+    } in
     let held : Held g.row.S-Signature.Denot g.row.D.Denot = record { tracked = b.votes.holds; buffered = b.verifier.holds; forwarded = b.forwarded } in
     let found = rw (← c.self.view_is) at c.loop-index.invariant.found in
     rw (← c.self.view_is)
-    (λ past stands. missing_follows x laws past held held c.args.proposal.now c.from.result stands (c.from.ensures ∙ found ∙ ap (missing_in g.D.PartialEq.eq held c.args.proposal.now) all) refl)
+    (λ past stands. missing_follows x laws past held held c.args.proposal.now c.from.result stands
+    (c.from.ensures ∙ found ∙ ap (missing_in g.D.PartialEq.eq held c.args.proposal.now) all) refl)

@@ -33,17 +33,30 @@ pub returns-in-Some-clause-meets : goal.returns-in-Some-clause-meets
 returns-in-Some-clause-meets g c =
     let now = c.args.self.now in
     let x = setting (g.S.Scheme.meaning now.scheme) g.S.PublicKey.Ord.cmp g.S.Signature.PartialEq.eq g.D.PartialEq.eq now.number now.mode in
-    let laws : HasLaws x = record { scheme = g.met.S.Scheme.lawful now.scheme; some_participant = c.try_kind.ensures.sound.some; digests_equal = g.met.D.Digest.identical; digests_same = g.met.D.Eq.laws.refl } in
-    λ past stands. construct_follows x laws past now.holds _ _ _ _ stands c.try_kind.ensures.sound (returns-in-Some-clause-certifies g c) (returns-in-Some-clause-step g c)
+    let laws : HasLaws x = record {
+      scheme = g.met.S.Scheme.lawful now.scheme;
+      some_participant = c.try_kind.ensures.sound.some;
+      digests_equal = g.met.D.Digest.identical;
+      digests_same = g.met.D.Eq.laws.refl;
+    } in
+    λ past stands. construct_follows x laws past now.holds _ _ _ _ stands c.try_kind.ensures.sound (returns-in-Some-clause-certifies g c)
+    (returns-in-Some-clause-step g c)
 
 pub returns-in-Some-2-clause-meets : goal.returns-in-Some-2-clause-meets
 returns-in-Some-2-clause-meets g c =
     let now = c.args.self.now in
     let x = setting (g.S.Scheme.meaning now.scheme) g.S.PublicKey.Ord.cmp g.S.Signature.PartialEq.eq g.D.PartialEq.eq now.number now.mode in
-    let laws : HasLaws x = record { scheme = g.met.S.Scheme.lawful now.scheme; some_participant = c.try_kind.ensures.sound.some; digests_equal = g.met.D.Digest.identical; digests_same = g.met.D.Eq.laws.refl } in
-    λ past stands. construct_follows x laws past now.holds _ _ _ _ stands c.try_kind.ensures.sound (returns-in-Some-2-clause-certifies g c) (returns-in-Some-2-clause-step g c)
+    let laws : HasLaws x = record {
+      scheme = g.met.S.Scheme.lawful now.scheme;
+      some_participant = c.try_kind.ensures.sound.some;
+      digests_equal = g.met.D.Digest.identical;
+      digests_same = g.met.D.Eq.laws.refl;
+    } in
+    λ past stands. construct_follows x laws past now.holds _ _ _ _ stands c.try_kind.ensures.sound (returns-in-Some-2-clause-certifies g c)
+    (returns-in-Some-2-clause-step g c)
 
-both_ok : {X Y : Type 0} (r : Result X Y) (P Q R : X → Type 0) → ((v : X) → P v → Q v → R v) → IfOk r P → IfOk r Q → IfOk r R
+both_ok : {X Y : Type 0} (r : Result X Y) (P Q R : X → Type 0) → ((v : X) → P v → Q v → R v)
+    → IfOk r P → IfOk r Q → IfOk r R
 both_ok (Ok v) P Q R by p q = by v p q
 both_ok (Err e) P Q R by p q = tt
 
@@ -51,12 +64,18 @@ pub returns-clause-meets : goal.returns-clause-meets
 returns-clause-meets g c =
     let now = c.args.self.now in
     let x = setting (g.S.Scheme.meaning now.scheme) g.S.PublicKey.Ord.cmp g.S.Signature.PartialEq.eq g.D.PartialEq.eq now.number now.mode in
-    let laws : HasLaws x = record { scheme = g.met.S.Scheme.lawful now.scheme; some_participant = c.try_kind.ensures.sound.some; digests_equal = g.met.D.Digest.identical; digests_same = g.met.D.Eq.laws.refl } in
+    let laws : HasLaws x = record {
+      scheme = g.met.S.Scheme.lawful now.scheme;
+      some_participant = c.try_kind.ensures.sound.some;
+      digests_equal = g.met.D.Digest.identical;
+      digests_same = g.met.D.Eq.laws.refl;
+    } in
     let before = g.R.Rng.stream c.args.rng.now in
     let after = g.R.Rng.stream c.try_kind-3.new.rng in
     let new = c.try_kind-3.new.self.holds in
     λ past stands.
-    both_ok c.try_kind-3.result (λ answer. AfterConstruct x now.holds before answer new after) (λ answer. IfSome answer (λ batch. IfSome batch.certificate (λ certificate. certifies_itself x.meaning certificate ≡ true)))
+    both_ok c.try_kind-3.result (λ answer. AfterConstruct x now.holds before answer new after)
+    (λ answer. IfSome answer (λ batch. IfSome batch.certificate (λ certificate. certifies_itself x.meaning certificate ≡ true)))
     (λ answer. Follows x past now.holds (ConstructCall, ConstructAnswer answer) new)
     (λ answer step certifies. construct_follows x laws past now.holds before after answer new stands c.try_kind.ensures.sound certifies step)
     (returns-clause-step g c) (returns-clause-certifies g c)
@@ -68,7 +87,12 @@ pub returns-in_err-batch-clause-needed : goal.returns-in_err-batch-clause-needed
 returns-in_err-batch-clause-needed g c =
     let now = c.args.self.now in
     let x = setting (g.S.Scheme.meaning now.scheme) g.S.PublicKey.Ord.cmp g.S.Signature.PartialEq.eq g.D.PartialEq.eq now.number now.mode in
-    let laws : HasLaws x = record { scheme = g.met.S.Scheme.lawful now.scheme; some_participant = c.try_kind.ensures.sound.some; digests_equal = g.met.D.Digest.identical; digests_same = g.met.D.Eq.laws.refl } in
+    let laws : HasLaws x = record {
+      scheme = g.met.S.Scheme.lawful now.scheme;
+      some_participant = c.try_kind.ensures.sound.some;
+      digests_equal = g.met.D.Digest.identical;
+      digests_same = g.met.D.Eq.laws.refl;
+    } in
     λ past stands. construct_needed x laws past now.holds _ stands (returns-in_err-batch-clause-no_memory g c)
 
 pub returns-in_err-batch-2-clause-no_memory : goal.returns-in_err-batch-2-clause-no_memory
@@ -78,7 +102,12 @@ pub returns-in_err-batch-2-clause-needed : goal.returns-in_err-batch-2-clause-ne
 returns-in_err-batch-2-clause-needed g c =
     let now = c.args.self.now in
     let x = setting (g.S.Scheme.meaning now.scheme) g.S.PublicKey.Ord.cmp g.S.Signature.PartialEq.eq g.D.PartialEq.eq now.number now.mode in
-    let laws : HasLaws x = record { scheme = g.met.S.Scheme.lawful now.scheme; some_participant = c.try_kind.ensures.sound.some; digests_equal = g.met.D.Digest.identical; digests_same = g.met.D.Eq.laws.refl } in
+    let laws : HasLaws x = record {
+      scheme = g.met.S.Scheme.lawful now.scheme;
+      some_participant = c.try_kind.ensures.sound.some;
+      digests_equal = g.met.D.Digest.identical;
+      digests_same = g.met.D.Eq.laws.refl;
+    } in
     λ past stands. construct_needed x laws past now.holds _ stands (returns-in_err-batch-2-clause-no_memory g c)
 
 pub returns-clause-no_memory : goal.returns-clause-no_memory
@@ -88,5 +117,10 @@ pub returns-clause-needed : goal.returns-clause-needed
 returns-clause-needed g c =
     let now = c.args.self.now in
     let x = setting (g.S.Scheme.meaning now.scheme) g.S.PublicKey.Ord.cmp g.S.Signature.PartialEq.eq g.D.PartialEq.eq now.number now.mode in
-    let laws : HasLaws x = record { scheme = g.met.S.Scheme.lawful now.scheme; some_participant = c.try_kind.ensures.sound.some; digests_equal = g.met.D.Digest.identical; digests_same = g.met.D.Eq.laws.refl } in
+    let laws : HasLaws x = record {
+      scheme = g.met.S.Scheme.lawful now.scheme;
+      some_participant = c.try_kind.ensures.sound.some;
+      digests_equal = g.met.D.Digest.identical;
+      digests_same = g.met.D.Eq.laws.refl;
+    } in
     λ past stands. construct_needed x laws past now.holds _ stands (returns-clause-no_memory g c)

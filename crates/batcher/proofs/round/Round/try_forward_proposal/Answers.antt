@@ -27,7 +27,12 @@ pub returns-then-self-clause-meets : goal.returns-then-self-clause-meets
 returns-then-self-clause-meets g c =
     let b = c.self.inside in
     let x = setting (g.S.Scheme.meaning b.verifier.scheme) g.S.PublicKey.Ord.cmp g.S.Signature.PartialEq.eq g.D.PartialEq.eq b.verifier.number b.votes.mode in
-    let laws : HasLaws x = record { scheme = g.met.S.Scheme.lawful b.verifier.scheme; some_participant = c.self.invariant.some; digests_equal = g.met.D.Digest.identical; digests_same = g.met.D.Eq.laws.refl } in
+    let laws : HasLaws x = record {
+      scheme = g.met.S.Scheme.lawful b.verifier.scheme;
+      some_participant = c.self.invariant.some;
+      digests_equal = g.met.D.Digest.identical;
+      digests_same = g.met.D.Eq.laws.refl;
+    } in
     let held : Held g.row.S-Signature.Denot g.row.D.Denot = record { tracked = b.votes.holds; buffered = b.verifier.holds; forwarded = b.forwarded } in
     let named = rw (← c.self.view_is) at (returns-then-self-clause-answer g c) in
     let moved = rw (← c.self.view_is) at (returns-then-self-clause-holds g c) in
@@ -37,7 +42,12 @@ pub returns-in_err-proposal-clause-meets : goal.returns-in_err-proposal-clause-m
 returns-in_err-proposal-clause-meets g c =
     let b = c.self.inside in
     let x = setting (g.S.Scheme.meaning b.verifier.scheme) g.S.PublicKey.Ord.cmp g.S.Signature.PartialEq.eq g.D.PartialEq.eq b.verifier.number b.votes.mode in
-    let laws : HasLaws x = record { scheme = g.met.S.Scheme.lawful b.verifier.scheme; some_participant = c.self.invariant.some; digests_equal = g.met.D.Digest.identical; digests_same = g.met.D.Eq.laws.refl } in
+    let laws : HasLaws x = record {
+      scheme = g.met.S.Scheme.lawful b.verifier.scheme;
+      some_participant = c.self.invariant.some;
+      digests_equal = g.met.D.Digest.identical;
+      digests_same = g.met.D.Eq.laws.refl;
+    } in
     let held : Held g.row.S-Signature.Denot g.row.D.Denot = record { tracked = b.votes.holds; buffered = b.verifier.holds; forwarded = b.forwarded } in
     let named = rw (← c.self.view_is) at (returns-in_err-proposal-clause-answer g c) in
     let moved = rw (← c.self.view_is) at (returns-in_err-proposal-clause-holds g c) in
@@ -47,7 +57,12 @@ pub returns-clause-meets : goal.returns-clause-meets
 returns-clause-meets g c =
     let b = c.self.inside in
     let x = setting (g.S.Scheme.meaning b.verifier.scheme) g.S.PublicKey.Ord.cmp g.S.Signature.PartialEq.eq g.D.PartialEq.eq b.verifier.number b.votes.mode in
-    let laws : HasLaws x = record { scheme = g.met.S.Scheme.lawful b.verifier.scheme; some_participant = c.self.invariant.some; digests_equal = g.met.D.Digest.identical; digests_same = g.met.D.Eq.laws.refl } in
+    let laws : HasLaws x = record {
+      scheme = g.met.S.Scheme.lawful b.verifier.scheme;
+      some_participant = c.self.invariant.some;
+      digests_equal = g.met.D.Digest.identical;
+      digests_same = g.met.D.Eq.laws.refl;
+    } in
     let held : Held g.row.S-Signature.Denot g.row.D.Denot = record { tracked = b.votes.holds; buffered = b.verifier.holds; forwarded = b.forwarded } in
     let named = rw (← c.self.view_is) at (returns-clause-answer g c) in
     let moved = rw (← c.self.view_is) at (returns-clause-holds g c) in

@@ -15,7 +15,8 @@ step-answer-requires g c =
 
 pub step-answer-requires-in-loop-call : goal.step-answer-requires-in-loop-call
 step-answer-requires-in-loop-call g c =
-    rw (c.loop-call.invariant.scheme_released, c.loop-call.invariant.number_released, c.call-item.is) (c.requires.calls c.loop-call.call-index c.call-item.result (omega arith))
+    rw (c.loop-call.invariant.scheme_released, c.loop-call.invariant.number_released, c.call-item.is)
+    (c.requires.calls c.loop-call.call-index c.call-item.result (omega arith))
 
 pub loop-call-init : goal.loop-call-init
 loop-call-init g c =
@@ -46,17 +47,29 @@ loop-call-preserved g c =
     let more : take (c.loop-call.call-index + 1) c.args.calls.now ≡ calls ++ c.call-item.result ∷ []
     = take_more c.args.calls.now c.loop-call.call-index c.call-item.result (omega arith) ∙ ap (λ y. calls ++ y ∷ []) (sym c.call-item.is) in
     let met = (rw (i.scheme, i.number, i.mode) at c.step-answer.ensures.meets) (history calls retained) i.goes.retains.stands in
-    let met_released = (rw (i.scheme_released, i.number_released, i.mode_released) at c.step-answer-in-loop-call.ensures.meets) (history calls released) i.goes.releases.stands in
-    let takes : Takes (in_mode x Retaining) (history calls retained) c.loop-call.retaining.holds (g.R.Rng.stream c.loop-call.rng_a) c.call-item.result c.step-answer.result c.step-answer.new.round.holds (g.R.Rng.stream c.step-answer.new.rng)
+    let met_released = (rw (i.scheme_released, i.number_released, i.mode_released) at c.step-answer-in-loop-call.ensures.meets) (history calls released)
+    i.goes.releases.stands in
+    let takes : Takes (in_mode x Retaining) (history calls retained) c.loop-call.retaining.holds (g.R.Rng.stream c.loop-call.rng_a) c.call-item.result
+    c.step-answer.result c.step-answer.new.round.holds (g.R.Rng.stream c.step-answer.new.rng)
     = record { steps = rw (i.scheme, i.number, i.mode) at c.step-answer.ensures.steps; meets = met.0; answered = met.1 } in
-    let taken : Takes (in_mode x Releasing) (history calls released) c.loop-call.releasing.holds (g.R.Rng.stream c.loop-call.rng_b) c.call-item.result c.step-answer-in-loop-call.result c.step-answer-in-loop-call.new.round.holds (g.R.Rng.stream c.step-answer-in-loop-call.new.rng)
-    = record { steps = rw (i.scheme_released, i.number_released, i.mode_released) at c.step-answer-in-loop-call.ensures.steps; meets = met_released.0; answered = met_released.1 } in
+    let taken : Takes (in_mode x Releasing) (history calls released) c.loop-call.releasing.holds (g.R.Rng.stream c.loop-call.rng_b) c.call-item.result
+    c.step-answer-in-loop-call.result c.step-answer-in-loop-call.new.round.holds (g.R.Rng.stream c.step-answer-in-loop-call.new.rng)
+    =
+    record {
+      steps = rw (i.scheme_released, i.number_released, i.mode_released) at
+          c.step-answer-in-loop-call.ensures.steps;
+      meets = met_released.0;
+      answered = met_released.1;
+    } in
     record {
       goes =
           rw (more, c.push_reserved.ensures.items, c.push_reserved-in-loop-call.ensures.items)
-          (pair_more x (g.R.Rng.stream c.args.rng_a.now) calls retained released c.loop-call.retaining.holds c.loop-call.releasing.holds (g.R.Rng.stream c.loop-call.rng_a) (g.R.Rng.stream c.loop-call.rng_b) i.goes c.call-item.result
-          c.step-answer.result c.step-answer-in-loop-call.result c.step-answer.new.round.holds c.step-answer-in-loop-call.new.round.holds (g.R.Rng.stream c.step-answer.new.rng) (g.R.Rng.stream c.step-answer-in-loop-call.new.rng)
-          takes taken (sym c.is_refusal-is_refused.ensures ∙ c.if-is_refused.false) (sym c.is_refusal-is_refused-in-loop-call.ensures ∙ c.if-is_refused-2.false));
+          (pair_more x (g.R.Rng.stream c.args.rng_a.now) calls retained released c.loop-call.retaining.holds c.loop-call.releasing.holds
+          (g.R.Rng.stream c.loop-call.rng_a) (g.R.Rng.stream c.loop-call.rng_b) i.goes c.call-item.result
+          c.step-answer.result c.step-answer-in-loop-call.result c.step-answer.new.round.holds c.step-answer-in-loop-call.new.round.holds
+          (g.R.Rng.stream c.step-answer.new.rng) (g.R.Rng.stream c.step-answer-in-loop-call.new.rng)
+          takes taken (sym c.is_refusal-is_refused.ensures ∙ c.if-is_refused.false)
+          (sym c.is_refusal-is_refused-in-loop-call.ensures ∙ c.if-is_refused-2.false));
       room = rw c.push_reserved.ensures.capacity i.room;
       room_released = rw c.push_reserved-in-loop-call.ensures.capacity i.room_released;
       scheme = c.step-answer.ensures.same.0 ∙ i.scheme;
@@ -71,7 +84,12 @@ pub returns-then-is_refused-clause-ran : goal.returns-then-is_refused-clause-ran
 returns-then-is_refused-clause-ran g c =
     let start = c.args.retaining.now in
     let x = setting (g.S.Scheme.meaning start.scheme) g.S.PublicKey.Ord.cmp g.S.Signature.PartialEq.eq g.D.PartialEq.eq start.number Retaining in
-    let laws : HasLaws x = record { scheme = g.met.S.Scheme.lawful start.scheme; some_participant = c.has_participants.ensures; digests_equal = g.met.D.Digest.identical; digests_same = g.met.D.Eq.laws.refl } in
+    let laws : HasLaws x = record {
+      scheme = g.met.S.Scheme.lawful start.scheme;
+      some_participant = c.has_participants.ensures;
+      digests_equal = g.met.D.Digest.identical;
+      digests_same = g.met.D.Eq.laws.refl;
+    } in
     let i = c.loop-call.invariant in
     let calls = take c.loop-call.call-index c.args.calls.now in
     let retained = c.loop-call.retained.items in
@@ -81,17 +99,25 @@ returns-then-is_refused-clause-ran g c =
     let told : length calls ≡ c.loop-call.call-index = length-take-le c.loop-call.call-index c.args.calls.now (omega arith) in
     let place : c.len-place.result ≡ c.loop-call.call-index = omega (arith, c.len-place.ensures, c.loop-call.released.ok.0, i.goes.released_on.0, told) in
     let met = (rw (i.scheme, i.number, i.mode) at c.step-answer.ensures.meets) (history calls retained) i.goes.retains.stands in
-    let takes : Takes (in_mode x Retaining) (history calls retained) c.loop-call.retaining.holds (g.R.Rng.stream c.loop-call.rng_a) c.call-item.result c.step-answer.result c.step-answer.new.round.holds (g.R.Rng.stream c.step-answer.new.rng)
+    let takes : Takes (in_mode x Retaining) (history calls retained) c.loop-call.retaining.holds (g.R.Rng.stream c.loop-call.rng_a) c.call-item.result
+    c.step-answer.result c.step-answer.new.round.holds (g.R.Rng.stream c.step-answer.new.rng)
     = record { steps = rw (i.scheme, i.number, i.mode) at c.step-answer.ensures.steps; meets = met.0; answered = met.1 } in
     rw (place, c.push_reserved.ensures.items)
-    (pair_stops x laws (g.R.Rng.stream c.args.rng_a.now) c.args.calls.now calls retained released c.loop-call.retaining.holds c.loop-call.releasing.holds (g.R.Rng.stream c.loop-call.rng_a) (g.R.Rng.stream c.loop-call.rng_b) i.goes c.loop-call.call-index c.call-item.result (omega arith) refl more told
-    c.step-answer.result c.step-answer.new.round.holds (g.R.Rng.stream c.step-answer.new.rng) takes (sym c.is_refusal-is_refused.ensures ∙ c.if-is_refused.true))
+    (pair_stops x laws (g.R.Rng.stream c.args.rng_a.now) c.args.calls.now calls retained released c.loop-call.retaining.holds c.loop-call.releasing.holds
+    (g.R.Rng.stream c.loop-call.rng_a) (g.R.Rng.stream c.loop-call.rng_b) i.goes c.loop-call.call-index c.call-item.result (omega arith) refl more told
+    c.step-answer.result c.step-answer.new.round.holds (g.R.Rng.stream c.step-answer.new.rng) takes
+    (sym c.is_refusal-is_refused.ensures ∙ c.if-is_refused.true))
 
 pub returns-then-is_refused-2-clause-ran : goal.returns-then-is_refused-2-clause-ran
 returns-then-is_refused-2-clause-ran g c =
     let start = c.args.retaining.now in
     let x = setting (g.S.Scheme.meaning start.scheme) g.S.PublicKey.Ord.cmp g.S.Signature.PartialEq.eq g.D.PartialEq.eq start.number Retaining in
-    let laws : HasLaws x = record { scheme = g.met.S.Scheme.lawful start.scheme; some_participant = c.has_participants.ensures; digests_equal = g.met.D.Digest.identical; digests_same = g.met.D.Eq.laws.refl } in
+    let laws : HasLaws x = record {
+      scheme = g.met.S.Scheme.lawful start.scheme;
+      some_participant = c.has_participants.ensures;
+      digests_equal = g.met.D.Digest.identical;
+      digests_same = g.met.D.Eq.laws.refl;
+    } in
     let i = c.loop-call.invariant in
     let calls = take c.loop-call.call-index c.args.calls.now in
     let retained = c.loop-call.retained.items in
@@ -101,24 +127,41 @@ returns-then-is_refused-2-clause-ran g c =
     let told : length calls ≡ c.loop-call.call-index = length-take-le c.loop-call.call-index c.args.calls.now (omega arith) in
     let place : c.len-place.result ≡ c.loop-call.call-index = omega (arith, c.len-place.ensures, c.loop-call.released.ok.0, i.goes.released_on.0, told) in
     let met = (rw (i.scheme, i.number, i.mode) at c.step-answer.ensures.meets) (history calls retained) i.goes.retains.stands in
-    let takes : Takes (in_mode x Retaining) (history calls retained) c.loop-call.retaining.holds (g.R.Rng.stream c.loop-call.rng_a) c.call-item.result c.step-answer.result c.step-answer.new.round.holds (g.R.Rng.stream c.step-answer.new.rng)
+    let takes : Takes (in_mode x Retaining) (history calls retained) c.loop-call.retaining.holds (g.R.Rng.stream c.loop-call.rng_a) c.call-item.result
+    c.step-answer.result c.step-answer.new.round.holds (g.R.Rng.stream c.step-answer.new.rng)
     = record { steps = rw (i.scheme, i.number, i.mode) at c.step-answer.ensures.steps; meets = met.0; answered = met.1 } in
-    let met_released = (rw (i.scheme_released, i.number_released, i.mode_released) at c.step-answer-in-loop-call.ensures.meets) (history calls released) i.goes.releases.stands in
-    let taken : Takes (in_mode x Releasing) (history calls released) c.loop-call.releasing.holds (g.R.Rng.stream c.loop-call.rng_b) c.call-item.result c.step-answer-in-loop-call.result c.step-answer-in-loop-call.new.round.holds (g.R.Rng.stream c.step-answer-in-loop-call.new.rng)
-    = record { steps = rw (i.scheme_released, i.number_released, i.mode_released) at c.step-answer-in-loop-call.ensures.steps; meets = met_released.0; answered = met_released.1 } in
+    let met_released = (rw (i.scheme_released, i.number_released, i.mode_released) at c.step-answer-in-loop-call.ensures.meets) (history calls released)
+    i.goes.releases.stands in
+    let taken : Takes (in_mode x Releasing) (history calls released) c.loop-call.releasing.holds (g.R.Rng.stream c.loop-call.rng_b) c.call-item.result
+    c.step-answer-in-loop-call.result c.step-answer-in-loop-call.new.round.holds (g.R.Rng.stream c.step-answer-in-loop-call.new.rng)
+    =
+    record {
+      steps = rw (i.scheme_released, i.number_released, i.mode_released) at
+          c.step-answer-in-loop-call.ensures.steps;
+      meets = met_released.0;
+      answered = met_released.1;
+    } in
     rw (place, c.push_reserved.ensures.items, c.push_reserved-in-loop-call.ensures.items)
-    (pair_stops_later x laws (g.R.Rng.stream c.args.rng_a.now) c.args.calls.now calls retained released c.loop-call.retaining.holds c.loop-call.releasing.holds (g.R.Rng.stream c.loop-call.rng_a) (g.R.Rng.stream c.loop-call.rng_b) i.goes c.loop-call.call-index c.call-item.result (omega arith) refl more told
-    c.step-answer.result c.step-answer-in-loop-call.result c.step-answer.new.round.holds c.step-answer-in-loop-call.new.round.holds (g.R.Rng.stream c.step-answer.new.rng) (g.R.Rng.stream c.step-answer-in-loop-call.new.rng)
+    (pair_stops_later x laws (g.R.Rng.stream c.args.rng_a.now) c.args.calls.now calls retained released c.loop-call.retaining.holds c.loop-call.releasing.holds
+    (g.R.Rng.stream c.loop-call.rng_a) (g.R.Rng.stream c.loop-call.rng_b) i.goes c.loop-call.call-index c.call-item.result (omega arith) refl more told
+    c.step-answer.result c.step-answer-in-loop-call.result c.step-answer.new.round.holds c.step-answer-in-loop-call.new.round.holds
+    (g.R.Rng.stream c.step-answer.new.rng) (g.R.Rng.stream c.step-answer-in-loop-call.new.rng)
     takes taken (sym c.is_refusal-is_refused.ensures ∙ c.if-is_refused.false) (sym c.is_refusal-is_refused-in-loop-call.ensures ∙ c.if-is_refused-2.true))
 
 pub returns-clause-ran : goal.returns-clause-ran
 returns-clause-ran g c =
     let start = c.args.retaining.now in
     let x = setting (g.S.Scheme.meaning start.scheme) g.S.PublicKey.Ord.cmp g.S.Signature.PartialEq.eq g.D.PartialEq.eq start.number Retaining in
-    let laws : HasLaws x = record { scheme = g.met.S.Scheme.lawful start.scheme; some_participant = c.has_participants.ensures; digests_equal = g.met.D.Digest.identical; digests_same = g.met.D.Eq.laws.refl } in
+    let laws : HasLaws x = record {
+      scheme = g.met.S.Scheme.lawful start.scheme;
+      some_participant = c.has_participants.ensures;
+      digests_equal = g.met.D.Digest.identical;
+      digests_same = g.met.D.Eq.laws.refl;
+    } in
     let i = c.loop-call.invariant in
     let calls = take c.loop-call.call-index c.args.calls.now in
     let retained = c.loop-call.retained.items in
     let released = c.loop-call.released.items in
     let all : c.args.calls.now ≡ calls = sym (grind (arith, common_steps)) in
-    pair_ends x laws (g.R.Rng.stream c.args.rng_a.now) c.args.calls.now calls retained released c.loop-call.retaining.holds c.loop-call.releasing.holds (g.R.Rng.stream c.loop-call.rng_a) (g.R.Rng.stream c.loop-call.rng_b) i.goes all
+    pair_ends x laws (g.R.Rng.stream c.args.rng_a.now) c.args.calls.now calls retained released c.loop-call.retaining.holds c.loop-call.releasing.holds
+    (g.R.Rng.stream c.loop-call.rng_a) (g.R.Rng.stream c.loop-call.rng_b) i.goes all

@@ -7,7 +7,9 @@ use Rattle.batcher.proofs.Orders.{ascending_from_adjacent, adjacent_from_ascendi
 use Rattle.batcher.proofs.scheme.keyed.is_ascending.Goals as goal
 
 -- where neighbours fall somewhere, the list isn't ascending
-fallen : (xs : List (Attestation (List ℕ))) (i : ℕ) (d : Attestation (List ℕ)) → 1 ≤ i → i < length xs → (get_or xs i d).signer.0 ≤ (get_or xs (i - 1) d).signer.0 → (b : Bool) → is_ascending index_of_signer xs ≡ b → false ≡ b
+fallen : (xs : List (Attestation (List ℕ))) (i : ℕ) (d : Attestation (List ℕ)) → 1 ≤ i → i
+    < length xs → (get_or xs i d).signer.0 ≤ (get_or xs (i - 1) d).signer.0 → (b : Bool)
+    → is_ascending index_of_signer xs ≡ b → false ≡ b
 fallen xs i d above below low true e =
     let back : (i - 1) + 1 ≡ i = omega arith in
     let rise = rw back at (adjacent_from_ascending index_of_signer xs (ascending_from_test index_of_signer xs e) (i - 1) d (omega arith)) in
@@ -21,4 +23,5 @@ returns-then-attestations-i c =
 
 pub returns : goal.returns
 returns c =
-    sym (is_ascending-true index_of_signer c.args.attestations.now (ascending_from_adjacent index_of_signer c.args.attestations.now (λ k d below. c.loop-i.invariant k d (omega arith))))
+    sym (is_ascending-true index_of_signer c.args.attestations.now
+    (ascending_from_adjacent index_of_signer c.args.attestations.now (λ k d below. c.loop-i.invariant k d (omega arith))))

@@ -21,7 +21,8 @@ attempt-requires-clause-attested g c =
     let kind = c.args.kind in
     let held = held_by v.state in
     let ready : subject_ready same m.batchable v.quorum held v.round kind ≡ Some c.args.subject = rw (← c.self.view_is) at c.requires in
-    let about = verified_about same g.met.D.Digest.identical v.round c.args.subject m.batchable v.quorum held kind ready (c.self.invariant.kinds kind).verified in
+    let about = verified_about same g.met.D.Digest.identical v.round c.args.subject m.batchable v.quorum held kind ready (c.self.invariant.kinds kind).verified
+    in
     rw (c.deref-scheme.ensures, c.attestations.ensures, c.buffers-buffers.ensures, ← verified_in v.state kind)
     (attested_about m same v.round c.args.subject (of_kind held.verified kind) about (c.self.invariant.kinds kind).attested)
 
@@ -30,4 +31,5 @@ returns g c =
     let state = c.self.inside.state in
     let kind = c.args.kind in
     rw (← c.self.view_is)
-    (rw (c.deref-scheme.ensures, c.attestations.ensures, c.attestations-2.ensures, c.buffers-buffers.ensures, ← verified_in state kind, ← pending_in state kind) at c.attempt.ensures.attempt)
+    (rw (c.deref-scheme.ensures, c.attestations.ensures, c.attestations-2.ensures, c.buffers-buffers.ensures, ← verified_in state kind, ← pending_in state kind)
+    at c.attempt.ensures.attempt)

@@ -12,8 +12,10 @@ invariant_of-self g c =
     let same = g.D.PartialEq.eq in
     let held = held_by v.state in
     let selected : proposal_of v.state.proposal ≡ Some c.in-Some.proposal = sym c.selected.ensures ∙ sym c.copied.ensures ∙ c.in-Some.is in
-    sound_restored m same v.round held (held_by c.restore.new.self) c.args.kind c.args.votes c.requires.proposals c.requires.kinds c.requires.once (rw (← c.self.view_is) at c.requires.none_wait) v.quorum c.self.invariant
-    (restores_buffers same held (held_by c.restore.new.self) c.args.kind c.in-Some.proposal c.args.votes c.restore.ensures.restores selected (λ kind. tidy_from m same v.round held kind (c.self.invariant.kinds kind)))
+    sound_restored m same v.round held (held_by c.restore.new.self) c.args.kind c.args.votes c.requires.proposals c.requires.kinds c.requires.once
+    (rw (← c.self.view_is) at c.requires.none_wait) v.quorum c.self.invariant
+    (restores_buffers same held (held_by c.restore.new.self) c.args.kind c.in-Some.proposal c.args.votes c.restore.ensures.restores selected
+    (λ kind. tidy_from m same v.round held kind (c.self.invariant.kinds kind)))
 
 pub returns-in-Some-clause-buffers : goal.returns-in-Some-clause-buffers
 returns-in-Some-clause-buffers g c =
@@ -23,4 +25,5 @@ returns-in-Some-clause-buffers g c =
     let held = held_by v.state in
     let selected : proposal_of v.state.proposal ≡ Some c.in-Some.proposal = sym c.selected.ensures ∙ sym c.copied.ensures ∙ c.in-Some.is in
     rw (← c.self.view_is)
-    (restores_buffers same held (held_by c.restore.new.self) c.args.kind c.in-Some.proposal c.args.votes c.restore.ensures.restores selected (λ kind. tidy_from m same v.round held kind (c.self.invariant.kinds kind)))
+    (restores_buffers same held (held_by c.restore.new.self) c.args.kind c.in-Some.proposal c.args.votes c.restore.ensures.restores selected
+    (λ kind. tidy_from m same v.round held kind (c.self.invariant.kinds kind)))

@@ -8,4 +8,5 @@ returns-clause-ready g c =
     let v = c.self.inside in
     let m = g.S.Scheme.meaning v.scheme.value in
     rw (← c.self.view_is)
-    (ap is_some (c.subject_ready.ensures) ∙ (rw (← (c.is_batchable.ensures v.scheme.value)) (ready_some g.D.PartialEq.eq v.round m v.quorum (held_by v.state) c.args.kind c.self.invariant)))
+    (ap is_some (c.subject_ready.ensures) ∙ (rw (← (c.is_batchable.ensures v.scheme.value))
+    (ready_some g.D.PartialEq.eq v.round m v.quorum (held_by v.state) c.args.kind c.self.invariant)))

@@ -7,7 +7,8 @@ use Rattle.batcher.proofs.votes.KeptVotesIterator.next.Given as goal
 abbrev pub invariant-loop-first : goal.invariant-loop-first
 invariant-loop-first g l = record {
   kind : l.self-inside.kind ≡ l.initial.self-inside.kind;
-  votes : filter_map (kept_part l.self-inside.kind) l.self-inside.rest.now ≡ filter_map (kept_part l.initial.self-inside.kind) l.initial.self-inside.rest.now;
+  votes : filter_map (kept_part l.self-inside.kind) l.self-inside.rest.now
+      ≡ filter_map (kept_part l.initial.self-inside.kind) l.initial.self-inside.rest.now;
 }
 
 abbrev pub decreases-loop-first : goal.decreases-loop-first

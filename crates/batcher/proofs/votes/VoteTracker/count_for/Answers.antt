@@ -7,7 +7,8 @@ use Rattle.batcher.proofs.votes.VoteTracker.count_for.Goals as goal
 pub returns-then-of-clause-count : goal.returns-then-of-clause-count
 returns-then-of-clause-count g c =
     let p = waits g.D.PartialEq.eq (Some c.args.proposal.now) in
-    rw (← c.self.view_is) (sym (ap (λ votes. length (filter p votes)) (kept_open (marks_of c.self.inside.compacted) c.self.inside.entries.items c.args.kind true (sym c.of.ensures ∙ c.if-of.true))))
+    rw (← c.self.view_is) (sym (ap (λ votes. length (filter p votes))
+    (kept_open (marks_of c.self.inside.compacted) c.self.inside.entries.items c.args.kind true (sym c.of.ensures ∙ c.if-of.true))))
 
 pub returns-clause-count : goal.returns-clause-count
 returns-clause-count g c =

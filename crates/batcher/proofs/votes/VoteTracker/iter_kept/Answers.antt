@@ -3,4 +3,5 @@ use Rattle.batcher.proofs.Keeping.{keeps_each}
 use Rattle.batcher.proofs.votes.VoteTracker.iter_kept.Goals as goal
 
 pub returns-clause-each : goal.returns-clause-each
-returns-clause-each g c = rw (← c.self.view_is) (keeps_each (marks_of c.self.inside.compacted) c.self.inside.entries.items c.args.kind c.as_slice-entries.ensures.ascending)
+returns-clause-each g c =
+    rw (← c.self.view_is) (keeps_each (marks_of c.self.inside.compacted) c.self.inside.entries.items c.args.kind c.as_slice-entries.ensures.ascending)

@@ -14,7 +14,8 @@ returns-clause-ascending g c =
 
 pub returns-clause-distinct : goal.returns-clause-distinct
 returns-clause-distinct g c = λ _.
-    distinct_from_strict g.P.Ord.cmp g.met.P.Ord.matches_eq g.met.P.Eq.laws.symm c.args.keys.items c.sort_unstable.new.self.items c.sort_unstable.ensures.permutation
+    distinct_from_strict g.P.Ord.cmp g.met.P.Ord.matches_eq g.met.P.Eq.laws.symm c.args.keys.items c.sort_unstable.new.self.items
+    c.sort_unstable.ensures.permutation
     (strict_from_adjacent g.met.P.Ord.total c.sort_unstable.new.self.items (λ k d below. c.loop-i.invariant k d (omega (arith, c.sort_unstable.new.self.ok.0))))
 
 pub returns-in_default-clause-duplicate : goal.returns-in_default-clause-duplicate

@@ -9,7 +9,8 @@ use Rattle.batcher.proofs.scheme.keyed.KeyedSchemeSha256Digest.optimistic_assemb
 pub assemble-requires : goal.assemble-requires
 assemble-requires g c =
     let t = is_signed (length c.args.self.now.participants) c.args.self.now.root c.args.subject in
-    let all : list_all t c.args.pending.now ≡ true = list_all-Sorts t c.args.pending.now c.in_ok-found.found c.in_ok-found.ensures.sorts ∙ sym c.is_empty.ensures ∙ c.if-is_empty.true in (
+    let all : list_all t c.args.pending.now ≡ true = list_all-Sorts t c.args.pending.now c.in_ok-found.found c.in_ok-found.ensures.sorts
+    ∙ sym c.is_empty.ensures ∙ c.if-is_empty.true in (
       omega arith,
       (
         c.requires.some,
@@ -23,11 +24,13 @@ assemble-requires g c =
 pub returns-in_ok-certificate-clause-function : goal.returns-in_ok-certificate-clause-function
 returns-in_ok-certificate-clause-function g c =
     let t = is_signed (length c.args.self.now.participants) c.args.self.now.root c.args.subject in
-    let all : list_all t c.args.pending.now ≡ true = list_all-Sorts t c.args.pending.now c.in_ok-found.found c.in_ok-found.ensures.sorts ∙ sym c.is_empty.ensures ∙ c.if-is_empty.true in
+    let all : list_all t c.args.pending.now ≡ true = list_all-Sorts t c.args.pending.now c.in_ok-found.found c.in_ok-found.ensures.sorts
+    ∙ sym c.is_empty.ensures ∙ c.if-is_empty.true in
     rw (all, c.in_ok-certificate.ensures.function, c.in_ok-found.ensures.stream)
 
 pub returns-else-is_empty-clause-function : goal.returns-else-is_empty-clause-function
 returns-else-is_empty-clause-function g c =
     let t = is_signed (length c.args.self.now.participants) c.args.self.now.root c.args.subject in
-    let some : list_all t c.args.pending.now ≡ false = list_all-Sorts t c.args.pending.now c.in_ok-found.found c.in_ok-found.ensures.sorts ∙ sym c.is_empty.ensures ∙ c.if-is_empty.false in
+    let some : list_all t c.args.pending.now ≡ false = list_all-Sorts t c.args.pending.now c.in_ok-found.found c.in_ok-found.ensures.sorts
+    ∙ sym c.is_empty.ensures ∙ c.if-is_empty.false in
     rw (some, c.in_ok-found.ensures.stream)

@@ -10,6 +10,15 @@ returns-clause-votes g c =
     let more = c.args.attestations.now in
     let done : is_ok c.resize.result ≡ true = search rules in
     let left : c.resize.new.self.items ≡ subjects ++ replicate (length more) c.args.subject
-    = resized subjects c.resize.new.self.items _ (vec_len c.self.inside.subjects) (length more) c.args.subject (is_ok c.resize.result) c.resize.ensures.items done c.self.inside.subjects.ok.0 (omega arith) in
+    =
+    resized subjects c.resize.new.self.items _ (vec_len c.self.inside.subjects) (length more) c.args.subject (is_ok c.resize.result) c.resize.ensures.items
+    done c.self.inside.subjects.ok.0 (omega arith) in
     let right : c.extend_from_slice.new.self.items ≡ attestations ++ more = search rules in
-    rw (← c.self.view_is, left, right, append-from subjects (replicate (length more) c.args.subject) attestations more c.self.invariant, repeat-from c.args.subject more)
+    rw (
+      ← c.self.view_is,
+      left,
+      right,
+      append-from subjects (replicate (length more) c.args.subject) attestations more c.self.invariant,
+      repeat-from
+          c.args.subject more,
+    )

@@ -10,14 +10,17 @@ pub returns-then-drops-clause-adds : goal.returns-then-drops-clause-adds
 returns-then-drops-clause-adds g c =
     let same = g.D.PartialEq.eq in
     let old = held_by c.args.self.now in
-    let sets = rw (c.selection_after-next.ensures, updated_selects c.args.self.now.proposal (leaders_vote same old c.args.vote)) at c.set_proposal.ensures.sets in
+    let sets = rw (c.selection_after-next.ensures, updated_selects c.args.self.now.proposal (leaders_vote same old c.args.vote)) at c.set_proposal.ensures.sets
+    in
     adds_dropped same old (held_by c.set_proposal.new.self) c.args.vote c.args.verified sets (sym c.drops.ensures ∙ c.if-drops.true)
 
 pub returns-clause-adds : goal.returns-clause-adds
 returns-clause-adds g c =
     let same = g.D.PartialEq.eq in
     let old = held_by c.args.self.now in
-    let Sets = λ (h : Buffered g.row.G.Denot g.row.D.Denot). SetsProposal same h (updated h.selection c.selection_after-next.result) (held_by c.set_proposal-2.new.self) in
+    let Sets = λ (h : Buffered g.row.G.Denot g.row.D.Denot). SetsProposal same h (updated h.selection c.selection_after-next.result)
+    (held_by c.set_proposal-2.new.self) in
     let raw : Sets old = subst Sets c.in_ok-make_room.ensures.held c.set_proposal-2.ensures.sets in
     let sets = rw (c.selection_after-next.ensures, updated_selects c.args.self.now.proposal (leaders_vote same old c.args.vote)) at raw in
-    adds_placed same old (held_by c.place.new.self) c.args.vote c.args.verified (held_by c.set_proposal-2.new.self) sets c.place.ensures.places (sym c.drops.ensures ∙ c.if-drops.false)
+    adds_placed same old (held_by c.place.new.self) c.args.vote c.args.verified (held_by c.set_proposal-2.new.self) sets c.place.ensures.places
+    (sym c.drops.ensures ∙ c.if-drops.false)

@@ -7,4 +7,9 @@ pub returns-in-None-clause-sets : goal.returns-in-None-clause-sets
 returns-in-None-clause-sets g c = λ first.
     let old = held_by c.args.self.now in
     let sets = sets_same g.D.PartialEq.eq old c.args.self.now.proposal refl c.requires in
-    rw c.in-None.is (record { leader_is = refl; selection = refl; buffers = λ kind. record { certified = refl; pending = (sets.buffers kind).pending; verified = (sets.buffers kind).verified } })
+    rw c.in-None.is (record {
+      leader_is = refl;
+      selection = refl;
+      buffers = λ kind. record
+          { certified = refl; pending = (sets.buffers kind).pending; verified = (sets.buffers kind).verified };
+    })

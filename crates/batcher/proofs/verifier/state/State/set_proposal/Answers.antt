@@ -9,7 +9,8 @@ returns-in-None-clause-sets g c =
     let found = rw (c.update-after.ensures) at c.in-None.ensures in
     rw c.update-after.ensures
     (sets_same g.D.PartialEq.eq (held_by c.args.self.now) (updated c.args.self.now.proposal c.args.next)
-    (no_change g.D.PartialEq.eq g.met.D.Digest.identical (proposal_of c.args.self.now.proposal) (proposal_of (updated c.args.self.now.proposal c.args.next)) (still_selected c.args.self.now.proposal c.args.next) (sym found))
+    (no_change g.D.PartialEq.eq g.met.D.Digest.identical (proposal_of c.args.self.now.proposal) (proposal_of (updated c.args.self.now.proposal c.args.next))
+    (still_selected c.args.self.now.proposal c.args.next) (sym found))
     c.requires)
 
 pub returns-in-Some-clause-sets : goal.returns-in-Some-clause-sets
