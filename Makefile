@@ -1,25 +1,33 @@
 # make run [SCRIPT=file]   plays a script; without one, the first
 # make bench               plays the rows of the benchmark and takes their time
+# make quick               proves what has changed, and plays all scripts
 # make test                proves everything and runs every test
-SCRIPT ?= crates/batcher_script/stdin
+# make clean               removes all that rt has kept and built
 
-.PHONY: run bench test
+# These come to the shell by the environment, so that a space or a shell character in them does no harm.
+export MAKEFILE_NAMED = $(value MAKEFILE_LIST)
+export SCRIPT_NAMED = $(value SCRIPT)
+# The folder in which make was called, also where -C leads elsewhere.
+export CALLED_IN = $(value PWD)
+# make would expand what it exports by itself.
+unexport SCRIPT
 
-run: crates/batcher_script/out/batcher_script
-	@crates/batcher_script/out/batcher_script < $(SCRIPT)
+# make begins its list of files with a space.
+TOP = "$$(dirname "$${MAKEFILE_NAMED\# }")"
 
-crates/batcher_script/out/batcher_script: $(wildcard crates/batcher/src/*.rt crates/batcher/src/*/*.rt crates/batcher_script/src/*.rt)
-	cd crates/batcher_script && rt run < stdin > /dev/null
+.PHONY: run bench quick test clean
 
-bench: crates/batcher_bench/out/batcher_bench
-	@crates/batcher_bench/out/batcher_bench time
+run:
+	@$(TOP)/tools/run "$$SCRIPT_NAMED"
 
-crates/batcher_bench/out/batcher_bench: $(wildcard crates/batcher/src/*.rt crates/batcher/src/*/*.rt crates/batcher_bench/src/*.rt)
-	cd crates/batcher_bench && rt run > /dev/null
+bench:
+	@$(TOP)/tools/build batcher_bench && $(TOP)/crates/batcher_bench/out/batcher_bench time
 
-# What tools/refuse runs. The gate has built it by then.
-crates/batcher_script/out/batcher_script_tests: $(wildcard crates/batcher/src/*.rt crates/batcher/src/*/*.rt crates/batcher_script/src/*.rt crates/batcher_script/src/*/*.rt crates/batcher_script/src/*/*/*.rt)
-	cd crates/batcher_script && rt test > /dev/null
+quick:
+	@$(TOP)/tools/quick
 
 test:
-	tools/test
+	@$(TOP)/tools/test
+
+clean:
+	@rm -rf $(TOP)/crates/*/out

@@ -53,21 +53,29 @@ fn play_all(alloc: Global) -> Result<Vec<Measured>, AllocError> {
 
 fn print_counts(rt: &(impl AllocGlobal + Print)) -> Result<()> {
     println!(rt; "participants mode      order      course    votes added certificates checksum")?;
-    for measured in &play_all(rt.alloc())? {
+    for row in &rows(rt.alloc())? {
+        let measured = Measured::new(rt.alloc(), *row)?;
         println!(rt; "{measured}")?;
     }
     Ok(())
 }
 
-fn print_times(rt: &(impl AllocGlobal + Clock + Print)) -> Result<()> {
-    let mut rows = play_all(rt.alloc())?;
-    for _ in 0..PASSES {
-        time_all(rt, rows.as_mut_slice())?;
-    }
+// The heading comes first, so that a closed output is known before anything is timed, and each row
+// as soon as its last time is taken. Where the passes are is told on standard error.
+fn print_times(rt: &(impl AllocGlobal + Clock + Print + Eprint)) -> Result<()> {
     println!(rt;
         "participants mode      order      course    votes added certificates checksum            ns a vote"
     )?;
-    for measured in &rows {
+    let mut rows = play_all(rt.alloc())?;
+    for pass in 1..PASSES {
+        tell_pass(rt, pass);
+        for measured in rows.iter_mut() {
+            measured.take_time(rt)?;
+        }
+    }
+    tell_pass(rt, PASSES);
+    for measured in rows.iter_mut() {
+        measured.take_time(rt)?;
         let tenths = measured.tenths_a_vote();
         let whole = tenths / 10;
         let tenth = tenths % 10;
@@ -76,9 +84,7 @@ fn print_times(rt: &(impl AllocGlobal + Clock + Print)) -> Result<()> {
     Ok(())
 }
 
-fn time_all(rt: &(impl AllocGlobal + Clock), rows: &mut [Measured]) -> Result<()> {
-    for measured in rows.iter_mut() {
-        measured.take_time(rt)?;
-    }
-    Ok(())
+// Nothing depends on it, so a fault of standard error is no matter.
+fn tell_pass(rt: &impl Eprint, pass: u32) {
+    let _ = eprintln!(rt; "pass {pass} of {PASSES}");
 }

@@ -1,4 +1,5 @@
 mod keeping;
+mod questions;
 
 use super::*;
 use std::alloc::AllocError;
@@ -165,6 +166,12 @@ fn written(alloc: Global, lines: &[(&str, &str)]) -> Result<(String, String), Al
         writeln!(output, "{answer}")?;
     }
     Ok((script, output))
+}
+
+/// Plays a script of these lines, each with its answer.
+fn plays(rt: &impl Abort, alloc: Global, lines: &[(&str, &str)]) -> Result<(), AllocError> {
+    let (script, output) = written(alloc, lines)?;
+    check(rt, alloc, script.as_str(), output.as_str(), 0)
 }
 
 #[test]

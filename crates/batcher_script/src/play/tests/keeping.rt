@@ -2,11 +2,6 @@
 
 use super::*;
 
-fn plays(rt: &impl Abort, alloc: Global, lines: &[(&str, &str)]) -> Result<(), AllocError> {
-    let (script, output) = written(alloc, lines)?;
-    check(rt, alloc, script.as_str(), output.as_str(), 0)
-}
-
 /// A vote that is kept in full is reported beside its opposite, and refused again as an own one.
 const RELEASED: [(&str, &str); 17] = [
     (
