@@ -18,20 +18,30 @@ module _ (n : ℕ) (subject : Subject Sha256Digest) where
   in_range a h = grind (arith, nat_tests)
 
   -- a tally of a quorum is enough
-  pub tallied : (prior fresh : List (Attestation ℕ)) → 1 ≤ n → IsQuorum n (prior ++ fresh) → is_enough n (tally_of prior fresh) ≡ true
+  pub tallied : (prior fresh : List (Attestation ℕ)) → 1 ≤ n → IsQuorum n (prior ++ fresh)
+      → is_enough n (tally_of prior fresh) ≡ true
   tallied prior fresh some quorum =
       let there : nat_le 1 n ≡ true = grind (arith, nat_tests) in
-      let enough : quorum_of n ≤ length prior + length fresh = simp length-append at quorum.enough in
-      let yes : nat_le (quorum_of n) (length prior + length fresh) ≡ true = grind (arith, nat_tests) in
+      let enough : quorum_of n ≤ length prior + length fresh = simp length-append at quorum.enough
+      in
+      let yes : nat_le (quorum_of n) (length prior + length fresh)
+      ≡ true = grind (arith, nat_tests) in
       rw (there, yes)
 
-  tally_given : (tally c : Tally) (b : Bool) → is_enough n tally ≡ true → cond b (Some tally) None ≡ Some c → is_enough n c ≡ true
+  tally_given : (tally c : Tally) (b : Bool) → is_enough n tally ≡ true → cond b (Some tally) None
+      ≡ Some c → is_enough n c ≡ true
   tally_given tally c true h e = let same : tally ≡ c = cc in rw same at h
   tally_given tally c false h e = absurd (cc)
 
-  pub tally_certifies : (pending verified : List (Attestation ℕ)) (stream : Stream) (c : Tally) → 1 ≤ n → IsQuorum n (verified ++ pending) → (tallied_at_once n subject pending verified stream).0 ≡ Some c → is_enough n c ≡ true
+  pub tally_certifies : (pending verified : List (Attestation ℕ)) (stream : Stream) (c : Tally)
+      → 1 ≤ n → IsQuorum n (verified ++ pending)
+      → (tallied_at_once n subject pending verified stream).0 ≡ Some c → is_enough n c ≡ true
   tally_certifies pending verified stream c some quorum e =
-      tally_given (tally_of verified pending) c (list_all (is_signed n subject) pending) (tallied verified pending some quorum) e
+      tally_given (tally_of verified pending) c (list_all (is_signed n subject) pending)
+      (tallied verified pending some quorum) e
 
-  pub tally_gives : (pending verified : List (Attestation ℕ)) (stream : Stream) → AllPass (is_signed n subject) pending → is_some (tallied_at_once n subject pending verified stream).0 ≡ true
-  tally_gives pending verified stream pass = rw (list_all-from_AllPass (is_signed n subject) pending pass)
+  pub tally_gives : (pending verified : List (Attestation ℕ)) (stream : Stream)
+      → AllPass (is_signed n subject) pending
+      → is_some (tallied_at_once n subject pending verified stream).0 ≡ true
+  tally_gives pending verified stream pass =
+      rw (list_all-from_AllPass (is_signed n subject) pending pass)

@@ -19,7 +19,8 @@ abbrev pub round_word : ℕ → Round → ℕ
 round_word word round = mixed (mixed word round.epoch.0) round.view.0
 
 abbrev pub proposal_word : ℕ → Proposal Sha256Digest → ℕ
-proposal_word word proposal = fold mixed (mixed (round_word word proposal.round) proposal.parent.0) proposal.payload.0
+proposal_word word proposal =
+    fold mixed (mixed (round_word word proposal.round) proposal.parent.0) proposal.payload.0
 
 -- the kind and the context, as a word
 abbrev pub subject_word : Subject Sha256Digest → ℕ
@@ -45,13 +46,17 @@ sum_from sum attestations = fold (λ s a. (s + a.signature) % 2 ^ 64) sum attest
 
 -- what a certificate of two lists says
 abbrev pub tally_of : List (Attestation ℕ) → List (Attestation ℕ) → Tally
-tally_of earlier later = record { count = length earlier + length later; sum = sum_from (sum_from 0 earlier) later }
+tally_of earlier later =
+    record { count = length earlier + length later; sum = sum_from (sum_from 0 earlier) later }
 
 -- whether it counts a quorum of n participants
 abbrev pub is_enough : ℕ → Tally → Bool
 is_enough n tally = nat_le 1 n && nat_le (quorum_of n) tally.count
 
 -- the certificate where all pending ones attest, and the stream, which is left as it was
-abbrev pub tallied_at_once : ℕ → Subject Sha256Digest → List (Attestation ℕ) → List (Attestation ℕ) → Stream → Option Tally × Stream
-tallied_at_once n subject pending verified stream =
-    (if list_all (is_signed n subject) pending then Some (tally_of verified pending) else None, stream)
+abbrev pub tallied_at_once : ℕ → Subject Sha256Digest → List (Attestation ℕ)
+    → List (Attestation ℕ) → Stream → Option Tally × Stream
+tallied_at_once n subject pending verified stream = (
+  if list_all (is_signed n subject) pending then Some (tally_of verified pending) else None,
+  stream,
+)

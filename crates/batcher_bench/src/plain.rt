@@ -144,7 +144,9 @@ impl Scheme<Sha256Digest> for Plain {
       attests = λ subject a. is_signed (length s.participants) subject a;
       certifies = λ subject c. is_enough (length s.participants) c;
       left_by_verifying = λ subject pending stream. stream;
-      assembled_at_once = λ subject pending verified stream. tallied_at_once (length s.participants) subject pending verified stream;
+      assembled_at_once =
+          λ subject pending verified stream. tallied_at_once (length s.participants) subject
+          pending verified stream;
       assembled = λ subject prior fresh. tally_of prior fresh;
     } };
 
@@ -152,9 +154,15 @@ impl Scheme<Sha256Digest> for Plain {
 
     ghost lawful = { λ s. record {
       signers_in_range = λ subject a h. in_range (length s.participants) subject a h;
-      optimistic_certifies = λ subject pending verified stream c may e. tally_certifies (length s.participants) subject pending verified stream c may.some may.quorum e;
-      optimistic_gives = λ subject pending verified stream may all. tally_gives (length s.participants) subject pending verified stream all;
-      assembled_certifies = λ subject prior fresh some quorum pass. tallied (length s.participants) subject prior fresh some quorum;
+      optimistic_certifies =
+          λ subject pending verified stream c may e. tally_certifies (length s.participants)
+          subject pending verified stream c may.some may.quorum e;
+      optimistic_gives =
+          λ subject pending verified stream may all. tally_gives (length s.participants) subject
+          pending verified stream all;
+      assembled_certifies =
+          λ subject prior fresh some quorum pass. tallied (length s.participants) subject prior
+          fresh some quorum;
     } };
 
     fn participants(&self) -> &Set<Name> {
@@ -172,7 +180,8 @@ impl Scheme<Sha256Digest> for Plain {
         subject: Subject<Sha256Digest>,
         pending: &[Attestation<u64>],
     ) -> Result<Verification<u64>, AllocError>
-        ensures sorts { IfOk result (Sorts (is_signed (length self.now.participants) subject) pending.now) }
+        ensures sorts { IfOk result (Sorts (is_signed (length self.now.participants) subject)
+            pending.now) }
         ensures stream { OnOk result (R.stream rng.new ≡ R.stream rng.old) }
     {
         let _ = rng;
@@ -187,8 +196,11 @@ impl Scheme<Sha256Digest> for Plain {
         pending: &[Attestation<u64>],
         verified: &[Attestation<u64>],
     ) -> Result<Result<Tally, Verification<u64>>, AllocError>
-        ensures sorts { IfOk result (λ answer. IfErr answer (Sorts (is_signed (length self.now.participants) subject) pending.now)) }
-        ensures function { IfOk result (λ answer. (result_ok answer, R.stream rng.new) ≡ tallied_at_once (length self.now.participants) subject pending.now verified.now (R.stream rng.old)) }
+        ensures sorts { IfOk result (λ answer. IfErr answer
+            (Sorts (is_signed (length self.now.participants) subject) pending.now)) }
+        ensures function { IfOk result (λ answer. (result_ok answer, R.stream rng.new)
+            ≡ tallied_at_once (length self.now.participants) subject pending.now verified.now
+            (R.stream rng.old)) }
     {
         let _ = rng;
         let n = self.participants.len();

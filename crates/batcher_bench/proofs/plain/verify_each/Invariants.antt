@@ -5,6 +5,8 @@ use Rattle.batcher_bench.proofs.plain.verify_each.Given as goal
 
 abbrev pub invariant-loop-attestation : goal.invariant-loop-attestation
 invariant-loop-attestation l = record {
-  valid : l.verified.items ≡ filter (is_signed l.n l.fn.subject) (take l.attestation-index l.pending);
-  failed : l.invalid.items ≡ signers (failing (is_signed l.n l.fn.subject) (take l.attestation-index l.pending));
+  valid : l.verified.items ≡ filter (is_signed l.n l.fn.subject)
+      (take l.attestation-index l.pending);
+  failed : l.invalid.items ≡ signers
+      (failing (is_signed l.n l.fn.subject) (take l.attestation-index l.pending));
 }
