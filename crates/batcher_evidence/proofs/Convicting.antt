@@ -1,0 +1,56 @@
+-- A report that convicts a participant holds a proof.
+use Rattle.std.proofs.Common.{◌≡◌, ◌==◌, Bool, true, false, cond, Option, Some, None, refl, ap, sym, ◌∙◌}
+use Rattle.std.specs.Prelude.{IfSome, IfOk, Result, Ok, Err, option_and_then}
+use Rattle.std.proofs.lemmas.Bool.{and_parts, eqb-true}
+use Rattle.std.proofs.lemmas.Option.{same_Some}
+use Rattle.batcher.specs.Meaning.{Meaning}
+use Rattle.batcher.specs.Votes.{signer_of, subject_of, attestation_of}
+use Rattle.batcher.specs.Reported.{subjects_contradict, evidence_in}
+use Rattle.batcher.specs.declared.positions.Participant.{Participant}
+use Rattle.batcher.specs.declared.messages.Vote.{Vote}
+use Rattle.batcher.specs.declared.messages.Activity.{Activity}
+use Rattle.batcher_evidence.specs.Convicted.{both_attest, convicts, convicted_by, IsProof}
+
+module _ {D K G C : Type 0} (m : Meaning D K G C) (same : D → D → Bool) where
+  proof_of :
+      (report : Activity G D) (a b : Vote G D) → evidence_in report ≡ Some (a, b)
+      → (i : Participant) (yes : Bool) → convicts m same a b ≡ yes
+      → cond yes (Some (attestation_of a).signer) None ≡ Some i → IsProof m same report i
+  proof_of report a b holds i true is found =
+      let signer : signer_of a ≡ i.0 = ap (λ (p : Participant). p.0) (same_Some _ _ found) in
+      let one = and_parts (signer_of a == signer_of b) _ is in
+      let rest = and_parts (subjects_contradict same (subject_of a) (subject_of b)) (both_attest m a b) one.1 in
+      record {
+        first = a;
+        second = b;
+        holds = holds;
+        signers = (signer, sym (eqb-true _ _ one.0) ∙ signer);
+        contradict = rest.0;
+        attest = rest.1;
+      }
+  proof_of report a b holds i false is found = absurd (cc)
+
+  by_evidence :
+      (report : Activity G D) (o : Option (Vote G D × Vote G D)) → evidence_in report ≡ o
+      → (i : Participant)
+      → option_and_then
+      (λ pair. cond (convicts m same pair.0 pair.1) (Some (attestation_of pair.0).signer) None)
+      o
+      ≡ Some i
+      → IsProof m same report i
+  by_evidence report None e i found = absurd (cc)
+  by_evidence report (Some pair) e i found =
+      proof_of report pair.0 pair.1 e i (convicts m same pair.0 pair.1) refl found
+
+  convicted_proves :
+      (report : Activity G D) (found : Option Participant) → found ≡ convicted_by m same report
+      → IfSome found (IsProof m same report)
+  convicted_proves report None e = tt
+  convicted_proves report (Some i) e = by_evidence report (evidence_in report) refl i (sym e)
+
+  pub convicted_if_ok :
+      {E : Type 0} (report : Activity G D) (r : Result (Option Participant) E)
+      → IfOk r (λ found. found ≡ convicted_by m same report)
+      → IfOk r (λ found. IfSome found (IsProof m same report))
+  convicted_if_ok report (Ok found) e = convicted_proves report found e
+  convicted_if_ok report (Err fault) e = tt

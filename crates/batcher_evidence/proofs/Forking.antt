@@ -1,0 +1,351 @@
+-- Who voted in both of two rounds that gave certificates which contradict each other.
+use Rattle.std.proofs.Common.{inl, inr, ◌≡◌, ◌≤◌, ◌+◌, ◌==◌, ◌&&◌, ◌||◌, ℕ, zero, suc, Bool, true, false, cond, nat_lt, List, [], ◌∷◌, length, filter, Option, Some, None, refl, ap, sym, ◌∙◌, subst, arith, ⊎_elim}
+use Rattle.std.specs.Prelude.{IfSome}
+use Rattle.std.specs.List.{AllByRecursion, list_any, list_all}
+use Rattle.std.proofs.lemmas.Bool.{cases_Bool, and_from, and_parts, eqb-true}
+use Rattle.std.proofs.lemmas.List.Sums.{list_all-from_AllPass}
+use Rattle.std.specs.declared.cmp.Ordering.{Ordering}
+use Rattle.batcher.specs.Quorum.{quorum_of}
+use Rattle.batcher.specs.Lists.{count, EachOnce, ElementsWithin}
+use Rattle.batcher.specs.Meaning.{Meaning}
+use Rattle.batcher.specs.Setting.{Setting, participants_in, quorum_in}
+use Rattle.batcher.specs.Votes.{signer_of, subject_of, subject_certified, same_round, same_proposal, same_subject}
+use Rattle.batcher.specs.History.{Event, History, batch_given, certificate_given, cast_votes}
+use Rattle.batcher.specs.FirstVotes.{first_votes, is_free}
+use Rattle.batcher.specs.Promises.{AtEachEvent, votes_cast}
+use Rattle.batcher.specs.Reported.{subjects_contradict}
+use Rattle.batcher.specs.Backed.{GivesBacked, IsBacked, IsGiven, votes_behind}
+use Rattle.batcher.specs.declared.positions.Round.{Round}
+use Rattle.batcher.specs.declared.messages.Proposal.{Proposal}
+use Rattle.batcher.specs.declared.messages.Subject.{Subject}
+use Rattle.batcher.specs.declared.messages.Subject.TheVariants.{Notarize as NotarizeSubject, Nullify as NullifySubject, Finalize as FinalizeSubject}
+use Rattle.batcher.specs.declared.messages.Vote.{Vote}
+use Rattle.batcher.specs.declared.messages.Certificate.{Certificate}
+use Rattle.batcher.specs.declared.votes.Mode.{Mode}
+use Rattle.batcher.specs.declared.verifier.Batch.{Batch}
+use Rattle.batcher.specs.declared.run.Answer.{Answer}
+use Rattle.batcher.specs.declared.run.Answer.TheVariants.{OutOfMemory, Network as NetworkAnswer, Own as OwnAnswer, OwnRefused, Certificate as CertificateAnswer}
+use Rattle.batcher.specs.declared.run.Answer.TheVariants.{Leader as LeaderAnswer, Construct as ConstructAnswer, Forward as ForwardAnswer, Missing as MissingAnswer}
+use Rattle.batcher_evidence.specs.Culprits.{certificates_contradict}
+use Rattle.batcher_evidence.specs.Rounds.{TakeContradictingVotes, TakesContradicting, count_below, votes_contradict, round_of}
+use Rattle.batcher_evidence.proofs.Counting.{below_or_at, below_zero, count-append, count-false, count-filter, count_covers, count_mono, count_none, count_same, quorums_overlap}
+
+-- numbers below n
+module _ (p q : ℕ → Bool) where
+  pub below_more : ((i : ℕ) → p i ≡ true → q i ≡ true) → (n : ℕ) → count_below n p ≤ count_below n q
+  below_more h zero = omega arith
+  below_more h (suc n) = omega (arith, one (p n) (q n) (h n), below_more h n)
+    where
+      one : (b c : Bool) → (b ≡ true → c ≡ true) → cond b 1 0 ≤ cond c 1 0
+      one true c h = rw (h refl) (omega arith)
+      one false c h = omega arith
+
+  -- two sets of them share what they are more than n together
+  pub below_both : (n : ℕ) → count_below n p + count_below n q ≤ count_below n (λ i. p i && q i) + n
+  below_both zero = omega arith
+  below_both (suc n) = omega (arith, one (p n) (q n), below_both n)
+    where
+      one : (b c : Bool) → cond b 1 0 + cond c 1 0 ≤ cond (b && c) 1 0 + 1
+      one true true = omega arith
+      one true false = omega arith
+      one false true = omega arith
+      one false false = omega arith
+
+module _ {X : Type 0} where
+  any_count : (p : X → Bool) (xs : List X) → list_any p xs ≡ true → 1 ≤ count p xs
+  any_count p [] h = absurd (cc)
+  any_count p (x ∷ xs) h = one (p x) (list_any p xs) (count p xs) h (any_count p xs)
+    where
+      one : (b c : Bool) (n : ℕ) → (b || c) ≡ true → (c ≡ true → 1 ≤ n) → 1 ≤ cond b 1 0 + n
+      one true c n h rest = omega arith
+      one false c n h rest = omega (arith, rest h)
+
+  count_any : (p : X → Bool) (xs : List X) → 1 ≤ count p xs → list_any p xs ≡ true
+  count_any p xs h =
+      ⊎_elim
+      (λ yes. yes)
+      (λ no. absurd (omega (arith, h, count_none p xs no)))
+      (cases_Bool (list_any p xs))
+
+  -- what is among the elements of one list is among those of a list that has them all
+  pub any_within :
+      (p : X → Bool) (xs ys : List X) → ElementsWithin xs ys → list_any p xs ≡ true
+      → list_any p ys ≡ true
+  any_within p xs ys within h = count_any p ys (omega (arith, within p, any_count p xs h))
+
+  pub filter_passes : (p : X → Bool) (xs : List X) → list_all p (filter p xs) ≡ true
+  filter_passes p [] = refl
+  filter_passes p (x ∷ xs) = one (p x) refl (filter_passes p xs)
+    where
+      one :
+          (b : Bool) → p x ≡ b → list_all p (filter p xs) ≡ true
+          → list_all p (cond b (x ∷ filter p xs) (filter p xs)) ≡ true
+      one true e rest = and_from _ _ e rest
+      one false e rest = rest
+
+module _ {X : Type 0} (number : X → ℕ) where
+  -- whether an element has the number
+  abbrev has_number : List X → ℕ → Bool
+  has_number xs i = list_any (λ v. number v == i) xs
+
+  one_at :
+      (xs : List X) → EachOnce number xs → (i : ℕ)
+      → count (λ v. number v == i) xs ≤ cond (has_number xs i) 1 0
+  one_at xs once i =
+      ⊎_elim
+      (λ yes. rw yes (once i))
+      (λ no. rw no (omega (arith, count_none (λ v. number v == i) xs no)))
+      (cases_Bool (has_number xs i))
+
+  few_numbers :
+      (n : ℕ) (xs : List X) → EachOnce number xs
+      → count (λ v. nat_lt (number v) n) xs ≤ count_below n (has_number xs)
+  few_numbers zero xs once =
+      omega (arith, count_same (λ v. nat_lt (number v) 0) (λ _. false) xs (λ v. below_zero (number v)), count-false xs)
+  few_numbers (suc n) xs once =
+      omega (
+        arith,
+        count_covers (λ v. nat_lt (number v) (suc n)) (λ v. nat_lt (number v) n) (λ v. number v == n) xs (λ v. below_or_at (number v) n),
+        few_numbers n xs once,
+        one_at xs once n,
+      )
+
+  count_all : (p : X → Bool) (xs : List X) → list_all p xs ≡ true → count p xs ≡ length xs
+  count_all p [] h = refl
+  count_all p (x ∷ xs) h =
+      let parts = and_parts (p x) (list_all p xs) h in
+      rw parts.0 (omega (arith, count_all p xs parts.1))
+
+  -- distinct numbers below n are as many as the numbers below n that are among them
+  pub distinct_below :
+      (n : ℕ) (xs : List X) → EachOnce number xs → list_all (λ v. nat_lt (number v) n) xs ≡ true
+      → length xs ≤ count_below n (has_number xs)
+  distinct_below n xs once below =
+      omega (arith, few_numbers n xs once, count_all (λ v. nat_lt (number v) n) xs below)
+
+-- subjects that are the same by the test of digests
+made_round : ℕ → ℕ → Round
+made_round e v = record { epoch = record { 0 = e }; view = record { 0 = v } }
+
+round_is : (a b : Round) → same_round a b ≡ true → a ≡ b
+unfolding made_round
+round_is a b h =
+    let parts = and_parts (a.epoch.0 == b.epoch.0) (a.view.0 == b.view.0) h in
+    let epoch = eqb-true a.epoch.0 b.epoch.0 parts.0 in
+    let view = eqb-true a.view.0 b.view.0 parts.1 in
+    ap (λ e. made_round e a.view.0) epoch ∙ ap (λ v. made_round b.epoch.0 v) view
+
+module _ {D : Type 0} (same : D → D → Bool) (identical : (a b : D) → same a b ≡ true → a ≡ b) where
+  made_proposal : Round → ℕ → D → Proposal D
+  made_proposal r v d = record { round = r; parent = record { 0 = v }; payload = d }
+
+  proposal_is : (a b : Proposal D) → same_proposal same a b ≡ true → a ≡ b
+  unfolding made_proposal
+  proposal_is a b h =
+      let parts = and_parts (same_round a.round b.round) ((a.parent.0 == b.parent.0) && same a.payload b.payload) h in
+      let rest = and_parts (a.parent.0 == b.parent.0) (same a.payload b.payload) parts.1 in
+      let round = round_is a.round b.round parts.0 in
+      let parent = eqb-true a.parent.0 b.parent.0 rest.0 in
+      let payload = identical a.payload b.payload rest.1 in
+      ap (λ r. made_proposal r a.parent.0 a.payload) round
+      ∙ (ap (λ v. made_proposal b.round v a.payload) parent ∙ ap (λ d. made_proposal b.round b.parent.0 d) payload)
+
+  subject_is : (s t : Subject D) → same_subject same s t ≡ true → s ≡ t
+  subject_is (NotarizeSubject p) (NotarizeSubject r) h = ap NotarizeSubject (proposal_is p r h)
+  subject_is (NotarizeSubject p) (NullifySubject r) h = absurd (cc)
+  subject_is (NotarizeSubject p) (FinalizeSubject r) h = absurd (cc)
+  subject_is (NullifySubject p) (NotarizeSubject r) h = absurd (cc)
+  subject_is (NullifySubject p) (NullifySubject r) h = ap NullifySubject (round_is p r h)
+  subject_is (NullifySubject p) (FinalizeSubject r) h = absurd (cc)
+  subject_is (FinalizeSubject p) (NotarizeSubject r) h = absurd (cc)
+  subject_is (FinalizeSubject p) (NullifySubject r) h = absurd (cc)
+  subject_is (FinalizeSubject p) (FinalizeSubject r) h = ap FinalizeSubject (proposal_is p r h)
+
+  pub all_about :
+      {G : Type 0} (s : Subject D) (vs : List (Vote G D))
+      → list_all (λ v. same_subject same s (subject_of v)) vs ≡ true
+      → AllByRecursion (λ v. s ≡ subject_of v) vs
+  all_about s [] h = tt
+  all_about s (v ∷ vs) h =
+      let parts = and_parts (same_subject same s (subject_of v)) (list_all (λ w. same_subject same s (subject_of w)) vs) h in
+      (subject_is s (subject_of v) parts.0, all_about s vs parts.1)
+
+with_true : (b : Bool) → (b && true) ≡ b
+with_true true = refl
+with_true false = refl
+
+module _ {G D : Type 0} where
+  -- Where all votes are about one subject of which something is true, it is true of those that pass.
+  about_passes :
+      (s : Subject D) (p : Vote G D → Bool) (q : Subject D → Bool) (vs : List (Vote G D))
+      → AllByRecursion (λ v. s ≡ subject_of v) vs → q s ≡ true → list_any p vs ≡ true
+      → list_any (λ v. p v && q (subject_of v)) vs ≡ true
+  about_passes s p q vs about holds h = alike vs about ∙ h
+    where
+      alike :
+          (vs : List (Vote G D)) → AllByRecursion (λ v. s ≡ subject_of v) vs
+          → list_any (λ v. p v && q (subject_of v)) vs ≡ list_any p vs
+      alike [] about = refl
+      alike (v ∷ vs) about =
+          ap
+          (λ b. (p v && b) || list_any (λ w. p w && q (subject_of w)) vs)
+          (ap q (sym about.0) ∙ holds)
+          ∙ (ap (λ b. b || list_any (λ w. p w && q (subject_of w)) vs) (with_true (p v)) ∙ ap (λ b. p v || b) (alike vs about.1))
+
+  -- Votes that were cast, about two subjects that contradict each other.
+  pub voted_both :
+      (same : D → D → Bool) (s t : Subject D) (vs ws cast others : List (Vote G D)) (i : ℕ)
+      → subjects_contradict same s t ≡ true
+      → AllByRecursion (λ v. s ≡ subject_of v) vs → AllByRecursion (λ w. t ≡ subject_of w) ws
+      → ElementsWithin vs cast → ElementsWithin ws others
+      → (list_any (λ v. signer_of v == i) vs && list_any (λ w. signer_of w == i) ws) ≡ true
+      → votes_contradict same cast others i ≡ true
+  voted_both same s t vs ws cast others i contradict about other_about within other_within h =
+      let parts = and_parts (list_any (λ v. signer_of v == i) vs) (list_any (λ w. signer_of w == i) ws) h in
+      let second : list_any (λ w. (signer_of w == i) && subjects_contradict same s (subject_of w)) others ≡ true =
+      any_within _ ws others other_within
+      (about_passes t (λ w. signer_of w == i) (subjects_contradict same s) ws other_about contradict parts.1) in
+      any_within _ vs cast within
+      (about_passes s (λ v. signer_of v == i) (λ u. list_any (λ w. (signer_of w == i) && subjects_contradict same u (subject_of w)) others) vs about second parts.0)
+
+module _ {D K G C : Type 0} (x : Setting D K G C) where
+  -- What stands behind a certificate: votes of a quorum of participants, which were cast.
+  pub record IsBehind (past : History D K G C) (c : Certificate C D) (votes : List (Vote G D)) : Type 0 where
+    pub enough : quorum_in x ≤ length votes
+    pub once : EachOnce signer_of votes
+    pub below : list_all (λ v. nat_lt (signer_of v) (participants_in x)) votes ≡ true
+    pub about :
+        list_all (λ v. same_subject x.same_digest (subject_certified c) (subject_of v)) votes ≡ true
+    pub cast : ElementsWithin votes (votes_cast x past)
+
+  cast_more :
+      (past : History D K G C) (event : Event D K G C) (test : Vote G D → Bool)
+      → count test (votes_cast x past) ≤ count test (votes_cast x (event ∷ past))
+  cast_more past event test = omega (arith, count-append test (cast_votes x event.0) (votes_cast x past))
+
+  first_are_cast :
+      (past : History D K G C) → ElementsWithin (first_votes x past) (votes_cast x past)
+  first_are_cast [] test = omega arith
+  first_are_cast (event ∷ past) test =
+      omega (
+        arith,
+        count-append test (filter (is_free (first_votes x past)) (cast_votes x event.0)) (first_votes x past),
+        count-append test (cast_votes x event.0) (votes_cast x past),
+        count-filter test (is_free (first_votes x past)) (cast_votes x event.0),
+        count_mono (λ v. is_free (first_votes x past) v && test v) test (cast_votes x event.0) (λ v. fewer (is_free (first_votes x past) v) (test v)),
+        first_are_cast past test,
+      )
+    where
+      fewer : (a b : Bool) → cond (a && b) 1 0 ≤ cond b 1 0
+      fewer true b = omega arith
+      fewer false true = omega arith
+      fewer false false = omega arith
+
+  later :
+      (past : History D K G C) (event : Event D K G C) (c : Certificate C D) (votes : List (Vote G D))
+      → IsBehind past c votes → IsBehind (event ∷ past) c votes
+  later past event c votes behind =
+      record {
+        enough = behind.enough;
+        once = behind.once;
+        below = behind.below;
+        about = behind.about;
+        cast = λ test. omega (arith, behind.cast test, cast_more past event test);
+      }
+
+  backed_behind :
+      (past : History D K G C) (batch : Batch (Certificate C D)) (c : Certificate C D)
+      → IsBacked x past batch c → IsBehind past c (votes_behind x past c)
+  backed_behind past batch c backed =
+      record {
+        enough = backed.enough;
+        once = backed.once;
+        below = list_all-from_AllPass (λ v. nat_lt (signer_of v) (participants_in x)) (votes_behind x past c) backed.participants;
+        about = filter_passes (λ v. same_subject x.same_digest (subject_certified c) (subject_of v)) _;
+        cast = λ test. omega (arith, backed.first test, first_are_cast past test);
+      }
+
+  answer_behind :
+      (past : History D K G C) (answer : Answer G C D) (c : Certificate C D)
+      → IfSome (batch_given answer) (λ batch. IfSome batch.certificate (IsBacked x past batch))
+      → certificate_given answer ≡ Some c → IsBehind past c (votes_behind x past c)
+  answer_behind past (ConstructAnswer (Some batch)) c h e =
+      backed_behind past batch c
+      (subst (λ (o : Option (Certificate C D)). IfSome o (IsBacked x past batch)) e h)
+  answer_behind past (ConstructAnswer None) c h e = absurd (cc)
+  answer_behind past (NetworkAnswer a) c h e = absurd (cc)
+  answer_behind past (OwnAnswer a b) c h e = absurd (cc)
+  answer_behind past (OwnRefused a) c h e = absurd (cc)
+  answer_behind past (CertificateAnswer a) c h e = absurd (cc)
+  answer_behind past (LeaderAnswer a) c h e = absurd (cc)
+  answer_behind past (ForwardAnswer a) c h e = absurd (cc)
+  answer_behind past (MissingAnswer a) c h e = absurd (cc)
+  answer_behind past OutOfMemory c h e = absurd (cc)
+
+  pub given_behind :
+      (past : History D K G C) (c : Certificate C D) → AtEachEvent (GivesBacked x) past
+      → IsGiven past c → (votes : List (Vote G D)) × IsBehind past c votes
+  given_behind [] c each given = absurd given
+  given_behind (event ∷ past) c each (inl now) =
+      (votes_behind x past c, later past event c (votes_behind x past c) (answer_behind past event.1 c each.0 now))
+  given_behind (event ∷ past) c each (inr before) =
+      let behind = given_behind past c each.1 before in
+      (behind.0, later past event c behind.0 behind.1)
+
+module _ {D K G C : Type 0} (m : Meaning D K G C) (compare_keys : K → K → Ordering)
+    (same_signature : G → G → Bool) (same : D → D → Bool)
+    (identical : (a b : D) → same a b ≡ true → a ≡ b) where
+  -- Votes behind two certificates that contradict each other.
+  contradicting_behind :
+      (number : Round) (mode other_mode : Mode) (past other_past : History D K G C)
+      (a b : Certificate C D) (vs ws : List (Vote G D))
+      → 1 ≤ length m.participants
+      → IsBehind (round_of m compare_keys same_signature same number mode) past a vs
+      → IsBehind (round_of m compare_keys same_signature same number other_mode) other_past b ws
+      → certificates_contradict same a b ≡ true
+      → TakesContradicting m same
+      (round_of m compare_keys same_signature same number mode)
+      (round_of m compare_keys same_signature same number other_mode)
+      past other_past
+  contradicting_behind number mode other_mode past other_past a b vs ws some first second contradict =
+      record { enough = enough; more_than_faulty = omega (arith, enough, quorums_overlap n some) }
+    where
+      n : ℕ
+      n = length m.participants
+
+      cast : List (Vote G D)
+      cast = votes_cast (round_of m compare_keys same_signature same number mode) past
+
+      others : List (Vote G D)
+      others = votes_cast (round_of m compare_keys same_signature same number other_mode) other_past
+
+      each :
+          (i : ℕ) → (has_number signer_of vs i && has_number signer_of ws i) ≡ true
+          → votes_contradict same cast others i ≡ true
+      each i h =
+          voted_both same (subject_certified a) (subject_certified b) vs ws cast others i contradict
+          (all_about same identical (subject_certified a) vs first.about)
+          (all_about same identical (subject_certified b) ws second.about)
+          first.cast second.cast h
+
+      enough : quorum_of n + quorum_of n ≤ count_below n (votes_contradict same cast others) + n
+      enough =
+          omega (
+            arith,
+            first.enough,
+            second.enough,
+            distinct_below signer_of n vs first.once first.below,
+            distinct_below signer_of n ws second.once second.below,
+            below_both (has_number signer_of vs) (has_number signer_of ws) n,
+            below_more (λ i. has_number signer_of vs i && has_number signer_of ws i) (votes_contradict same cast others) each n,
+          )
+
+  pub take_contradicting : TakeContradictingVotes m compare_keys same_signature same
+  take_contradicting number mode other_mode before after left right calls others answers replies
+      held holds run other_run a b given_a given_b contradict =
+      let x = round_of m compare_keys same_signature same number mode in
+      let y = round_of m compare_keys same_signature same number other_mode in
+      let first = given_behind x _ a run.promised.gives_safely.given_are_backed given_a in
+      let second = given_behind y _ b other_run.promised.gives_safely.given_are_backed given_b in
+      contradicting_behind number mode other_mode _ _ a b first.0 second.0
+      run.some_participant first.1 second.1 contradict

@@ -1,0 +1,36 @@
+-- Whom a report convicts.
+use Rattle.std.specs.Prelude.{◌≡◌, ◌==◌, ◌&&◌, Bool, true, cond, Option, Some, None, option_and_then}
+use Rattle.batcher.specs.Meaning.{Meaning}
+use Rattle.batcher.specs.Votes.{signer_of, subject_of, attestation_of}
+use Rattle.batcher.specs.Reported.{subjects_contradict, evidence_in}
+use Rattle.batcher.specs.declared.positions.Participant.{Participant}
+use Rattle.batcher.specs.declared.messages.Vote.{Vote}
+use Rattle.batcher.specs.declared.messages.Activity.{Activity}
+
+module _ {D K G C : Type 0} (m : Meaning D K G C) where
+  -- whether both votes attest
+  abbrev pub both_attest : Vote G D → Vote G D → Bool
+  both_attest a b =
+      m.attests (subject_of a) (attestation_of a) && m.attests (subject_of b) (attestation_of b)
+
+  -- whether two votes of one signer contradict each other and attest
+  abbrev pub convicts : (D → D → Bool) → Vote G D → Vote G D → Bool
+  convicts same a b =
+      (signer_of a == signer_of b)
+      && (subjects_contradict same (subject_of a) (subject_of b) && both_attest a b)
+
+  -- whom a report convicts
+  abbrev pub convicted_by : (D → D → Bool) → Activity G D → Option Participant
+  convicted_by same report =
+      option_and_then
+      (λ pair. cond (convicts same pair.0 pair.1) (Some (attestation_of pair.0).signer) None)
+      (evidence_in report)
+
+  -- The report holds two votes of the participant that attest and contradict each other.
+  pub record IsProof (same : D → D → Bool) (report : Activity G D) (i : Participant) : Type 0 where
+    pub first : Vote G D
+    pub second : Vote G D
+    pub holds : evidence_in report ≡ Some (first, second)
+    pub signers : (signer_of first ≡ i.0) × (signer_of second ≡ i.0)
+    pub contradict : subjects_contradict same (subject_of first) (subject_of second) ≡ true
+    pub attest : both_attest first second ≡ true

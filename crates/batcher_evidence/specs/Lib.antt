@@ -1,0 +1,5 @@
+pub mod Shown
+pub mod Listed
+pub mod Culprits
+pub mod Convicted
+pub mod Rounds

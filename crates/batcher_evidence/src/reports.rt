@@ -1,0 +1,110 @@
+//! Whom a report of a round convicts.
+
+ghost use Rattle.std.specs.Prelude.{◌≡◌, cond, IfOk, IfSome, Some, None};
+ghost use Rattle.batcher.specs.Votes.{subject_of, attestation_of};
+ghost use Rattle.batcher_evidence.specs.Convicted.{IsProof, convicts, convicted_by};
+
+use crate::subjects::{attestation, contradict, vote_subject};
+use batcher::messages::{Activity, Digest, Vote};
+use batcher::positions::Participant;
+use batcher::scheme::Scheme;
+use rand_core::CryptoRng;
+use std::alloc::{AllocError, Global};
+
+/// The participant that a report convicts: the signer of two votes that contradict each other and
+/// both attest.
+///
+/// A round reports conflicts of votes that nobody has verified, so only this makes evidence of a
+/// report. It takes no one's word: who knows the scheme can ask it again. A report of one vote
+/// convicts nobody.
+pub fn convicted<S: Scheme<D>, D: Digest, R: CryptoRng>(
+    alloc: Global,
+    scheme: &S,
+    rng: &mut R,
+    report: &Activity<S::Signature, D>,
+) -> Result<Option<Participant>, AllocError>
+    ensures exact { IfOk result (λ found. found
+        ≡ convicted_by (S.meaning scheme.now) D.eq report.now) }
+    ensures proof { IfOk result (λ found.
+        IfSome found (IsProof (S.meaning scheme.now) D.eq report.now)) }
+{
+    convicted_exactly(alloc, scheme, rng, report)
+}
+
+// The same, by the first clause alone.
+fn convicted_exactly<S: Scheme<D>, D: Digest, R: CryptoRng>(
+    alloc: Global,
+    scheme: &S,
+    rng: &mut R,
+    report: &Activity<S::Signature, D>,
+) -> Result<Option<Participant>, AllocError>
+    ensures { IfOk result (λ found. found
+        ≡ convicted_by (S.meaning scheme.now) D.eq report.now) }
+{
+    match *report {
+        Activity::ConflictingNotarize(a, b) => {
+            convicted_of(alloc, scheme, rng, &Vote::Notarize(a), &Vote::Notarize(b))
+        }
+        Activity::ConflictingFinalize(a, b) => {
+            convicted_of(alloc, scheme, rng, &Vote::Finalize(a), &Vote::Finalize(b))
+        }
+        Activity::NullifyFinalize(a, b) => {
+            convicted_of(alloc, scheme, rng, &Vote::Nullify(a), &Vote::Finalize(b))
+        }
+        Activity::Notarize(_) | Activity::Nullify(_) | Activity::Finalize(_) => Ok(None),
+    }
+}
+
+// The participant, where the two votes convict it.
+fn convicted_of<S: Scheme<D>, D: Digest, R: CryptoRng>(
+    alloc: Global,
+    scheme: &S,
+    rng: &mut R,
+    a: &Vote<S::Signature, D>,
+    b: &Vote<S::Signature, D>,
+) -> Result<Option<Participant>, AllocError>
+    ensures { IfOk result (λ found. found
+        ≡ cond (convicts (S.meaning scheme.now) D.eq a.now b.now)
+        (Some (attestation_of a.now).signer) None) }
+{
+    if convicts(alloc, scheme, rng, a, b)? {
+        Ok(Some(a.signer()))
+    } else {
+        Ok(None)
+    }
+}
+
+// Whether two votes of one signer contradict each other and attest.
+fn convicts<S: Scheme<D>, D: Digest, R: CryptoRng>(
+    alloc: Global,
+    scheme: &S,
+    rng: &mut R,
+    a: &Vote<S::Signature, D>,
+    b: &Vote<S::Signature, D>,
+) -> Result<bool, AllocError>
+    ensures { IfOk result (λ yes. yes ≡ convicts (S.meaning scheme.now) D.eq a.now b.now) }
+{
+    if a.signer().0 != b.signer().0 || !contradict(vote_subject(a), vote_subject(b)) {
+        return Ok(false);
+    }
+    if !attests(alloc, scheme, rng, a)? {
+        return Ok(false);
+    }
+    attests(alloc, scheme, rng, b)
+}
+
+// Whether the vote's attestation attests what it votes for.
+fn attests<S: Scheme<D>, D: Digest, R: CryptoRng>(
+    alloc: Global,
+    scheme: &S,
+    rng: &mut R,
+    vote: &Vote<S::Signature, D>,
+) -> Result<bool, AllocError>
+    ensures { IfOk result (λ yes. yes
+        ≡ (S.meaning scheme.now).attests (subject_of vote.now) (attestation_of vote.now)) }
+{
+    let mut pending = Vec::new(alloc);
+    pending.push(attestation(vote))?;
+    let found = scheme.verify_attestations(alloc, rng, vote_subject(vote), &pending)?;
+    Ok(found.invalid.is_empty())
+}
