@@ -1,13 +1,18 @@
 -- The examples of honest participants and of floods, computed.
-use Rattle.std.proofs.Common.{◌≡◌, ◌==◌, ℕ, Bool, true, false, cond, nat_lt, Some, None, refl, ap, sym}
+use Rattle.std.proofs.Common.{◌≡◌, ◌==◌, ℕ, Bool, true, false, cond, nat_lt, Some, None, [], ◌∷◌, map, refl, ap, sym, arith}
 use Rattle.std.specs.List.{list_all}
-use Rattle.std.proofs.lemmas.Bool.{and_parts, ltb-true}
+use Rattle.std.proofs.lemmas.Bool.{and_parts, ltb-true, false≢true}
 use Rattle.std.proofs.lemmas.Option.{same_Some}
 use Rattle.std.proofs.lemmas.List.Sums.{list_all-from_AllPass}
 use Rattle.batcher.specs.Meaning.{IsLawful}
-use Rattle.batcher.specs.Examples.{is_good}
-use Rattle.batcher.specs.Keys.{index_of}
-use Rattle.batcher.specs.HonestExamples.{undiscerning, HonestExamples}
+use Rattle.batcher.specs.declared.messages.Kind.TheVariants.{Nullification}
+use Rattle.batcher.specs.declared.votes.Mode.TheVariants.{Retaining}
+use Rattle.batcher.specs.Lists.{is_some_and}
+use Rattle.batcher.specs.Standing.{ready_kind}
+use Rattle.batcher.specs.Honest.{sent_bad_vote}
+use Rattle.batcher.specs.Examples.{is_good, four}
+use Rattle.batcher.specs.Keys.{index_of, participant}
+use Rattle.batcher.specs.HonestExamples.{undiscerning, played_nullifies, HonestExamples}
 
 given_is_good : (b : Bool) (c : ℕ) → cond b (Some 0) None ≡ Some c → (c == 0) ≡ true
 given_is_good true c e = ap (λ (k : ℕ). k == 0) (sym (same_Some 0 c e))
@@ -48,6 +53,18 @@ honest_computed =
       undiscerning_is_lawful = lawful;
       good_vote_after_bad = refl;
       incomplete_after_bad = refl;
+      left_out_is_refused = λ taken. false≢true (taken.0 refl refl);
+      good_one_is_not_named = λ named.
+          false≢true
+          (list_all-from_AllPass
+          (λ i. is_some_and (ready_kind (four Retaining) played_nullifies) (λ kind. sent_bad_vote (four Retaining) played_nullifies kind i.0))
+          (map participant (1 ∷ []))
+          named.0);
+      left_incomplete_is_refused = λ completes. false≢true (completes.0 refl refl Nullification (omega arith));
+      named_twice = refl;
+      added_thrice = refl;
+      given_thrice = refl;
+      processed_thrice = refl;
       costs_of_one = refl;
       costs_of_four = refl;
       costs_again = refl;

@@ -9,6 +9,8 @@ use Rattle.batcher.specs.declared.votes.Mode.{Mode}
 use Rattle.batcher.specs.declared.votes.Mode.TheVariants.{Retaining, Skipped}
 use Rattle.batcher.specs.Meaning.{IsLawful}
 use Rattle.batcher.specs.History.{history}
+use Rattle.batcher.specs.Lists.{is_some_and}
+use Rattle.batcher.specs.Votes.{same_proposal}
 use Rattle.batcher.specs.Composed.{HoldsThroughout}
 use Rattle.batcher.specs.Examples.{WorkedExamples, is_good, listing, four, p, net, nullify, refused}
 use Rattle.batcher.specs.Examples.{changed_calls, changed_answers, repeated_calls, repeated_answers}
@@ -99,8 +101,9 @@ worked =
       facts_tell_nothing = refl;
       blocked_by_one = refl;
       changed_follows = follows_by_definition (four Retaining) (laws_of_four Retaining) (history changed_calls changed_answers);
-      changed_is_refused = λ (h : HoldsThroughout (four Retaining) changed_calls changed_answers). h.fixed_are_not_changed.1.0 (p 1) refl refl;
+      changed_is_refused = λ h. h.1.0 (p 1) refl refl;
+      other_forward_is_refused = λ h. false≢true (ap (λ s. is_some_and s (same_proposal (λ a b. a == b) (p 2))) h.0);
       repeated_follows = follows_by_definition (four Skipped) (laws_of_four Skipped) (history repeated_calls repeated_answers);
-      repeated_is_refused = λ (h : HoldsThroughout (four Skipped) repeated_calls repeated_answers). false≢true h.conflicts_have_cause.1.1.0.1;
+      repeated_is_refused = λ h. false≢true h.1.1.0.1;
       unadded_is_refused = λ (h : HoldsThroughout (four Retaining) (net 1 (nullify 1) ∷ []) (refused ∷ [])). absurd (none_added h.added_are_first);
     }

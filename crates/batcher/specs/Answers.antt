@@ -36,8 +36,8 @@ use Rattle.batcher.specs.Trying.{AttemptAfter}
 
 module _ {D K G C : Type 0} (x : Setting D K G C) where
   -- What a network vote that names its sender is answered where no opposite one stands against it:
-  -- by the first one of its
-  -- kind and signer, by whether the kind is released, and by whether the vote conflicts.
+  -- by the first one of its kind and signer, by whether the kind is released, and by whether the
+  -- vote conflicts.
   abbrev pub admission_by_first : Option (Vote G D) → Bool → Bool → Vote G D → Admission G D
   admission_by_first None released conflict vote = addition vote
   admission_by_first (Some kept) false conflict vote =

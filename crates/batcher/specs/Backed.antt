@@ -85,6 +85,17 @@ module _ {D K G C : Type 0} (x : Setting D K G C) where
       IfSome (proposal_certified a) (λ p.
       IfSome (proposal_certified b) (λ q. same_proposal x.same_digest p q ≡ true))
 
+  -- No two certificates that were given contradict each other,
+  abbrev pub NoneContradict : History D K G C → Type 0
+  NoneContradict past =
+      (a b : Certificate C D) → IsGiven past a → IsGiven past b
+      → subjects_contradict x.same_digest (subject_certified a) (subject_certified b) ≡ false
+
+  -- and all that name a proposal name the same one.
+  abbrev pub AllNameOneProposal : History D K G C → Type 0
+  AllNameOneProposal past =
+      (a b : Certificate C D) → IsGiven past a → IsGiven past b → NameOneProposal a b
+
   -- What holds of the certificates that a list of calls on a fresh round was given.
   pub record GivesSafely (past : History D K G C) : Type 0 where
     pub given_are_backed : AtEachEvent GivesBacked past
@@ -94,9 +105,5 @@ module _ {D K G C : Type 0} (x : Setting D K G C) where
     pub one_of_each_kind : (kind : Kind) → count (λ event. gives_kind kind event.1) past ≤ 1
     pub nullification_or_finalization :
         (was_given past Nullification && was_given past Finalization) ≡ false
-    -- No two contradict each other, and all that name a proposal name the same one.
-    pub none_contradict :
-        (a b : Certificate C D) → IsGiven past a → IsGiven past b
-        → subjects_contradict x.same_digest (subject_certified a) (subject_certified b) ≡ false
-    pub one_proposal :
-        (a b : Certificate C D) → IsGiven past a → IsGiven past b → NameOneProposal a b
+    pub none_contradict : NoneContradict past
+    pub one_proposal : AllNameOneProposal past

@@ -13,10 +13,12 @@ use Rattle.batcher.specs.Votes.{signer_of, subject_certified}
 use Rattle.batcher.specs.History.{Event}
 use Rattle.batcher.specs.Selection.{is_certified}
 use Rattle.batcher.specs.Standing.{is_valid}
-use Rattle.batcher.specs.Composed.{usable_votes}
+use Rattle.batcher.specs.Lists.{count}
+use Rattle.batcher.specs.Promises.{AtEachEvent, AtEachTime}
+use Rattle.batcher.specs.Composed.{usable_votes, NamesBadSigners, GivesSelected, HoldsThen}
 use Rattle.batcher.specs.Reported.{subjects_contradict}
-use Rattle.batcher.specs.Backed.{was_given, votes_behind, GivesSafely}
-use Rattle.batcher.specs.Prompt.{has_valid_quorum, kinds_due}
+use Rattle.batcher.specs.Backed.{was_given, gives_kind, votes_behind, GivesBacked, GivesOnce, GivesFixed, NoneContradict, AllNameOneProposal}
+use Rattle.batcher.specs.Prompt.{has_valid_quorum, kinds_due, GivesAtOnce, TakesOne, GivesDespiteBadVotes}
 use Rattle.batcher.specs.Examples.{TinySetting, TinyCall, TinyAnswer, listing, round_of, four, one_by_one, p, signed, notarize, bad_notarize, nullify, finalize, notarization, nullification, finalization}
 use Rattle.batcher.specs.Examples.{net, own, cert, lead, construct, added, no_batch, batch, blocked_and_reported, answers_from, answers, played, selects, counts}
 
@@ -91,6 +93,10 @@ usable calls kind =
 abbrev pub giving : Certificate ℕ ℕ → Event ℕ ℕ ℕ ℕ
 giving c = (construct, batch 3 [] (Some c) false)
 
+-- how many of two given certificates are of a kind
+abbrev pub how_often : Kind → Certificate ℕ ℕ → Certificate ℕ ℕ → ℕ
+how_often kind a b = count (λ event. gives_kind kind event.1) (giving a ∷ giving b ∷ [])
+
 abbrev pub contradict : Certificate ℕ ℕ → Certificate ℕ ℕ → Bool
 contradict a b = subjects_contradict tiny.same_digest (subject_certified a) (subject_certified b)
 
@@ -109,38 +115,46 @@ pub record CertificateExamples : Type 0 where
   -- It isn't given where two votes are behind it, or one of three is an outsider's, which no call
   -- may bring, or too few of three attest and the batch fell back.
   pub two_behind : behind two_notarizes (notarization 1) ≡ (1 ∷ 0 ∷ [], 1 ∷ 0 ∷ [])
-  pub two_are_refused : GivesSafely tiny (giving (notarization 1) ∷ played tiny two_notarizes) → ⊥
+  pub two_are_refused :
+      AtEachEvent (GivesBacked tiny) (giving (notarization 1) ∷ played tiny two_notarizes) → ⊥
   pub outsider_behind : behind with_outsider (notarization 1) ≡ (1 ∷ 0 ∷ 7 ∷ [], 1 ∷ 0 ∷ [])
   pub outsider_is_refused :
-      GivesSafely tiny (giving (notarization 1) ∷ played tiny with_outsider) → ⊥
+      AtEachEvent (GivesBacked tiny) (giving (notarization 1) ∷ played tiny with_outsider) → ⊥
   pub bad_behind : behind one_bad (notarization 1) ≡ (2 ∷ 1 ∷ 0 ∷ [], 1 ∷ 0 ∷ [])
   pub bad_is_refused :
-      GivesSafely tiny
+      AtEachEvent (GivesBacked tiny)
       ((construct, batch 3 (2 ∷ []) (Some (notarization 1)) true) ∷ played tiny one_bad) → ⊥
   -- But a lawful scheme may give it at once where one alone attests.
   pub hopeful_is_lawful : IsLawful hopeful
   pub given_over_bad_votes : counts of_hopeful two_bad Notarization ≡ (3, 1)
   pub given_all_the_same :
       was_given (played of_hopeful (two_bad ++ construct ∷ [])) Notarization ≡ true
-  -- None is given of a kind that was recorded, nor for another proposal than the one that is fixed,
-  -- nor a second of its kind, nor a finalization beside a nullification,
+  -- None is given of a kind that was recorded, nor a second of its kind, nor for another proposal
+  -- than the one that is fixed or selected.
   pub recorded_is_refused :
-      GivesSafely tiny
+      AtEachEvent GivesOnce
       (giving (notarization 1) ∷ played tiny (three_notarizes ++ cert (notarization 1) ∷ [])) → ⊥
-  pub unfixed_is_refused :
-      GivesSafely tiny (giving (notarization 2) ∷ played tiny (cert (finalization 1) ∷ [])) → ⊥
   pub second_is_refused :
-      GivesSafely tiny (giving (notarization 1) ∷ giving (notarization 1) ∷ []) → ⊥
-  pub both_are_refused : GivesSafely tiny (giving nullification ∷ giving (finalization 1) ∷ []) → ⊥
-  -- nor one that contradicts another, nor one that names another proposal, though that alone is no
-  -- contradiction.
+      AtEachEvent GivesOnce (giving (notarization 1) ∷ giving (notarization 1) ∷ []) → ⊥
+  pub two_of_a_kind : how_often Notarization (notarization 1) (notarization 2) ≡ 2
+  pub unfixed_is_refused :
+      AtEachEvent (GivesFixed tiny)
+      (giving (notarization 2) ∷ played tiny (cert (finalization 1) ∷ [])) → ⊥
+  pub unselected_is_refused :
+      AtEachEvent (GivesSelected tiny)
+      (giving (notarization 2) ∷ played tiny (lead 0 ∷ net 0 (notarize 0 1) ∷ [])) → ⊥
+  -- No two are given that contradict each other, as a nullification and a finalization do, nor two
+  -- that name different proposals, though that alone is no contradiction.
   pub which_contradict :
       contradict nullification (finalization 1) ∷ contradict (notarization 1) (notarization 2)
       ∷ contradict (notarization 1) (finalization 2) ∷ [] ≡ true ∷ true ∷ false ∷ []
+  pub both_given :
+      map (was_given (giving nullification ∷ giving (finalization 1) ∷ []))
+      (Nullification ∷ Finalization ∷ []) ≡ true ∷ true ∷ []
   pub contradiction_is_refused :
-      GivesSafely tiny (giving (notarization 1) ∷ giving (notarization 2) ∷ []) → ⊥
+      NoneContradict tiny (giving (notarization 1) ∷ giving (notarization 2) ∷ []) → ⊥
   pub two_proposals_are_refused :
-      GivesSafely tiny (giving (notarization 1) ∷ giving (finalization 2) ∷ []) → ⊥
+      AllNameOneProposal tiny (giving (notarization 1) ∷ giving (finalization 2) ∷ []) → ⊥
   -- A round that gave a nullification may record a finalization: what is certified may contradict
   -- itself, what is given never does.
   pub both_certified :
@@ -181,6 +195,28 @@ pub record CertificateExamples : Type 0 where
   pub bad_in_its_place : usable one_bad Notarization ≡ (3, 2)
   pub none_given_beside_it :
       then_three tiny one_bad ≡ batch 3 (2 ∷ []) None true ∷ no_batch ∷ no_batch ∷ []
+  -- A batch that gives no certificate of a valid quorum is refused, and so is no batch where a kind
+  -- is due, and one that gives none where a bad vote stands beside a quorum.
+  pub late_is_refused :
+      AtEachEvent (GivesAtOnce tiny)
+      ((construct, batch 3 [] None false) ∷ played tiny three_notarizes) → ⊥
+  pub left_due_is_refused :
+      AtEachEvent (TakesOne tiny) ((construct, no_batch) ∷ played tiny three_notarizes) → ⊥
+  pub held_back_is_refused :
+      AtEachEvent (GivesDespiteBadVotes tiny)
+      ((construct, batch 4 (3 ∷ []) None true)
+      ∷ played tiny (three_notarizes ++ net 3 (bad_notarize 3 1) ∷ [])) → ⊥
+  -- A batch that names a good voter is refused, and one that leaves a bad vote among the proven.
+  pub good_one_is_not_named :
+      AtEachEvent (NamesBadSigners tiny)
+      ((construct, batch 3 (2 ∷ []) None true) ∷ played tiny three_notarizes) → ⊥
+  pub bad_one_is_not_proven :
+      AtEachTime (HoldsThen tiny) ((construct, batch 3 [] None true) ∷ played tiny one_bad) → ⊥
+  -- A quorum for another proposal than the selected one makes no certificate.
+  pub quorum_for_another :
+      then_three tiny
+      (lead 0 ∷ net 0 (notarize 0 1) ∷ net 1 (notarize 1 2) ∷ net 2 (notarize 2 2)
+      ∷ net 3 (notarize 3 2) ∷ []) ≡ no_batch ∷ no_batch ∷ no_batch ∷ []
   -- THREE CONSTRUCTIONS, AND THE ORDER OF CALLS
   -- Three constructions certify a valid quorum, and nothing else,
   pub certified_by_three : quorum_and_then tiny three_notarizes Notarization ≡ (true, true)

@@ -48,8 +48,8 @@ use Rattle.batcher.specs.Selection.{leader_of, forwards, selection}
 use Rattle.batcher.specs.Standing.{counted_votes, valid_votes, proven_votes, fresh_votes, ready_kind}
 use Rattle.batcher.specs.Stands.{pending_after, verified_after}
 use Rattle.batcher.specs.Work.{processed_total, votes_accepted_open, own_notarizes_restored}
-use Rattle.batcher.specs.Promises.{gave_cause}
-use Rattle.batcher.specs.Composed.{usable_votes, has_bad_vote, HoldsThroughout}
+use Rattle.batcher.specs.Promises.{AtEachEvent, gave_cause}
+use Rattle.batcher.specs.Composed.{AtEachCall, usable_votes, has_bad_vote, ConflictsWithAnother, ForwardsSelected, ChangesNoFixed, HoldsThroughout}
 use Rattle.batcher.specs.Consequences.{replacements, FollowsByDefinition}
 use Rattle.batcher.specs.Pairs.{blocks, tells_nothing}
 use Rattle.batcher.specs.Answers.{network_answer, own_answer, certificate_answer, forward_after, missing_after, needs_memory}
@@ -555,10 +555,14 @@ pub record WorkedExamples : Type 0 where
       []
   -- Both lists of garbage meet what follows by definition, and what holds throughout refuses them.
   pub changed_follows : FollowsByDefinition (four Retaining) (history changed_calls changed_answers)
-  pub changed_is_refused : HoldsThroughout (four Retaining) changed_calls changed_answers → ⊥
+  pub changed_is_refused :
+      AtEachEvent (ChangesNoFixed (four Retaining)) (history changed_calls changed_answers) → ⊥
+  pub other_forward_is_refused :
+      AtEachEvent (ForwardsSelected (four Retaining)) (history changed_calls changed_answers) → ⊥
   pub repeated_follows :
       FollowsByDefinition (four Skipped) (history repeated_calls repeated_answers)
-  pub repeated_is_refused : HoldsThroughout (four Skipped) repeated_calls repeated_answers → ⊥
+  pub repeated_is_refused :
+      AtEachCall (ConflictsWithAnother (four Skipped)) [] repeated_calls repeated_answers → ⊥
   -- What was told as added without being free, or the other way round, is refused too.
   pub unadded_is_refused :
       HoldsThroughout (four Retaining) (net 1 (nullify 1) ∷ []) (refused ∷ []) → ⊥

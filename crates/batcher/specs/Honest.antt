@@ -25,8 +25,8 @@ abbrev pub named_invalid : {G C D : Type 0} → Answer G C D → List Participan
 named_invalid answer = option_map_or (λ batch. batch.invalid) (batch_given answer) []
 
 module _ {D K G C : Type 0} (x : Setting D K G C) where
-  -- A vote that names its sender is added, or equals one that its signer cast before, unless that
-  -- one gave cause to be blocked, with this vote at the latest.
+  -- A vote that names its sender is added, or equals one that its signer cast before, unless its
+  -- signer gave cause to be blocked, with this vote at the latest.
   abbrev pub IsAddedWithoutCause : History D K G C → K → Vote G D → Admission G D → Type 0
   IsAddedWithoutCause past sender vote admission =
       names_sender x sender vote ≡ true

@@ -10,12 +10,13 @@ use Rattle.batcher.specs.Votes.{is_vote_of}
 use Rattle.batcher.specs.Selection.{selected_proposal, is_certified}
 use Rattle.batcher.specs.Standing.{is_counted, is_valid}
 use Rattle.batcher.specs.Work.{processed_total}
-use Rattle.batcher.specs.Promises.{votes_cast, gave_cause}
-use Rattle.batcher.specs.Honest.{times_named, voted_well, honest_voters}
+use Rattle.batcher.specs.History.{Event}
+use Rattle.batcher.specs.Promises.{AtEachVote, AtEachEvent, AtEachTime, votes_cast, gave_cause}
+use Rattle.batcher.specs.Honest.{IsAddedWithoutCause, NamesForOwnVotes, CompletesHonestQuorums, times_named, voted_well, honest_voters}
 use Rattle.batcher.specs.Composed.{votes_added}
 use Rattle.batcher.specs.Flood.{batches_given}
 use Rattle.batcher.specs.Examples.{TinySetting, TinyVote, TinyCall, TinyHistory, listing, is_good, round_of, four, one_by_one, notarize, bad_notarize, nullify, bad_nullify, finalize, nullification, net, own, lead, construct}
-use Rattle.batcher.specs.Examples.{added, refused, blocked, batch, answers, played, with_cause}
+use Rattle.batcher.specs.Examples.{added, refused, blocked, batch, no_batch, answers, played, with_cause}
 
 -- All signatures count as the same, though not all attest.
 abbrev pub undiscerning : TinySetting
@@ -94,6 +95,19 @@ module _ (x : TinySetting) where
       let past = played x calls in
       (length (votes_added past), processed_total past, batches_given past)
 
+-- the history of the three nullifies, and events that are told after it, rightly or not
+abbrev pub played_nullifies : TinyHistory
+played_nullifies = played (four Retaining) nullifies
+
+abbrev pub naming_one : Event ℕ ℕ ℕ ℕ
+naming_one = (construct, batch 3 (1 ∷ []) None true)
+
+abbrev pub none_given : Event ℕ ℕ ℕ ℕ
+none_given = (construct, no_batch)
+
+abbrev pub added_one : Event ℕ ℕ ℕ ℕ
+added_one = (net 1 (nullify 1), added (nullify 1))
+
 pub record HonestExamples : Type 0 where
   -- An equal repeat isn't added, and gives no cause.
   pub repeat_is_refused :
@@ -153,6 +167,23 @@ pub record HonestExamples : Type 0 where
   pub incomplete_after_bad :
       voting undiscerning (net 1 (bad_nullify 1) ∷ nullifies ++ thrice) Nullification
       ≡ (0 ∷ 2 ∷ [], 2, false)
+  -- Answers that don't take in the honest are refused: a vote that isn't added without cause, a
+  -- good voter that is named, a quorum that isn't completed; and a bad voter that is named twice.
+  pub left_out_is_refused :
+      AtEachVote (IsAddedWithoutCause (four Retaining)) ((net 1 (nullify 1), refused) ∷ []) → ⊥
+  pub good_one_is_not_named :
+      AtEachEvent (NamesForOwnVotes (four Retaining)) (naming_one ∷ played_nullifies) → ⊥
+  pub left_incomplete_is_refused :
+      AtEachTime (CompletesHonestQuorums (four Retaining))
+      (none_given ∷ none_given ∷ none_given ∷ played_nullifies) → ⊥
+  pub named_twice :
+      times_named (four Retaining)
+      ((construct, batch 3 (1 ∷ 1 ∷ []) None true) ∷ played_nullifies) Nullification 1 ≡ 2
+  -- Answers that add a participant's votes, or give batches, as often as they are asked are too
+  -- many.
+  pub added_thrice : length (votes_added (added_one ∷ added_one ∷ added_one ∷ [])) ≡ 3
+  pub given_thrice : batches_given (naming_one ∷ naming_one ∷ naming_one ∷ []) ≡ 3
+  pub processed_thrice : processed_total (naming_one ∷ naming_one ∷ naming_one ∷ []) ≡ 9
   -- One participant can have two votes added and processed, each in a batch of its own,
   pub costs_of_one :
       costs (round_of 1 Retaining)

@@ -113,8 +113,7 @@ module _ {D K G C : Type 0} (x : Setting D K G C) where
   IsBlockedByBoth a retained b released = ⊤
 
   -- Whom the retaining round blocks, and the releasing one neither then nor before, has sent a vote
-  -- of a kind that is released, and
-  -- of which facts tell nothing.
+  -- of a kind that is released, and of which facts tell nothing.
   abbrev pub IsBlockedByOne : Event D K G C → History D K G C → Event D K G C → History D K G C
       → Type 0
   IsBlockedByOne (NetworkCall sender vote, answer) retained b released =
@@ -151,8 +150,7 @@ module _ {G C D : Type 0} where
       × (list_any ends_pair answers ≡ true))
 
   -- A pair of so many calls stops nowhere, or at the first call that one of the rounds refuses; the
-  -- retaining round goes first,
-  -- and what it has made the releasing one refuses for memory alone.
+  -- retaining round goes first, and what it has made the releasing one refuses for memory alone.
   abbrev pub StopsAt : Option ℕ → ℕ → List (Answer G C D) → List (Answer G C D) → Type 0
   StopsAt None n retained released = GoesOn n retained × GoesOn n released
   StopsAt (Some place) n retained released =
@@ -181,9 +179,8 @@ module _ {D K G C : Type 0} (x : Setting D K G C) where
       → list_any test (blocked_senders calls retained) ≡ true
 
   -- What a run of a pair leaves. Each round has run in its own mode, over the calls that it has
-  -- made; over those that both have
-  -- made they are beside each other; and where none was refused they hold the same, but for kept
-  -- votes and facts.
+  -- made; over those that both have made they are beside each other; and where none was refused
+  -- they hold the same, but for kept votes and facts.
   pub record IsPairRun (before : Stream) (calls : List (Call K G C D)) (stopped : Option ℕ)
       (retained : List (Answer G C D)) (retaining : Held G D) (after : Stream)
       (released : List (Answer G C D)) (releasing : Held G D) (left : Stream) : Type 0 where

@@ -63,9 +63,8 @@ fn print_counts(rt: &(impl AllocGlobal + Print)) -> Result<()> {
 // The heading comes first, so that a closed output is known before anything is timed, and each row
 // as soon as its last time is taken. Where the passes are is told on standard error.
 fn print_times(rt: &(impl AllocGlobal + Clock + Print + Eprint)) -> Result<()> {
-    println!(rt;
-        "participants mode      order      course    votes added certificates checksum            ns a vote"
-    )?;
+    print!(rt; "participants mode      order      course    votes added ")?;
+    println!(rt; "certificates checksum            ns a vote")?;
     let mut rows = play_all(rt.alloc())?;
     for pass in 1..PASSES {
         tell_pass(rt, pass);

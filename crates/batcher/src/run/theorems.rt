@@ -21,7 +21,7 @@ pub fn worked_examples()
     ensures certificates { CertificateExamples }
     ensures blocks { BlockExamples }
     ensures honest { HonestExamples }
-    ensures pairs { ReplayExamples }
+    ensures replays { ReplayExamples }
 {}
 
 /// Does nothing. Its contract says, for every scheme, what three constructions certify where no bad
@@ -33,8 +33,8 @@ pub fn order_is_free<S: Scheme<D>, D: Digest>()
 {}
 
 /// Does nothing. Its contract says that runs of equal calls on equal rounds, with equal generators,
-/// give equal answers and leave equal rounds, as long as memory isn't refused in either; and that a
-/// run of the first calls gives the first answers.
+/// give equal answers and leave equal rounds and generators, as long as memory isn't refused in
+/// either; and that a run of the first calls gives the first answers.
 pub fn replays<P, G, C, D>()
     ensures { (x : TheSetting D P G C) → EqualRunsGoAlike x }
 {}

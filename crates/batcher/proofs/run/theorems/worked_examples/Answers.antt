@@ -6,4 +6,4 @@ use Rattle.batcher.proofs.ReplayWorked.{replay_computed}
 use Rattle.batcher.proofs.run.theorems.worked_examples.Goals as goal
 
 pub returns : goal.returns
-returns g = record { answers = worked; certificates = computed; blocks = just; honest = honest_computed; pairs = replay_computed }
+returns g = record { answers = worked; certificates = computed; blocks = just; honest = honest_computed; replays = replay_computed }
