@@ -2,7 +2,7 @@ mod keeping;
 
 use super::*;
 use std::alloc::AllocError;
-use std::io;
+use std::io::{self, ErrorKind};
 use std::process::Abort;
 use std::test::Fail;
 

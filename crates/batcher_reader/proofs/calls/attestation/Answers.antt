@@ -1,8 +1,8 @@
 use Rattle.std.proofs.Common.{◌∙◌, ◌&&◌, length, nat_lt, ap, refl}
 use Rattle.std.proofs.lemmas.Bool.{and_right}
 use Rattle.std.proofs.Math.Bool.{and-true}
-use Rattle.batcher_script.proofs.Signing.{same_itself}
-use Rattle.batcher_script.proofs.calls.attestation.Goals as goal
+use Rattle.batcher_reader.proofs.Signing.{same_itself}
+use Rattle.batcher_reader.proofs.calls.attestation.Goals as goal
 
 pub returns-in-Good-clause-signed : goal.returns-in-Good-clause-signed
 returns-in-Good-clause-signed g c =

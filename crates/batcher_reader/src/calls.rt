@@ -8,8 +8,8 @@ ghost use Rattle.batcher.specs.Runs.{MayCall};
 ghost use Rattle.batcher.specs.Hashed.{same_bytes};
 ghost use Rattle.batcher.specs.Verifiers.{certifies_itself};
 ghost use Rattle.batcher.specs.Votes.{subject_certified};
-ghost use Rattle.batcher_script.specs.Calls.{IsVoteOf, IsCallOf, is_good, proposal_for, subject_for};
-ghost use Rattle.batcher_script.specs.Commands.{is_among};
+ghost use Rattle.batcher_reader.specs.Calls.{IsVoteOf, IsCallOf, is_good, proposal_for, subject_for};
+ghost use Rattle.batcher_reader.specs.Commands.{is_among};
 
 use crate::script::{Ballot, Command, Signature};
 use batcher::messages::{

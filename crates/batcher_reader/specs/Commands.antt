@@ -1,8 +1,8 @@
 -- Which commands fit a round.
 use Rattle.std.specs.Prelude.{ℕ, Bool, true, false, nat_lt, List, [], ◌∷◌, Option, Some, None}
 use Rattle.std.specs.List.{list_all}
-use Rattle.batcher_script.specs.declared.script.Command.{Command}
-use Rattle.batcher_script.specs.declared.script.Command.TheVariants.{Network, Own, Certificate, Leader, Construct, Forward, Missing}
+use Rattle.batcher_reader.specs.declared.script.Command.{Command}
+use Rattle.batcher_reader.specs.declared.script.Command.TheVariants.{Network, Own, Certificate, Leader, Construct, Forward, Missing}
 
 -- whether an own vote is of one of so many participants
 abbrev pub is_among : ℕ → Command → Bool

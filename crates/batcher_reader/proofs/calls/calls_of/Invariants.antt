@@ -1,8 +1,8 @@
 use Rattle.std.proofs.Common.{◌≡◌, ◌≤◌, All, length, take, vec_capacity}
 use Rattle.std.specs.List.{AllZip}
 use Rattle.batcher.specs.Runs.{MayCall}
-use Rattle.batcher_script.specs.Calls.{IsCallOf}
-use Rattle.batcher_script.proofs.calls.calls_of.Given as goal
+use Rattle.batcher_reader.specs.Calls.{IsCallOf}
+use Rattle.batcher_reader.proofs.calls.calls_of.Given as goal
 
 abbrev pub invariant-loop-command : goal.invariant-loop-command
 invariant-loop-command g l = record {

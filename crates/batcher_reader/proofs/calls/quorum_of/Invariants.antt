@@ -3,7 +3,7 @@ use Rattle.std.specs.List.{AllPass}
 use Rattle.batcher.specs.Quorum.{quorum_of}
 use Rattle.batcher.specs.Lists.{EachOnce}
 use Rattle.batcher.specs.Attestations.{index_of_signer}
-use Rattle.batcher_script.proofs.calls.quorum_of.Given as goal
+use Rattle.batcher_reader.proofs.calls.quorum_of.Given as goal
 
 abbrev pub invariant-loop-index : goal.invariant-loop-index
 invariant-loop-index g l = record {

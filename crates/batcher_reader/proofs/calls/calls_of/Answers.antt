@@ -3,8 +3,8 @@ use Rattle.std.proofs.lemmas.Grind.{common_steps}
 use Rattle.std.specs.List.{AllZip}
 use Rattle.std.proofs.lemmas.List.Elements.{All-push}
 use Rattle.batcher.specs.Runs.{MayCall}
-use Rattle.batcher_script.specs.Calls.{IsCallOf}
-use Rattle.batcher_script.proofs.calls.calls_of.Goals as goal
+use Rattle.batcher_reader.specs.Calls.{IsCallOf}
+use Rattle.batcher_reader.proofs.calls.calls_of.Goals as goal
 
 zip_more : {A B : Type 0} (R : A → B → Type 0) (xs : List A) (ys : List B) (i : ℕ) (x : A) (y : B) → i < length xs → AllZip R (take i xs) ys → R (get_or xs i x) y → AllZip R (take (suc i) xs) (ys ++ y ∷ [])
 zip_more R [] ys i x y below each here = absurd (omega arith)

@@ -1,6 +1,6 @@
 //! What a play prints. docs/FORMATS.md has the texts.
 
-use crate::play::Stop;
+use crate::input::Stop;
 use crate::script::Opening;
 use batcher::messages::{Activity, Certificate, Proposal, Sha256Digest};
 use batcher::positions::{Participant, Participants, quorum};

@@ -6,7 +6,7 @@ use Rattle.std.proofs.lemmas.List.Sorted.{All-permutation, length_permutation}
 use Rattle.batcher.specs.declared.scheme.keyed.Name.{Name}
 use Rattle.batcher.specs.declared.positions.keys.SetFault.{SetFault}
 use Rattle.batcher.specs.declared.positions.keys.SetFault.TheVariants.{Duplicate, TooMany}
-use Rattle.batcher_script.proofs.calls.names.Goals as goal
+use Rattle.batcher_reader.proofs.calls.names.Goals as goal
 
 -- names that are their own places are distinct
 distinct : (E : Name → Name → Bool) → ((i j : ℕ) → i < j → E (record { 0 = i }) (record { 0 = j }) ≡ false) → (names : List Name) → ((k : ℕ) (d : Name) → k < length names → get_or names k d ≡ record { 0 = k }) → IsDistinct E names

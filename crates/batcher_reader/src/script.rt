@@ -3,7 +3,7 @@
 
 ghost use Rattle.std.specs.Prelude.{◌≤◌, ◌≡◌, true};
 ghost use Rattle.std.specs.Option.{option_map};
-ghost use Rattle.batcher_script.specs.Commands.{is_among, are_among};
+ghost use Rattle.batcher_reader.specs.Commands.{is_among, are_among};
 
 use batcher::positions::{Epoch, Round, View};
 use batcher::votes::Mode;

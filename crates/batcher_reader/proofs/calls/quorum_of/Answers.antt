@@ -5,8 +5,8 @@ use Rattle.batcher.specs.Lists.{count, EachOnce}
 use Rattle.batcher.specs.Attestations.{index_of_signer}
 use Rattle.batcher.proofs.Counts.{count-append}
 use Rattle.batcher.specs.Hashed.{same_bytes}
-use Rattle.batcher_script.proofs.Signing.{same_itself}
-use Rattle.batcher_script.proofs.calls.quorum_of.Goals as goal
+use Rattle.batcher_reader.proofs.Signing.{same_itself}
+use Rattle.batcher_reader.proofs.calls.quorum_of.Goals as goal
 
 module _ {X : Type 0} (number : X → ℕ) where
   none_below : (n : ℕ) (xs : List X) → All (λ x. number x < n) xs → count (λ x. number x == n) xs ≡ 0

@@ -12,12 +12,12 @@ use Rattle.batcher.specs.declared.messages.Vote.{Vote}
 use Rattle.batcher.specs.Meaning.{Meaning}
 use Rattle.batcher.specs.Votes.{signer_of, subject_of, attestation_of, subject_certified}
 use Rattle.batcher.specs.Verifiers.{certifies_itself}
-use Rattle.batcher_script.specs.declared.script.Ballot.{Ballot}
-use Rattle.batcher_script.specs.declared.script.Ballot.TheVariants.{Notarize, Nullify, Finalize}
-use Rattle.batcher_script.specs.declared.script.Signature.{Signature}
-use Rattle.batcher_script.specs.declared.script.Signature.TheVariants.{Good, Bad}
-use Rattle.batcher_script.specs.declared.script.Command.{Command}
-use Rattle.batcher_script.specs.declared.script.Command.TheVariants.{Network, Own, Certificate, Leader, Construct, Forward, Missing}
+use Rattle.batcher_reader.specs.declared.script.Ballot.{Ballot}
+use Rattle.batcher_reader.specs.declared.script.Ballot.TheVariants.{Notarize, Nullify, Finalize}
+use Rattle.batcher_reader.specs.declared.script.Signature.{Signature}
+use Rattle.batcher_reader.specs.declared.script.Signature.TheVariants.{Good, Bad}
+use Rattle.batcher_reader.specs.declared.script.Command.{Command}
+use Rattle.batcher_reader.specs.declared.script.Command.TheVariants.{Network, Own, Certificate, Leader, Construct, Forward, Missing}
 
 -- the round's proposal with parent view 0 and a payload of equal bytes
 abbrev pub proposal_for : Round → ℕ → Proposal Sha256Digest
