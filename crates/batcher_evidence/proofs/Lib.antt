@@ -5,3 +5,4 @@ pub mod Convicting
 pub mod Reporting
 pub mod TwoRuns
 pub mod Forking
+pub mod Worked

@@ -3,3 +3,4 @@ pub mod Listed
 pub mod Culprits
 pub mod Convicted
 pub mod Rounds
+pub mod Examples

@@ -9,7 +9,7 @@ ghost use Rattle.batcher.specs.Verifiers.{certifies_itself};
 ghost use Rattle.batcher_evidence.specs.Culprits.{AreCulprits, culprits_of, signed_both};
 
 use crate::Accountable;
-use crate::subjects::{certified_subject, content, contradict};
+use crate::subjects::{certificates_contradict, certified_subject, content};
 use batcher::messages::{Attestation, Certificate, Digest};
 use batcher::scheme::Scheme;
 use std::alloc::{AllocError, Global};
@@ -42,7 +42,7 @@ pub fn culprits<S: Accountable<D>, D: Digest>(
 {
     if !certifies(scheme, a)
         || !certifies(scheme, b)
-        || !contradict(certified_subject(a), certified_subject(b))
+        || !certificates_contradict(a, b)
     {
         return Ok(None);
     }

@@ -17,7 +17,7 @@ use batcher::messages::{Attestation, Digest};
 use batcher::scheme::Scheme;
 pub use certificates::{Culprit, culprits};
 pub use reports::convicted;
-pub use subjects::contradict;
+pub use subjects::{certificates_contradict, contradict};
 pub use theorems::{forks_take_contradicting_votes, reports_convict, rounds_are_accountable};
 
 /// A scheme whose certificates show the attestations that they are made of.

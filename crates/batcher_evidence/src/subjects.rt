@@ -3,6 +3,7 @@
 ghost use Rattle.std.specs.Prelude.{◌≡◌};
 ghost use Rattle.batcher.specs.Votes.{subject_of, attestation_of, subject_certified, content_of, same_round};
 ghost use Rattle.batcher.specs.Reported.{subjects_contradict};
+ghost use Rattle.batcher_evidence.specs.Culprits.{certificates_contradict};
 
 use batcher::messages::{Attestation, Certificate, Digest, Subject, Vote};
 use batcher::positions::Round;
@@ -30,6 +31,13 @@ pub fn contradict<D: Digest>(a: Subject<D>, b: Subject<D>) -> bool
         }
         _ => false,
     }
+}
+
+/// Whether nobody honest signs what both certify. What they are worth is left out.
+pub fn certificates_contradict<C, D: Digest>(a: &Certificate<C, D>, b: &Certificate<C, D>) -> bool
+    ensures { result ≡ certificates_contradict D.eq a.now b.now }
+{
+    contradict(certified_subject(a), certified_subject(b))
 }
 
 fn is_same_round(a: Round, b: Round) -> bool

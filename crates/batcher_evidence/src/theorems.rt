@@ -1,10 +1,17 @@
 //! What holds of all rounds, as the contracts of functions that do nothing.
 
+ghost use Rattle.batcher_evidence.specs.Examples.{EvidenceExamples};
 ghost use Rattle.batcher_evidence.specs.Rounds.{ReportsConvict, AreAccountable, TakeContradictingVotes};
 
 use crate::Accountable;
 use batcher::messages::Digest;
 use batcher::scheme::Scheme;
+
+/// Does nothing. Its contract is worked examples: a fork of four that exactly two participants
+/// made, and what is near to one, computed from the definitions.
+pub fn worked_examples()
+    ensures { EvidenceExamples }
+{}
 
 /// Does nothing. Its contract says of every run of a round that a report of a conflict whose two
 /// votes attest convicts their signer, who is the sender of the later one.

@@ -1,10 +1,7 @@
 //! Plays a script on one round: reads it from standard input, and prints a line for each answer.
 #![tactic(auto)]
 
-mod calls;
 mod play;
-mod print;
-mod script;
 #[cfg(test)]
 mod tests;
 

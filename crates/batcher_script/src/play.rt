@@ -1,50 +1,20 @@
 //! Plays a script: reads it, makes its calls in one run, and prints the answers.
 
-ghost use Rattle.std.specs.Prelude.{◌≡◌, ◌≤◌, true, length, IfOk, IfSome};
+ghost use Rattle.std.specs.Prelude.{◌≡◌, true};
 ghost use Rattle.std.specs.List.{list_all};
-ghost use Rattle.batcher.specs.Steps.{nothing_held};
-ghost use Rattle.batcher_script.specs.Commands.{is_among};
+ghost use Rattle.batcher_reader.specs.Commands.{is_among};
 
-use crate::calls::{TestScheme, calls_of, names};
-use crate::print::{AsText, Output};
-use crate::script::{Command, Opening, SchemeWord, Script};
 use batcher::messages::Sha256Digest;
-use batcher::round::Round;
-use batcher::run::{Answer, Call, Ran, blocked, run};
-use batcher::scheme::{Counter, Keyed, Name, Sealed};
-use batcher::votes::Mode;
-use std::alloc::{AllocError, Global};
+use batcher::run::{Answer, blocked};
+use batcher::scheme::{Keyed, Sealed};
+use batcher_reader::calls::TestScheme;
+use batcher_reader::input::{Stop, read_all};
+use batcher_reader::print::{AsText, Output};
+use batcher_reader::rounds::{answer_all, scheme_of};
+use batcher_reader::script::{Command, Opening, SchemeWord, Script};
+use std::alloc::Global;
 use std::collections::BTreeSet;
-use std::io::{ErrorKind, Read, Write};
-use std::rc::Rc;
-
-/// Why a play stops before the end of its script.
-#[derive(Clone, Copy, Debug, PartialEq, Eq)]
-pub enum Stop {
-    /// A line is malformed, and the last line printed says which.
-    Malformed,
-    OutOfMemory,
-    /// A fault of the input, before anything is printed.
-    Input,
-    /// A fault of the output, after which nothing is written.
-    Output,
-}
-
-impl From<AllocError> for Stop {
-    fn from(_error: AllocError) -> Stop {
-        Stop::OutOfMemory
-    }
-}
-
-impl Stop {
-    fn status(self) -> u8 {
-        match self {
-            Stop::Malformed => 2,
-            Stop::OutOfMemory => 3,
-            Stop::Input | Stop::Output => 4,
-        }
-    }
-}
+use std::io::{Read, Write};
 
 /// Plays the script that the reader holds, and answers the exit status.
 pub fn play<R: Read + Drop, W: Write + Drop>(alloc: Global, reader: R, writer: W) -> u8 {
@@ -67,24 +37,6 @@ fn play_all<R: Read + Drop, W: Write + Drop>(
         output.flush()?;
     }
     played
-}
-
-/// All bytes that the reader holds. An error of the reader is a fault of the input, also where
-/// it says that memory was short.
-fn read_all<R: Read>(alloc: Global, reader: &mut R) -> Result<Vec<u8>, Stop>
-    ensures { IfOk result (λ bytes. IfSome (R.remaining reader.old) (λ all. bytes.items ≡ all)) }
-{
-    let mut bytes = Vec::new(alloc);
-    let mut buffer = [0u8; 4096];
-    for _ in 0..u64::MAX {
-        match reader.read(&mut buffer) {
-            Ok(0) => return Ok(bytes),
-            Ok(count) => bytes.extend_from_slice(&buffer[..count])?,
-            Err(error) if error.kind() == ErrorKind::Interrupted => {}
-            Err(_) => return Err(Stop::Input),
-        }
-    }
-    Err(Stop::Input)
 }
 
 fn print_script<W: Write>(
@@ -117,47 +69,6 @@ fn print_script<W: Write>(
     }
 }
 
-/// The round that the first line asks for.
-fn fresh_round<S: TestScheme>(
-    alloc: Global,
-    opening: &Opening,
-    scheme: Rc<S>,
-) -> Round<S, Sha256Digest>
-    requires { 1 ≤ length (S.meaning scheme.value).participants }
-    ensures scheme { result.scheme ≡ scheme.value }
-    ensures number { result.number ≡ opening.now.round }
-    ensures fresh { result.holds ≡ nothing_held result.mode }
-{
-    match opening.mode {
-        Mode::Retaining => Round::new(alloc, opening.round, scheme, true),
-        Mode::Releasing => Round::new(alloc, opening.round, scheme, false),
-        Mode::Skipped => Round::skipped(alloc, opening.round, scheme),
-    }
-}
-
-/// The calls of a script, and what a run answers to them.
-#[derive(Drop)]
-struct Answered<C: Drop> {
-    calls: Vec<Call<Name, [u8; 32], C, Sha256Digest>>,
-    answers: Vec<Answer<[u8; 32], C, Sha256Digest>>,
-}
-
-/// Makes the calls in one run on a fresh round.
-fn answer_all<S: TestScheme>(
-    alloc: Global,
-    opening: &Opening,
-    commands: &[Command],
-) -> Result<Answered<S::Certificate>, AllocError>
-    requires { list_all (is_among opening.now.participants) commands.now ≡ true }
-{
-    let scheme = S::of(names(alloc, opening.participants)?);
-    let calls = calls_of(alloc, &scheme, opening.round, commands)?;
-    let scheme = Rc::new(alloc, scheme)?;
-    let round = fresh_round(alloc, opening, scheme);
-    let Ran { round: _, answers } = run(alloc, round, &mut Counter::new(0), calls.as_slice())?;
-    Ok(Answered { calls, answers })
-}
-
 /// Prints the answers up to the first for want of memory, and after so many of them as a question
 /// says who is blocked by then. Senders are gathered from question to question, so that many
 /// questions cost no more than their own lines.
@@ -170,7 +81,8 @@ fn print_answers<S: TestScheme, W: Write>(
 ) -> Result<(), Stop>
     requires { list_all (is_among opening.now.participants) commands.now ≡ true }
 {
-    let answered = answer_all::<S>(alloc, opening, commands)?;
+    let scheme = scheme_of::<S>(alloc, opening)?;
+    let answered = answer_all(alloc, opening, scheme, commands)?;
     let mut calls = answered.calls.as_slice();
     let mut answers = answered.answers.as_slice();
     let mut printed = 0;

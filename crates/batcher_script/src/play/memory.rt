@@ -6,6 +6,7 @@
 
 use super::pairs::told;
 use super::*;
+use std::alloc::AllocError;
 use std::test::Fail;
 
 /// Scripts in which later calls show what earlier ones have changed.
@@ -75,7 +76,8 @@ fn answers(alloc: Global, text: &str) -> Result<Vec<Vec<u8>>, AllocError> {
     let mut lines = Vec::new(alloc);
     if let Some(opening) = &script.lines.opening {
         let commands = script.lines.commands.as_slice();
-        let answered = answer_all::<Keyed<true>>(alloc, opening, commands)?;
+        let scheme = scheme_of::<Keyed<true>>(alloc, opening)?;
+        let answered = answer_all(alloc, opening, scheme, commands)?;
         for answer in answered.answers.as_slice() {
             lines.push(printed(alloc, answer)?)?;
         }

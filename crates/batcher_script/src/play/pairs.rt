@@ -3,12 +3,17 @@
 
 ghost use Rattle.std.specs.Prelude.{◌≡◌, true};
 ghost use Rattle.std.specs.List.{list_all};
-ghost use Rattle.batcher_script.specs.Commands.{is_among};
+ghost use Rattle.batcher_reader.specs.Commands.{is_among};
 
 use super::memory::printed;
 use super::*;
+use batcher::round::Round;
 use batcher::run::{PairRan, run_pair};
+use batcher::scheme::Counter;
+use batcher_reader::calls::{calls_of, names};
+use std::alloc::AllocError;
 use std::process::Abort;
+use std::rc::Rc;
 use std::test::Fail;
 
 /// A notarization, and then another vote of 1, and a bad one of 2.

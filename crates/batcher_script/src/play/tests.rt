@@ -3,7 +3,7 @@ mod questions;
 
 use super::*;
 use std::alloc::AllocError;
-use std::io;
+use std::io::{self, ErrorKind};
 use std::process::Abort;
 use std::test::Fail;
 

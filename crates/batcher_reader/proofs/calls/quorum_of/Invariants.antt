@@ -1,0 +1,15 @@
+use Rattle.std.proofs.Common.{◌≡◌, ◌<◌, All, length}
+use Rattle.std.specs.List.{AllPass}
+use Rattle.batcher.specs.Quorum.{quorum_of}
+use Rattle.batcher.specs.Lists.{EachOnce}
+use Rattle.batcher.specs.Attestations.{index_of_signer}
+use Rattle.batcher_reader.proofs.calls.quorum_of.Given as goal
+
+abbrev pub invariant-loop-index : goal.invariant-loop-index
+invariant-loop-index g l = record {
+  end : l.index-end ≡ quorum_of (length (g.S.Scheme.meaning l.scheme).participants);
+  told : length l.attestations.items ≡ l.index;
+  attested : AllPass ((g.S.Scheme.meaning l.scheme).attests l.subject) l.attestations.items;
+  below : All (λ a. index_of_signer a < l.index) l.attestations.items;
+  once : EachOnce index_of_signer l.attestations.items;
+}
