@@ -21,7 +21,12 @@ use Rattle.batcher_reader.specs.declared.script.Command.TheVariants.{Network, Ow
 
 -- the round's proposal with parent view 0 and a payload of equal bytes
 abbrev pub proposal_for : Round → ℕ → Proposal Sha256Digest
-proposal_for round byte = record { round = round; parent = record { 0 = 0 }; payload = record { 0 = replicate 32 byte } }
+proposal_for round byte =
+    record {
+      round = round;
+      parent = record { 0 = 0 };
+      payload = record { 0 = replicate 32 byte };
+    }
 
 abbrev pub subject_for : Round → Ballot → Subject Sha256Digest
 subject_for round (Notarize byte) = NotarizeSubject (proposal_for round byte)

@@ -17,7 +17,8 @@ use Rattle.batcher.specs.Ran.{IsRun}
 -- The answers are those of a run of the calls on a fresh round of the number, in some mode and by
 -- some order of names.
 pub record IsPlayed {C : Type 0} (m : Meaning Sha256Digest Name (List ℕ) C) (number : Round)
-    (calls : List (Call Name (List ℕ) C Sha256Digest)) (answers : List (Answer (List ℕ) C Sha256Digest))
+    (calls : List (Call Name (List ℕ) C Sha256Digest))
+    (answers : List (Answer (List ℕ) C Sha256Digest))
     : Type 0 where
   pub compare_names : Name → Name → Ordering
   pub mode : Mode

@@ -84,7 +84,8 @@ pub fn calls_of<S: TestScheme>(
     requires some { 1 ≤ length (S.meaning scheme.now).participants }
     requires few { length (S.meaning scheme.now).participants ≤ 1000 }
     requires among { AllPass (is_among (length (S.meaning scheme.now).participants)) commands.now }
-    ensures each { IfOk result (λ calls. AllZip (IsCallOf (S.meaning scheme.now) round) commands.now calls.items) }
+    ensures each { IfOk result (λ calls. AllZip (IsCallOf (S.meaning scheme.now) round)
+        commands.now calls.items) }
     ensures may { IfOk result (λ calls. All (MayCall (S.meaning scheme.now) round) calls.items) }
 {
     let mut calls = Vec::with_capacity(alloc, commands.len())?;
@@ -195,7 +196,7 @@ fn attestation<S: TestScheme>(
     }
 }
 
-// Another text of bytes.
+// The bytes with one bit flipped, so not the same.
 fn with_a_bit_flipped(bytes: [u8; 32]) -> [u8; 32]
     ensures { same_bytes result bytes ≡ false }
 {
@@ -213,8 +214,10 @@ fn certificate<S: TestScheme>(
 ) -> Result<Certificate<S::Certificate, Sha256Digest>, AllocError>
     requires some { 1 ≤ length (S.meaning scheme.now).participants }
     requires few { length (S.meaning scheme.now).participants ≤ 1000 }
-    ensures subject { IfOk result (λ certificate. subject_certified certificate ≡ subject_for round ballot) }
-    ensures certifies { IfOk result (λ certificate. certifies_itself (S.meaning scheme.now) certificate ≡ true) }
+    ensures subject { IfOk result (λ certificate. subject_certified certificate
+        ≡ subject_for round ballot) }
+    ensures certifies { IfOk result (λ certificate. certifies_itself (S.meaning scheme.now)
+        certificate ≡ true) }
 {
     let subject = subject(round, ballot);
     let attestations = quorum_of(alloc, scheme, subject)?;
@@ -243,8 +246,10 @@ fn quorum_of<S: TestScheme>(
 ) -> Result<Vec<Attestation<[u8; 32]>>, AllocError>
     requires some { 1 ≤ length (S.meaning scheme.now).participants }
     requires few { length (S.meaning scheme.now).participants ≤ 1000 }
-    ensures quorum { IfOk result (λ attestations. IsQuorum (length (S.meaning scheme.now).participants) attestations.items) }
-    ensures attested { IfOk result (λ attestations. AllPass ((S.meaning scheme.now).attests subject) attestations.items) }
+    ensures quorum { IfOk result (λ attestations. IsQuorum
+        (length (S.meaning scheme.now).participants) attestations.items) }
+    ensures attested { IfOk result (λ attestations. AllPass
+        ((S.meaning scheme.now).attests subject) attestations.items) }
 {
     let mut attestations = Vec::new(alloc);
     for index in 0..quorum(scheme.participants().len() as u32) {

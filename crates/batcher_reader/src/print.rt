@@ -236,9 +236,7 @@ impl<C: Text> Text for Batch<C> {
         let invalid = AsText(&self.invalid);
         let certificate = AsText(&self.certificate);
         let fallback = if self.fallback { "yes" } else { "no" };
-        write!(
-            f,
-            "processed {processed}, invalid {invalid}, certificate {certificate}, fallback {fallback}"
-        )
+        write!(f, "processed {processed}, invalid {invalid}, ")?;
+        write!(f, "certificate {certificate}, fallback {fallback}")
     }
 }

@@ -77,7 +77,8 @@ pub struct Lines {
     pub commands: Vec<Command>,
     /// Of each `blocked` line, how many commands stand before it.
     pub questions: Vec<usize>,
-    ghost among: { are_among (option_map (λ first. first.participants) opening) commands.items ≡ true },
+    ghost among: { are_among (option_map (λ first. first.participants) opening) commands.items
+        ≡ true },
 }
 
 /// A script up to its first malformed line.

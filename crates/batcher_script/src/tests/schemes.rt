@@ -236,7 +236,8 @@ impl Scheme<Digest> for Trusting {
         subject: Subject<Digest>,
         pending: &[Attestation<bool>],
     ) -> Result<Verification<bool>, AllocError>
-        ensures sorts { IfOk result (Sorts (λ a. nat_lt a.signer.0 (length self.now.participants) && a.signature) pending.now) }
+        ensures sorts { IfOk result (Sorts
+            (λ a. nat_lt a.signer.0 (length self.now.participants) && a.signature) pending.now) }
         ensures stream { OnOk result (R.stream rng.new ≡ R.stream rng.old) }
     {
         let _ = rng;
@@ -261,8 +262,11 @@ impl Scheme<Digest> for Trusting {
         pending: &[Attestation<bool>],
         verified: &[Attestation<bool>],
     ) -> Result<Result<(), Verification<bool>>, AllocError>
-        ensures sorts { IfOk result (λ answer. IfErr answer (Sorts (λ a. nat_lt a.signer.0 (length self.now.participants) && a.signature) pending.now)) }
-        ensures function { IfOk result (λ answer. ◌≡◌ {A = Option (Unit {0}) × Stream} (result_ok answer, R.stream rng.new) (Some tt, R.stream rng.old)) }
+        ensures sorts { IfOk result (λ answer. IfErr answer
+            (Sorts (λ a. nat_lt a.signer.0 (length self.now.participants) && a.signature)
+            pending.now)) }
+        ensures function { IfOk result (λ answer. ◌≡◌ {A = Option (Unit {0}) × Stream}
+            (result_ok answer, R.stream rng.new) (Some tt, R.stream rng.old)) }
     {
         let _ = alloc;
         let _ = rng;

@@ -6,7 +6,9 @@ use Rattle.batcher.specs.Runs.{MayCall}
 use Rattle.batcher_reader.specs.Calls.{IsCallOf}
 use Rattle.batcher_reader.proofs.calls.calls_of.Goals as goal
 
-zip_more : {A B : Type 0} (R : A → B → Type 0) (xs : List A) (ys : List B) (i : ℕ) (x : A) (y : B) → i < length xs → AllZip R (take i xs) ys → R (get_or xs i x) y → AllZip R (take (suc i) xs) (ys ++ y ∷ [])
+zip_more : {A B : Type 0} (R : A → B → Type 0) (xs : List A) (ys : List B) (i : ℕ) (x : A) (y : B)
+    → i < length xs → AllZip R (take i xs) ys → R (get_or xs i x) y
+    → AllZip R (take (suc i) xs) (ys ++ y ∷ [])
 zip_more R [] ys i x y below each here = absurd (omega arith)
 zip_more R (a ∷ xs) [] zero x y below each here = (here, tt)
 zip_more R (a ∷ xs) (b ∷ ys) zero x y below each here = absurd each
@@ -28,7 +30,9 @@ loop-command-preserved g c =
     let items = c.loop-command.calls.items in
     record {
       may = rw pushed (All-push (MayCall (g.S.Scheme.meaning c.args.scheme.now) c.args.round) items _ inv.may c.in_ok-call.ensures.may);
-      each = rw (pushed, add-one) (zip_more (IsCallOf (g.S.Scheme.meaning c.args.scheme.now) c.args.round) c.args.commands.now items c.loop-command.command-index _ _ c.loop-command-test.true inv.each c.in_ok-call.ensures.each);
+      each =
+          rw (pushed, add-one) (zip_more (IsCallOf (g.S.Scheme.meaning c.args.scheme.now) c.args.round) c.args.commands.now items c.loop-command.command-index
+          _ _ c.loop-command-test.true inv.each c.in_ok-call.ensures.each);
       told = ap length pushed ∙ length-append items (_ ∷ []) ∙ ap (λ n. n + 1) inv.told;
       room = rw c.push_reserved.ensures.capacity inv.room;
     }

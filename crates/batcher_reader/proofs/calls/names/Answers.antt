@@ -9,7 +9,10 @@ use Rattle.batcher.specs.declared.positions.keys.SetFault.TheVariants.{Duplicate
 use Rattle.batcher_reader.proofs.calls.names.Goals as goal
 
 -- names that are their own places are distinct
-distinct : (E : Name → Name → Bool) → ((i j : ℕ) → i < j → E (record { 0 = i }) (record { 0 = j }) ≡ false) → (names : List Name) → ((k : ℕ) (d : Name) → k < length names → get_or names k d ≡ record { 0 = k }) → IsDistinct E names
+distinct : (E : Name → Name → Bool)
+    → ((i j : ℕ) → i < j → E (record { 0 = i }) (record { 0 = j }) ≡ false) → (names : List Name)
+    → ((k : ℕ) (d : Name) → k < length names → get_or names k d ≡ record { 0 = k })
+    → IsDistinct E names
 distinct E differ names each =
     IsDistinct-from_apart E names (λ i j d before below. rw (each i d (omega arith), each j d below) (differ i j before))
 
@@ -20,7 +23,8 @@ neither TooMany one other = other refl
 pub unreachable-requires : goal.unreachable-requires
 unreachable-requires c =
     neither c.in-Err.field-0
-    (λ e. c.in-Err.ensures.duplicate (ap Err e) (distinct _ (λ i j before. grind (arith, nat_tests)) c.loop-number.names.items (λ k d below. c.loop-number.invariant.each k d (omega (arith, c.loop-number.names.ok.0)))))
+    (λ e. c.in-Err.ensures.duplicate (ap Err e) (distinct _ (λ i j before. grind (arith, nat_tests)) c.loop-number.names.items
+    (λ k d below. c.loop-number.invariant.each k d (omega (arith, c.loop-number.names.ok.0)))))
     (λ e. let many = c.in-Err.ensures.too_many.0 (ap Err e) in omega (arith, c.loop-number.names.ok.0))
 
 pub returns-clause-count : goal.returns-clause-count

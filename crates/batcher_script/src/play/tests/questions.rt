@@ -2,7 +2,8 @@
 
 use super::*;
 
-/// Questions before the first call, between calls and after the last, also several in a row. A sender that is
+/// Questions before the first call, between calls and after the last, also several in a row. A
+/// sender that is
 /// blocked twice is listed once, and the senders by their number, in whatever order they came.
 const ASKED: [(&str, &str); 27] = [
     (

@@ -4,6 +4,10 @@ use Rattle.batcher_script.proofs.tests.schemes.TrustingSchemeDigest.verify_attes
 
 abbrev pub invariant-loop-attestation : goal.invariant-loop-attestation
 invariant-loop-attestation g l = record {
-  valid : l.verified.items ≡ filter (λ a. nat_lt a.signer.0 (length l.self.participants) && a.signature) (take l.attestation-index l.pending);
-  failed : l.invalid.items ≡ signers (failing (λ a. nat_lt a.signer.0 (length l.self.participants) && a.signature) (take l.attestation-index l.pending));
+  valid : l.verified.items ≡ filter
+      (λ a. nat_lt a.signer.0 (length l.self.participants) && a.signature)
+      (take l.attestation-index l.pending);
+  failed : l.invalid.items ≡ signers
+      (failing (λ a. nat_lt a.signer.0 (length l.self.participants) && a.signature)
+      (take l.attestation-index l.pending));
 }
