@@ -1,4 +1,5 @@
 # make run [SCRIPT=file]   plays a script; without one, the first
+# make audit [SCRIPT=file] names who voted both ways in the scripts of one or two nodes; without any, in a fork
 # make bench               plays the rows of the benchmark and takes their time
 # make quick               proves what has changed, and plays all scripts
 # make test                proves everything and runs every test
@@ -15,10 +16,13 @@ unexport SCRIPT
 # make begins its list of files with a space.
 TOP = "$$(dirname "$${MAKEFILE_NAMED\# }")"
 
-.PHONY: run bench quick test clean
+.PHONY: run audit bench quick test clean
 
 run:
 	@$(TOP)/tools/run "$$SCRIPT_NAMED"
+
+audit:
+	@$(TOP)/tools/run "$$SCRIPT_NAMED" batcher_audit
 
 bench:
 	@$(TOP)/tools/build batcher_bench && $(TOP)/crates/batcher_bench/out/batcher_bench time

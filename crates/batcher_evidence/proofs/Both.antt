@@ -1,12 +1,11 @@
 -- The signers of both of two quorums.
-use Rattle.std.proofs.Common.{◌≡◌, ◌≤◌, ◌<◌, ◌+◌, ◌==◌, ℕ, Bool, true, false, not, cond, List, [], ◌∷◌, length, Option, Some, None, is_some, refl, ap, sym, ◌∙◌, arith, ◌&&◌, ◌||◌, ⊎_elim, nat_lt, subst}
+use Rattle.std.proofs.Common.{◌≡◌, ◌≤◌, ◌<◌, ◌+◌, ◌==◌, ℕ, Bool, true, false, cond, List, [], ◌∷◌, length, Option, Some, None, is_some, refl, ap, sym, ◌∙◌, arith, ◌&&◌, ◌||◌, ⊎_elim, nat_lt, subst}
 use Rattle.std.specs.Prelude.{IfOk, IfSome, Result, Ok, Err}
 use Rattle.std.specs.Option.{option_map}
 use Rattle.std.specs.List.{list_any, list_all, find, filter_map, cons_option, AllByRecursion}
 use Rattle.std.proofs.lemmas.Bool.{cases_Bool, and_right, and_from, and_parts, eqb-true, lt-ltb}
 use Rattle.std.proofs.lemmas.List.Sums.{AllPass-from_list_all, list_all-from_AllPass}
 use Rattle.batcher.specs.Quorum.{quorum_of}
-use Rattle.batcher.specs.Lists.{count}
 use Rattle.batcher.specs.Ascending.{IsAscending}
 use Rattle.batcher.specs.Attestations.{index_of_signer}
 use Rattle.batcher.specs.Meaning.{Meaning, IsLawful}
@@ -17,7 +16,7 @@ use Rattle.batcher.specs.declared.messages.Certificate.{Certificate}
 use Rattle.batcher_evidence.specs.declared.certificates.Culprit.{Culprit}
 use Rattle.batcher_evidence.specs.Shown.{ShowsQuorum, has_signed}
 use Rattle.batcher_evidence.specs.Culprits.{AreCulprits, attests_both, beside, index_of_culprit, signed_both}
-use Rattle.batcher_evidence.proofs.Counting.{overlap, quorums_overlap, shares}
+use Rattle.batcher_evidence.proofs.Counting.{below_both, below_more, distinct_below, few_have, has_number, quorums_overlap}
 
 with_true : (b : Bool) → (b && true) ≡ b
 with_true true = refl
@@ -71,15 +70,6 @@ module _ {X Y : Type 0} (number : X → ℕ) (key : Y → ℕ) (part : X → Opt
       ∙ ap (λ b. (is_some (part x) && (number x == i)) || b) (any_part i xs)
 
 module _ {X Y : Type 0} (part : X → Option Y) where
-  length_more :
-      (o : Option Y) (ys : List Y) → length (cons_option o ys) ≡ cond (is_some o) 1 0 + length ys
-  length_more None ys = omega arith
-  length_more (Some y) ys = omega arith
-
-  length_parts : (xs : List X) → length (filter_map part xs) ≡ count (λ x. is_some (part x)) xs
-  length_parts [] = refl
-  length_parts (x ∷ xs) = omega (arith, length_more (part x) (filter_map part xs), length_parts xs)
-
   all_more :
       (q : Y → Bool) (o : Option Y) (ys : List Y) → IfSome o (λ y. q y ≡ true)
       → list_all q ys ≡ true → list_all q (cons_option o ys) ≡ true
@@ -138,7 +128,7 @@ module _ {G : Type 0} where
 
   is_beside :
       (ys : List (Attestation G)) (a : Attestation G)
-      → is_some (beside ys a) ≡ shares index_of_signer ys a
+      → is_some (beside ys a) ≡ has_number index_of_signer ys (index_of_signer a)
   is_beside ys a =
       mapped (find (λ b. index_of_signer b == index_of_signer a) ys)
       ∙ any_found (λ b. index_of_signer b == index_of_signer a) ys
@@ -151,18 +141,18 @@ module _ {G : Type 0} where
 
   shared_at :
       (ys : List (Attestation G)) (i : ℕ) (a : Attestation G)
-      → (shares index_of_signer ys a && (index_of_signer a == i))
+      → (has_number index_of_signer ys (index_of_signer a) && (index_of_signer a == i))
       ≡ ((index_of_signer a == i) && list_any (λ b. index_of_signer b == i) ys)
   shared_at ys i a =
       ⊎_elim
       (λ same.
       let at : index_of_signer a ≡ i = eqb-true (index_of_signer a) i same in
-      ap (λ b. shares index_of_signer ys a && b) same
-      ∙ (with_true (shares index_of_signer ys a)
+      ap (λ b. has_number index_of_signer ys (index_of_signer a) && b) same
+      ∙ (with_true (has_number index_of_signer ys (index_of_signer a))
       ∙ (ap (λ j. list_any (λ b. index_of_signer b == j) ys) at
       ∙ ap (λ b. b && list_any (λ c. index_of_signer c == i) ys) (sym same))))
       (λ other.
-      and_right (shares index_of_signer ys a) (index_of_signer a == i) other
+      and_right (has_number index_of_signer ys (index_of_signer a)) (index_of_signer a == i) other
       ∙ ap (λ b. b && list_any (λ c. index_of_signer c == i) ys) (sym other))
       (cases_Bool (index_of_signer a == i))
 
@@ -198,23 +188,6 @@ module _ {G : Type 0} where
       parts.0
       ∙ (ap (λ b. b || list_any (λ c. (index_of_signer c == i) && p c) xs) (with_true (index_of_signer a == i))
       ∙ ap (λ b. (index_of_signer a == i) || b) (any_attests p xs i parts.1))
-
-  count_beside :
-      (xs ys : List (Attestation G))
-      → count (λ a. is_some (beside ys a)) xs ≡ count (shares index_of_signer ys) xs
-  count_beside [] ys = refl
-  count_beside (a ∷ xs) ys =
-      ap (λ b. cond b 1 0 + count (λ a. is_some (beside ys a)) xs) (is_beside ys a)
-      ∙ ap (λ n. cond (shares index_of_signer ys a) 1 0 + n) (count_beside xs ys)
-
-  none_outside :
-      (n : ℕ) (xs : List (Attestation G))
-      → list_all (λ a. nat_lt (index_of_signer a) n) xs ≡ true
-      → count (λ a. not (nat_lt (index_of_signer a) n)) xs ≡ 0
-  none_outside n [] h = refl
-  none_outside n (a ∷ xs) h =
-      let parts = and_parts (nat_lt (index_of_signer a) n) (list_all (λ c. nat_lt (index_of_signer c) n) xs) h in
-      rw parts.0 (omega (arith, none_outside n xs parts.1))
 
 module _ {D K G C : Type 0} (m : Meaning D K G C) (lawful : IsLawful m) where
   in_range :
@@ -271,10 +244,9 @@ module _ {D K G C : Type 0} (m : Meaning D K G C) (lawful : IsLawful m) where
             (all_parts (beside ys) (m.attests (subject_certified a)) (attests_both m (subject_certified a) (subject_certified b))
             (attests_beside (subject_certified a) (subject_certified b) ys all_second) xs all_first);
         exactly = λ i.
-            any_part index_of_signer index_of_culprit (beside ys) (λ a c e. keeps_signer _ a c e) i xs
-            ∙ (any_beside xs ys i
-            ∙ (ap (λ c. c && list_any (λ b. index_of_signer b == i) ys) (sym (any_attests (m.attests (subject_certified a)) xs i all_first))
-            ∙ ap (λ c. has_signed m (subject_certified a) xs i && c) (sym (any_attests (m.attests (subject_certified b)) ys i all_second))));
+            signed_by_both i
+            ∙ (ap (λ c. c && has_number index_of_signer ys i) (sym (any_attests (m.attests (subject_certified a)) xs i all_first))
+            ∙ ap (λ c. has_signed m (subject_certified a) xs i && c) (sym (any_attests (m.attests (subject_certified b)) ys i all_second)));
         participants = AllPass-from_list_all (λ c. nat_lt (index_of_culprit c) n) (signed_both xs ys)
             (all_parts (beside ys) (λ a. nat_lt (index_of_signer a) n) (λ c. nat_lt (index_of_culprit c) n) (below_beside ys) xs inside_first);
         enough = enough;
@@ -299,17 +271,26 @@ module _ {D K G C : Type 0} (m : Meaning D K G C) (lawful : IsLawful m) where
       inside_first : list_all (λ a. nat_lt (index_of_signer a) n) xs ≡ true
       inside_first = in_range (subject_certified a) xs all_first
 
+      signed_by_both :
+          (i : ℕ)
+          → has_number index_of_culprit (signed_both xs ys) i
+          ≡ (has_number index_of_signer xs i && has_number index_of_signer ys i)
+      signed_by_both i =
+          any_part index_of_signer index_of_culprit (beside ys) (λ a c e. keeps_signer _ a c e) i xs
+          ∙ any_beside xs ys i
+
       enough : quorum_of n + quorum_of n ≤ length (signed_both xs ys) + n
       enough =
           omega (
             arith,
             first.quorum.enough,
             second.quorum.enough,
-            length_parts (beside ys) xs,
-            count_beside xs ys,
-            overlap index_of_signer n xs ys first.quorum.once second.quorum.once
-                (none_outside n xs inside_first)
-                (none_outside n ys (in_range (subject_certified b) ys all_second)),
+            distinct_below index_of_signer n xs first.quorum.once inside_first,
+            distinct_below index_of_signer n ys second.quorum.once (in_range (subject_certified b) ys all_second),
+            below_both (has_number index_of_signer xs) (has_number index_of_signer ys) n,
+            below_more (λ i. has_number index_of_signer xs i && has_number index_of_signer ys i)
+                (has_number index_of_culprit (signed_both xs ys)) (λ i h. signed_by_both i ∙ h) n,
+            few_have index_of_culprit n (signed_both xs ys),
           )
 
   -- The same of what is found in the lists.

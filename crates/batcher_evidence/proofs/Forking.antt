@@ -1,8 +1,8 @@
 -- Who voted in both of two rounds that gave certificates which contradict each other.
-use Rattle.std.proofs.Common.{inl, inr, ◌≡◌, ◌≤◌, ◌+◌, ◌==◌, ◌&&◌, ◌||◌, ℕ, zero, suc, Bool, true, false, cond, nat_lt, List, [], ◌∷◌, length, filter, Option, Some, None, refl, ap, sym, ◌∙◌, subst, arith, ⊎_elim}
+use Rattle.std.proofs.Common.{inl, inr, ◌≡◌, ◌≤◌, ◌+◌, ◌==◌, ◌&&◌, ◌||◌, ℕ, Bool, true, false, cond, nat_lt, List, [], ◌∷◌, length, filter, Option, Some, None, refl, ap, sym, ◌∙◌, subst, arith}
 use Rattle.std.specs.Prelude.{IfSome}
 use Rattle.std.specs.List.{AllByRecursion, list_any, list_all}
-use Rattle.std.proofs.lemmas.Bool.{cases_Bool, and_from, and_parts, eqb-true}
+use Rattle.std.proofs.lemmas.Bool.{and_parts, eqb-true}
 use Rattle.std.proofs.lemmas.List.Sums.{list_all-from_AllPass}
 use Rattle.std.specs.declared.cmp.Ordering.{Ordering}
 use Rattle.batcher.specs.Quorum.{quorum_of}
@@ -28,100 +28,7 @@ use Rattle.batcher.specs.declared.run.Answer.TheVariants.{OutOfMemory, Network a
 use Rattle.batcher.specs.declared.run.Answer.TheVariants.{Leader as LeaderAnswer, Construct as ConstructAnswer, Forward as ForwardAnswer, Missing as MissingAnswer}
 use Rattle.batcher_evidence.specs.Culprits.{certificates_contradict}
 use Rattle.batcher_evidence.specs.Rounds.{TakeContradictingVotes, TakesContradicting, count_below, votes_contradict, round_of}
-use Rattle.batcher_evidence.proofs.Counting.{below_or_at, below_zero, count-append, count-false, count-filter, count_covers, count_mono, count_none, count_same, quorums_overlap}
-
--- numbers below n
-module _ (p q : ℕ → Bool) where
-  pub below_more : ((i : ℕ) → p i ≡ true → q i ≡ true) → (n : ℕ) → count_below n p ≤ count_below n q
-  below_more h zero = omega arith
-  below_more h (suc n) = omega (arith, one (p n) (q n) (h n), below_more h n)
-    where
-      one : (b c : Bool) → (b ≡ true → c ≡ true) → cond b 1 0 ≤ cond c 1 0
-      one true c h = rw (h refl) (omega arith)
-      one false c h = omega arith
-
-  -- two sets of them share what they are more than n together
-  pub below_both : (n : ℕ) → count_below n p + count_below n q ≤ count_below n (λ i. p i && q i) + n
-  below_both zero = omega arith
-  below_both (suc n) = omega (arith, one (p n) (q n), below_both n)
-    where
-      one : (b c : Bool) → cond b 1 0 + cond c 1 0 ≤ cond (b && c) 1 0 + 1
-      one true true = omega arith
-      one true false = omega arith
-      one false true = omega arith
-      one false false = omega arith
-
-module _ {X : Type 0} where
-  any_count : (p : X → Bool) (xs : List X) → list_any p xs ≡ true → 1 ≤ count p xs
-  any_count p [] h = absurd (cc)
-  any_count p (x ∷ xs) h = one (p x) (list_any p xs) (count p xs) h (any_count p xs)
-    where
-      one : (b c : Bool) (n : ℕ) → (b || c) ≡ true → (c ≡ true → 1 ≤ n) → 1 ≤ cond b 1 0 + n
-      one true c n h rest = omega arith
-      one false c n h rest = omega (arith, rest h)
-
-  count_any : (p : X → Bool) (xs : List X) → 1 ≤ count p xs → list_any p xs ≡ true
-  count_any p xs h =
-      ⊎_elim
-      (λ yes. yes)
-      (λ no. absurd (omega (arith, h, count_none p xs no)))
-      (cases_Bool (list_any p xs))
-
-  -- what is among the elements of one list is among those of a list that has them all
-  pub any_within :
-      (p : X → Bool) (xs ys : List X) → ElementsWithin xs ys → list_any p xs ≡ true
-      → list_any p ys ≡ true
-  any_within p xs ys within h = count_any p ys (omega (arith, within p, any_count p xs h))
-
-  pub filter_passes : (p : X → Bool) (xs : List X) → list_all p (filter p xs) ≡ true
-  filter_passes p [] = refl
-  filter_passes p (x ∷ xs) = one (p x) refl (filter_passes p xs)
-    where
-      one :
-          (b : Bool) → p x ≡ b → list_all p (filter p xs) ≡ true
-          → list_all p (cond b (x ∷ filter p xs) (filter p xs)) ≡ true
-      one true e rest = and_from _ _ e rest
-      one false e rest = rest
-
-module _ {X : Type 0} (number : X → ℕ) where
-  -- whether an element has the number
-  abbrev has_number : List X → ℕ → Bool
-  has_number xs i = list_any (λ v. number v == i) xs
-
-  one_at :
-      (xs : List X) → EachOnce number xs → (i : ℕ)
-      → count (λ v. number v == i) xs ≤ cond (has_number xs i) 1 0
-  one_at xs once i =
-      ⊎_elim
-      (λ yes. rw yes (once i))
-      (λ no. rw no (omega (arith, count_none (λ v. number v == i) xs no)))
-      (cases_Bool (has_number xs i))
-
-  few_numbers :
-      (n : ℕ) (xs : List X) → EachOnce number xs
-      → count (λ v. nat_lt (number v) n) xs ≤ count_below n (has_number xs)
-  few_numbers zero xs once =
-      omega (arith, count_same (λ v. nat_lt (number v) 0) (λ _. false) xs (λ v. below_zero (number v)), count-false xs)
-  few_numbers (suc n) xs once =
-      omega (
-        arith,
-        count_covers (λ v. nat_lt (number v) (suc n)) (λ v. nat_lt (number v) n) (λ v. number v == n) xs (λ v. below_or_at (number v) n),
-        few_numbers n xs once,
-        one_at xs once n,
-      )
-
-  count_all : (p : X → Bool) (xs : List X) → list_all p xs ≡ true → count p xs ≡ length xs
-  count_all p [] h = refl
-  count_all p (x ∷ xs) h =
-      let parts = and_parts (p x) (list_all p xs) h in
-      rw parts.0 (omega (arith, count_all p xs parts.1))
-
-  -- distinct numbers below n are as many as the numbers below n that are among them
-  pub distinct_below :
-      (n : ℕ) (xs : List X) → EachOnce number xs → list_all (λ v. nat_lt (number v) n) xs ≡ true
-      → length xs ≤ count_below n (has_number xs)
-  distinct_below n xs once below =
-      omega (arith, few_numbers n xs once, count_all (λ v. nat_lt (number v) n) xs below)
+use Rattle.batcher_evidence.proofs.Counting.{any_within, below_both, below_more, count-append, count-filter, count_mono, distinct_below, filter_passes, has_number, quorums_overlap}
 
 -- subjects that are the same by the test of digests
 made_round : ℕ → ℕ → Round
@@ -206,7 +113,9 @@ module _ {G D : Type 0} where
       any_within _ ws others other_within
       (about_passes t (λ w. signer_of w == i) (subjects_contradict same s) ws other_about contradict parts.1) in
       any_within _ vs cast within
-      (about_passes s (λ v. signer_of v == i) (λ u. list_any (λ w. (signer_of w == i) && subjects_contradict same u (subject_of w)) others) vs about second parts.0)
+      (about_passes s (λ v. signer_of v == i)
+      (λ u. list_any (λ w. (signer_of w == i) && subjects_contradict same u (subject_of w)) others)
+      vs about second parts.0)
 
 module _ {D K G C : Type 0} (x : Setting D K G C) where
   -- What stands behind a certificate: votes of a quorum of participants, which were cast.

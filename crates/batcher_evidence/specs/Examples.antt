@@ -1,8 +1,7 @@
 -- A fork of four participants that exactly two of them made, and what is near to one.
-use Rattle.std.specs.Prelude.{◌≡◌, ◌+◌, ◌&&◌, ◌==◌, ℕ, Bool, true, false, nat_lt, nat_le, List, [], ◌∷◌, length, Option, Some, None}
+use Rattle.std.specs.Prelude.{◌≡◌, ◌+◌, ◌&&◌, ◌==◌, ℕ, Bool, true, nat_lt, nat_le, List, [], ◌∷◌, length, Option, Some, None}
 use Rattle.std.specs.List.{list_all, range_with_len}
 use Rattle.batcher.specs.declared.messages.Attestation.{Attestation}
-use Rattle.batcher.specs.declared.messages.Subject.{Subject}
 use Rattle.batcher.specs.declared.messages.Certificate.{Certificate}
 use Rattle.batcher.specs.declared.messages.Certificate.TheVariants.{Notarization as NotarizationCertificate, Nullification as NullificationCertificate, Finalization as FinalizationCertificate}
 use Rattle.batcher.specs.declared.messages.Activity.{Activity}
@@ -106,14 +105,12 @@ pub record EvidenceExamples : Type 0 where
   pub notarize_and_nullify : found (notarized 1 first_three) (nullified last_three) ≡ None
   -- One of them doesn't certify.
   pub below_the_quorum : found (notarized 1 two) (notarized 2 last_three) ≡ None
-
   -- Two good votes convict their signer; a bad one doesn't, nor does a report of one vote.
   pub both_good : convicted_by listed same (conflict 0) ≡ Some (participant 1)
   pub second_bad : convicted_by listed same (conflict 1) ≡ None
   pub one_vote :
       convicted_by listed same (ReportNotarize (record { proposal = p 1; attestation = signed 1 0 }))
       ≡ None
-
   -- Two nodes in different modes give certificates that contradict each other, and just two
   -- participants voted in both.
   pub first_gives : IsGiven (played (four Retaining) first_node) (notarization 1)

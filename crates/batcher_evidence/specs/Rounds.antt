@@ -35,7 +35,8 @@ module _ {G D : Type 0} (same : D → D → Bool) where
   votes_contradict votes others i =
       list_any
       (λ v. (signer_of v == i)
-      && list_any (λ w. (signer_of w == i) && subjects_contradict same (subject_of v) (subject_of w))
+      && list_any
+      (λ w. (signer_of w == i) && subjects_contradict same (subject_of v) (subject_of w))
       others)
       votes
 

@@ -40,10 +40,7 @@ pub fn culprits<S: Accountable<D>, D: Digest>(
     ensures proof { IfOk result (λ found. IfSome found (λ list.
         AreCulprits (S.meaning scheme.now) S.shown a.now b.now list.items)) }
 {
-    if !certifies(scheme, a)
-        || !certifies(scheme, b)
-        || !certificates_contradict(a, b)
-    {
+    if !certifies(scheme, a) || !certifies(scheme, b) || !certificates_contradict(a, b) {
         return Ok(None);
     }
     let found = signers_of_both(alloc, scheme, a, b)?;

@@ -14,7 +14,12 @@ impl<const BATCHABLE: bool> Accountable<Sha256Digest> for Keyed<BATCHABLE> {
 
     ghost shows = { λ s subject c h.
         let l = listed_shows (length s.participants) s.root subject c h in
-        record { some = l.some; quorum = l.quorum; ascending = l.ascending; attested = l.attested } };
+        record {
+          some = l.some;
+          quorum = l.quorum;
+          ascending = l.ascending;
+          attested = l.attested;
+        } };
 
     fn attestations<'a>(&self, certificate: &'a AttestationList) -> &'a [Attestation<[u8; 32]>] {
         certificate.attestations()
