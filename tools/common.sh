@@ -39,7 +39,8 @@ show_time() {
 }
 
 # Takes a step, which has a name: runs a command, adds its lines to the file $lines, and says how long it took. Of one
-# that goes well in less than two seconds nothing is said. Where it fails the last of its lines are shown.
+# that goes well in less than two seconds nothing is said. Where it fails, the lines are shown that name a place in the
+# sources, but for notes on places that are well, and where there are none its last ones.
 step() {
   local name=$1 start=$SECONDS clock status
   shift
@@ -54,8 +55,9 @@ step() {
     print_time "$([ -t 2 ] && echo '\r')" '\n' "$name" $((SECONDS - start))
   fi
   if [ "$status" != 0 ]; then
-    echo "It failed with status $status. The last lines of $lines:" >&2
-    tail -n 12 "$lines" >&2
+    echo "It failed with status $status. From $lines:" >&2
+    awk '/\.(rt|antt):[0-9]+:/ && !/[0-9]: note: / && ++shown <= 12; END { exit !shown }' "$lines" >&2 ||
+      tail -n 12 "$lines" >&2
   fi
   return "$status"
 }

@@ -11,10 +11,11 @@ use batcher::scheme::{Counter, Keyed, Sealed};
 use batcher_evidence::{Culprit, certificates_contradict, convicted, culprits};
 use batcher_reader::calls::TestScheme;
 use batcher_reader::input::{Stop, read_all};
-use batcher_reader::print::{AsText, Output};
+use batcher_reader::print::{AsText, Output, Text};
 use batcher_reader::rounds::{Answered, answer_all, scheme_of};
 use batcher_reader::script::{Command, Opening, SchemeWord, Script};
 use std::alloc::{AllocError, Global};
+use std::fmt;
 use std::io::{Read, Write};
 use std::rc::Rc;
 
@@ -132,6 +133,13 @@ struct Seen<'a, C: Drop> {
     certificate: &'a Certificate<C, Sha256Digest>,
 }
 
+impl<C: Drop> Text for Seen<'_, C> {
+    fn write<W: fmt::Write>(&self, f: &mut fmt::Formatter<W>) -> fmt::Result {
+        let certificate = AsText(self.certificate);
+        write!(f, "node {} {} {certificate}", self.node, self.verb)
+    }
+}
+
 fn print_evidence<S: Shows, W: Write>(
     alloc: Global,
     scripts: &Scripts,
@@ -163,7 +171,9 @@ fn print_reports<S: TestScheme, W: Write>(
         match answer {
             Answer::OutOfMemory => return Err(Stop::OutOfMemory),
             Answer::Network(admission) => {
-                if let Some(report) = &admission.report && is_of_two(report) {
+                if let Some(report) = &admission.report
+                    && is_of_two(report)
+                {
                     let mut rng = Counter::new(0);
                     let found = convicted(alloc, &*node.scheme, &mut rng, report)?;
                     let report = AsText(report);
@@ -243,19 +253,18 @@ fn print_culprits<S: Shows, W: Write>(
     b: &Seen<S::Certificate>,
     output: &mut Output<W>,
 ) -> Result<(), Stop> {
-    let (node, verb, certificate) = (a.node, a.verb, AsText(a.certificate));
-    let (other, other_verb, other_certificate) = (b.node, b.verb, AsText(b.certificate));
+    let earlier = AsText(a);
+    let later = AsText(b);
     match scheme.culprits(alloc, a.certificate, b.certificate)? {
-        None => output.print(format_args!(
-            "node {node} {verb} {certificate}, node {other} {other_verb} {other_certificate}: culprits not shown"
-        )),
+        None => output.print(format_args!("{earlier}, {later}: culprits not shown")),
         Some(found) => {
-            let signers: Vec<_> = found.iter().map(|culprit| culprit.first.signer).collect(alloc)?;
+            let signers: Vec<_> = found
+                .iter()
+                .map(|culprit| culprit.first.signer)
+                .collect(alloc)?;
             let signers = signers.as_slice();
             let signers = AsText(&signers);
-            output.print(format_args!(
-                "node {node} {verb} {certificate}, node {other} {other_verb} {other_certificate}: culprits {signers}"
-            ))
+            output.print(format_args!("{earlier}, {later}: culprits {signers}"))
         }
     }
 }

@@ -135,7 +135,8 @@ module _ {G : Type 0} where
     where
       mapped :
           (o : Option (Attestation G))
-          → is_some (option_map {U = Culprit G} (λ b. record { first = a; second = b }) o) ≡ is_some o
+          → is_some (option_map {U = Culprit G} (λ b. record { first = a; second = b }) o)
+          ≡ is_some o
       mapped None = refl
       mapped (Some b) = refl
 
@@ -213,7 +214,8 @@ module _ {D K G C : Type 0} (m : Meaning D K G C) (lawful : IsLawful m) where
       mapped :
           (o : Option (Attestation G))
           → IfSome o (λ b. ((index_of_signer b == index_of_signer a) && m.attests other b) ≡ true)
-          → IfSome (option_map {U = Culprit G} (λ b. record { first = a; second = b }) o) (λ culprit. attests_both m subject other culprit ≡ true)
+          → IfSome (option_map {U = Culprit G} (λ b. record { first = a; second = b }) o)
+          (λ culprit. attests_both m subject other culprit ≡ true)
       mapped None e = tt
       mapped (Some b) e =
           let parts = and_parts (index_of_signer b == index_of_signer a) (m.attests other b) e in
@@ -227,7 +229,8 @@ module _ {D K G C : Type 0} (m : Meaning D K G C) (lawful : IsLawful m) where
     where
       mapped :
           (o : Option (Attestation G))
-          → IfSome (option_map {U = Culprit G} (λ b. record { first = a; second = b }) o) (λ c. nat_lt (index_of_culprit c) (length m.participants) ≡ true)
+          → IfSome (option_map {U = Culprit G} (λ b. record { first = a; second = b }) o)
+          (λ c. nat_lt (index_of_culprit c) (length m.participants) ≡ true)
       mapped None = tt
       mapped (Some b) = h
 

@@ -82,7 +82,8 @@ with_true true = refl
 with_true false = refl
 
 module _ {G D : Type 0} where
-  -- Where all votes are about one subject of which something is true, it is true of those that pass.
+  -- Where all votes are about one subject of which something is true, it is true of those that
+  -- pass.
   about_passes :
       (s : Subject D) (p : Vote G D → Bool) (q : Subject D → Bool) (vs : List (Vote G D))
       → AllByRecursion (λ v. s ≡ subject_of v) vs → q s ≡ true → list_any p vs ≡ true
@@ -119,7 +120,8 @@ module _ {G D : Type 0} where
 
 module _ {D K G C : Type 0} (x : Setting D K G C) where
   -- What stands behind a certificate: votes of a quorum of participants, which were cast.
-  pub record IsBehind (past : History D K G C) (c : Certificate C D) (votes : List (Vote G D)) : Type 0 where
+  pub record IsBehind (past : History D K G C) (c : Certificate C D) (votes : List (Vote G D)) :
+      Type 0 where
     pub enough : quorum_in x ≤ length votes
     pub once : EachOnce signer_of votes
     pub below : list_all (λ v. nat_lt (signer_of v) (participants_in x)) votes ≡ true
@@ -151,7 +153,8 @@ module _ {D K G C : Type 0} (x : Setting D K G C) where
       fewer false false = omega arith
 
   later :
-      (past : History D K G C) (event : Event D K G C) (c : Certificate C D) (votes : List (Vote G D))
+      (past : History D K G C) (event : Event D K G C) (c : Certificate C D)
+      (votes : List (Vote G D))
       → IsBehind past c votes → IsBehind (event ∷ past) c votes
   later past event c votes behind =
       record {

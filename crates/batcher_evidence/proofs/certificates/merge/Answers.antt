@@ -29,7 +29,11 @@ loop-a-preserved g c =
     leaves_both c.loop-a.found.items c.loop-a.left.now c.loop-a.right.now _ now.found now.left now.right
     c.in-Some-Some.a.now c.in-Some-Some.b.now c.in-Some-Some.lefts.now c.in-Some-Some.rights.now
     c.in-Some-Some.ensures.cases.0 c.in-Some-Some.ensures'.cases.0 same in
-    record { found = rw c.in_ok-push.ensures.items next.all_found; left = next.left_ascends; right = next.right_ascends }
+    record {
+      found = rw c.in_ok-push.ensures.items next.all_found;
+      left = next.left_ascends;
+      right = next.right_ascends;
+    }
 
 pub returns : goal.returns
 returns g c =
