@@ -90,7 +90,7 @@ second_node =
 
 -- What the definitions come to.
 pub record EvidenceExamples : Type 0 where
-  -- Two quorums of four are by two more than all, and these two certificates show just two culprits.
+  -- Two quorums of four are two more than all, and these two certificates show just two culprits.
   pub two_more : quorum_of 4 + quorum_of 4 ≡ 2 + 4
   pub two_culprits :
       found (notarized 1 first_three) (notarized 2 last_three) ≡ Some (both 1 ∷ both 2 ∷ [])
@@ -109,7 +109,8 @@ pub record EvidenceExamples : Type 0 where
   pub both_good : convicted_by listed same (conflict 0) ≡ Some (participant 1)
   pub second_bad : convicted_by listed same (conflict 1) ≡ None
   pub one_vote :
-      convicted_by listed same (ReportNotarize (record { proposal = p 1; attestation = signed 1 0 }))
+      convicted_by listed same
+      (ReportNotarize (record { proposal = p 1; attestation = signed 1 0 }))
       ≡ None
   -- Two nodes in different modes give certificates that contradict each other, and just two
   -- participants voted in both.
