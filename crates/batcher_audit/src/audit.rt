@@ -163,7 +163,9 @@ fn print_reports<S: TestScheme, W: Write>(
         match answer {
             Answer::OutOfMemory => return Err(Stop::OutOfMemory),
             Answer::Network(admission) => {
-                if let Some(report) = &admission.report && is_of_two(report) {
+                if let Some(report) = &admission.report
+                    && is_of_two(report)
+                {
                     let mut rng = Counter::new(0);
                     let found = convicted(alloc, &*node.scheme, &mut rng, report)?;
                     let report = AsText(report);
@@ -250,7 +252,10 @@ fn print_culprits<S: Shows, W: Write>(
             "node {node} {verb} {certificate}, node {other} {other_verb} {other_certificate}: culprits not shown"
         )),
         Some(found) => {
-            let signers: Vec<_> = found.iter().map(|culprit| culprit.first.signer).collect(alloc)?;
+            let signers: Vec<_> = found
+                .iter()
+                .map(|culprit| culprit.first.signer)
+                .collect(alloc)?;
             let signers = signers.as_slice();
             let signers = AsText(&signers);
             output.print(format_args!(

@@ -21,7 +21,9 @@ pub fn read_scripts(alloc: Global, bytes: &[u8]) -> Result<Scripts, AllocError> 
     let first = Script::parse(alloc, parts.front)?;
     let mut malformed = first.malformed;
     let mut second = None;
-    if malformed.is_none() && let Some(rest) = parts.rest {
+    if malformed.is_none()
+        && let Some(rest) = parts.rest
+    {
         let script = Script::parse(alloc, rest)?;
         if are_of_one_round(&first, &script) {
             malformed = script
