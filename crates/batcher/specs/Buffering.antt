@@ -1,5 +1,5 @@
 -- What a verifier's calls change of the votes that wait for a certificate.
-use Rattle.std.specs.Prelude.{◌≡◌, ℕ, Bool, true, false, not, cond, ◌&&◌, ◌||◌, ◌==◌, nat_le, nat_lt, ◌+◌, List, [], ◌∷◌, ◌++◌, length, Option, Some, None, is_none, is_some, Result, Ok, Err, filter, map}
+use Rattle.std.specs.Prelude.{◌≡◌, ℕ, Bool, true, false, not, cond, ◌&&◌, ◌||◌, ◌==◌, nat_le, nat_lt, ◌+◌, List, [], ◌∷◌, ◌++◌, length, Option, Some, None, is_none, is_some, Result, Ok, Err, MatchBool, filter, map}
 use Rattle.std.specs.List.{list_any, list_all}
 use Rattle.std.specs.Option.{option_map}
 use Rattle.rand_core.specs.Stream.{Stream}
@@ -46,6 +46,10 @@ module _ {G D : Type 0} where
             [];
         verified = for_each [];
       }
+
+  -- the proposal that is selected
+  abbrev pub selected_in : Buffered G D → Option (Proposal D)
+  selected_in held = proposal_of held.selection
 
   -- whether a vote of the kind and signer is buffered
   abbrev pub is_buffered : Buffered G D → Kind → ℕ → Bool
@@ -122,6 +126,11 @@ module _ {G D : Type 0} (same : D → D → Bool) where
         (kind : Kind)
         → Buffers old new kind (cond (is_of_kind kind vote && not is_verified) (vote ∷ []) [])
         (cond (is_of_kind kind vote && is_verified) (vote ∷ []) [])
+
+  -- `add` where the vote is to wait, and nothing else
+  abbrev pub MayAddVote : Bool → Buffered G D → Vote G D → Bool → Buffered G D → Type 0
+  MayAddVote waits old vote is_verified new =
+      MatchBool waits (AddsVote old vote is_verified new) (new ≡ old)
 
   -- whether `add` drops the vote
   abbrev pub is_dropped : Buffered G D → Vote G D → Bool

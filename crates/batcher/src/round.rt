@@ -14,7 +14,7 @@ ghost use Rattle.batcher.specs.Votes.{is_kind, has_proposals, kind_of, signer_of
 ghost use Rattle.batcher.specs.Selected.{proposal_of, replaces, fixes, same_selected};
 ghost use Rattle.batcher.specs.Held.{of_kind, round_of, SameRound, SameVerifier, SameTracker};
 ghost use Rattle.batcher.specs.Tracking.{nothing_tracked, shown, is_known, outcome_of, outcome_by, observed, observed_opposite, RecordsKind, kept_vote};
-ghost use Rattle.batcher.specs.Buffering.{AddsVote, FixesProposal, MayFix};
+ghost use Rattle.batcher.specs.Buffering.{selected_in, MayAddVote, FixesProposal, MayFix};
 ghost use Rattle.batcher.specs.Quorum.{quorum_of};
 ghost use Rattle.batcher.specs.Sound.{IsSound, HasRoomFor, KeepsAllRoom, WhereItReplaces};
 ghost use Rattle.batcher.specs.Admissions.{refusal, mismatch_reason, admission_of};
@@ -29,8 +29,8 @@ ghost use Rattle.batcher.specs.declared.run.Call.TheVariants.{Network as Network
 ghost use Rattle.batcher.specs.declared.run.Answer.TheVariants.{Network as NetworkAnswer, Own as OwnAnswer, Construct as ConstructAnswer, Leader as LeaderAnswer, Forward as ForwardAnswer, Missing as MissingAnswer};
 ghost use Rattle.batcher.specs.declared.run.Answer.TheVariants.{Certificate as CertificateAnswer};
 ghost use Rattle.batcher.specs.Runs.{MayCall};
-ghost use Rattle.batcher.specs.Judged.{WhereverItStands, FollowsOnOk, IsRefusedForNeed};
-ghost use Rattle.batcher.specs.Stands.{Stands, Follows, Meets};
+ghost use Rattle.batcher.specs.Judged.{WhereverItStands, FollowsAlways, MeetsAlways, FollowsOnOk, IsRefusedForNeed};
+ghost use Rattle.batcher.specs.Stands.{Stands};
 ghost use Rattle.batcher.specs.declared.messages.Proposal.{Proposal as TheProposal};
 ghost use Rattle.batcher.specs.declared.round.OwnFault.TheVariants.{OutOfMemory as OutOfMemoryFault};
 ghost use Rattle.batcher.specs.declared.votes.Outcome.TheVariants.{Added as AddedOutcome};
@@ -275,8 +275,8 @@ impl<S: Scheme<D>, D: Digest> Round<S, D> {
     /// Whether a certificate of the kind is there.
     pub fn has_certificate(&self, kind: Kind) -> bool
         ensures held { result ≡ of_kind self.now.holds.buffered.certified kind }
-        ensures meets { WhereverItStands (⟦<S as Judge<D>>⟧.of self.now) self.now.holds
-            (λ past. result ≡ is_certified past kind) }
+        ensures meets { WhereverItStands ⟦<S as Judge<D>>⟧.of self.now
+            (λ _ past. result ≡ is_certified past kind) }
     {
         self.verifier.has_certificate(kind)
     }
@@ -284,8 +284,8 @@ impl<S: Scheme<D>, D: Digest> Round<S, D> {
     /// Whether a nullify of the signer is kept in full.
     pub fn has_nullify(&self, signer: Participant) -> bool
         ensures held { result ≡ is_some (kept_vote self.now.holds.tracked NullifyKind signer.0) }
-        ensures meets { WhereverItStands (⟦<S as Judge<D>>⟧.of self.now) self.now.holds
-            (λ past. result ≡ keeps_nullify (⟦<S as Judge<D>>⟧.of self.now) past signer.0) }
+        ensures meets { WhereverItStands ⟦<S as Judge<D>>⟧.of self.now
+            (λ x past. result ≡ keeps_nullify x past signer.0) }
     {
         self.votes.has_nullify(signer)
     }
@@ -295,9 +295,8 @@ impl<S: Scheme<D>, D: Digest> Round<S, D> {
     pub fn is_missing_voter(&self, proposal: &Proposal<D>, participant: Participant) -> bool
         ensures held { result ≡ not (has_block_held D.eq self.now.holds participant.0
             proposal.now) }
-        ensures meets { WhereverItStands (⟦<S as Judge<D>>⟧.of self.now) self.now.holds
-            (λ past. result ≡ not (has_block (⟦<S as Judge<D>>⟧.of self.now) past participant.0
-            proposal.now)) }
+        ensures meets { WhereverItStands ⟦<S as Judge<D>>⟧.of self.now
+            (λ x past. result ≡ not (has_block x past participant.0 proposal.now)) }
     {
         !self.has_block(proposal, participant)
     }
@@ -315,7 +314,7 @@ impl<S: Scheme<D>, D: Digest> Round<S, D> {
         ensures held { IfOk result (λ list. list
             ≡ missing_in D.eq self.now.holds proposal.now
             (length (S.meaning self.now.scheme).participants)) }
-        ensures meets { FollowsOnOk (⟦<S as Judge<D>>⟧.of self.now) self.now.holds
+        ensures meets { FollowsOnOk ⟦<S as Judge<D>>⟧.of self.now
             (MissingCall proposal.now) MissingAnswer result self.now.holds }
     {
         let participants = self.verifier.participants().len();
@@ -334,11 +333,10 @@ impl<S: Scheme<D>, D: Digest> Round<S, D> {
     /// The same leader again changes nothing; another one is refused.
     pub fn set_leader(&mut self, leader: Participant) -> Result<(), LeaderFault>
         ensures answer { result ≡ leader_set_answer self.old.holds.buffered.leader leader }
-        ensures named { WhereverItStands (⟦<S as Judge<D>>⟧.of self.old) self.old.holds
-            (λ past. result ≡ leader_set_answer (leader_of past) leader) }
-        ensures meets { WhereverItStands (⟦<S as Judge<D>>⟧.of self.old) self.old.holds
-            (λ past. Meets (⟦<S as Judge<D>>⟧.of self.old) past self.old.holds
-            (LeaderCall leader, LeaderAnswer result) self.new.holds) }
+        ensures named { WhereverItStands ⟦<S as Judge<D>>⟧.of self.old
+            (λ _ past. result ≡ leader_set_answer (leader_of past) leader) }
+        ensures meets { MeetsAlways ⟦<S as Judge<D>>⟧.of self.old
+            (LeaderCall leader, LeaderAnswer result) self.new.holds }
         ensures step { OnOk result (AfterLeader (⟦<S as Judge<D>>⟧.of self.old) self.old.holds
             leader self.new.holds) }
         ensures refused { OnErr result (self.new ≡ self.old) }
@@ -352,9 +350,8 @@ impl<S: Scheme<D>, D: Digest> Round<S, D> {
     /// It takes no memory.
     pub fn try_forward_proposal(&mut self, me: Participant) -> Option<Proposal<D>>
         ensures answer { result ≡ forward_answer self.old.holds me }
-        ensures meets { WhereverItStands (⟦<S as Judge<D>>⟧.of self.old) self.old.holds
-            (λ past. Follows (⟦<S as Judge<D>>⟧.of self.old) past self.old.holds
-            (ForwardCall me, ForwardAnswer result) self.new.holds) }
+        ensures meets { FollowsAlways ⟦<S as Judge<D>>⟧.of self.old
+            (ForwardCall me, ForwardAnswer result) self.new.holds }
         ensures holds { self.new.holds ≡ record self.old.holds
             { forwarded = is_some result || self.old.holds.forwarded } }
         ensures same { SameRound self.old self.new }
@@ -381,11 +378,11 @@ impl<S: Scheme<D>, D: Digest> Round<S, D> {
         requires { round_in (subject_of vote) ≡ self.old.number }
         ensures step { IfOk result (λ answer. AfterNetwork (⟦<S as Judge<D>>⟧.of self.old)
             self.old.holds sender vote answer self.new.holds) }
-        ensures meets { FollowsOnOk (⟦<S as Judge<D>>⟧.of self.old) self.old.holds
+        ensures meets { FollowsOnOk ⟦<S as Judge<D>>⟧.of self.old
             (NetworkCall sender vote) NetworkAnswer result self.new.holds }
         ensures no_memory { (admission (⟦<S as Judge<D>>⟧.of self.old) self.old.holds sender
             vote).added ≡ false → IsOk result }
-        ensures needed { IsRefusedForNeed (⟦<S as Judge<D>>⟧.of self.old) self.old.holds
+        ensures needed { IsRefusedForNeed ⟦<S as Judge<D>>⟧.of self.old
             (NetworkCall sender vote) result }
         ensures refused { OnErr result (self.new ≡ self.old) }
         ensures same { SameRound self.old self.new }
@@ -420,15 +417,12 @@ impl<S: Scheme<D>, D: Digest> Round<S, D> {
             (attestation_of vote) ≡ true }
         ensures step { IfOk result (λ answer. AfterOwn (⟦<S as Judge<D>>⟧.of self.old)
             self.old.holds vote answer.0 answer.1 self.new.holds) }
-        ensures meets { WhereverItStands (⟦<S as Judge<D>>⟧.of self.old) self.old.holds
-            (λ past. IfOk result (λ answer. Follows (⟦<S as Judge<D>>⟧.of self.old) past
-            self.old.holds (OwnCall vote, OwnAnswer answer.0 answer.1) self.new.holds)) }
-        ensures named { WhereverItStands (⟦<S as Judge<D>>⟧.of self.old) self.old.holds
-            (λ past. IfErr result (λ fault. fault
-            ≡ fault_or_memory (own_answer (⟦<S as Judge<D>>⟧.of self.old) past vote))) }
-        ensures needed { WhereverItStands (⟦<S as Judge<D>>⟧.of self.old) self.old.holds
-            (λ past. result ≡ Err OutOfMemoryFault
-            → needs_memory (⟦<S as Judge<D>>⟧.of self.old) past (OwnCall vote) ≡ true) }
+        ensures meets { FollowsOnOk ⟦<S as Judge<D>>⟧.of self.old
+            (OwnCall vote) (λ answer. OwnAnswer answer.0 answer.1) result self.new.holds }
+        ensures named { WhereverItStands ⟦<S as Judge<D>>⟧.of self.old
+            (λ x past. IfErr result (λ fault. fault ≡ fault_or_memory (own_answer x past vote))) }
+        ensures needed { WhereverItStands ⟦<S as Judge<D>>⟧.of self.old
+            (λ x past. result ≡ Err OutOfMemoryFault → needs_memory x past (OwnCall vote) ≡ true) }
         ensures no_memory { (outcome : Outcome)
             → own_result (⟦<S as Judge<D>>⟧.of self.old) self.old.holds vote ≡ Ok outcome
             → is_added outcome ≡ false → IsOk result }
@@ -459,9 +453,9 @@ impl<S: Scheme<D>, D: Digest> Round<S, D> {
         requires { round_in (subject_certified certificate.now) ≡ self.old.number }
         ensures step { IfOk result (λ answer. AfterCertificate (⟦<S as Judge<D>>⟧.of self.old)
             self.old.holds certificate.now answer self.new.holds) }
-        ensures meets { FollowsOnOk (⟦<S as Judge<D>>⟧.of self.old) self.old.holds
+        ensures meets { FollowsOnOk ⟦<S as Judge<D>>⟧.of self.old
             (CertificateCall certificate.now) CertificateAnswer result self.new.holds }
-        ensures needed { IsRefusedForNeed (⟦<S as Judge<D>>⟧.of self.old) self.old.holds
+        ensures needed { IsRefusedForNeed ⟦<S as Judge<D>>⟧.of self.old
             (CertificateCall certificate.now) result }
         ensures no_memory { ((kind : TheKind)
             → restored_with (⟦<S as Judge<D>>⟧.of self.old) self.old.holds certificate.now kind
@@ -488,11 +482,11 @@ impl<S: Scheme<D>, D: Digest> Round<S, D> {
     ) -> Result<Option<Batch<Certificate<S::Certificate, D>>>, AllocError>
         ensures step { IfOk result (λ answer. AfterConstruct (⟦<S as Judge<D>>⟧.of self.old)
             self.old.holds (R.stream rng.old) answer self.new.holds (R.stream rng.new)) }
-        ensures meets { FollowsOnOk (⟦<S as Judge<D>>⟧.of self.old) self.old.holds
+        ensures meets { FollowsOnOk ⟦<S as Judge<D>>⟧.of self.old
             (ConstructCall) ConstructAnswer result self.new.holds }
         ensures no_memory { kind_tried (⟦<S as Judge<D>>⟧.of self.old) self.old.holds ≡ None
             → IsOk result }
-        ensures needed { IsRefusedForNeed (⟦<S as Judge<D>>⟧.of self.old) self.old.holds
+        ensures needed { IsRefusedForNeed ⟦<S as Judge<D>>⟧.of self.old
             ConstructCall result }
         ensures certifies { IfGiven result (BatchCertifies (S.meaning self.old.scheme)) }
         ensures refused { OnErr result (self.new ≡ self.old) }
@@ -595,21 +589,20 @@ fn admit<S: Scheme<D>, D: Digest>(
     requires belongs { round_in (subject_of vote) ≡ verifier.old.number }
     ensures answer { IfOk result (λ answer. answer
         ≡ admission_by (⟦<S as Judge<D>>⟧.of (round_of verifier.old votes.old))
-        (proposal_of verifier.old.holds.selection)
+        (selected_in verifier.old.holds)
         (observed votes.old.holds (kind_of vote) (signer_of vote)) vote) }
     ensures spared { is_known votes.old.holds (signer_of vote) ≡ true
         → of_kind votes.old.holds.compacted (kind_of vote) ≡ true → IsOk result }
     ensures no_memory { (admission_by (⟦<S as Judge<D>>⟧.of (round_of verifier.old votes.old))
-        (proposal_of verifier.old.holds.selection)
+        (selected_in verifier.old.holds)
         (observed votes.old.holds (kind_of vote) (signer_of vote)) vote).added ≡ false
         → IsOk result }
     ensures tracked { OnOk result ((kind : TheKind)
         → RecordsKind D.eq votes.old.holds votes.new.holds
-        (proposal_of verifier.old.holds.selection) true vote kind) }
-    ensures buffered { IfOk result (λ answer. MatchBool
+        (selected_in verifier.old.holds) true vote kind) }
+    ensures buffered { IfOk result (λ answer. MayAddVote D.eq
         (answer.added && not (of_kind votes.old.holds.compacted (kind_of vote)))
-        (AddsVote D.eq verifier.old.holds vote false verifier.new.holds)
-        (verifier.new.holds ≡ verifier.old.holds)) }
+        verifier.old.holds vote false verifier.new.holds) }
     ensures refused { OnErr result ((verifier.new.holds ≡ verifier.old.holds)
         × (votes.new.holds ≡ votes.old.holds)) }
     ensures right { IsRight (S.meaning verifier.old.scheme) votes.new verifier.new.holds
@@ -686,18 +679,17 @@ fn take_in<S: Scheme<D>, D: Digest>(
         → (S.meaning verifier.old.scheme).attests (subject_of vote) (attestation_of vote) ≡ true }
     requires room { of_kind votes.old.holds.compacted (kind_of vote) ≡ false
         → outcome_of D.eq votes.old.participants votes.old.holds
-        (proposal_of verifier.old.holds.selection) vote ≡ AddedOutcome true → 1
+        (selected_in verifier.old.holds) vote ≡ AddedOutcome true → 1
         ≤ cond verified (of_kind verifier.old.verified_room (kind_of vote))
         (of_kind verifier.old.pending_room (kind_of vote)) }
     ensures outcome { IfOk result (λ outcome. outcome
         ≡ outcome_of D.eq votes.old.participants votes.old.holds
-        (proposal_of verifier.old.holds.selection) vote) }
+        (selected_in verifier.old.holds) vote) }
     ensures tracked { OnOk result ((kind : TheKind)
         → RecordsKind D.eq votes.old.holds votes.new.holds
-        (proposal_of verifier.old.holds.selection) true vote kind) }
-    ensures buffered { IfOk result (λ outcome. MatchBool (is_kept outcome)
-        (AddsVote D.eq verifier.old.holds vote verified verifier.new.holds)
-        (verifier.new.holds ≡ verifier.old.holds)) }
+        (selected_in verifier.old.holds) true vote kind) }
+    ensures buffered { IfOk result (λ outcome. MayAddVote D.eq (is_kept outcome) verifier.old.holds vote verified
+        verifier.new.holds) }
     ensures refused { OnErr result ((verifier.new.holds ≡ verifier.old.holds)
         × (votes.new.holds ≡ votes.old.holds)) }
     ensures right { IsRight (S.meaning verifier.old.scheme) votes.new verifier.new.holds
@@ -818,8 +810,8 @@ fn fix<S: Scheme<D>, D: Digest>(
         votes.now.holds.kept proposal verifier.old.pending_room kind }
     ensures fixes { FixesProposal D.eq verifier.old.holds votes.now.holds.kept proposal
         verifier.new.holds }
-    ensures changed { result ≡ not (same_selected D.eq (proposal_of verifier.old.holds.selection)
-        (proposal_of verifier.new.holds.selection)) }
+    ensures changed { result ≡ not (same_selected D.eq (selected_in verifier.old.holds)
+        (selected_in verifier.new.holds)) }
     ensures within { WaitsWhereKept votes.now.holds verifier.new.holds }
     ensures room { (kind : TheKind) → of_kind verifier.old.verified_room kind
         ≤ of_kind verifier.new.verified_room kind }
@@ -845,8 +837,8 @@ fn may_fix<S: Scheme<D>, D: Digest>(
         verifier.old.pending_room kind) }
     ensures fixes { MayFix D.eq verifier.old.holds votes.now.holds.kept proposal
         verifier.new.holds }
-    ensures changed { result ≡ not (same_selected D.eq (proposal_of verifier.old.holds.selection)
-        (proposal_of verifier.new.holds.selection)) }
+    ensures changed { result ≡ not (same_selected D.eq (selected_in verifier.old.holds)
+        (selected_in verifier.new.holds)) }
     ensures within { WaitsWhereKept votes.now.holds verifier.new.holds }
     ensures room { (kind : TheKind) → of_kind verifier.old.verified_room kind
         ≤ of_kind verifier.new.verified_room kind }

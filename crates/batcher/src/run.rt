@@ -99,9 +99,9 @@ fn step<S: Scheme<D>, D: Digest, R: CryptoRng>(
     requires { MayCall (S.meaning round.old.scheme) round.old.number call.now }
     ensures steps { Steps (⟦<S as Judge<D>>⟧.of round.old) round.old.holds (R.stream rng.old)
         call.now result round.new.holds (R.stream rng.new) }
-    ensures meets { WhereverItStands (⟦<S as Judge<D>>⟧.of round.old) round.old.holds
-        (λ past. (Meets (⟦<S as Judge<D>>⟧.of round.old) past round.old.holds (call.now, result)
-        round.new.holds) × (IsAnswered (⟦<S as Judge<D>>⟧.of round.old) past call.now result)) }
+    ensures meets { WhereverItStands ⟦<S as Judge<D>>⟧.of round.old
+        (λ x past. (Meets x past round.old.holds (call.now, result) round.new.holds)
+        × (IsAnswered x past call.now result)) }
     ensures same { SameRound round.old round.new }
 {
     match call {
