@@ -688,8 +688,8 @@ fn take_in<S: Scheme<D>, D: Digest>(
     ensures tracked { OnOk result ((kind : TheKind)
         → RecordsKind D.eq votes.old.holds votes.new.holds
         (selected_in verifier.old.holds) true vote kind) }
-    ensures buffered { IfOk result (λ outcome. MayAddVote D.eq (is_kept outcome) verifier.old.holds vote verified
-        verifier.new.holds) }
+    ensures buffered { IfOk result (λ outcome. MayAddVote D.eq (is_kept outcome)
+        verifier.old.holds vote verified verifier.new.holds) }
     ensures refused { OnErr result ((verifier.new.holds ≡ verifier.old.holds)
         × (votes.new.holds ≡ votes.old.holds)) }
     ensures right { IsRight (S.meaning verifier.old.scheme) votes.new verifier.new.holds
