@@ -7,6 +7,7 @@ mod map;
 
 use crate::positions::{Participant, Round, View};
 pub use map::{AttributableMap, MapIter, Place};
+use std::fmt;
 
 /// The digest of a payload: a value, of which `==` tells whether two are the same.
 pub trait Digest: Copy + Eq {
@@ -21,6 +22,16 @@ impl Digest for Sha256Digest {
     ghost use Rattle.std.proofs.Common.{rules};
 
     ghost identical = { Prim.search rules };
+}
+
+impl fmt::Display for Sha256Digest {
+    /// In lower hexadecimal digits, two for each byte.
+    fn fmt<W: fmt::Write>(&self, f: &mut fmt::Formatter<W>) -> fmt::Result {
+        for byte in self.0.as_slice() {
+            write!(f, "{byte:02x}")?;
+        }
+        Ok(())
+    }
 }
 
 /// What a leader proposes for a round, on top of the proposal of the view `parent`.
@@ -141,6 +152,70 @@ impl<G, D> Vote<G, D> {
     }
 }
 
+impl<G: Copy, D: Copy> Vote<G, D> {
+    ghost use Rattle.batcher_types.specs.Votes.{subject_of, attestation_of, round_in, proposal_in};
+
+    /// The vote for the subject, with the attestation of it.
+    pub fn new(subject: Subject<D>, attestation: Attestation<G>) -> Self
+        ensures subject { subject_of result ≡ subject }
+        ensures attestation { attestation_of result ≡ attestation }
+    {
+        match subject {
+            Subject::Notarize { proposal } => Vote::Notarize(Notarize {
+                proposal,
+                attestation,
+            }),
+            Subject::Nullify { round } => Vote::Nullify(Nullify { round, attestation }),
+            Subject::Finalize { proposal } => Vote::Finalize(Finalize {
+                proposal,
+                attestation,
+            }),
+        }
+    }
+
+    /// What its signer signs.
+    pub fn subject(&self) -> Subject<D>
+        ensures { result ≡ subject_of self.now }
+    {
+        match self {
+            Vote::Notarize(notarize) => Subject::Notarize {
+                proposal: notarize.proposal,
+            },
+            Vote::Nullify(nullify) => Subject::Nullify {
+                round: nullify.round,
+            },
+            Vote::Finalize(finalize) => Subject::Finalize {
+                proposal: finalize.proposal,
+            },
+        }
+    }
+
+    /// The signature on its subject, with the index of its signer.
+    pub fn attestation(&self) -> Attestation<G>
+        ensures { result ≡ attestation_of self.now }
+    {
+        match self {
+            Vote::Notarize(notarize) => notarize.attestation,
+            Vote::Nullify(nullify) => nullify.attestation,
+            Vote::Finalize(finalize) => finalize.attestation,
+        }
+    }
+
+    /// The round that it is of.
+    pub fn round(&self) -> Round
+        ensures { result ≡ round_in (subject_of self.now) }
+    {
+        self.subject().round()
+    }
+
+    /// The proposal that it is for, unless it is a nullify.
+    pub fn proposal(&self) -> Option<Proposal<D>>
+        ensures { result ≡ proposal_in (subject_of self.now) }
+    {
+        self.subject().proposal()
+    }
+}
+
 impl<G, D: Digest> Vote<G, D> {
     ghost use Rattle.batcher_types.specs.Votes.{waits};
 
@@ -157,28 +232,28 @@ impl<G, D: Digest> Vote<G, D> {
 }
 
 /// That a quorum notarized a proposal.
-#[derive(Debug, Drop)]
+#[derive(Clone, Debug, Drop, PartialEq, Eq)]
 pub struct Notarization<C, D> {
     pub proposal: Proposal<D>,
     pub certificate: C,
 }
 
 /// That a quorum gave a round up.
-#[derive(Debug, Drop)]
+#[derive(Clone, Debug, Drop, PartialEq, Eq)]
 pub struct Nullification<C> {
     pub round: Round,
     pub certificate: C,
 }
 
 /// That a quorum made a proposal final.
-#[derive(Debug, Drop)]
+#[derive(Clone, Debug, Drop, PartialEq, Eq)]
 pub struct Finalization<C, D> {
     pub proposal: Proposal<D>,
     pub certificate: C,
 }
 
 /// A certificate of any kind.
-#[derive(Debug, Drop)]
+#[derive(Clone, Debug, Drop, PartialEq, Eq)]
 pub enum Certificate<C, D> {
     Notarization(Notarization<C, D>),
     Nullification(Nullification<C>),
@@ -191,6 +266,16 @@ pub enum Kind {
     Notarization,
     Nullification,
     Finalization,
+}
+
+impl fmt::Display for Kind {
+    fn fmt<W: fmt::Write>(&self, f: &mut fmt::Formatter<W>) -> fmt::Result {
+        f.write_str(match self {
+            Kind::Notarization => "notarization",
+            Kind::Nullification => "nullification",
+            Kind::Finalization => "finalization",
+        })
+    }
 }
 
 impl<C, D> Certificate<C, D> {
@@ -208,6 +293,72 @@ impl<C, D> Certificate<C, D> {
     }
 }
 
+impl<C: Drop, D: Copy> Certificate<C, D> {
+    ghost use Rattle.batcher_types.specs.Votes.{subject_certified, content_of, round_in, proposal_in};
+
+    /// The certificate that a quorum signed the subject.
+    pub fn new(subject: Subject<D>, certificate: C) -> Self
+        ensures subject { subject_certified result ≡ subject }
+        ensures content { content_of result ≡ certificate }
+    {
+        match subject {
+            Subject::Notarize { proposal } => Certificate::Notarization(Notarization {
+                proposal,
+                certificate,
+            }),
+            Subject::Nullify { round } => {
+                Certificate::Nullification(Nullification { round, certificate })
+            }
+            Subject::Finalize { proposal } => Certificate::Finalization(Finalization {
+                proposal,
+                certificate,
+            }),
+        }
+    }
+
+    /// What each signer behind it signed. `Scheme::verify_certificate` is asked with it.
+    pub fn subject(&self) -> Subject<D>
+        ensures { result ≡ subject_certified self.now }
+    {
+        match self {
+            Certificate::Notarization(notarization) => Subject::Notarize {
+                proposal: notarization.proposal,
+            },
+            Certificate::Nullification(nullification) => Subject::Nullify {
+                round: nullification.round,
+            },
+            Certificate::Finalization(finalization) => Subject::Finalize {
+                proposal: finalization.proposal,
+            },
+        }
+    }
+
+    /// What the scheme has made, without what it is for.
+    pub fn content(&self) -> &C
+        ensures { result.now ≡ content_of self.now }
+    {
+        match self {
+            Certificate::Notarization(notarization) => &notarization.certificate,
+            Certificate::Nullification(nullification) => &nullification.certificate,
+            Certificate::Finalization(finalization) => &finalization.certificate,
+        }
+    }
+
+    /// The round that it is of.
+    pub fn round(&self) -> Round
+        ensures { result ≡ round_in (subject_certified self.now) }
+    {
+        self.subject().round()
+    }
+
+    /// The proposal that it is for, unless it is a nullification.
+    pub fn proposal(&self) -> Option<Proposal<D>>
+        ensures { result ≡ proposal_in (subject_certified self.now) }
+    {
+        self.subject().proposal()
+    }
+}
+
 /// What a signer signs: a kind of vote with its context, which is the round number for a
 /// nullify and the proposal for the others.
 #[derive(Clone, Copy, Debug, PartialEq, Eq)]
@@ -215,6 +366,30 @@ pub enum Subject<D> {
     Notarize { proposal: Proposal<D> },
     Nullify { round: Round },
     Finalize { proposal: Proposal<D> },
+}
+
+impl<D: Copy> Subject<D> {
+    ghost use Rattle.batcher_types.specs.Votes.{round_in, proposal_in};
+
+    /// The round that it is of.
+    pub fn round(&self) -> Round
+        ensures { result ≡ round_in self.now }
+    {
+        match self {
+            Subject::Notarize { proposal } | Subject::Finalize { proposal } => proposal.round,
+            Subject::Nullify { round } => *round,
+        }
+    }
+
+    /// The proposal, unless it is that of a nullify.
+    pub fn proposal(&self) -> Option<Proposal<D>>
+        ensures { result ≡ proposal_in self.now }
+    {
+        match self {
+            Subject::Notarize { proposal } | Subject::Finalize { proposal } => Some(*proposal),
+            Subject::Nullify { .. } => None,
+        }
+    }
 }
 
 /// What a round reports: a vote that is new, or two votes of one signer that contradict each

@@ -8,10 +8,17 @@ mod list;
 
 pub use keys::{Set, SetFault};
 pub use list::Participants;
+use std::fmt;
 
 /// A period with one set of participants.
 #[derive(Clone, Copy, Debug, PartialEq, Eq, PartialOrd, Ord, Hash)]
 pub struct Epoch(pub u64);
+
+impl fmt::Display for Epoch {
+    fn fmt<W: fmt::Write>(&self, f: &mut fmt::Formatter<W>) -> fmt::Result {
+        write!(f, "{}", self.0)
+    }
+}
 
 impl Epoch {
     /// The epoch of this number, the first being 0.
@@ -39,6 +46,12 @@ impl Epoch {
 /// A view within an epoch: one leader's turn to propose.
 #[derive(Clone, Copy, Debug, PartialEq, Eq, PartialOrd, Ord, Hash)]
 pub struct View(pub u64);
+
+impl fmt::Display for View {
+    fn fmt<W: fmt::Write>(&self, f: &mut fmt::Formatter<W>) -> fmt::Result {
+        write!(f, "{}", self.0)
+    }
+}
 
 impl View {
     /// The view of this number, the first being 0.
@@ -70,6 +83,13 @@ pub struct Round {
     pub view: View,
 }
 
+impl fmt::Display for Round {
+    /// The epoch and the view, with a blank between them.
+    fn fmt<W: fmt::Write>(&self, f: &mut fmt::Formatter<W>) -> fmt::Result {
+        write!(f, "{} {}", self.epoch, self.view)
+    }
+}
+
 impl Round {
     /// The round of a view in an epoch.
     pub const fn new(epoch: Epoch, view: View) -> Self
@@ -98,6 +118,12 @@ impl Round {
 #[derive(Clone, Copy, Debug, PartialEq, Eq, PartialOrd, Ord, Hash)]
 pub struct Participant(pub u32);
 
+impl fmt::Display for Participant {
+    fn fmt<W: fmt::Write>(&self, f: &mut fmt::Formatter<W>) -> fmt::Result {
+        write!(f, "{}", self.0)
+    }
+}
+
 impl Participant {
     /// The participant at this place, the first being 0. Whether there is one a round tells.
     pub const fn new(index: u32) -> Self
@@ -106,6 +132,7 @@ impl Participant {
         Participant(index)
     }
 
+    /// The participant at this place, which is one of fewer than 2^32.
     pub const fn from_usize(index: usize) -> Self
         requires { index < 2 ^ 32 }
         ensures { result.0 ≡ index }

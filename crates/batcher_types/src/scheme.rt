@@ -22,7 +22,7 @@ use std::alloc::{AllocError, Global};
 
 /// What a check of attestations finds: those that attest, and the signers of the others, both in
 /// the order in which they were handed in.
-#[derive(Debug, Drop)]
+#[derive(Clone, Debug, Drop, PartialEq, Eq)]
 pub struct Verification<G> {
     pub verified: Vec<Attestation<G>>,
     pub invalid: Vec<Participant>,

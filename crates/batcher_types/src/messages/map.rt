@@ -277,3 +277,15 @@ impl<'a, T> Iterator for MapIter<'a, T> {
         Some(first)
     }
 }
+
+impl<'a, T: Attributable> IntoIterator for &'a AttributableMap<T> {
+    type Item = &'a T;
+
+    type IntoIter = MapIter<'a, T>;
+
+    ghost into_iter_gives = { λ map it. it ≡ map.now.items };
+
+    fn into_iter(self) -> Self::IntoIter {
+        self.iter()
+    }
+}

@@ -1,14 +1,16 @@
 //! The set of the participants' keys.
 
-ghost use Rattle.std.specs.Prelude.{◌≡◌, ◌<◌, ◌≤◌, ◌^◌, ◌↔◌, List, length, IsOk, IfOk, IfSome, slice_get};
+ghost use Rattle.std.specs.Prelude.{◌≡◌, ◌<◌, ◌≤◌, ◌^◌, ◌↔◌, List, [], length, IsTrue, IsOk, IfOk, IfSome, slice_get};
 ghost use Rattle.std.specs.List.{IsDistinct};
 ghost use Rattle.std.specs.List.Sorted.{IsPermutation, IsStrictlySortedBy};
 ghost use Rattle.std.specs.Option.{option_copied};
+ghost use Rattle.std.specs.Slice.Iter.{iter_rest};
 ghost use Rattle.batcher_types.specs.Keys.{index_of};
 
 use crate::positions::Participant;
 use std::cmp::Ordering;
 use std::marker::Model;
+use std::slice;
 use thiserror::Error;
 
 /// Why a list of keys is no set.
@@ -66,6 +68,20 @@ impl<P: Copy + Ord> Set<P> {
         self.keys.len()
     }
 
+    /// Whether there is no key.
+    pub fn is_empty(&self) -> bool
+        ensures { IsTrue result ↔ (self.now ≡ []) }
+    {
+        self.keys.is_empty()
+    }
+
+    /// The keys in ascending order, so each at the place of its participant.
+    pub fn iter(&self) -> slice::Iter<'_, P>
+        ensures { iter_rest result ≡ self.now }
+    {
+        self.keys.iter()
+    }
+
     /// The participant with the key.
     pub fn index(&self, key: &P) -> Option<Participant>
         ensures index { result ≡ index_of P.cmp self.now key.now }
@@ -82,5 +98,17 @@ impl<P: Copy + Ord> Set<P> {
         ensures { option_copied result ≡ slice_get self.now participant.0 }
     {
         self.keys.get(participant.0 as usize)
+    }
+}
+
+impl<'a, P: Copy + Ord> IntoIterator for &'a Set<P> {
+    type Item = &'a P;
+
+    type IntoIter = slice::Iter<'a, P>;
+
+    ghost into_iter_gives = { λ set it. iter_rest it ≡ set.now };
+
+    fn into_iter(self) -> Self::IntoIter {
+        self.iter()
     }
 }

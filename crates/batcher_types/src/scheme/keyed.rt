@@ -22,7 +22,7 @@ use std::marker::Model;
 pub struct Name(pub u64);
 
 /// A list of attestations, as a certificate. Contracts see it as the list.
-#[derive(Debug, Drop)]
+#[derive(Clone, Debug, Drop)]
 pub struct AttestationList {
     attestations: Vec<Attestation<[u8; 32]>>,
 }
@@ -50,6 +50,28 @@ impl AttestationList {
     {
         self.attestations.as_slice()
     }
+}
+
+impl PartialEq for AttestationList {
+    ghost use Rattle.std.specs.Cmp.Lexicographic.{pointwise, lists_per};
+    ghost use Rattle.std.specs.Cmp.Rules.{comparing};
+    ghost use Rattle.std.proofs.Common.{rules};
+
+    ghost eq = { pointwise ⟦<Attestation<[u8; 32]> as PartialEq>⟧.eq };
+
+    ghost laws = { lists_per (Prim.search (comparing, rules)) };
+
+    fn eq(&self, other: &Self) -> bool {
+        self.attestations == other.attestations
+    }
+}
+
+impl Eq for AttestationList {
+    ghost use Rattle.std.specs.Cmp.Lexicographic.{lists_equiv};
+    ghost use Rattle.std.specs.Cmp.Rules.{comparing};
+    ghost use Rattle.std.proofs.Common.{rules};
+
+    ghost laws = { lists_equiv (Prim.search (comparing, rules)) };
 }
 
 // Verifies each attestation.
