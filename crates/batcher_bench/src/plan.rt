@@ -8,7 +8,7 @@ ghost use Rattle.batcher_bench.specs.Steps.{IsOfRound};
 
 use crate::plain::sign;
 use crate::rows::{Course, Order, Row};
-use batcher::messages::{Finalize, Notarize, Nullify, Proposal, Sha256Digest, Subject, Vote};
+use batcher::messages::{Proposal, Sha256Digest, Subject, Vote};
 use batcher::positions::{Epoch, Participant, Round, Set, View, quorum};
 use batcher::scheme::Name;
 use std::alloc::{AllocError, Global};
@@ -158,15 +158,5 @@ fn vote(
     if course == Course::BadThird && signer.0 % 3 == 2 {
         attestation.signature ^= 1;
     }
-    match subject {
-        Subject::Notarize { proposal } => Vote::Notarize(Notarize {
-            proposal,
-            attestation,
-        }),
-        Subject::Nullify { round } => Vote::Nullify(Nullify { round, attestation }),
-        Subject::Finalize { proposal } => Vote::Finalize(Finalize {
-            proposal,
-            attestation,
-        }),
-    }
+    Vote::new(subject, attestation)
 }

@@ -9,7 +9,7 @@ ghost use Rattle.batcher.specs.Verifiers.{certifies_itself};
 ghost use Rattle.batcher_evidence.specs.Culprits.{AreCulprits, culprits_of, signed_both};
 
 use crate::Accountable;
-use crate::subjects::{certificates_contradict, certified_subject, content};
+use crate::subjects::certificates_contradict;
 use batcher::messages::{Attestation, Certificate, Digest};
 use batcher::scheme::Scheme;
 use std::alloc::{AllocError, Global};
@@ -53,7 +53,7 @@ fn certifies<S: Scheme<D>, D: Digest>(
 ) -> bool
     ensures { result ≡ certifies_itself (S.meaning scheme.now) certificate.now }
 {
-    scheme.verify_certificate(certified_subject(certificate), content(certificate))
+    scheme.verify_certificate(certificate.subject(), certificate.content())
 }
 
 // The attestations that the certificate shows.
@@ -65,7 +65,7 @@ fn shown<'a, S: Accountable<D>, D: Digest>(
     ensures is { result.now ≡ S.shown (content_of certificate.now) }
     ensures ascending { IsAscending index_of_signer result.now }
 {
-    scheme.attestations(content(certificate))
+    scheme.attestations(certificate.content())
 }
 
 // Who signed both of two things that are certified.

@@ -4,7 +4,7 @@ ghost use Rattle.std.specs.Prelude.{◌≡◌, cond, IfOk, IfSome, Some, None};
 ghost use Rattle.batcher.specs.Votes.{subject_of, attestation_of};
 ghost use Rattle.batcher_evidence.specs.Convicted.{IsProof, convicts, convicted_by};
 
-use crate::subjects::{attestation, contradict, vote_subject};
+use crate::subjects::contradict;
 use batcher::messages::{Activity, Digest, Vote};
 use batcher::positions::Participant;
 use batcher::scheme::Scheme;
@@ -84,7 +84,7 @@ fn convicts<S: Scheme<D>, D: Digest, R: CryptoRng>(
 ) -> Result<bool, AllocError>
     ensures { IfOk result (λ yes. yes ≡ convicts (S.meaning scheme.now) D.eq a.now b.now) }
 {
-    if a.signer().0 != b.signer().0 || !contradict(vote_subject(a), vote_subject(b)) {
+    if a.signer().0 != b.signer().0 || !contradict(a.subject(), b.subject()) {
         return Ok(false);
     }
     if !attests(alloc, scheme, rng, a)? {
@@ -104,7 +104,7 @@ fn attests<S: Scheme<D>, D: Digest, R: CryptoRng>(
         ≡ (S.meaning scheme.now).attests (subject_of vote.now) (attestation_of vote.now)) }
 {
     let mut pending = Vec::new(alloc);
-    pending.push(attestation(vote))?;
-    let found = scheme.verify_attestations(alloc, rng, vote_subject(vote), &pending)?;
+    pending.push(vote.attestation())?;
+    let found = scheme.verify_attestations(alloc, rng, vote.subject(), &pending)?;
     Ok(found.invalid.is_empty())
 }

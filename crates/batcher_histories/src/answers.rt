@@ -85,7 +85,7 @@ pub struct Admission<G, D> {
 }
 
 /// The answer to a call, with certificates `C`.
-#[derive(Debug, Drop)]
+#[derive(Clone, Debug, Drop, PartialEq, Eq)]
 pub enum Answer<G, C, D> {
     Network(Admission<G, D>),
     Own(Outcome, Option<Activity<G, D>>),

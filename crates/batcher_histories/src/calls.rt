@@ -4,7 +4,7 @@ use batcher_types::messages::{Certificate, Proposal, Vote};
 use batcher_types::positions::Participant;
 
 /// A call of a round, with keys `P`, signatures `G`, certificates `C` and digests `D`.
-#[derive(Debug, Drop)]
+#[derive(Clone, Debug, Drop, PartialEq, Eq)]
 pub enum Call<P, G, C, D> {
     /// A vote that the peer with the key sent. It need not take part.
     Network(P, Vote<G, D>),

@@ -12,10 +12,7 @@ ghost use Rattle.batcher_reader.specs.Calls.{IsVoteOf, IsCallOf, is_good, propos
 ghost use Rattle.batcher_reader.specs.Commands.{is_among};
 
 use crate::script::{Ballot, Command, Signature};
-use batcher::messages::{
-    Attestation, Certificate, Finalization, Finalize, Notarization, Notarize, Nullification,
-    Nullify, Proposal, Sha256Digest, Subject, Vote,
-};
+use batcher::messages::{Attestation, Certificate, Proposal, Sha256Digest, Subject, Vote};
 use batcher::positions::{self, Participant, Set, View, quorum};
 use batcher::run::Call;
 use batcher::scheme::{Keyed, Name, Scheme, Sealed};
@@ -163,17 +160,7 @@ fn vote<S: TestScheme>(
 {
     let subject = subject(round, ballot);
     let attestation = attestation(scheme, signer, subject, signature);
-    match subject {
-        Subject::Notarize { proposal } => Vote::Notarize(Notarize {
-            proposal,
-            attestation,
-        }),
-        Subject::Nullify { round } => Vote::Nullify(Nullify { round, attestation }),
-        Subject::Finalize { proposal } => Vote::Finalize(Finalize {
-            proposal,
-            attestation,
-        }),
-    }
+    Vote::new(subject, attestation)
 }
 
 fn attestation<S: TestScheme>(
@@ -222,20 +209,7 @@ fn certificate<S: TestScheme>(
     let subject = subject(round, ballot);
     let attestations = quorum_of(alloc, scheme, subject)?;
     let certificate = scheme.assemble(alloc, subject, &[], attestations.as_slice())?;
-    Ok(match subject {
-        Subject::Notarize { proposal } => Certificate::Notarization(Notarization {
-            proposal,
-            certificate,
-        }),
-        Subject::Nullify { round } => Certificate::Nullification(Nullification {
-            round,
-            certificate,
-        }),
-        Subject::Finalize { proposal } => Certificate::Finalization(Finalization {
-            proposal,
-            certificate,
-        }),
-    })
+    Ok(Certificate::new(subject, certificate))
 }
 
 // The attestations of the first participants that are a quorum.

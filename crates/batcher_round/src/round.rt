@@ -22,7 +22,7 @@ ghost use Rattle.batcher_histories.specs.Steps.{restored_with};
 ghost use Rattle.batcher_histories.specs.Steps.{AfterConstruct, TriesHeld, Fixes, is_ready_in, IsRight, AfterOwn, own_result, fault_or_memory, fixed_by, opposite_fault, unopposed_result, report_by, is_added, is_kept};
 ghost use Rattle.batcher_histories.specs.Steps.{AfterCertificate};
 ghost use Rattle.batcher_histories.specs.History.{History};
-ghost use Rattle.batcher_histories.specs.Selection.{is_certified, leader_of};
+ghost use Rattle.batcher_histories.specs.Selection.{is_certified, leader_of, selected_proposal};
 ghost use Rattle.batcher_histories.specs.Comparison.{has_block};
 ghost use Rattle.batcher_histories.specs.Answers.{keeps_nullify, own_answer, needs_memory};
 ghost use Rattle.batcher_histories.specs.declared.calls.Call.TheVariants.{Network as NetworkCall, Own as OwnCall, Construct as ConstructCall, Leader as LeaderCall, Forward as ForwardCall, Missing as MissingCall};
@@ -140,12 +140,54 @@ impl<S: Scheme<D>, D: Digest> Round<S, D> {
         Round::with_votes(alloc, round, scheme, votes)
     }
 
+    /// A round in a mode: `new` for those that track votes in full, else `skipped`. It takes no
+    /// memory.
+    pub fn in_mode(alloc: Global, round: positions::Round, scheme: Rc<S>, mode: Mode) -> Self
+        requires { 1 ≤ length (S.meaning scheme.value).participants }
+        ensures scheme { result.scheme ≡ scheme.value }
+        ensures number { result.number ≡ round }
+        ensures mode { result.mode ≡ mode }
+        ensures holds { result.holds ≡ nothing_held result.mode }
+        ensures stands { Stands (⟦<S as Judge<D>>⟧.of result) [] result.holds }
+    {
+        match mode {
+            Mode::Retaining => Round::new(alloc, round, scheme, true),
+            Mode::Releasing => Round::new(alloc, round, scheme, false),
+            Mode::Skipped => Round::skipped(alloc, round, scheme),
+        }
+    }
+
     /// The number of the round.
     pub fn number(&self) -> positions::Round
         ensures number { result ≡ self.now.number }
         ensures participants { 1 ≤ length (S.meaning self.now.scheme).participants }
     {
         self.verifier.round()
+    }
+
+    /// How the round keeps its votes.
+    pub fn mode(&self) -> Mode
+        ensures { result ≡ self.now.mode }
+    {
+        self.votes.mode()
+    }
+
+    /// The leader, once it is set.
+    pub fn leader(&self) -> Option<Participant>
+        ensures held { result ≡ self.now.holds.buffered.leader }
+        ensures meets { WhereverItStands ⟦<S as Judge<D>>⟧.of self.now
+            (λ _ past. result ≡ leader_of past) }
+    {
+        self.verifier.leader()
+    }
+
+    /// The selected proposal: the leader's, or one that evidence fixed.
+    pub fn proposal(&self) -> Option<Proposal<D>>
+        ensures held { result ≡ selected_in self.now.holds.buffered }
+        ensures meets { WhereverItStands ⟦<S as Judge<D>>⟧.of self.now
+            (λ x past. result ≡ selected_proposal x past) }
+    {
+        self.verifier.proposal().copied()
     }
 
     // A round over a tracker in which nothing was recorded.
@@ -178,12 +220,7 @@ impl<S: Scheme<D>, D: Digest> Round<S, D> {
             → IsTrue result ↔ MayCall (S.meaning self.now.scheme) self.now.number
             (NetworkCall sender vote.now) }
     {
-        self.verifier.round()
-            == match vote {
-                Vote::Notarize(notarize) => notarize.proposal.round,
-                Vote::Nullify(nullify) => nullify.round,
-                Vote::Finalize(finalize) => finalize.proposal.round,
-            }
+        self.verifier.round() == vote.round()
     }
 
     /// Whether the certificate is of this round. Its parent view isn't looked at.
@@ -193,12 +230,7 @@ impl<S: Scheme<D>, D: Digest> Round<S, D> {
         ensures may { IsTrue result ↔ MayCall (S.meaning self.now.scheme) self.now.number
             (CertificateCall certificate.now) }
     {
-        self.verifier.round()
-            == match certificate {
-                Certificate::Notarization(notarization) => notarization.proposal.round,
-                Certificate::Nullification(nullification) => nullification.round,
-                Certificate::Finalization(finalization) => finalization.proposal.round,
-            }
+        self.verifier.round() == certificate.round()
     }
 
     /// Whether a certificate of the kind is there.
@@ -393,7 +425,7 @@ impl<S: Scheme<D>, D: Digest> Round<S, D> {
         ensures same { SameRound self.old self.new }
     {
         let kind = certificate.kind();
-        let proposal = proposal_certified(certificate);
+        let proposal = certificate.proposal();
         make_room_to_fix(&mut self.verifier, &self.votes, proposal, Some(kind))?;
         self.verifier.record_certificate(kind);
         let changed = may_fix(&mut self.verifier, &self.votes, proposal);
@@ -452,7 +484,7 @@ impl<S: Scheme<D>, D: Digest> Round<S, D> {
             return Ok(None);
         };
         if let Some(certificate) = &batch.certificate {
-            let proposal = proposal_certified(certificate);
+            let proposal = certificate.proposal();
             settle(&mut self.verifier, proposal);
             self.votes.release(kind, proposal);
         }
@@ -567,17 +599,6 @@ fn own_result<S: Scheme<D>, D: Digest>(
         None => verifier.proposal().copied(),
     };
     unopposed_result(vote.kind(), votes.outcome_at(place, &vote, selected))
-}
-
-// The proposal that a certificate is for.
-fn proposal_certified<C, D: Copy>(certificate: &Certificate<C, D>) -> Option<Proposal<D>>
-    ensures { result ≡ proposal_in (subject_certified certificate.now) }
-{
-    match certificate {
-        Certificate::Notarization(notarization) => Some(notarization.proposal),
-        Certificate::Nullification(_) => None,
-        Certificate::Finalization(finalization) => Some(finalization.proposal),
-    }
 }
 
 // The proposal that an own vote fixes.

@@ -49,7 +49,7 @@ pub enum ProposalState<D> {
 }
 
 /// What one attempt at a certificate did.
-#[derive(Debug, Drop)]
+#[derive(Clone, Debug, Drop, PartialEq, Eq)]
 pub struct Batch<C> {
     /// How many pending votes were looked at.
     pub processed: usize,

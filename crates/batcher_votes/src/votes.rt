@@ -218,6 +218,13 @@ impl<G: Copy, D: Digest> VoteTracker<G, D> {
         }
     }
 
+    /// How the votes are kept.
+    pub fn mode(&self) -> Mode
+        ensures { result ≡ self.now.mode }
+    {
+        self.mode
+    }
+
     /// Records a vote, in full or in its signer's facts, where its signer is in range.
     pub fn record(
         &mut self,

@@ -2,7 +2,7 @@
 
 use super::*;
 use batcher::messages::{Attributable, AttributableMap};
-use batcher::positions::{SetFault, quorum};
+use batcher::positions::{Participants, SetFault, quorum};
 use batcher::round::{Admission, BlockReason};
 use batcher::run::{Answer, Call, blocked, run};
 use batcher::verifier::LeaderFault;
@@ -234,4 +234,38 @@ fn faults_have_texts(rt: HostRuntime) -> Result<(), Fail> {
     reads(&rt, alloc, other, "notarize must be from leader")?;
     reads(&rt, alloc, SetFault::Duplicate, "duplicate key")?;
     reads(&rt, alloc, SetFault::TooMany, "too many keys")
+}
+
+#[test]
+fn numbers_kinds_and_digests_have_texts(rt: HostRuntime) -> Result<(), Fail> {
+    let alloc = rt.alloc();
+    reads(&rt, alloc, Epoch::new(7), "7")?;
+    reads(&rt, alloc, View::new(12), "12")?;
+    reads(&rt, alloc, Participant::new(3), "3")?;
+    reads(&rt, alloc, number(), "0 1")?;
+    reads(&rt, alloc, Kind::Notarization, "notarization")?;
+    reads(&rt, alloc, Kind::Nullification, "nullification")?;
+    reads(&rt, alloc, Kind::Finalization, "finalization")?;
+    let mut bytes = [0; 32];
+    bytes[0] = 0xab;
+    bytes[31] = 5;
+    let text = "ab00000000000000000000000000000000000000000000000000000000000005";
+    reads(&rt, alloc, Sha256Digest(bytes), text)
+}
+
+#[test]
+fn lists_of_participants_are_compared_and_walked(rt: HostRuntime) -> Result<(), Fail> {
+    let alloc = rt.alloc();
+    let [one, two] = [Participant::new(1), Participant::new(2)];
+    let list = Participants::from(vec![in alloc; one, two]?);
+    assert!(rt; list == list.clone()?);
+    assert!(rt; list != Participants::from(vec![in alloc; one]?));
+    let mut last = None;
+    for participant in &list {
+        last = Some(*participant);
+    }
+    assert_eq!(rt; last, Some(two));
+    assert!(rt; !list.is_empty());
+    assert_eq!(rt; list.len(), 2);
+    Ok(())
 }

@@ -27,9 +27,9 @@ invariant_of-self-2 g c =
     rw (f.same.0, c.record_certificate.ensures.same.0, made.same.0, f.same.2, c.record_certificate.ensures.same.2, made.same.2)
     (right_certified (g.S.Scheme.meaning b.verifier.scheme) same b.votes c.release.new.self b.verifier.holds c.record_certificate.new.self.holds
     c.may_fix-changed.new.verifier.holds b.verifier.quorum kind
-    c.proposal_certified-proposal.result _ c.self.invariant completes f.fixes f.within c.release.ensures.participants c.release.ensures.mode
+    c.proposal-proposal.result _ c.self.invariant completes f.fixes f.within c.release.ensures.participants c.release.ensures.mode
     c.release.ensures.releases c.release.ensures.others
-    (λ h. ap is_some c.proposal_certified-proposal.ensures
+    (λ h. ap is_some c.proposal-proposal.ensures
     ∙ finalization_for c.args.certificate.now (ap (λ k. is_kind k Finalization) (sym c.kind-kind.ensures) ∙ h)))
 
 pub returns-clause-step : goal.returns-clause-step
@@ -60,7 +60,7 @@ returns-clause-step g c =
       forwarded = refl;
       completed = completed;
       completes = completes;
-      fixes = subst (λ p. MayFix same completed b.votes.holds.kept p new) c.proposal_certified-proposal.ensures c.may_fix-changed.ensures.fixes;
+      fixes = subst (λ p. MayFix same completed b.votes.holds.kept p new) c.proposal-proposal.ensures c.may_fix-changed.ensures.fixes;
       releases = releases;
     })
 
@@ -89,7 +89,7 @@ returns-in_err-make_room_to_fix-clause-no_memory g c =
     let wrong =
     c.in_err-make_room_to_fix.ensures.no_memory
     (λ fixed is takes kind has own full. no_room_with x (record { tracked = b.votes.holds; buffered = b.verifier.holds; forwarded = b.forwarded }) fixed kind _
-    takes has c.args.certificate.now _ _ c.kind-kind.ensures c.proposal_certified-proposal.ensures is own (none kind)) in
+    takes has c.args.certificate.now _ _ c.kind-kind.ensures c.proposal-proposal.ensures is own (none kind)) in
     absurd (cc))
 
 pub returns-in_err-make_room_to_fix-clause-needed :

@@ -19,8 +19,8 @@ invariant_of-self-in-Some-certificate g c =
     c.in-Some.batch tries
     (setting (g.S.Scheme.meaning c.try_construct.new.self.scheme) g.S.PublicKey.Ord.cmp g.S.Signature.PartialEq.eq g.D.PartialEq.eq
     c.try_construct.new.self.number Retaining)
-    c.proposal_certified-proposal.result c.settle.new.verifier.holds b.votes c.release.new.self c.settle.ensures.fixes (ap is_some given)
-    (λ h. ap is_some c.proposal_certified-proposal.ensures
+    c.proposal-proposal.result c.settle.new.verifier.holds b.votes c.release.new.self c.settle.ensures.fixes (ap is_some given)
+    (λ h. ap is_some c.proposal-proposal.ensures
     ∙ made_for c.args.kind b.verifier.number _ tries.subject tries.outcome.certificate c.in-Some-certificate.certificate tries.subject_is
     (sym (ap (λ o. o.certificate) tries.batch_is) ∙ given) h)
     c.self.invariant c.release.ensures.mode c.release.ensures.participants was c.release.ensures.releases c.release.ensures.others)
