@@ -187,7 +187,7 @@ kind_is Finalization Notarization h = absurd (cc)
 kind_is Finalization Nullification h = absurd (cc)
 kind_is Finalization Finalization h = refl
 
-not_both : (a b : Bool) → (a || not b) ≡ false → (a ≡ false) × (b ≡ true)
+pub not_both : (a b : Bool) → (a || not b) ≡ false → (a ≡ false) × (b ≡ true)
 not_both true b h = absurd (cc)
 not_both false true h = (refl, refl)
 not_both false false h = absurd (cc)
