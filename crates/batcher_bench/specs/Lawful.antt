@@ -10,15 +10,21 @@ use Rattle.batcher.specs.messages.Attestation.{Attestation}
 use Rattle.batcher.specs.messages.Subject.{Subject}
 use Rattle.batcher.specs.messages.Sha256Digest.{Sha256Digest}
 use Rattle.batcher_bench.specs.declared.plain.Tally.{Tally}
+use Rattle.batcher_bench.specs.declared.plain.Padded.{Padded}
 use Rattle.batcher_bench.specs.Plain.{is_signed, is_enough, tally_of, tallied_at_once}
 
-module _ (n : ℕ) (subject : Subject Sha256Digest) where
+tally_given : (n : ℕ) (tally c : Tally) (b : Bool) → is_enough n tally ≡ true
+    → cond b (Some tally) None ≡ Some c → is_enough n c ≡ true
+tally_given n tally c true h e = let same : tally ≡ c = cc in rw same at h
+tally_given n tally c false h e = absurd (cc)
+
+module _ {P : Type 0} (n : ℕ) (subject : Subject Sha256Digest) where
   -- who signs is below n
-  pub in_range : (a : Attestation ℕ) → is_signed n subject a ≡ true → a.signer.0 < n
+  pub in_range : (a : Attestation (Padded P)) → is_signed n subject a ≡ true → a.signer.0 < n
   in_range a h = grind (arith, nat_tests)
 
   -- a tally of a quorum is enough
-  pub tallied : (prior fresh : List (Attestation ℕ)) → 1 ≤ n → IsQuorum n (prior ++ fresh)
+  pub tallied : (prior fresh : List (Attestation (Padded P))) → 1 ≤ n → IsQuorum n (prior ++ fresh)
       → is_enough n (tally_of prior fresh) ≡ true
   tallied prior fresh some quorum =
       let there : nat_le 1 n ≡ true = grind (arith, nat_tests) in
@@ -28,19 +34,14 @@ module _ (n : ℕ) (subject : Subject Sha256Digest) where
       ≡ true = grind (arith, nat_tests) in
       rw (there, yes)
 
-  tally_given : (tally c : Tally) (b : Bool) → is_enough n tally ≡ true → cond b (Some tally) None
-      ≡ Some c → is_enough n c ≡ true
-  tally_given tally c true h e = let same : tally ≡ c = cc in rw same at h
-  tally_given tally c false h e = absurd (cc)
-
-  pub tally_certifies : (pending verified : List (Attestation ℕ)) (stream : Stream) (c : Tally)
-      → 1 ≤ n → IsQuorum n (verified ++ pending)
+  pub tally_certifies : (pending verified : List (Attestation (Padded P))) (stream : Stream)
+      (c : Tally) → 1 ≤ n → IsQuorum n (verified ++ pending)
       → (tallied_at_once n subject pending verified stream).0 ≡ Some c → is_enough n c ≡ true
   tally_certifies pending verified stream c some quorum e =
-      tally_given (tally_of verified pending) c (list_all (is_signed n subject) pending)
+      tally_given n (tally_of verified pending) c (list_all (is_signed n subject) pending)
       (tallied verified pending some quorum) e
 
-  pub tally_gives : (pending verified : List (Attestation ℕ)) (stream : Stream)
+  pub tally_gives : (pending verified : List (Attestation (Padded P))) (stream : Stream)
       → AllPass (is_signed n subject) pending
       → is_some (tallied_at_once n subject pending verified stream).0 ≡ true
   tally_gives pending verified stream pass =

@@ -10,6 +10,7 @@ use Rattle.batcher.specs.messages.Attestation.{Attestation}
 use Rattle.batcher.specs.messages.Subject.{Subject}
 use Rattle.batcher.specs.messages.Subject.TheVariants.{Notarize, Nullify, Finalize}
 use Rattle.batcher_bench.specs.declared.plain.Tally.{Tally}
+use Rattle.batcher_bench.specs.declared.plain.Padded.{Padded}
 
 -- a number mixed into a word
 unfoldable pub mixed : ℕ → ℕ → ℕ
@@ -28,24 +29,25 @@ subject_word (Notarize proposal) = proposal_word 1 proposal
 subject_word (Nullify round) = round_word 2 round
 subject_word (Finalize proposal) = proposal_word 3 proposal
 
--- the signature of an index over a subject
+-- the first word of the signature of an index over a subject
 abbrev pub signature_of : Subject Sha256Digest → ℕ → ℕ
 signature_of subject signer = mixed (subject_word subject) signer
 
 -- whether the attestation is one of n participants' over the subject with the word
-abbrev pub bears : ℕ → ℕ → Attestation ℕ → Bool
-bears n word a = nat_lt a.signer.0 n && (a.signature == mixed word a.signer.0)
+abbrev pub bears : {P : Type 0} → ℕ → ℕ → Attestation (Padded P) → Bool
+bears n word a = nat_lt a.signer.0 n && (a.signature.word == mixed word a.signer.0)
 
 -- whether the attestation is of the subject, among n participants
-abbrev pub is_signed : ℕ → Subject Sha256Digest → Attestation ℕ → Bool
+abbrev pub is_signed : {P : Type 0} → ℕ → Subject Sha256Digest → Attestation (Padded P) → Bool
 is_signed n subject a = bears n (subject_word subject) a
 
--- the sum of the signatures and a number
-abbrev pub sum_from : ℕ → List (Attestation ℕ) → ℕ
-sum_from sum attestations = fold (λ s a. (s + a.signature) % 2 ^ 64) sum attestations
+-- the sum of the first words of the signatures and a number
+abbrev pub sum_from : {P : Type 0} → ℕ → List (Attestation (Padded P)) → ℕ
+sum_from sum attestations = fold (λ s a. (s + a.signature.word) % 2 ^ 64) sum attestations
 
 -- what a certificate of two lists says
-abbrev pub tally_of : List (Attestation ℕ) → List (Attestation ℕ) → Tally
+abbrev pub tally_of : {P : Type 0} → List (Attestation (Padded P)) → List (Attestation (Padded P))
+    → Tally
 tally_of earlier later =
     record { count = length earlier + length later; sum = sum_from (sum_from 0 earlier) later }
 
@@ -54,8 +56,8 @@ abbrev pub is_enough : ℕ → Tally → Bool
 is_enough n tally = nat_le 1 n && nat_le (quorum_of n) tally.count
 
 -- the certificate where all pending ones attest, and the stream, which is left as it was
-abbrev pub tallied_at_once : ℕ → Subject Sha256Digest → List (Attestation ℕ)
-    → List (Attestation ℕ) → Stream → Option Tally × Stream
+abbrev pub tallied_at_once : {P : Type 0} → ℕ → Subject Sha256Digest → List (Attestation (Padded P))
+    → List (Attestation (Padded P)) → Stream → Option Tally × Stream
 tallied_at_once n subject pending verified stream = (
   if list_all (is_signed n subject) pending then Some (tally_of verified pending) else None,
   stream,

@@ -6,6 +6,6 @@ use Rattle.batcher_bench.specs.declared.plan.Step.{Step}
 use Rattle.batcher_bench.specs.declared.plan.Step.TheVariants.{Send, Construct}
 
 -- A vote that is sent is of the round.
-abbrev pub IsOfRound : Round → Step → Type 0
+abbrev pub IsOfRound : {P : Type 0} → Round → Step P → Type 0
 IsOfRound number (Send sender vote) = round_in (subject_of vote) ≡ number
 IsOfRound number Construct = ⊤

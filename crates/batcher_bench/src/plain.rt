@@ -1,5 +1,5 @@
-//! A scheme whose signatures are cheap to make and to verify, so that the time of a run is that of
-//! the batcher. It protects nothing.
+//! A scheme whose signatures are cheap to make and to verify, and of any length, so that the time
+//! of a run is that of the batcher. It protects nothing.
 
 ghost use Rattle.std.specs.Prelude.{◌≡◌, true, length, IfOk, IfErr, OnOk};
 ghost use Rattle.std.specs.Result.{result_ok};
@@ -48,27 +48,45 @@ fn subject_word(subject: Subject<Sha256Digest>) -> u64
     }
 }
 
+/// A signature: a word that is verified, and a padding that gives it its length.
+#[derive(Clone, Copy, Debug, PartialEq, Eq)]
+pub(crate) struct Padded<P> {
+    pub(crate) word: u64,
+    pub(crate) padding: P,
+}
+
 /// The attestation of an index, which attests where the index is a participant's.
-pub(crate) fn sign(signer: Participant, subject: Subject<Sha256Digest>) -> Attestation<u64>
+pub(crate) fn sign<P>(
+    signer: Participant,
+    subject: Subject<Sha256Digest>,
+    padding: P,
+) -> Attestation<Padded<P>>
     ensures signer { result.signer ≡ signer }
-    ensures signature { result.signature ≡ signature_of subject signer.0 }
+    ensures signature { result.signature.word ≡ signature_of subject signer.0 }
 {
     Attestation {
         signer,
-        signature: mixed(subject_word(subject), u64::from(signer.0)),
+        signature: Padded {
+            word: mixed(subject_word(subject), u64::from(signer.0)),
+            padding,
+        },
     }
 }
 
 // Whether the attestation is of the subject with the word, among `n` participants.
-fn is_signed_by(n: usize, word: u64, attestation: &Attestation<u64>) -> bool
+fn is_signed_by<P>(n: usize, word: u64, attestation: &Attestation<Padded<P>>) -> bool
     ensures { result ≡ bears n word attestation.now }
 {
     (attestation.signer.0 as usize) < n
-        && attestation.signature == mixed(word, u64::from(attestation.signer.0))
+        && attestation.signature.word == mixed(word, u64::from(attestation.signer.0))
 }
 
 // Whether all attest.
-fn all_signed(n: usize, subject: Subject<Sha256Digest>, attestations: &[Attestation<u64>]) -> bool
+fn all_signed<P>(
+    n: usize,
+    subject: Subject<Sha256Digest>,
+    attestations: &[Attestation<Padded<P>>],
+) -> bool
     ensures { result ≡ list_all (is_signed n subject) attestations.now }
 {
     let word = subject_word(subject);
@@ -77,12 +95,12 @@ fn all_signed(n: usize, subject: Subject<Sha256Digest>, attestations: &[Attestat
         .all(|attestation| is_signed_by(n, word, attestation))
 }
 
-fn verify_each(
+fn verify_each<P: Copy>(
     alloc: Global,
     n: usize,
     subject: Subject<Sha256Digest>,
-    pending: &[Attestation<u64>],
-) -> Result<Verification<u64>, AllocError>
+    pending: &[Attestation<Padded<P>>],
+) -> Result<Verification<Padded<P>>, AllocError>
     ensures { IfOk result (Sorts (is_signed n subject) pending.now) }
 {
     let word = subject_word(subject);
@@ -98,25 +116,25 @@ fn verify_each(
     Ok(Verification { verified, invalid })
 }
 
-fn sum_from(sum: u64, attestations: &[Attestation<u64>]) -> u64
+fn sum_from<P>(sum: u64, attestations: &[Attestation<Padded<P>>]) -> u64
     ensures { result ≡ sum_from sum attestations.now }
 {
     let mut sum = sum;
     for attestation in attestations {
-        sum = sum.wrapping_add(attestation.signature);
+        sum = sum.wrapping_add(attestation.signature.word);
     }
     sum
 }
 
-/// A certificate: how many attestations made it, and the sum of their signatures. Only the count
-/// is verified.
+/// A certificate: how many attestations made it, and the sum of the first words of their
+/// signatures. Only the count is verified.
 #[derive(Clone, Copy, Debug, PartialEq, Eq)]
 pub(crate) struct Tally {
     pub(crate) count: usize,
     pub(crate) sum: u64,
 }
 
-fn tally_of(earlier: &[Attestation<u64>], later: &[Attestation<u64>]) -> Tally
+fn tally_of<P>(earlier: &[Attestation<Padded<P>>], later: &[Attestation<Padded<P>>]) -> Tally
     ensures { result ≡ tally_of earlier.now later.now }
 {
     Tally {
@@ -127,14 +145,16 @@ fn tally_of(earlier: &[Attestation<u64>], later: &[Attestation<u64>]) -> Tally
 
 /// The scheme of the benchmark.
 #[derive(Drop)]
-pub(crate) struct Plain {
+pub(crate) struct Plain<P> {
     pub(crate) participants: Set<Name>,
+    /// The padding of each signature.
+    pub(crate) padding: P,
 }
 
-impl Scheme<Sha256Digest> for Plain {
+impl<P: Copy + Eq> Scheme<Sha256Digest> for Plain<P> {
     type PublicKey = Name;
 
-    type Signature = u64;
+    type Signature = Padded<P>;
 
     type Certificate = Tally;
 
@@ -178,8 +198,8 @@ impl Scheme<Sha256Digest> for Plain {
         alloc: Global,
         rng: &mut R,
         subject: Subject<Sha256Digest>,
-        pending: &[Attestation<u64>],
-    ) -> Result<Verification<u64>, AllocError>
+        pending: &[Attestation<Padded<P>>],
+    ) -> Result<Verification<Padded<P>>, AllocError>
         ensures sorts { IfOk result (Sorts (is_signed (length self.now.participants) subject)
             pending.now) }
         ensures stream { OnOk result (R.stream rng.new ≡ R.stream rng.old) }
@@ -193,9 +213,9 @@ impl Scheme<Sha256Digest> for Plain {
         alloc: Global,
         rng: &mut R,
         subject: Subject<Sha256Digest>,
-        pending: &[Attestation<u64>],
-        verified: &[Attestation<u64>],
-    ) -> Result<Result<Tally, Verification<u64>>, AllocError>
+        pending: &[Attestation<Padded<P>>],
+        verified: &[Attestation<Padded<P>>],
+    ) -> Result<Result<Tally, Verification<Padded<P>>>, AllocError>
         ensures sorts { IfOk result (λ answer. IfErr answer
             (Sorts (is_signed (length self.now.participants) subject) pending.now)) }
         ensures function { IfOk result (λ answer. (result_ok answer, R.stream rng.new)
@@ -216,8 +236,8 @@ impl Scheme<Sha256Digest> for Plain {
         &self,
         alloc: Global,
         subject: Subject<Sha256Digest>,
-        prior: &[Attestation<u64>],
-        fresh: &[Attestation<u64>],
+        prior: &[Attestation<Padded<P>>],
+        fresh: &[Attestation<Padded<P>>],
     ) -> Result<Tally, AllocError>
         ensures function { IfOk result (λ certificate. certificate ≡ tally_of prior.now fresh.now) }
     {

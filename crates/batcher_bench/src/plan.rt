@@ -6,7 +6,7 @@ ghost use Rattle.std.specs.List.Sorted.{IsPermutation};
 ghost use Rattle.batcher.specs.Votes.{round_in, signer_of, subject_of};
 ghost use Rattle.batcher_bench.specs.Steps.{IsOfRound};
 
-use crate::plain::sign;
+use crate::plain::{Padded, sign};
 use crate::rows::{Course, Order, Row};
 use batcher::messages::{Proposal, Sha256Digest, Subject, Vote};
 use batcher::positions::{Epoch, Participant, Round, Set, View, quorum};
@@ -21,9 +21,9 @@ pub(crate) const NUMBER: Round = Round {
 
 /// One step of a run.
 #[derive(Clone, Copy, Debug)]
-pub(crate) enum Step {
+pub(crate) enum Step<P> {
     /// A vote that the participant with the key sends.
-    Send(Name, Vote<u64, Sha256Digest>),
+    Send(Name, Vote<Padded<P>, Sha256Digest>),
     Construct,
 }
 
@@ -42,25 +42,30 @@ pub(crate) fn names(alloc: Global, count: u32) -> Result<Set<Name>, AllocError>
 }
 
 /// The steps of a row: notarizes with a construction, then finalizes with a construction. All
-/// votes are for one proposal.
-pub(crate) fn steps_of(alloc: Global, row: &Row) -> Result<Vec<Step>, AllocError>
+/// votes are for one proposal, and their signatures have this padding.
+pub(crate) fn steps_of<P: Copy>(
+    alloc: Global,
+    row: &Row,
+    padding: P,
+) -> Result<Vec<Step<P>>, AllocError>
     ensures { IfOk result (λ steps. All (IsOfRound NUMBER) steps.items) }
 {
     let proposal = Proposal::new(NUMBER, View::new(6), Sha256Digest([4; 32]));
     let signers = signers(alloc, row.participants, row.order)?;
     let mut steps = Vec::new(alloc);
     let notarize = Subject::Notarize { proposal };
-    add_kind(&mut steps, row, notarize, signers.as_slice())?;
+    add_kind(&mut steps, row, notarize, padding, signers.as_slice())?;
     let finalize = Subject::Finalize { proposal };
-    add_kind(&mut steps, row, finalize, signers.as_slice())?;
+    add_kind(&mut steps, row, finalize, padding, signers.as_slice())?;
     Ok(steps)
 }
 
 // Adds the votes for a subject, and the construction where it comes.
-fn add_kind(
-    steps: &mut Vec<Step>,
+fn add_kind<P: Copy>(
+    steps: &mut Vec<Step<P>>,
     row: &Row,
     subject: Subject<Sha256Digest>,
+    padding: P,
     signers: &[u32],
 ) -> Result<(), AllocError>
     requires number { round_in subject ≡ NUMBER }
@@ -69,9 +74,9 @@ fn add_kind(
     ensures { OnOk result (All (IsOfRound NUMBER) steps.new.items) }
 {
     let (before, after) = signers.split_at(early(row));
-    add_votes(steps, row.course, subject, before)?;
+    add_votes(steps, row.course, subject, padding, before)?;
     steps.push(Step::Construct)?;
-    add_votes(steps, row.course, subject, after)
+    add_votes(steps, row.course, subject, padding, after)
 }
 
 // How many votes of a kind come before its construction.
@@ -121,10 +126,11 @@ fn shuffle(numbers: &mut [u32])
 }
 
 // Adds the votes of the signers for a subject.
-fn add_votes(
-    steps: &mut Vec<Step>,
+fn add_votes<P: Copy>(
+    steps: &mut Vec<Step<P>>,
     course: Course,
     subject: Subject<Sha256Digest>,
+    padding: P,
     signers: &[u32],
 ) -> Result<(), AllocError>
     requires number { round_in subject ≡ NUMBER }
@@ -134,7 +140,7 @@ fn add_votes(
     for signer in signers {
         let step = Step::Send(
             Name(u64::from(*signer)),
-            vote(course, subject, Participant::new(*signer)),
+            vote(course, subject, padding, Participant::new(*signer)),
         );
         steps.push(step)?;
         if course == Course::Repeated {
@@ -146,17 +152,18 @@ fn add_votes(
 
 // The vote of a signer for a subject. In a row with a bad third that of every third signer bears
 // a signature that is off by a bit.
-fn vote(
+fn vote<P: Copy>(
     course: Course,
     subject: Subject<Sha256Digest>,
+    padding: P,
     signer: Participant,
-) -> Vote<u64, Sha256Digest>
+) -> Vote<Padded<P>, Sha256Digest>
     ensures signer { signer_of result ≡ signer.0 }
     ensures subject { subject_of result ≡ subject }
 {
-    let mut attestation = sign(signer, subject);
+    let mut attestation = sign(signer, subject, padding);
     if course == Course::BadThird && signer.0 % 3 == 2 {
-        attestation.signature ^= 1;
+        attestation.signature.word ^= 1;
     }
     Vote::new(subject, attestation)
 }

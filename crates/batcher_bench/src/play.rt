@@ -1,13 +1,13 @@
 //! Plays a row on a fresh round, and takes the time that it needs.
 
-ghost use Rattle.std.specs.Prelude.{◌≡◌, All, IfOk};
+ghost use Rattle.std.specs.Prelude.{◌≡◌, ◌≤◌, All, IfOk, length};
 ghost use Rattle.batcher_bench.specs.Steps.{IsOfRound};
 
-use crate::plain::{Plain, Tally, mixed};
+use crate::plain::{Padded, Plain, Tally, mixed};
 use crate::plan::{NUMBER, Step, names, steps_of};
-use crate::rows::Row;
+use crate::rows::{Mode, Row, Size};
 use anyhow::{Result, ensure};
-use batcher::messages::{Activity, Certificate, Sha256Digest};
+use batcher::messages::{Activity, Certificate, Nullification, Sha256Digest};
 use batcher::positions::Participant;
 use batcher::round::{Admission, Round};
 use batcher::scheme::Counter;
@@ -24,8 +24,30 @@ struct Played {
     votes: usize,
     added: usize,
     certificates: usize,
-    // All answers in their order, mixed into one word.
+    // All answers in their order, mixed into one word, or 0 where they are counted alone.
     checksum: u64,
+}
+
+impl Played {
+    fn count_vote<P>(&mut self, admission: &Admission<Padded<P>, Sha256Digest>, mixes: bool) {
+        self.votes = self.votes.saturating_add(1);
+        self.added = self.added.saturating_add(usize::from(admission.added));
+        if mixes {
+            self.checksum = mixed(self.checksum, admission_word(admission));
+        }
+    }
+
+    fn count_batch(
+        &mut self,
+        batch: &Option<Batch<Certificate<Tally, Sha256Digest>>>,
+        mixes: bool,
+    ) {
+        let certificates = usize::from(has_certificate(batch));
+        self.certificates = self.certificates.saturating_add(certificates);
+        if mixes {
+            self.checksum = mixed(self.checksum, batch_word(batch));
+        }
+    }
 }
 
 impl fmt::Display for Played {
@@ -59,11 +81,14 @@ impl fmt::Display for Measured {
 }
 
 impl Measured {
-    /// Plays the row once.
-    pub(crate) fn new(alloc: Global, row: Row) -> Result<Measured, AllocError> {
-        let steps = steps_of(alloc, &row)?;
-        let mut round = round_of(alloc, &row)?;
-        let played = play(&mut round, steps.as_slice())?;
+    /// Plays the row once, and then so many times more. Those have to give as many added votes
+    /// and certificates, and their answers aren't looked at any further. The votes are made once.
+    pub(crate) fn new(alloc: Global, row: Row, rounds: u32) -> Result<Measured> {
+        let played = match row.size {
+            Size::Bytes8 => play_rounds(alloc, &row, rounds, ())?,
+            Size::Bytes32 => play_rounds(alloc, &row, rounds, [0u64; 3])?,
+            Size::Bytes64 => play_rounds(alloc, &row, rounds, [0u64; 7])?,
+        };
         Ok(Measured {
             row,
             played,
@@ -79,17 +104,63 @@ impl Measured {
     /// Plays the row many times more, and keeps the best time. Each time has to give the answers
     /// of the first.
     pub(crate) fn take_time(&mut self, rt: &(impl AllocGlobal + Clock)) -> Result<()> {
-        let steps = steps_of(rt.alloc(), &self.row)?;
-        for _ in 0..repetitions(&self.row) {
-            let mut round = round_of(rt.alloc(), &self.row)?;
-            let start = Instant::now(rt)?;
-            let played = play(&mut round, steps.as_slice())?;
-            let time = start.elapsed(rt)?.as_nanos();
-            self.best = self.best.min(u64::try_from(time).unwrap_or(u64::MAX));
-            ensure!(played == self.played, "a repetition gave other answers");
-        }
+        let time = match self.row.size {
+            Size::Bytes8 => best_time(rt, &self.row, self.played, ())?,
+            Size::Bytes32 => best_time(rt, &self.row, self.played, [0u64; 3])?,
+            Size::Bytes64 => best_time(rt, &self.row, self.played, [0u64; 7])?,
+        };
+        self.best = self.best.min(time);
         Ok(())
     }
+}
+
+/// Plays the row once, and tells on standard error where it stands: when the round is made, before
+/// and after each construction, and when a nullification came from outside. Who counts the requests
+/// for memory sees there what the round holds.
+pub(crate) fn tell_places(rt: &(impl AllocGlobal + Eprint), row: &Row) -> Result<()> {
+    match row.size {
+        Size::Bytes8 => tell_places_of(rt, row, ()),
+        Size::Bytes32 => tell_places_of(rt, row, [0u64; 3]),
+        Size::Bytes64 => tell_places_of(rt, row, [0u64; 7]),
+    }
+}
+
+fn play_rounds<P: Copy + Eq>(alloc: Global, row: &Row, rounds: u32, padding: P) -> Result<Played> {
+    let steps = steps_of(alloc, row, padding)?;
+    let scheme = scheme_of(alloc, row, padding)?;
+    let mut round = round_of(alloc, row, scheme.clone()?);
+    let played = play(&mut round, steps.as_slice(), true)?;
+    let counted = Played {
+        checksum: 0,
+        ..played
+    };
+    for _ in 0..rounds {
+        let mut round = round_of(alloc, row, scheme.clone()?);
+        let again = play(&mut round, steps.as_slice(), false)?;
+        ensure!(again == counted, "a repetition gave other answers");
+    }
+    Ok(played)
+}
+
+// The fewest nanoseconds that the row takes, of many times. Each has to give these answers.
+fn best_time<P: Copy + Eq>(
+    rt: &(impl AllocGlobal + Clock),
+    row: &Row,
+    played: Played,
+    padding: P,
+) -> Result<u64> {
+    let steps = steps_of(rt.alloc(), row, padding)?;
+    let scheme = scheme_of(rt.alloc(), row, padding)?;
+    let mut best = u64::MAX;
+    for _ in 0..repetitions(row) {
+        let mut round = round_of(rt.alloc(), row, scheme.clone()?);
+        let start = Instant::now(rt)?;
+        let again = play(&mut round, steps.as_slice(), true)?;
+        let time = start.elapsed(rt)?.as_nanos();
+        best = best.min(u64::try_from(time).unwrap_or(u64::MAX));
+        ensure!(again == played, "a repetition gave other answers");
+    }
+    Ok(best)
 }
 
 // So many that each row plays about as many votes.
@@ -97,17 +168,42 @@ fn repetitions(row: &Row) -> u32 {
     100_000 / row.participants
 }
 
-// A fresh round for the row.
-fn round_of(alloc: Global, row: &Row) -> Result<Round<Plain, Sha256Digest>, AllocError>
-    ensures { IfOk result (λ round. round.number ≡ NUMBER) }
+fn scheme_of<P: Copy>(alloc: Global, row: &Row, padding: P) -> Result<Rc<Plain<P>>, AllocError>
+    ensures { IfOk result (λ scheme. 1 ≤ length scheme.value.participants) }
 {
     let participants = names(alloc, row.participants)?;
-    let scheme = Rc::new(alloc, Plain { participants })?;
-    Ok(Round::new(alloc, NUMBER, scheme, row.retaining))
+    Ok(Rc::new(
+        alloc,
+        Plain {
+            participants,
+            padding,
+        },
+    )?)
 }
 
-// Takes the steps in their order, once the leader is set.
-fn play(round: &mut Round<Plain, Sha256Digest>, steps: &[Step]) -> Result<Played, AllocError>
+// A fresh round for the row. It takes no memory.
+fn round_of<P: Copy + Eq>(
+    alloc: Global,
+    row: &Row,
+    scheme: Rc<Plain<P>>,
+) -> Round<Plain<P>, Sha256Digest>
+    requires { 1 ≤ length scheme.value.participants }
+    ensures { result.number ≡ NUMBER }
+{
+    match row.mode {
+        Mode::Retaining => Round::new(alloc, NUMBER, scheme, true),
+        Mode::Releasing => Round::new(alloc, NUMBER, scheme, false),
+        Mode::Skipped => Round::skipped(alloc, NUMBER, scheme),
+    }
+}
+
+// Takes the steps in their order, once the leader is set. The answers are mixed into the checksum
+// where it is asked for.
+fn play<P: Copy + Eq>(
+    round: &mut Round<Plain<P>, Sha256Digest>,
+    steps: &[Step<P>],
+    mixes: bool,
+) -> Result<Played, AllocError>
     requires { All (IsOfRound round.old.number) steps.now }
 {
     let mut rng = Counter::new(0);
@@ -116,27 +212,56 @@ fn play(round: &mut Round<Plain, Sha256Digest>, steps: &[Step]) -> Result<Played
         votes: 0,
         added: 0,
         certificates: 0,
-        checksum: u64::from(leader.is_ok()),
+        checksum: u64::from(mixes && leader.is_ok()),
     };
     for step in steps {
         match *step {
             Step::Send(sender, vote) => {
                 let admission = round.add_network(sender, vote)?;
-                played.votes += 1;
-                played.added += usize::from(admission.added);
-                played.checksum = mixed(played.checksum, admission_word(&admission));
+                played.count_vote(&admission, mixes);
             }
             Step::Construct => {
                 let batch = round.try_construct(&mut rng)?;
-                played.certificates += usize::from(has_certificate(&batch));
-                played.checksum = mixed(played.checksum, batch_word(&batch));
+                played.count_batch(&batch, mixes);
             }
         }
     }
     Ok(played)
 }
 
-fn admission_word(admission: &Admission<u64, Sha256Digest>) -> u64 {
+fn tell_places_of<P: Copy + Eq>(
+    rt: &(impl AllocGlobal + Eprint),
+    row: &Row,
+    padding: P,
+) -> Result<()> {
+    let steps = steps_of(rt.alloc(), row, padding)?;
+    let scheme = scheme_of(rt.alloc(), row, padding)?;
+    let mut round = round_of(rt.alloc(), row, scheme);
+    let mut rng = Counter::new(0);
+    let _ = round.set_leader(Participant::new(0));
+    eprintln!(rt; "made")?;
+    for step in steps.as_slice() {
+        match *step {
+            Step::Send(sender, vote) => {
+                let _ = round.add_network(sender, vote)?;
+            }
+            Step::Construct => {
+                eprintln!(rt; "before a construction")?;
+                let _ = round.try_construct(&mut rng)?;
+                eprintln!(rt; "after it")?;
+            }
+        }
+    }
+    let nullification = Certificate::Nullification(Nullification {
+        round: NUMBER,
+        certificate: Tally { count: 0, sum: 0 },
+    });
+    let _ = round.record_certificate(&nullification)?;
+    eprintln!(rt; "after a nullification")?;
+    Ok(())
+}
+
+fn admission_word<P>(admission: &Admission<Padded<P>, Sha256Digest>) -> u64 {
     let block = match admission.block {
         None => 0,
         Some(reason) => reason as u64 + 1,
@@ -148,22 +273,22 @@ fn admission_word(admission: &Admission<u64, Sha256Digest>) -> u64 {
     mixed(mixed(report, block), u64::from(admission.added))
 }
 
-fn activity_word(activity: &Activity<u64, Sha256Digest>) -> u64 {
+fn activity_word<P>(activity: &Activity<Padded<P>, Sha256Digest>) -> u64 {
     match activity {
-        Activity::Notarize(vote) => mixed(1, vote.attestation.signature),
-        Activity::Nullify(vote) => mixed(2, vote.attestation.signature),
-        Activity::Finalize(vote) => mixed(3, vote.attestation.signature),
+        Activity::Notarize(vote) => mixed(1, vote.attestation.signature.word),
+        Activity::Nullify(vote) => mixed(2, vote.attestation.signature.word),
+        Activity::Finalize(vote) => mixed(3, vote.attestation.signature.word),
         Activity::ConflictingNotarize(first, second) => mixed(
-            mixed(4, first.attestation.signature),
-            second.attestation.signature,
+            mixed(4, first.attestation.signature.word),
+            second.attestation.signature.word,
         ),
         Activity::ConflictingFinalize(first, second) => mixed(
-            mixed(5, first.attestation.signature),
-            second.attestation.signature,
+            mixed(5, first.attestation.signature.word),
+            second.attestation.signature.word,
         ),
         Activity::NullifyFinalize(nullify, finalize) => mixed(
-            mixed(6, nullify.attestation.signature),
-            finalize.attestation.signature,
+            mixed(6, nullify.attestation.signature.word),
+            finalize.attestation.signature.word,
         ),
     }
 }

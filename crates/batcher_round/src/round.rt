@@ -572,7 +572,7 @@ fn admit<S: Scheme<D>, D: Digest>(
     ensures mode { SameTracker votes.old votes.new }
 {
     let kind = vote.kind();
-    let additional = usize::from(!votes.is_compacted(kind));
+    let additional = usize::from(!votes.is_compacted(kind) && !verifier.has_certificate(kind));
     verifier.make_room(kind, false, additional)?;
     let outcome = take_in(verifier, votes, place, vote, false)?;
     Ok(admission_of(outcome, vote))
@@ -628,6 +628,7 @@ fn take_in<S: Scheme<D>, D: Digest>(
     requires attests { verified ≡ true
         → (S.meaning verifier.old.scheme).attests (subject_of vote) (attestation_of vote) ≡ true }
     requires room { of_kind votes.old.holds.compacted (kind_of vote) ≡ false
+        → of_kind verifier.old.holds.certified (kind_of vote) ≡ false
         → outcome_of D.eq votes.old.participants votes.old.holds
         (selected_in verifier.old.holds) vote ≡ AddedOutcome true → 1
         ≤ cond verified (of_kind verifier.old.verified_room (kind_of vote))
@@ -651,7 +652,7 @@ fn take_in<S: Scheme<D>, D: Digest>(
 {
     let outcome = votes.record_at(place, &vote, verifier.proposal())?;
     if is_kept(outcome) {
-        verifier.add(vote, verified)?;
+        verifier.take(vote, verified);
     }
     Ok(outcome)
 }

@@ -1,5 +1,5 @@
 -- Which votes wait, before and after a change of the selected proposal.
-use Rattle.std.proofs.Common.{◌≡◌, ℕ, Bool, true, false, not, cond, ◌&&◌, ◌||◌, ◌==◌, List, [], ◌∷◌, ◌++◌, filter, Option, Some, None, is_some, append-nil, refl, ap, subst, ◌∙◌, arith}
+use Rattle.std.proofs.Common.{◌≡◌, ℕ, Bool, true, false, not, cond, ◌&&◌, ◌||◌, ◌==◌, List, [], ◌∷◌, ◌++◌, filter, Option, Some, None, is_some, append-nil, refl, ap, subst, sym, ◌∙◌, arith}
 use Rattle.std.specs.List.{AllPass}
 use Rattle.std.proofs.lemmas.Bool.Decides.{nat_tests}
 use Rattle.std.proofs.lemmas.List.Elements.{filter-append}
@@ -187,7 +187,7 @@ kind_is Finalization Notarization h = absurd (cc)
 kind_is Finalization Nullification h = absurd (cc)
 kind_is Finalization Finalization h = refl
 
-not_both : (a b : Bool) → (a || not b) ≡ false → (a ≡ false) × (b ≡ true)
+pub not_both : (a b : Bool) → (a || not b) ≡ false → (a ≡ false) × (b ≡ true)
 not_both true b h = absurd (cc)
 not_both false true h = (refl, refl)
 not_both false false h = absurd (cc)
@@ -255,3 +255,34 @@ module _ {G D : Type 0} (same : D → D → Bool) (old new : Buffered G D) (vote
                   (rw (sets.selection_is, (sets.buffers kind).certified) at (sets.buffers kind).verified) (open_kind is_verified) (λ _. free.1));
             };
       }
+
+neither : (a b : Bool) → (not a && b) ≡ not (a || not b)
+neither true b = refl
+neither false true = refl
+neither false false = refl
+
+other_way : (a : Bool) → not a ≡ true → a ≡ false
+other_way true h = absurd (cc)
+other_way false h = refl
+
+this_way : (a : Bool) → not a ≡ false → a ≡ true
+this_way true h = refl
+this_way false h = absurd (cc)
+
+-- What is needed once the proposal is selected is what isn't dropped.
+module _ {G D : Type 0} (same : D → D → Bool) (old mid : Buffered G D) (vote : Vote G D)
+    (sets : SetsProposal same old (selects old.selection (leaders_vote same old vote)) mid)
+    (needed : Bool)
+    (is : needed ≡ (not (of_kind mid.certified (kind_of vote))
+    && waits same (proposal_of mid.selection) vote)) where
+  needs : needed ≡ not (is_dropped same old vote)
+  needs =
+      is ∙ ap (λ c. not c && waits same (proposal_of mid.selection) vote) (sets.buffers (kind_of vote)).certified
+      ∙ ap (λ s. not (of_kind old.certified (kind_of vote)) && waits same (proposal_of s) vote) sets.selection_is
+      ∙ neither (of_kind old.certified (kind_of vote)) (waits same (proposal_of (selects old.selection (leaders_vote same old vote))) vote)
+
+  pub needed_stays : needed ≡ true → is_dropped same old vote ≡ false
+  needed_stays h = other_way (is_dropped same old vote) (sym needs ∙ h)
+
+  pub not_needed_goes : needed ≡ false → is_dropped same old vote ≡ true
+  not_needed_goes h = this_way (is_dropped same old vote) (sym needs ∙ h)

@@ -166,6 +166,21 @@ impl<S: Scheme<D>, D: Digest> Verifier<S, D> {
         self.state.add(vote, verified)
     }
 
+    /// Takes a vote in as `add` does, with the room that it may need. It takes no memory.
+    pub(crate) fn take(&mut self, vote: Vote<S::Signature, D>, verified: bool)
+        requires attests { verified ≡ true
+            → (S.meaning self.old.scheme).attests (subject_of vote) (attestation_of vote) ≡ true }
+        requires of_round { is_of_round self.old.number vote ≡ true }
+        requires fresh { is_buffered self.old.holds (kind_of vote) (signer_of vote) ≡ false }
+        requires room { is_dropped D.eq self.old.holds vote ≡ false
+            → 1 ≤ cond verified (of_kind self.old.verified_room (kind_of vote))
+            (of_kind self.old.pending_room (kind_of vote)) }
+        ensures adds { AddsVote D.eq self.old.holds vote verified self.new.holds }
+        ensures same { SameVerifier self.old self.new }
+    {
+        self.state.take(vote, verified);
+    }
+
     /// Sets the leader, whose notarize selects its proposal. It takes no memory.
     pub fn set_leader(
         &mut self,

@@ -357,20 +357,30 @@ impl<G: Copy, D: Digest> State<G, D> {
         }
     }
 
+    // The proposal of a notarize of the leader.
+    fn leaders_proposal(&self, vote: &Vote<G, D>) -> Option<Proposal<D>>
+        ensures { result ≡ leaders_vote D.eq (held_by self.now) vote.now }
+    {
+        match (vote, self.leader) {
+            (Vote::Notarize(vote), Some(leader)) => {
+                if leader.0 == vote.attestation.signer.0 {
+                    Some(vote.proposal)
+                } else {
+                    None
+                }
+            }
+            _ => None,
+        }
+    }
+
     // The selected proposal with its source, once the vote is there.
     fn selection_after(&self, vote: &Vote<G, D>) -> ProposalState<D>
         ensures { result ≡ selects self.now.proposal
             (leaders_vote D.eq (held_by self.now) vote.now) }
     {
-        match (vote, self.leader) {
-            (Vote::Notarize(vote), Some(leader)) => {
-                if leader.0 == vote.attestation.signer.0 {
-                    update(self.proposal, ProposalState::Leader(vote.proposal))
-                } else {
-                    self.proposal
-                }
-            }
-            _ => self.proposal,
+        match self.leaders_proposal(vote) {
+            Some(proposal) => update(self.proposal, ProposalState::Leader(proposal)),
+            None => self.proposal,
         }
     }
 
@@ -397,15 +407,57 @@ impl<G: Copy, D: Digest> State<G, D> {
             ≤ of_kind (verified_room_of self.new) kind + cond (is_of_kind kind vote && verified) 1
             0 }
     {
-        let next = self.selection_after(&vote);
-        if self.drops(&vote) {
-            self.set_proposal(next);
-            return Ok(());
+        if !self.drops(&vote) {
+            self.make_room(vote.kind(), verified, 1)?;
         }
-        self.make_room(vote.kind(), verified, 1)?;
-        self.set_proposal(next);
-        self.place(vote, verified);
+        self.take(vote, verified);
         Ok(())
+    }
+
+    /// Takes a vote in as `add` does, with the room that it may need.
+    pub(crate) fn take(&mut self, vote: Vote<G, D>, verified: bool)
+        requires tidy { (kind : TheKind) → IsTidy D.eq (held_by self.old) kind }
+        requires room { is_dropped D.eq (held_by self.old) vote ≡ false
+            → 1 ≤ cond verified (of_kind (verified_room_of self.old) (kind_of vote))
+            (of_kind (pending_room_of self.old) (kind_of vote)) }
+        ensures adds { AddsVote D.eq (held_by self.old) vote verified (held_by self.new) }
+        ensures pending_room { (kind : TheKind) → of_kind (pending_room_of self.old) kind
+            ≤ of_kind (pending_room_of self.new) kind + cond (is_of_kind kind vote && not verified)
+            1 0 }
+        ensures verified_room { (kind : TheKind) → of_kind (verified_room_of self.old) kind
+            ≤ of_kind (verified_room_of self.new) kind + cond (is_of_kind kind vote && verified) 1
+            0 }
+    {
+        self.select_by(&vote);
+        if self.needs(&vote) {
+            self.place(vote, verified);
+        }
+    }
+
+    // The leader's notarize selects its proposal, where none is selected. Another vote changes
+    // nothing.
+    fn select_by(&mut self, vote: &Vote<G, D>)
+        requires { (kind : TheKind) → IsTidy D.eq (held_by self.old) kind }
+        ensures sets { SetsProposal D.eq (held_by self.old)
+            (selects self.old.proposal (leaders_vote D.eq (held_by self.old) vote.now))
+            (held_by self.new) }
+        ensures room { KeepsRoom (pending_room_of self.old) (verified_room_of self.old)
+            (pending_room_of self.new) (verified_room_of self.new) }
+    {
+        match self.leaders_proposal(vote) {
+            Some(proposal) => {
+                self.set_proposal(ProposalState::Leader(proposal));
+            }
+            None => {}
+        }
+    }
+
+    // Whether the vote can still count, with what is selected now.
+    fn needs(&self, vote: &Vote<G, D>) -> bool
+        ensures { result ≡ (not (of_kind (held_by self.now).certified (kind_of vote.now))
+            && waits D.eq (proposal_of self.now.proposal) vote.now) }
+    {
+        !self.buffers(vote.kind()).complete && may_wait(&self.proposal, vote)
     }
 
     /// Sets the leader, whose notarize selects its proposal.

@@ -3,4 +3,4 @@ use Rattle.batcher_bench.specs.Plain.{sum_from}
 use Rattle.batcher_bench.proofs.plain.sum_from.Given as goal
 
 abbrev pub invariant-loop-attestation : goal.invariant-loop-attestation
-invariant-loop-attestation l = l.sum ≡ sum_from l.initial.sum (take l.attestation-index l.attestations)
+invariant-loop-attestation g l = l.sum ≡ sum_from l.initial.sum (take l.attestation-index l.attestations)

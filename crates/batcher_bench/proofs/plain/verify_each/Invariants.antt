@@ -4,7 +4,7 @@ use Rattle.batcher_bench.specs.Plain.{is_signed}
 use Rattle.batcher_bench.proofs.plain.verify_each.Given as goal
 
 abbrev pub invariant-loop-attestation : goal.invariant-loop-attestation
-invariant-loop-attestation l = record {
+invariant-loop-attestation g l = record {
   valid : l.verified.items ≡ filter (is_signed l.n l.fn.subject)
       (take l.attestation-index l.pending);
   failed : l.invalid.items ≡ signers

@@ -4,4 +4,4 @@ use Rattle.batcher_bench.specs.declared.plan.TheConstants.{NUMBER}
 use Rattle.batcher_bench.proofs.plan.add_votes.Given as goal
 
 abbrev pub invariant-loop-signer : goal.invariant-loop-signer
-invariant-loop-signer l = All (IsOfRound NUMBER) l.steps.items
+invariant-loop-signer g l = All (IsOfRound NUMBER) l.steps.items

@@ -1,4 +1,4 @@
-use Rattle.std.proofs.Common.{◌∙◌, ◌≡◌, ◌<◌, ℕ, Bool, true, false, MatchBool, Option, subst, ap, sym, refl}
+use Rattle.std.proofs.Common.{◌∙◌, ◌≡◌, ◌<◌, ℕ, Bool, true, false, not, ◌||◌, MatchBool, Option, subst, ap, sym, refl}
 use Rattle.batcher_types.specs.declared.messages.Proposal.{Proposal}
 use Rattle.batcher_types.specs.declared.messages.Vote.{Vote}
 use Rattle.batcher_votes.specs.declared.votes.Outcome.{Outcome}
@@ -12,6 +12,7 @@ use Rattle.batcher_histories.proofs.Right.Admission.{IsNew, added_new, not_buffe
 use Rattle.std.proofs.lemmas.Bool.{false≢true}
 use Rattle.batcher_histories.proofs.Right.Failed.{no_value, whichever}
 use Rattle.batcher_histories.proofs.Right.Own.{kept_outcome, never_full}
+use Rattle.batcher_votes.proofs.Waits.{not_both}
 use Rattle.batcher_round.proofs.round.take_in.Goals as goal
 
 -- a vote that is kept has the room that one of its kind needs
@@ -20,23 +21,29 @@ room_for :
     (vote : Vote G D) (copied selected : Option (Proposal D)) (outcome : Outcome)
     → outcome ≡ outcome_of same participants held copied vote → copied ≡ selected → is_kept outcome
     ≡ true
-    → (of_kind held.compacted (kind_of vote) ≡ false
+    → (certified waits : Bool) → (certified || not waits) ≡ false
+    → (of_kind held.compacted (kind_of vote) ≡ false → certified ≡ false
     → outcome_of same participants held selected vote ≡ Added true → Room) → Room
-room_for same participants held vote copied selected outcome e f kept room =
+room_for same participants held vote copied selected outcome e f kept certified waits stays room =
     let added = sym e ∙ kept_outcome outcome kept in
     let new : IsNew held vote = added_new same held copied vote participants added in
-    room new.full (ap (λ s. outcome_of same participants held s vote) (sym f) ∙ added)
+    room new.full (not_both certified waits stays).0 (ap (λ s. outcome_of same participants held s vote) (sym f) ∙ added)
 
-pub add-requires-clause-fresh : goal.add-requires-clause-fresh
-add-requires-clause-fresh g c =
+pub take-requires-clause-room : goal.take-requires-clause-room
+take-requires-clause-room g c = λ stays.
+    room_for g.D.PartialEq.eq c.args.votes.now.participants c.args.votes.now.holds c.args.vote _ _ c.in_ok-outcome.outcome c.in_ok-outcome.ensures.outcome
+    c.proposal.ensures (sym c.is_kept.ensures ∙ c.if-is_kept.true) _ _ stays c.requires.room
+
+pub take-requires-clause-fresh : goal.take-requires-clause-fresh
+take-requires-clause-fresh g c =
     let held = c.args.votes.now.holds in
     let vote = c.args.vote in
     let added = sym c.in_ok-outcome.ensures.outcome ∙ kept_outcome c.in_ok-outcome.outcome (sym c.is_kept.ensures ∙ c.if-is_kept.true) in
     let new : IsNew held vote = added_new _ held _ vote c.args.votes.now.participants added in
     not_buffered c.args.verifier.now.holds (kind_of vote) (signer_of vote) (rw new.none at (c.requires.right.within (kind_of vote) (signer_of vote)))
 
-pub returns-in_ok-add-clause-right : goal.returns-in_ok-add-clause-right
-returns-in_ok-add-clause-right g c =
+pub returns-then-is_kept-clause-right : goal.returns-then-is_kept-clause-right
+returns-then-is_kept-clause-right g c =
     let held = c.args.votes.now.holds in
     let vote = c.args.vote in
     let verifier = c.args.verifier.now in
@@ -45,7 +52,7 @@ returns-in_ok-add-clause-right g c =
     right_waiting (g.S.Scheme.meaning verifier.scheme) g.D.PartialEq.eq c.args.votes.now c.record_at.new.self verifier.holds verifier.quorum c.requires.right _
     _ vote
     c.in_ok-outcome.ensures.participants c.in_ok-outcome.ensures.mode c.in_ok-outcome.ensures.records
-    c.add.new.self.holds c.args.verified c.in_ok-add.ensures.adds new refl
+    c.take.new.self.holds c.args.verified c.take.ensures.adds new refl
 
 pub returns-in_err-outcome-clause-with_room : goal.returns-in_err-outcome-clause-with_room
 returns-in_err-outcome-clause-with_room g c = λ h.
@@ -66,49 +73,22 @@ returns-in_err-outcome-clause-buffered g c = no_value _ c.from_residual.result c
 pub returns-in_err-outcome-clause-refused : goal.returns-in_err-outcome-clause-refused
 returns-in_err-outcome-clause-refused g c = whichever c.from_residual.result (refl, c.in_err-outcome.ensures.err)
 
-pub returns-in_err-add-clause-outcome : goal.returns-in_err-add-clause-outcome
-returns-in_err-add-clause-outcome g c = no_value _ c.from_residual-in_err-add.result c.from_residual-in_err-add.ensures.0
-
-pub returns-in_err-add-clause-tracked : goal.returns-in_err-add-clause-tracked
-returns-in_err-add-clause-tracked g c = no_value _ c.from_residual-in_err-add.result c.from_residual-in_err-add.ensures.0
-
-pub returns-in_err-add-clause-buffered : goal.returns-in_err-add-clause-buffered
-returns-in_err-add-clause-buffered g c = no_value _ c.from_residual-in_err-add.result c.from_residual-in_err-add.ensures.0
-
-pub returns-in_err-add-clause-refused : goal.returns-in_err-add-clause-refused
-returns-in_err-add-clause-refused g c =
-    absurd (false≢true (c.in_err-add.ensures.no_memory
-    (room_for g.D.PartialEq.eq c.args.votes.now.participants c.args.votes.now.holds c.args.vote _ _ c.in_ok-outcome.outcome c.in_ok-outcome.ensures.outcome
-    c.proposal.ensures (sym c.is_kept.ensures ∙ c.if-is_kept.true) c.requires.room)))
-
-pub returns-in_err-add-clause-right : goal.returns-in_err-add-clause-right
-returns-in_err-add-clause-right g c =
-    absurd (false≢true (c.in_err-add.ensures.no_memory
-    (room_for g.D.PartialEq.eq c.args.votes.now.participants c.args.votes.now.holds c.args.vote _ _ c.in_ok-outcome.outcome c.in_ok-outcome.ensures.outcome
-    c.proposal.ensures (sym c.is_kept.ensures ∙ c.if-is_kept.true) c.requires.room)))
-
-pub returns-in_err-add-clause-with_room : goal.returns-in_err-add-clause-with_room
-returns-in_err-add-clause-with_room g c = λ h.
-    absurd (false≢true (c.in_err-add.ensures.no_memory
-    (room_for g.D.PartialEq.eq c.args.votes.now.participants c.args.votes.now.holds c.args.vote _ _ c.in_ok-outcome.outcome c.in_ok-outcome.ensures.outcome
-    c.proposal.ensures (sym c.is_kept.ensures ∙ c.if-is_kept.true) c.requires.room)))
-
-pub returns-in_ok-add-clause-outcome : goal.returns-in_ok-add-clause-outcome
-returns-in_ok-add-clause-outcome g c =
+pub returns-then-is_kept-clause-outcome : goal.returns-then-is_kept-clause-outcome
+returns-then-is_kept-clause-outcome g c =
     c.in_ok-outcome.ensures.outcome ∙ ap (λ s. outcome_of g.D.PartialEq.eq c.args.votes.now.participants c.args.votes.now.holds s c.args.vote)
     c.proposal.ensures
 
-pub returns-in_ok-add-clause-tracked : goal.returns-in_ok-add-clause-tracked
-returns-in_ok-add-clause-tracked g c = λ kind.
+pub returns-then-is_kept-clause-tracked : goal.returns-then-is_kept-clause-tracked
+returns-then-is_kept-clause-tracked g c = λ kind.
     subst (λ s. RecordsKind g.D.PartialEq.eq c.args.votes.now.holds c.record_at.new.self.holds s true c.args.vote kind) c.proposal.ensures
     (c.in_ok-outcome.ensures.records kind)
 
-pub returns-in_ok-add-clause-buffered : goal.returns-in_ok-add-clause-buffered
-returns-in_ok-add-clause-buffered g c =
+pub returns-then-is_kept-clause-buffered : goal.returns-then-is_kept-clause-buffered
+returns-then-is_kept-clause-buffered g c =
     let kept = sym c.is_kept.ensures ∙ c.if-is_kept.true in
-    let new = c.add.new.self.holds in
+    let new = c.take.new.self.holds in
     let old = c.args.verifier.now.holds in
-    subst (λ k. MatchBool k (AddsVote g.D.PartialEq.eq old c.args.vote c.args.verified new) (new ≡ old)) (sym kept) c.in_ok-add.ensures.adds
+    subst (λ k. MatchBool k (AddsVote g.D.PartialEq.eq old c.args.vote c.args.verified new) (new ≡ old)) (sym kept) c.take.ensures.adds
 
 pub returns-else-is_kept-clause-outcome : goal.returns-else-is_kept-clause-outcome
 returns-else-is_kept-clause-outcome g c =
