@@ -293,7 +293,7 @@ impl<C, D> Certificate<C, D> {
     }
 }
 
-impl<C: Drop, D: Copy> Certificate<C, D> {
+impl<C, D: Copy> Certificate<C, D> {
     ghost use Rattle.batcher_types.specs.Votes.{subject_certified, content_of, round_in, proposal_in};
 
     /// The certificate that a quorum signed the subject.

@@ -167,7 +167,7 @@ impl<S: Scheme<D>, D: Digest> Verifier<S, D> {
     }
 
     /// Takes a vote in as `add` does, with the room that it may need. It takes no memory.
-    pub(crate) fn take(&mut self, vote: Vote<S::Signature, D>, verified: bool)
+    pub fn take(&mut self, vote: Vote<S::Signature, D>, verified: bool)
         requires attests { verified ≡ true
             → (S.meaning self.old.scheme).attests (subject_of vote) (attestation_of vote) ≡ true }
         requires of_round { is_of_round self.old.number vote ≡ true }
