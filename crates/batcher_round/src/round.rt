@@ -12,7 +12,7 @@ ghost use Rattle.batcher_types.specs.Lists.{is_some_and};
 ghost use Rattle.batcher_types.specs.Votes.{is_kind, has_proposals, kind_of, signer_of, attestation_of, subject_of, round_in, proposal_in, subject_certified};
 ghost use Rattle.batcher_votes.specs.Selected.{proposal_of, replaces, fixes, same_selected};
 ghost use Rattle.batcher_votes.specs.Held.{of_kind, round_of, SameRound, SameVerifier, SameTracker};
-ghost use Rattle.batcher_votes.specs.Tracking.{nothing_tracked, shown, is_known, outcome_of, outcome_by, observed, observed_opposite, RecordsKind, kept_vote};
+ghost use Rattle.batcher_votes.specs.Tracking.{nothing_tracked, shown, is_known, is_seen, HasRoomToRecord, outcome_of, outcome_by, observed, observed_opposite, RecordsKind, kept_vote};
 ghost use Rattle.batcher_votes.specs.Buffering.{selected_in, MayAddVote, FixesProposal, MayFix};
 ghost use Rattle.batcher_types.specs.Quorum.{quorum_of};
 ghost use Rattle.batcher_votes.specs.Sound.{IsSound, WaitsWhereKept, HasRoomFor, KeepsAllRoom, WhereItReplaces};
@@ -394,7 +394,7 @@ impl<S: Scheme<D>, D: Digest> Round<S, D> {
     {
         let place = self.votes.place(vote.signer());
         let outcome = own_result(&self.verifier, &self.votes, place, vote)?;
-        make_room_to_accept(&mut self.verifier, &mut self.votes, &vote, outcome)?;
+        make_room_to_accept(&mut self.verifier, &mut self.votes, place, &vote, outcome)?;
         may_fix(&mut self.verifier, &self.votes, fixed_by(&vote));
         take_in(&mut self.verifier, &mut self.votes, place, vote, true)?;
         Ok((outcome, report_by(outcome, vote)))
@@ -645,8 +645,11 @@ fn take_in<S: Scheme<D>, D: Digest>(
         × (votes.new.holds ≡ votes.old.holds)) }
     ensures right { IsRight (S.meaning verifier.old.scheme) votes.new verifier.new.holds
         verifier.old.quorum }
-    ensures with_room { (is_known votes.old.holds (signer_of vote) ≡ false → 1 ≤ votes.old.room)
+    ensures known { is_known votes.old.holds (signer_of vote) ≡ true
+        → of_kind votes.old.holds.compacted (kind_of vote) ≡ true → IsOk result }
+    ensures repeated { is_seen (observed votes.old.holds (kind_of vote) (signer_of vote)) ≡ true
         → IsOk result }
+    ensures with_room { HasRoomToRecord votes.old place (kind_of vote) → IsOk result }
     ensures same { SameVerifier verifier.old verifier.new }
     ensures mode { SameTracker votes.old votes.new }
 {
@@ -717,6 +720,7 @@ fn make_room_to_fix<S: Scheme<D>, D: Digest>(
 fn make_room_to_accept<S: Scheme<D>, D: Digest>(
     verifier: &mut Verifier<S, D>,
     votes: &mut VoteTracker<S::Signature, D>,
+    place: Place,
     vote: &Vote<S::Signature, D>,
     outcome: Outcome,
 ) -> Result<(), AllocError>
@@ -724,7 +728,8 @@ fn make_room_to_accept<S: Scheme<D>, D: Digest>(
         (fixed_by vote.now) (λ proposal kind.
         HasRoomFor D.eq verifier.old.holds.certified votes.old.holds.kept proposal
         verifier.new.pending_room kind)) }
-    ensures to_record { OnOk result (is_added outcome ≡ true → 1 ≤ votes.new.room) }
+    ensures to_record { OnOk result (is_added outcome ≡ true
+        → HasRoomToRecord votes.new place (kind_of vote.now)) }
     ensures to_wait { OnOk result (is_kept outcome ≡ true → 1
         ≤ of_kind verifier.new.verified_room (kind_of vote.now)) }
     ensures no_memory { is_added outcome ≡ false
@@ -738,12 +743,13 @@ fn make_room_to_accept<S: Scheme<D>, D: Digest>(
     ensures same { SameVerifier verifier.old verifier.new }
     ensures mode { SameTracker votes.old votes.new }
 {
+    let kind = vote.kind();
     make_room_to_fix(verifier, votes, fixed_by(vote), None)?;
     if is_added(outcome) {
-        votes.make_room()?;
+        votes.make_room(place, kind)?;
     }
     if is_kept(outcome) {
-        verifier.make_room(vote.kind(), true, 1)?;
+        verifier.make_room(kind, true, 1)?;
     }
     Ok(())
 }

@@ -1,17 +1,18 @@
 -- Where an item stands in an ascending list, or where it would.
-use Rattle.std.proofs.Common.{◌≡◌, ◌∙◌, ◌≤◌, ◌<◌, ◌+◌, ◌++◌, ℕ, suc, zero, Bool, true, false, cond, ◌||◌, nat_eq, nat_lt, nat_le, List, [], ◌∷◌, length, get_or, take, drop, map, find, Option, Some, None, is_some, Result, Ok, Err, refl, ap}
+use Rattle.std.proofs.Common.{◌≡◌, ◌∙◌, ◌≤◌, ◌<◌, ◌+◌, ◌++◌, ℕ, suc, zero, Bool, true, false, cond, ◌||◌, nat_eq, nat_lt, nat_le, List, [], ◌∷◌, length, get_or, set, take, drop, map, find, Option, Some, None, is_some, Result, Ok}
+use Rattle.std.proofs.Common.{Err, refl, ap}
 use Rattle.std.proofs.Common.{sym, arith}
 use Rattle.std.proofs.lemmas.Bool.Decides.{nat_tests}
 use Rattle.std.proofs.lemmas.Option.{slice_get-get_or}
 use Rattle.std.specs.Prelude.{◌==◌}
-use Rattle.std.specs.List.{AllByRecursion, list_any, slice_get}
+use Rattle.std.specs.List.{All, AllByRecursion, list_any, slice_get}
 use Rattle.std.specs.List.Sorted.{IsSearchInRange, IsBinarySearchResult}
 use Rattle.std.specs.Ordering.{nat_cmp}
 use Rattle.batcher_types.specs.Ascending.{IsAscending, insert_by}
 use Rattle.batcher_types.specs.Lists.{count}
-use Rattle.batcher_types.specs.Items.{place_of}
-use Rattle.batcher_types.specs.Ordered.{rec_weaker, all_from_rec}
-use Rattle.batcher_types.proofs.Orders.{found_key, lower, higher, searched_found, searched_absent}
+use Rattle.batcher_types.specs.Items.{place_of, replace_by}
+use Rattle.batcher_types.specs.Ordered.{rec_weaker, rec_from_all, all_from_rec}
+use Rattle.batcher_types.proofs.Orders.{replace_at, found_key, lower, higher, searched_found, searched_absent}
 
 found_of : (b : Bool) (n i : ℕ) → ◌≡◌ {A = Result ℕ ℕ} (cond b (Ok n) (Err n)) (Ok i) → (b ≡ true)
     × (n ≡ i)
@@ -213,3 +214,51 @@ module _ {X : Type 0} (key : X → ℕ) where
       → place_of (map key xs) (key x) ≡ Err i → take i xs ++ x ∷ drop i xs ≡ insert_by key x xs
   unfolding place_of
   place_insert x xs i up is = rw (← (absent_of _ _ i is).1) (insert_at_count x xs up)
+
+  place_some : (xs : List X) (k : ℕ) (x : X) → find (λ y. nat_eq (key y) k) xs ≡ Some x
+      → place_of (map key xs) k ≡ Ok (lower_count xs k)
+  unfolding place_of
+  place_some xs k x h = let some = any_found xs k ∙ ap is_some h in rw some
+
+  -- as many elements stand before one as are lower
+  pub rank_below : (xs : List X) (k : ℕ) (x : X) → find (λ y. nat_eq (key y) k) xs ≡ Some x
+      → lower_count xs k < length xs
+  rank_below xs k x h = place_below xs k (lower_count xs k) (place_some xs k x h)
+
+  rank_item : (xs : List X) (k : ℕ) (x d : X) → IsAscending key xs
+      → find (λ y. nat_eq (key y) k) xs ≡ Some x
+      → find (λ y. nat_eq (key y) k) xs ≡ Some (get_or xs (lower_count xs k) d)
+  rank_item xs k x d up h = place_item xs k (lower_count xs k) d up (place_some xs k x h)
+
+  pub rank_is : (xs : List X) (k : ℕ) (x d : X) → IsAscending key xs
+      → find (λ y. nat_eq (key y) k) xs ≡ Some x → get_or xs (lower_count xs k) d ≡ x
+  rank_is xs k x d up h = let both = sym (rank_item xs k x d up h) ∙ h in cc
+
+  -- a replacement is a write there
+  pub rank_replace : (xs : List X) (k : ℕ) (x old : X) → IsAscending key xs
+      → find (λ y. nat_eq (key y) k) xs ≡ Some old → key x ≡ k
+      → replace_by key x xs ≡ set xs (lower_count xs k) x
+  unfolding replace_by
+  rank_replace xs k x old up h same =
+      sym (replace_at key xs (lower_count xs k) x x up (rank_below xs k old h)
+      (ap key (rank_is xs k old x up h) ∙ found_key key xs k old h ∙ sym same))
+
+-- The numbers from one on and below another are no more than what lies between.
+ascending_within : {E : Type 0} (key : E → ℕ) (es : List E) (first end : ℕ) → first ≤ end
+    → IsAscending key es → AllByRecursion (λ e. first ≤ key e) es
+    → AllByRecursion (λ e. key e < end) es → first + length es ≤ end
+unfolding IsAscending
+ascending_within key [] first end le up from below = omega (arith, le)
+ascending_within key (e ∷ es) first end le up from below =
+    let rest = ascending_within key es (suc (key e)) end (omega (arith, below.0)) up.1
+    (rec_weaker (λ x. key e < key x) (λ x. suc (key e) ≤ key x) (λ x lt. omega (arith, lt)) es up.0) below.1 in
+    omega (arith, rest, from.0)
+
+pub ascending_few : {E : Type 0} (key : E → ℕ) (es : List E) (end : ℕ) → IsAscending key es
+    → All (λ e. key e < end) es → length es ≤ end
+ascending_few key es end up below =
+    let within = ascending_within key es 0 end (omega arith) up (all_zero es) (rec_from_all (λ e. key e < end) es below) in
+    omega (arith, within) where
+      all_zero : (es : List _) → AllByRecursion (λ e. 0 ≤ key e) es
+      all_zero [] = tt
+      all_zero (e ∷ es) = (omega arith, all_zero es)

@@ -6,7 +6,7 @@ ghost use Rattle.batcher_types.specs.declared.positions.Participant.{Participant
 mod map;
 
 use crate::positions::{Participant, Round, View};
-pub use map::{AttributableMap, MapIter, Place};
+pub use map::{AttributableMap, MapIter, Place, make_room_below};
 use std::fmt;
 
 /// The digest of a payload: a value, of which `==` tells whether two are the same.
@@ -127,7 +127,8 @@ pub enum Vote<G, D> {
 }
 
 impl<G, D> Vote<G, D> {
-    ghost use Rattle.batcher_types.specs.Votes.{kind_of, attestation_of};
+    ghost use Rattle.std.specs.Option.{option_copied};
+    ghost use Rattle.batcher_types.specs.Votes.{kind_of, attestation_of, proposal_in, subject_of};
 
     /// Who signed it, as it says itself.
     pub fn signer(&self) -> Participant
@@ -150,10 +151,21 @@ impl<G, D> Vote<G, D> {
             Vote::Finalize(_) => Kind::Finalization,
         }
     }
+
+    /// The proposal that it is for, unless it is a nullify.
+    pub fn proposal(&self) -> Option<&Proposal<D>>
+        ensures { option_copied result ≡ proposal_in (subject_of self.now) }
+    {
+        match self {
+            Vote::Notarize(notarize) => Some(&notarize.proposal),
+            Vote::Nullify(_) => None,
+            Vote::Finalize(finalize) => Some(&finalize.proposal),
+        }
+    }
 }
 
 impl<G: Copy, D: Copy> Vote<G, D> {
-    ghost use Rattle.batcher_types.specs.Votes.{subject_of, attestation_of, round_in, proposal_in};
+    ghost use Rattle.batcher_types.specs.Votes.{subject_of, attestation_of, round_in};
 
     /// The vote for the subject, with the attestation of it.
     pub fn new(subject: Subject<D>, attestation: Attestation<G>) -> Self
@@ -206,13 +218,6 @@ impl<G: Copy, D: Copy> Vote<G, D> {
         ensures { result ≡ round_in (subject_of self.now) }
     {
         self.subject().round()
-    }
-
-    /// The proposal that it is for, unless it is a nullify.
-    pub fn proposal(&self) -> Option<Proposal<D>>
-        ensures { result ≡ proposal_in (subject_of self.now) }
-    {
-        self.subject().proposal()
     }
 }
 

@@ -1,48 +1,23 @@
 -- The votes of a kind that a tracker keeps: each is of the kind, and no signer has two.
-use Rattle.std.proofs.Common.{◌≡◌, ◌≤◌, ◌<◌, ◌==◌, ◌&&◌, ℕ, Bool, true, false, cond, List, [], ◌∷◌, length, filter, find, Option, Some, None, is_some, refl, ap, subst, ◌∙◌, arith}
+use Rattle.std.proofs.Common.{◌≡◌, ◌≤◌, ◌<◌, ◌==◌, ◌&&◌, ℕ, Bool, true, false, cond, List, [], ◌∷◌, length, filter, find, Option, Some, None, is_some, refl, ap, sym, subst, ◌∙◌, arith}
 use Rattle.std.proofs.lemmas.Bool.Decides.{nat_tests}
 use Rattle.std.proofs.lemmas.List.Sums.{AllPass-from_list_all}
 use Rattle.std.specs.List.{AllByRecursion, AllPass, list_all, filter_map, cons_option}
-use Rattle.batcher_types.specs.declared.positions.Participant.{Participant}
-use Rattle.batcher_types.specs.declared.messages.Proposal.{Proposal}
-use Rattle.batcher_types.specs.declared.messages.Attestation.{Attestation}
 use Rattle.batcher_types.specs.declared.messages.Vote.{Vote}
 use Rattle.batcher_types.specs.declared.messages.Kind.{Kind}
-use Rattle.batcher_types.specs.declared.messages.Kind.TheVariants.{Notarization, Nullification, Finalization}
-use Rattle.batcher_votes.specs.declared.votes.entry.Proposed.{Proposed}
-use Rattle.batcher_votes.specs.declared.votes.entry.Proposed.TheVariants.{Unseen as NothingProposed, Kept as KeptProposed, Compacted as CompactedProposed}
-use Rattle.batcher_votes.specs.declared.votes.entry.Nullified.{Nullified}
-use Rattle.batcher_votes.specs.declared.votes.entry.Nullified.TheVariants.{Unseen as NothingNullified, Kept as KeptNullified, Compacted as CompactedNullified}
+use Rattle.batcher_votes.specs.declared.votes.entry.Seen.{Seen}
+use Rattle.batcher_votes.specs.declared.votes.entry.Seen.TheVariants.{Nothing, Uncompared, Differs, Matches, Kept}
 use Rattle.batcher_votes.specs.declared.votes.entry.Entry.{Entry}
 use Rattle.batcher_types.specs.Ascending.{IsAscending}
 use Rattle.batcher_types.specs.Lists.{count, is_some_and}
+use Rattle.batcher_types.specs.Ordered.{rec_from_all, rec_weaker}
 use Rattle.batcher_types.specs.Votes.{signer_of, is_of_kind, is_vote_of}
 use Rattle.batcher_votes.specs.Held.{PerKind, of_kind}
 use Rattle.batcher_votes.specs.Tracking.{KeepsEach}
-use Rattle.batcher_votes.specs.Entries.{kept_part, kept_proposed, kept_nullified, notarize_vote, finalize_vote, kept_among, tracked_by}
+use Rattle.batcher_votes.specs.Entries.{key_of, part, vote_at, kept_part, kept_among, may_say, Fits, tracked_by}
 use Rattle.batcher_votes.proofs.Parts.{Of}
-use Rattle.batcher_votes.proofs.Recorded.{key_of, kept_numbered, kept_is}
-
-module _ {G D : Type 0} where
-  proposed_kinded : (i : Participant) (s : Proposed G D) (kind : Kind)
-      (vote : Proposal D → Attestation G → Vote G D)
-      → ((p : Proposal D) (a : Attestation G) → is_of_kind kind (vote p a) ≡ true)
-      → Of (kept_proposed i vote s) (λ v. is_of_kind kind v ≡ true)
-  proposed_kinded i NothingProposed kind vote made = tt
-  proposed_kinded i (KeptProposed p g) kind vote made = made p (record { signer = i; signature = g })
-  proposed_kinded i (CompactedProposed c) kind vote made = tt
-
-  nullified_kinded : (e : Entry G D) (i : Participant) (s : Nullified G)
-      → Of (kept_nullified {G = G} {D = D} i s) (λ v. is_of_kind Nullification v ≡ true)
-  nullified_kinded e i NothingNullified = tt
-  nullified_kinded e i (KeptNullified r g) = refl
-  nullified_kinded e i CompactedNullified = tt
-
-  kept_kinded : (kind : Kind) (e : Entry G D)
-      → Of (kept_part kind e) (λ v. is_of_kind kind v ≡ true)
-  kept_kinded Notarization e = proposed_kinded e.signer e.notarize Notarization notarize_vote (λ p a. refl)
-  kept_kinded Nullification e = nullified_kinded e e.signer e.nullify
-  kept_kinded Finalization e = proposed_kinded e.signer e.finalize Finalization finalize_vote (λ p a. refl)
+use Rattle.batcher_votes.proofs.Shown.{kept_numbered, kept_kinded, kept_is, kept_says, no_vote}
+use Rattle.batcher_votes.proofs.Recorded.{filter_map-same_each}
 
 module _ {E X : Type 0} (part : E → Option X) where
   all_cons : (p : X → Bool) (o : Option X) (zs : List X) → Of o (λ x. p x ≡ true) → list_all p zs
@@ -107,32 +82,51 @@ module _ {G D : Type 0} where
   tested_of kind i None h = tt
   tested_of kind i (Some v) h = ap (λ b. b && (signer_of v == i)) h
 
-  once_among : (c : Bool) (kind : Kind) (es : List (Entry G D)) → IsAscending key_of es → (i : ℕ)
-      → count (λ v. signer_of v == i) (kept_among c kind es)
-      ≤ cond (is_some (find (is_vote_of kind i) (kept_among c kind es))) 1 0
-  once_among true kind es up i = omega arith
-  once_among false kind es up i =
-      one_each key_of (kept_part kind) signer_of (kept_numbered kind) (is_vote_of kind i) i (λ e. tested_of kind i (kept_part kind e) (kept_kinded kind e)) es
-      up
+  once_among : (c : Bool) (votes : List (Vote G D)) (kind : Kind) (es : List Entry)
+      → IsAscending key_of es → (i : ℕ)
+      → count (λ v. signer_of v == i) (kept_among c votes kind es)
+      ≤ cond (is_some (find (is_vote_of kind i) (kept_among c votes kind es))) 1 0
+  once_among true votes kind es up i = omega arith
+  once_among false votes kind es up i =
+      one_each key_of (kept_part votes kind) signer_of (kept_numbered votes kind) (is_vote_of kind i) i
+      (λ e. tested_of kind i (kept_part votes kind e) (kept_kinded votes kind e)) es up
 
-  kinds_among : (c : Bool) (kind : Kind) (es : List (Entry G D))
-      → AllPass (is_of_kind kind) (kept_among c kind es)
-  kinds_among true kind es = λ k d below. absurd (omega arith)
-  kinds_among false kind es =
-      AllPass-from_list_all (is_of_kind kind) (filter_map (kept_part kind) es) (all_parts (kept_part kind) (is_of_kind kind) (kept_kinded kind) es)
+  kinds_among : (c : Bool) (votes : List (Vote G D)) (kind : Kind) (es : List Entry)
+      → AllPass (is_of_kind kind) (kept_among c votes kind es)
+  kinds_among true votes kind es = λ k d below. absurd (omega arith)
+  kinds_among false votes kind es =
+      AllPass-from_list_all (is_of_kind kind) (filter_map (kept_part votes kind) es)
+      (all_parts (kept_part votes kind) (is_of_kind kind) (kept_kinded votes kind) es)
 
-  pub keeps_each : (c : PerKind Bool) (es : List (Entry G D)) (kind : Kind) → IsAscending key_of es
-      → KeepsEach (tracked_by c es) kind
-  keeps_each c es kind up =
+  pub keeps_each : (c : PerKind Bool) (votes : PerKind (List (Vote G D))) (es : List Entry)
+      (kind : Kind) → IsAscending key_of es → KeepsEach (tracked_by c votes es) kind
+  keeps_each c votes es kind up =
       record {
-        kinds = rw (kept_is c es kind) (kinds_among (of_kind c kind) kind es);
-        once = λ i. rw (kept_is c es kind) (once_among (of_kind c kind) kind es up i);
+        kinds = rw (kept_is c votes es kind) (kinds_among (of_kind c kind) (of_kind votes kind) kind es);
+        once = λ i. rw (kept_is c votes es kind) (once_among (of_kind c kind) (of_kind votes kind) kind es up i);
       }
 
-  -- what is kept of a kind that isn't compacted, and of one that is
-  pub kept_open : (c : PerKind Bool) (es : List (Entry G D)) (kind : Kind) (b : Bool)
-      → of_kind c kind ≡ b → of_kind (tracked_by c es).kept kind ≡ kept_among b kind es
-  kept_open c es kind b e = kept_is c es kind ∙ ap (λ b. kept_among b kind es) e
+  -- what is kept, by the places that may stand
+  shown_among : (b : Bool) (votes : List (Vote G D)) (kind : Kind) (es : List Entry)
+      → AllPass (λ e. may_say b kind votes (key_of e) (part kind e)) es
+      → kept_among b votes kind es ≡ filter_map (λ e. vote_at votes (part kind e)) es
+  shown_among true votes kind es each = sym (none_among es (rec_from_all (λ e. may_say true kind votes (key_of e) (part kind e) ≡ true) es each)) where
+    none_among : (es : List Entry)
+        → AllByRecursion (λ e. may_say true kind votes (key_of e) (part kind e) ≡ true) es
+        → filter_map (λ e. vote_at votes (part kind e)) es ≡ []
+    none_among [] h = refl
+    none_among (e ∷ es) h = let rest = none_among es h.1 in rw (no_vote votes kind (key_of e) (part kind e) h.0, rest)
+  shown_among false votes kind es each =
+      filter_map-same_each (kept_part votes kind) (λ e. vote_at votes (part kind e)) es
+      (rec_weaker (λ e. may_say false kind votes (key_of e) (part kind e) ≡ true) (λ e. kept_part votes kind e ≡ vote_at votes (part kind e))
+      (λ e h. kept_says votes false kind (key_of e) (part kind e) h) es
+      (rec_from_all (λ e. may_say false kind votes (key_of e) (part kind e) ≡ true) es each))
+
+  pub kept_shown : (c : PerKind Bool) (votes : PerKind (List (Vote G D))) (es : List Entry)
+      (kind : Kind) → Fits (of_kind c kind) kind (of_kind votes kind) es
+      → of_kind (tracked_by c votes es).kept kind
+      ≡ filter_map (λ e. vote_at (of_kind votes kind) (part kind e)) es
+  kept_shown c votes es kind fits = kept_is c votes es kind ∙ shown_among (of_kind c kind) (of_kind votes kind) kind es fits.each
 
 module _ {E X : Type 0} (part : E → Option X) (p : X → Bool) where
   one_more : (b : Bool) (e : E) (x : X) (es : List E) (xs : List X) → length es ≡ length xs

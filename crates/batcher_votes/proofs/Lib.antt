@@ -12,3 +12,6 @@ pub mod Restoring
 pub mod Soundness
 pub mod Trying
 pub mod Waits
+pub mod Shown
+pub mod Listed
+pub mod Putting

@@ -1,28 +1,27 @@
--- What a tracker keeps of each signer, and how its entries show what is tracked.
-use Rattle.std.specs.Prelude.{ℕ, Bool, true, false, not, cond, List, [], Option, Some, None}
-use Rattle.std.specs.List.{filter_map}
+-- What a tracker keeps of each signer, and how its entries and the votes that it keeps show what is
+-- tracked.
+use Rattle.std.specs.Prelude.{◌≡◌, ◌<◌, ◌^◌, ◌++◌, ◌∷◌, ◌&&◌, ℕ, Bool, true, false, not, cond, is_some, if◌then◌else◌, List, [], Option, Some, None, length, map, ◌-◌, vec_len, vec_capacity}
+use Rattle.std.specs.List.{AllPass, filter_map, slice_get}
 use Rattle.batcher_types.specs.declared.positions.Participant.{Participant}
-use Rattle.batcher_types.specs.declared.positions.Round.{Round}
-use Rattle.batcher_types.specs.declared.messages.Attestation.{Attestation}
 use Rattle.batcher_types.specs.declared.messages.Proposal.{Proposal}
 use Rattle.batcher_types.specs.declared.messages.Vote.{Vote}
 use Rattle.batcher_types.specs.declared.messages.Vote.TheVariants.{Notarize as NotarizeVote, Nullify as NullifyVote, Finalize as FinalizeVote}
 use Rattle.batcher_types.specs.declared.messages.Kind.{Kind}
 use Rattle.batcher_types.specs.declared.messages.Kind.TheVariants.{Notarization, Nullification, Finalization}
-use Rattle.batcher_votes.specs.declared.votes.entry.Comparison.{Comparison}
-use Rattle.batcher_votes.specs.declared.votes.entry.Comparison.TheVariants.{Never, Differs, Matches}
-use Rattle.batcher_votes.specs.declared.votes.entry.Proposed.{Proposed}
-use Rattle.batcher_votes.specs.declared.votes.entry.Proposed.TheVariants.{Unseen as NothingProposed, Kept as KeptProposed, Compacted as CompactedProposed}
-use Rattle.batcher_votes.specs.declared.votes.entry.Nullified.{Nullified}
-use Rattle.batcher_votes.specs.declared.votes.entry.Nullified.TheVariants.{Unseen as NothingNullified, Kept as KeptNullified, Compacted as CompactedNullified}
+use Rattle.batcher_votes.specs.declared.votes.entry.Seen.{Seen}
+use Rattle.batcher_votes.specs.declared.votes.entry.Seen.TheVariants.{Nothing, Uncompared, Differs, Matches, Kept}
 use Rattle.batcher_votes.specs.declared.votes.entry.Entry.{Entry}
+use Rattle.batcher_votes.specs.declared.votes.kept.KeptLists.{KeptLists}
 use Rattle.batcher_votes.specs.declared.votes.Marks.{Marks}
 use Rattle.batcher_votes.specs.declared.votes.Outcome.{Outcome}
 use Rattle.batcher_votes.specs.declared.votes.Outcome.TheVariants.{Added, Duplicate, Conflicting}
-use Rattle.batcher_types.specs.Votes.{same_proposal}
+use Rattle.batcher_types.specs.Ascending.{insert_by}
+use Rattle.batcher_types.specs.Items.{item_of, replace_by}
+use Rattle.batcher_types.specs.Lists.{count, is_some_and}
+use Rattle.batcher_types.specs.Votes.{is_vote_of, has_proposals, proposal_in, subject_of}
 use Rattle.batcher_votes.specs.Selected.{is_selected}
-use Rattle.batcher_votes.specs.Held.{PerKind, Facts, Tracked}
-use Rattle.batcher_votes.specs.Tracking.{Observed, unseen, from_kept, from_facts, no_facts}
+use Rattle.batcher_votes.specs.Held.{PerKind, of_kind, Facts, Tracked}
+use Rattle.batcher_votes.specs.Tracking.{Observed, unseen, as_facts, from_kept, from_facts, no_facts}
 
 abbrev pub marks_of : Marks → PerKind Bool
 marks_of marks =
@@ -34,162 +33,172 @@ with_mark Notarization marks = record marks { notarize = true }
 with_mark Nullification marks = record marks { nullify = true }
 with_mark Finalization marks = record marks { finalize = true }
 
--- with one more vote, of which it is known whether it is for the selected proposal
-abbrev pub compared : Comparison → Option Bool → Comparison
-compared before None = before
-compared before (Some true) = Matches
-compared Never (Some false) = Differs
-compared Differs (Some false) = Differs
-compared Matches (Some false) = Matches
+-- what an entry says of a kind
+abbrev pub part : Kind → Entry → Seen
+part Notarization entry = entry.notarize
+part Nullification entry = entry.nullify
+part Finalization entry = entry.finalize
+
+-- the entry that says this of a kind, and of the others what it did
+abbrev pub with_part : Kind → Seen → Entry → Entry
+with_part Notarization seen entry = record entry { notarize = seen }
+with_part Nullification seen entry = record entry { nullify = seen }
+with_part Finalization seen entry = record entry { finalize = seen }
+
+abbrev pub nothing_seen : Participant → Entry
+nothing_seen i =
+    record { signer = i; notarize = Nothing; nullify = Nothing; finalize = Nothing }
+
+-- the number by which entries ascend
+abbrev pub key_of : Entry → ℕ
+key_of entry = entry.signer.0
+
+-- what the signer's entry says of a kind, if it has one
+abbrev pub seen_in : Kind → Option Entry → Seen
+seen_in kind None = Nothing
+seen_in kind (Some entry) = part kind entry
+
+-- the signer's entry, or one that says nothing
+abbrev pub entry_or_new : Participant → Option Entry → Entry
+entry_or_new i None = nothing_seen i
+entry_or_new i (Some entry) = entry
+
+-- the item in the place of its signer's, or where it would stand
+abbrev pub put_by : {T : Type 0} → (T → ℕ) → T → List T → List T
+put_by signer item items =
+    if is_some (item_of signer items (signer item)) then replace_by signer item items else
+    insert_by signer item items
+
+-- the entries, of which the signer's says this of a kind
+abbrev pub entries_with : Participant → Kind → Seen → List Entry → List Entry
+entries_with i kind seen entries =
+    put_by key_of (with_part kind seen (entry_or_new i (item_of key_of entries i.0))) entries
+
+-- Whether a first vote is kept, and stands at a place.
+abbrev pub has_place : Seen → Bool
+has_place Nothing = false
+has_place Uncompared = false
+has_place Differs = false
+has_place Matches = false
+has_place (Kept place) = true
+
+-- with one more vote that isn't kept, of which it is known whether it is for the selected proposal
+abbrev pub compared : Option Bool → Seen → Seen
+compared None Nothing = Uncompared
+compared None Uncompared = Uncompared
+compared None Differs = Differs
+compared None Matches = Matches
+compared None (Kept place) = Uncompared
+compared (Some true) seen = Matches
+compared (Some false) Nothing = Differs
+compared (Some false) Uncompared = Differs
+compared (Some false) Differs = Differs
+compared (Some false) Matches = Matches
+compared (Some false) (Kept place) = Differs
 
 -- whether such a vote is for another proposal than an earlier one
-abbrev pub differs_from : Comparison → Option Bool → Bool
-differs_from Never is_selected = false
-differs_from Differs None = false
-differs_from Differs (Some is_selected) = is_selected
-differs_from Matches None = false
-differs_from Matches (Some is_selected) = not is_selected
+abbrev pub differs_from : Option Bool → Seen → Bool
+differs_from is_selected Nothing = false
+differs_from is_selected Uncompared = false
+differs_from None Differs = false
+differs_from (Some is_selected) Differs = is_selected
+differs_from None Matches = false
+differs_from (Some is_selected) Matches = not is_selected
+differs_from is_selected (Kept place) = false
 
-abbrev pub facts_compared : ℕ → Comparison → Facts
-facts_compared i Never = no_facts i
-facts_compared i Differs = record { signer = i; has_compared = true; has_matched = false }
-facts_compared i Matches = record { signer = i; has_compared = true; has_matched = true }
+-- what comes of recording one more vote, of a kind that is compacted or isn't
+abbrev pub seen_outcome : Bool → Option Bool → Seen → Outcome
+seen_outcome compacted is_selected Nothing = Added (not compacted)
+seen_outcome compacted is_selected Uncompared = Duplicate false
+seen_outcome compacted is_selected Differs =
+    cond (differs_from is_selected Differs) Conflicting (Duplicate false)
+seen_outcome compacted is_selected Matches =
+    cond (differs_from is_selected Matches) Conflicting (Duplicate false)
+seen_outcome compacted is_selected (Kept place) = Duplicate true
 
-module _ {G D : Type 0} where
-  abbrev pub proposed_outcome : Bool → Option Bool → Proposed G D → Outcome
-  proposed_outcome true is_selected NothingProposed = Added false
-  proposed_outcome true is_selected (KeptProposed proposal signature) = Added false
-  proposed_outcome true is_selected (CompactedProposed comparison) =
-      cond (differs_from comparison is_selected) Conflicting (Duplicate false)
-  proposed_outcome false is_selected NothingProposed = Added true
-  proposed_outcome false is_selected (KeptProposed proposal signature) = Duplicate true
-  proposed_outcome false is_selected (CompactedProposed comparison) = Added true
+-- the facts of a signer's votes that aren't kept
+abbrev pub facts_seen : ℕ → Seen → Option Facts
+facts_seen i Nothing = None
+facts_seen i Uncompared = Some (no_facts i)
+facts_seen i Differs = Some (record { signer = i; has_compared = true; has_matched = false })
+facts_seen i Matches = Some (record { signer = i; has_compared = true; has_matched = true })
+facts_seen i (Kept place) = None
 
-  abbrev pub proposed_with : Bool → Proposal D → G → Option Bool → Proposed G D → Proposed G D
-  proposed_with true proposal signature is_selected NothingProposed =
-      CompactedProposed (compared Never is_selected)
-  proposed_with true proposal signature is_selected (KeptProposed p s) =
-      CompactedProposed (compared Never is_selected)
-  proposed_with true proposal signature is_selected (CompactedProposed comparison) =
-      CompactedProposed (compared comparison is_selected)
-  proposed_with false proposal signature is_selected NothingProposed =
-      KeptProposed proposal signature
-  proposed_with false proposal signature is_selected (KeptProposed p s) = KeptProposed p s
-  proposed_with false proposal signature is_selected (CompactedProposed comparison) =
-      KeptProposed proposal signature
+abbrev pub facts_part : Kind → Entry → Option Facts
+facts_part kind entry = facts_seen entry.signer.0 (part kind entry)
 
-  abbrev pub kept_proposed : Participant → (Proposal D → Attestation G → Vote G D) → Proposed G D
-      → Option (Vote G D)
-  kept_proposed i vote NothingProposed = None
-  kept_proposed i vote (KeptProposed proposal signature) =
-      Some (vote proposal (record { signer = i; signature = signature }))
-  kept_proposed i vote (CompactedProposed comparison) = None
-
-  abbrev pub facts_proposed : ℕ → Proposed G D → Option Facts
-  facts_proposed i NothingProposed = None
-  facts_proposed i (KeptProposed proposal signature) = None
-  facts_proposed i (CompactedProposed comparison) = Some (facts_compared i comparison)
-
-  abbrev pub notarize_vote : Proposal D → Attestation G → Vote G D
-  notarize_vote p a = NotarizeVote (record { proposal = p; attestation = a })
-
-  abbrev pub finalize_vote : Proposal D → Attestation G → Vote G D
-  finalize_vote p a = FinalizeVote (record { proposal = p; attestation = a })
-
-module _ {G : Type 0} where
-  abbrev pub nullified_outcome : Bool → Nullified G → Outcome
-  nullified_outcome true NothingNullified = Added false
-  nullified_outcome true (KeptNullified round signature) = Added false
-  nullified_outcome true CompactedNullified = Duplicate false
-  nullified_outcome false NothingNullified = Added true
-  nullified_outcome false (KeptNullified round signature) = Duplicate true
-  nullified_outcome false CompactedNullified = Added true
-
-  abbrev pub nullified_with : Bool → Round → G → Nullified G → Nullified G
-  nullified_with true round signature state = CompactedNullified
-  nullified_with false round signature NothingNullified = KeptNullified round signature
-  nullified_with false round signature (KeptNullified r s) = KeptNullified r s
-  nullified_with false round signature CompactedNullified = KeptNullified round signature
-
-  abbrev pub nullified_released : Nullified G → Nullified G
-  nullified_released NothingNullified = NothingNullified
-  nullified_released (KeptNullified round signature) = CompactedNullified
-  nullified_released CompactedNullified = NothingNullified
-
-  abbrev pub facts_nullified : ℕ → Nullified G → Option Facts
-  facts_nullified i NothingNullified = None
-  facts_nullified i (KeptNullified round signature) = None
-  facts_nullified i CompactedNullified = Some (no_facts i)
+-- Of a kind that is compacted entries show facts.
+abbrev pub facts_among : Bool → Kind → List Entry → List Facts
+facts_among true kind entries = filter_map (facts_part kind) entries
+facts_among false kind entries = []
 
 module _ {G D : Type 0} where
-  abbrev pub kept_nullified : Participant → Nullified G → Option (Vote G D)
-  kept_nullified i NothingNullified = None
-  kept_nullified i (KeptNullified round signature) =
-      Some (NullifyVote (record {
-        round = round;
-        attestation = record
-            { signer = i; signature = signature };
-      }))
-  kept_nullified i CompactedNullified = None
+  -- the votes that are kept, of each kind as they came
+  abbrev pub votes_in : KeptLists G D → PerKind (List (Vote G D))
+  votes_in kept = record {
+    notarize = map NotarizeVote kept.notarizes.items;
+    nullify = map NullifyVote kept.nullifies.items;
+    finalize = map FinalizeVote kept.finalizes.items;
+  }
 
-  -- the entry's vote of a kind
-  abbrev pub kept_part : Kind → Entry G D → Option (Vote G D)
-  kept_part Notarization entry = kept_proposed entry.signer notarize_vote entry.notarize
-  kept_part Nullification entry = kept_nullified entry.signer entry.nullify
-  kept_part Finalization entry = kept_proposed entry.signer finalize_vote entry.finalize
+  -- for how many more votes of each kind there is room
+  abbrev pub room_in : KeptLists G D → PerKind ℕ
+  room_in kept = record {
+    notarize = vec_capacity kept.notarizes - vec_len kept.notarizes;
+    nullify = vec_capacity kept.nullifies - vec_len kept.nullifies;
+    finalize = vec_capacity kept.finalizes - vec_len kept.finalizes;
+  }
 
-  -- its facts of a kind
-  abbrev pub facts_part : Kind → Entry G D → Option Facts
-  facts_part Notarization entry = facts_proposed entry.signer.0 entry.notarize
-  facts_part Nullification entry = facts_nullified entry.signer.0 entry.nullify
-  facts_part Finalization entry = facts_proposed entry.signer.0 entry.finalize
+  -- the lists with one more vote
+  abbrev pub with_vote : Vote G D → PerKind (List (Vote G D)) → PerKind (List (Vote G D))
+  with_vote (NotarizeVote vote) votes =
+      record votes { notarize = votes.notarize ++ NotarizeVote vote ∷ [] }
+  with_vote (NullifyVote vote) votes =
+      record votes { nullify = votes.nullify ++ NullifyVote vote ∷ [] }
+  with_vote (FinalizeVote vote) votes =
+      record votes { finalize = votes.finalize ++ FinalizeVote vote ∷ [] }
 
-  -- what is known of the signer's votes of a kind that is compacted, or isn't
-  abbrev pub observed_at : Bool → Kind → Entry G D → Observed G D
-  observed_at true kind entry = from_facts (facts_part kind entry)
-  observed_at false kind entry = from_kept (kept_part kind entry)
+  -- the lists, with none of a kind
+  abbrev pub without : Kind → PerKind (List (Vote G D)) → PerKind (List (Vote G D))
+  without Notarization votes = record votes { notarize = [] }
+  without Nullification votes = record votes { nullify = [] }
+  without Finalization votes = record votes { finalize = [] }
 
-  -- the same by an entry, if there is one
-  abbrev pub observed_of : Bool → Kind → Option (Entry G D) → Observed G D
-  observed_of is_compacted kind None = unseen
-  observed_of is_compacted kind (Some entry) = observed_at is_compacted kind entry
+  -- the vote, where it is of the kind and signer
+  abbrev pub own_vote : Kind → ℕ → Option (Vote G D) → Option (Vote G D)
+  own_vote kind i None = None
+  own_vote kind i (Some vote) = cond (is_vote_of kind i vote) (Some vote) None
 
-  -- the vote that an entry shows of a kind that is compacted, or isn't
-  abbrev pub kept_at : Bool → Kind → Entry G D → Option (Vote G D)
-  kept_at true kind entry = None
-  kept_at false kind entry = kept_part kind entry
+  -- the vote at a place, where there is one
+  abbrev pub vote_at : List (Vote G D) → Seen → Option (Vote G D)
+  vote_at votes Nothing = None
+  vote_at votes Uncompared = None
+  vote_at votes Differs = None
+  vote_at votes Matches = None
+  vote_at votes (Kept place) = slice_get votes place
 
-  -- the same by an entry, if there is one
-  abbrev pub kept_of : Bool → Kind → Option (Entry G D) → Option (Vote G D)
-  kept_of is_compacted kind None = None
-  kept_of is_compacted kind (Some entry) = kept_at is_compacted kind entry
+  -- the proposal of a vote, where there is one
+  abbrev pub proposal_at : Option (Vote G D) → Option (Proposal D)
+  proposal_at None = None
+  proposal_at (Some vote) = proposal_in (subject_of vote)
 
-  abbrev pub nothing_seen : Participant → Entry G D
-  nothing_seen i =
-      record {
-        signer = i;
-        notarize = NothingProposed;
-        nullify = NothingNullified;
-        finalize = NothingProposed;
-      }
+  -- the signer's vote of a kind, among those of the kind that are kept
+  abbrev pub kept_part : List (Vote G D) → Kind → Entry → Option (Vote G D)
+  kept_part votes kind entry = own_vote kind entry.signer.0 (vote_at votes (part kind entry))
 
-  -- Of a kind that is compacted entries show facts, of another the votes that they keep.
-  abbrev pub kept_among : Bool → Kind → List (Entry G D) → List (Vote G D)
-  kept_among true kind entries = []
-  kept_among false kind entries = filter_map (kept_part kind) entries
+  -- Of a kind that isn't compacted entries show the votes that are kept.
+  abbrev pub kept_among : Bool → List (Vote G D) → Kind → List Entry → List (Vote G D)
+  kept_among true votes kind entries = []
+  kept_among false votes kind entries = filter_map (kept_part votes kind) entries
 
-  abbrev pub facts_among : Bool → Kind → List (Entry G D) → List Facts
-  facts_among true kind entries = filter_map (facts_part kind) entries
-  facts_among false kind entries = []
-
-  -- what is tracked, by the kinds that are compacted and the entries
-  abbrev pub tracked_by : PerKind Bool → List (Entry G D) → Tracked G D
-  tracked_by compacted entries = record {
+  -- what is tracked, by the kinds that are compacted, the votes that are kept and the entries
+  abbrev pub tracked_by : PerKind Bool → PerKind (List (Vote G D)) → List Entry → Tracked G D
+  tracked_by compacted votes entries = record {
     compacted = compacted;
     kept = record {
-      notarize = kept_among compacted.notarize Notarization entries;
-      nullify = kept_among compacted.nullify Nullification entries;
-      finalize = kept_among compacted.finalize Finalization entries;
+      notarize = kept_among compacted.notarize votes.notarize Notarization entries;
+      nullify = kept_among compacted.nullify votes.nullify Nullification entries;
+      finalize = kept_among compacted.finalize votes.finalize Finalization entries;
     };
     facts = record {
       notarize = facts_among compacted.notarize Notarization entries;
@@ -198,48 +207,63 @@ module _ {G D : Type 0} where
     };
   }
 
+  -- what an entry shows of a signer's votes of a kind
+  abbrev pub observed_seen : ℕ → List (Vote G D) → Seen → Observed G D
+  observed_seen i votes Nothing = unseen
+  observed_seen i votes Uncompared = from_facts (facts_seen i Uncompared)
+  observed_seen i votes Differs = from_facts (facts_seen i Differs)
+  observed_seen i votes Matches = from_facts (facts_seen i Matches)
+  observed_seen i votes (Kept place) = from_kept (slice_get votes place)
+
+  -- Whether what is said of a signer's votes of a kind may stand. A kind that is compacted has
+  -- facts and no places, another has places and no facts, and at each is a vote of the kind and
+  -- signer. Votes that carry no proposal are never compared.
+  abbrev pub may_say : Bool → Kind → List (Vote G D) → ℕ → Seen → Bool
+  may_say compacted kind votes i Nothing = true
+  may_say compacted kind votes i Uncompared = compacted
+  may_say compacted kind votes i Differs = compacted && has_proposals kind
+  may_say compacted kind votes i Matches = compacted && has_proposals kind
+  may_say compacted kind votes i (Kept place) =
+      not compacted && is_some_and (slice_get votes place) (is_vote_of kind i)
+
+  -- The entries and the kept votes of a kind fit: each entry's place is that of its vote, and there
+  -- are no more votes than places.
+  pub record Fits (compacted : Bool) (kind : Kind) (votes : List (Vote G D))
+      (entries : List Entry) : Type 0 where
+    pub each : AllPass (λ e. may_say compacted kind votes (key_of e) (part kind e)) entries
+    pub counted : length votes ≡ count (λ e. has_place (part kind e)) entries
+
+  -- what a tracker keeps true: a place fits into 32 bits, and of each kind entries and votes fit
+  pub record IsTracked (participants : ℕ) (compacted : PerKind Bool)
+      (votes : PerKind (List (Vote G D))) (entries : List Entry) : Type 0 where
+    pub few : participants < 2 ^ 32
+    pub kinds : (kind : Kind) → Fits (of_kind compacted kind) kind (of_kind votes kind) entries
+
+-- whether a proposal is the selected one, where there are both
+abbrev pub is_selected_in : {D : Type 0} → (D → D → Bool) → Option (Proposal D)
+    → Option (Proposal D) → Option Bool
+is_selected_in same selected None = None
+is_selected_in same selected (Some proposal) = is_selected same selected proposal
+
 module _ {G D : Type 0} (same : D → D → Bool) where
-  abbrev pub proposed_released : Option (Proposal D) → Proposed G D → Proposed G D
-  proposed_released selected NothingProposed = NothingProposed
-  proposed_released selected (KeptProposed proposal signature) =
-      CompactedProposed (compared Never (is_selected same selected proposal))
-  proposed_released selected (CompactedProposed comparison) = NothingProposed
+  -- whether a vote is for the selected proposal
+  abbrev pub tested : Option (Proposal D) → Vote G D → Option Bool
+  tested selected vote = is_selected_in same selected (proposal_in (subject_of vote))
 
-  -- whether a vote for the proposal was seen, or of votes that aren't kept, whether one was for the
-  -- selected one
-  abbrev pub is_proposed : Bool → Proposal D → Proposed G D → Bool
-  is_proposed true p NothingProposed = false
-  is_proposed true p (KeptProposed proposal signature) = false
-  is_proposed true p (CompactedProposed Never) = false
-  is_proposed true p (CompactedProposed Differs) = false
-  is_proposed true p (CompactedProposed Matches) = true
-  is_proposed false p NothingProposed = false
-  is_proposed false p (KeptProposed proposal signature) = same_proposal same p proposal
-  is_proposed false p (CompactedProposed comparison) = false
+  -- the same of a vote, where there is one
+  abbrev pub tested_at : Option (Proposal D) → Option (Vote G D) → Option Bool
+  tested_at selected None = None
+  tested_at selected (Some vote) = tested selected vote
 
-  -- the entry with a vote of its signer
-  abbrev pub entry_with : Bool → Option (Proposal D) → Vote G D → Entry G D → Entry G D
-  entry_with is_compacted selected (NotarizeVote vote) entry =
-      record entry {
-        notarize = proposed_with is_compacted vote.proposal vote.attestation.signature
-            (is_selected same selected vote.proposal) entry.notarize;
-      }
-  entry_with is_compacted selected (NullifyVote vote) entry =
-      record entry {
-        nullify = nullified_with is_compacted vote.round vote.attestation.signature
-            entry.nullify;
-      }
-  entry_with is_compacted selected (FinalizeVote vote) entry =
-      record entry {
-        finalize = proposed_with is_compacted vote.proposal vote.attestation.signature
-            (is_selected same selected vote.proposal) entry.finalize;
-      }
+  -- with facts in the place of a kept vote
+  abbrev pub seen_released : Option (Proposal D) → List (Vote G D) → Seen → Seen
+  seen_released selected votes Nothing = Nothing
+  seen_released selected votes Uncompared = Uncompared
+  seen_released selected votes Differs = Differs
+  seen_released selected votes Matches = Matches
+  seen_released selected votes (Kept place) =
+      compared (tested_at selected (slice_get votes place)) Nothing
 
-  -- the entry with facts in the place of a kept vote of the kind
-  abbrev pub entry_released : Option (Proposal D) → Kind → Entry G D → Entry G D
-  entry_released selected Notarization entry =
-      record entry { notarize = proposed_released selected entry.notarize }
-  entry_released selected Nullification entry =
-      record entry { nullify = nullified_released entry.nullify }
-  entry_released selected Finalization entry =
-      record entry { finalize = proposed_released selected entry.finalize }
+  abbrev pub entry_released : Option (Proposal D) → Kind → List (Vote G D) → Entry → Entry
+  entry_released selected kind votes entry =
+      with_part kind (seen_released selected votes (part kind entry)) entry

@@ -46,13 +46,14 @@ pub record Buffered (G D : Type 0) : Type 0 where
   pub verified : PerKind (List (Vote G D))
 
 -- a tracker of the signers below a bound: those of whom it has an entry, ascending, and room for so
--- many more
+-- many more, and for so many more votes of each kind
 pub record Tracker (G D : Type 0) : Type 0 where
   pub participants : ℕ
   pub mode : Mode
   pub holds : Tracked G D
   pub signers : List ℕ
   pub room : ℕ
+  pub vote_room : PerKind ℕ
 
 -- a verifier of a round, with room for so many votes a buffer
 pub record Verifying (S G D : Type 0) : Type 0 where

@@ -1,5 +1,5 @@
 -- What a tracker knows of each signer, and what recording a vote and releasing a kind change.
-use Rattle.std.specs.Prelude.{◌≡◌, ◌≤◌, ℕ, Bool, true, false, not, cond, ◌&&◌, ◌||◌, ◌==◌, nat_lt, List, [], Option, Some, None, is_some, find, map}
+use Rattle.std.specs.Prelude.{◌≡◌, ◌≤◌, ℕ, Bool, true, false, not, cond, ◌&&◌, ◌||◌, ◌==◌, nat_lt, List, [], Option, Some, None, is_some, Result, IfErr, find, map}
 use Rattle.batcher_types.specs.declared.messages.Proposal.{Proposal}
 use Rattle.batcher_types.specs.declared.messages.Vote.{Vote}
 use Rattle.batcher_types.specs.declared.messages.Vote.TheVariants.{Notarize as NotarizeVote, Nullify as NullifyVote, Finalize as FinalizeVote}
@@ -15,7 +15,7 @@ use Rattle.batcher_types.specs.Ascending.{insert_by}
 use Rattle.std.specs.List.{AllPass}
 use Rattle.batcher_types.specs.Lists.{count, is_some_and, exactly_one}
 use Rattle.batcher_types.specs.Votes.{kind_of, signer_of, is_of_kind, is_vote_of, has_proposals, is_for}
-use Rattle.batcher_votes.specs.Held.{of_kind, for_each, Facts, Tracked}
+use Rattle.batcher_votes.specs.Held.{of_kind, for_each, Facts, Tracked, Tracker}
 
 -- What is known of a signer's votes of a kind: none was seen, one is kept in full, or facts are.
 pub data Observed (G D : Type 0) : Type 0 where
@@ -89,6 +89,13 @@ module _ {G D : Type 0} where
     pub kept : of_kind new.kept kind ≡ of_kind old.kept kind
     pub facts : of_kind new.facts kind ≡ of_kind old.facts kind
 
+-- There is room for a vote of a kind, whose signer's place among those with an entry is told: for
+-- the signer's entry where it has none, and for the vote where the kind isn't compacted.
+pub record HasRoomToRecord {G D : Type 0} (tracker : Tracker G D) (place : Result ℕ ℕ)
+    (kind : Kind) : Type 0 where
+  pub entry : IfErr place (λ _. 1 ≤ tracker.room)
+  pub vote : of_kind tracker.holds.compacted kind ≡ false → 1 ≤ of_kind tracker.vote_room kind
+
 -- The votes of a kind that are kept are of that kind, and no signer has two.
 pub record KeepsEach {G D : Type 0} (held : Tracked G D) (kind : Kind) : Type 0 where
   pub kinds : AllPass (is_of_kind kind) (of_kind held.kept kind)
@@ -97,11 +104,6 @@ pub record KeepsEach {G D : Type 0} (held : Tracked G D) (kind : Kind) : Type 0 
 
 abbrev pub no_facts : ℕ → Facts
 no_facts i = record { signer = i; has_compared = false; has_matched = false }
-
--- a function of the vote, where it is kept
-abbrev pub observed_map : {A B : Type 0} → (A → B) → ObservedVote A → ObservedVote B
-observed_map f (Retained vote) = Retained (f vote)
-observed_map f Compacted = Compacted
 
 module _ {G D : Type 0} (same : D → D → Bool) where
   -- whether a signer is known to have voted for the proposal. Of votes that aren't kept only the

@@ -1,22 +1,25 @@
 //! The votes of a round: the first of each kind per signer, in full or as facts.
 
-ghost use Rattle.std.specs.Prelude.{ℕ, ◌≡◌, ◌+◌, ◌≤◌, ◌<◌, true, nat_lt, ◌&&◌, is_some, IsOk, IfOk, OnOk, OnErr, Some, None, length, filter, map};
+ghost use Rattle.std.specs.Prelude.{ℕ, ◌≡◌, ◌≤◌, ◌<◌, ◌^◌, true, false, ◌&&◌, is_some, IsOk, IfOk, IfErr, OnOk, OnErr, Some, None, length, filter, map, slice_set, slice_index_or};
 ghost use Rattle.std.specs.Option.{option_copied, option_map};
 ghost use Rattle.std.specs.Iterator.{YieldsFirst, item_count};
 ghost use Rattle.batcher_types.specs.declared.messages.Kind.{Kind};
 ghost use Rattle.batcher_types.specs.declared.messages.Kind.TheVariants.{Notarization, Nullification, Finalization};
+ghost use Rattle.batcher_votes.specs.declared.votes.entry.Entry.{Entry as TheEntry};
+ghost use Rattle.batcher_types.specs.Ascending.{IsAscending};
 ghost use Rattle.batcher_types.specs.Lists.{is_some_and};
 ghost use Rattle.batcher_types.specs.Votes.{kind_of, attestation_of, waits};
-ghost use Rattle.batcher_votes.specs.Entries.{entry_released, kept_part};
-ghost use Rattle.batcher_types.specs.Items.{place_of};
+ghost use Rattle.batcher_votes.specs.Held.{of_kind};
+ghost use Rattle.batcher_votes.specs.Entries.{key_of, part, with_part, seen_in, entries_with, entry_released, votes_in, room_in, vote_at};
+ghost use Rattle.batcher_types.specs.Items.{item_of, place_of};
 
 mod entry;
+mod kept;
 
-use batcher_types::messages::{
-    AttributableMap, Digest, Finalize, Kind, Notarize, Nullify, Place, Proposal, Vote,
-};
+use batcher_types::messages::{AttributableMap, Digest, Kind, Notarize, Place, Proposal, Vote};
 use batcher_types::positions::Participant;
-use entry::Entry;
+use entry::{Entry, Seen, is_selected};
+use kept::KeptLists;
 use std::alloc::{AllocError, Global};
 use std::marker::Model;
 
@@ -98,40 +101,106 @@ impl Marks {
     }
 }
 
-// The kind and the signer of a vote.
-fn kind_of<G: Copy, D: Copy>(vote: &Vote<G, D>) -> Kind
-    ensures { result ≡ kind_of vote.now }
+// What is known of a signer's votes of the kind, where `place` tells the place of its entry.
+fn seen_at(entries: &AttributableMap<Entry>, place: Place, kind: Kind) -> Seen
+    ensures seen { (i : ℕ) → place ≡ place_of (map key_of entries.now.items) i
+        → result ≡ seen_in kind (item_of key_of entries.now.items i) }
+    ensures ascending { IsAscending key_of entries.now.items }
+    ensures few { length entries.now.items ≤ entries.now.participants }
 {
-    match vote {
-        Vote::Notarize(_) => Kind::Notarization,
-        Vote::Nullify(_) => Kind::Nullification,
-        Vote::Finalize(_) => Kind::Finalization,
+    match entries.get_at(place) {
+        Some(entry) => entry.seen(kind),
+        None => Seen::Nothing,
     }
 }
 
-fn signer_of<G: Copy, D: Copy>(vote: &Vote<G, D>) -> Participant
-    ensures { result ≡ (attestation_of vote.now).signer }
+// What is known of the signer's votes of the kind.
+fn seen_of(entries: &AttributableMap<Entry>, signer: Participant, kind: Kind) -> Seen
+    ensures seen { result ≡ seen_in kind (item_of key_of entries.now.items signer.0) }
+    ensures ascending { IsAscending key_of entries.now.items }
 {
-    match vote {
-        Vote::Notarize(vote) => vote.attestation.signer,
-        Vote::Nullify(vote) => vote.attestation.signer,
-        Vote::Finalize(vote) => vote.attestation.signer,
+    match entries.get(signer) {
+        Some(entry) => entry.seen(kind),
+        None => Seen::Nothing,
     }
+}
+
+// Has an entry say this of the kind, where it stands.
+fn set_at(entries: &mut AttributableMap<Entry>, index: usize, kind: Kind, seen: Seen)
+    requires { index < length entries.old.items }
+    ensures items { (default : TheEntry) → entries.new.items ≡ slice_set entries.old.items index
+        (with_part kind seen (slice_index_or entries.old.items index default)) }
+    ensures ascending { IsAscending key_of entries.old.items }
+    ensures participants { entries.new.participants ≡ entries.old.participants }
+    ensures room { entries.new.room ≡ entries.old.room }
+{
+    entries.items[index].set(kind, seen);
+}
+
+// Has the signer's entry say this of the kind, where `place` tells its place. It takes no memory.
+fn put_at(
+    entries: &mut AttributableMap<Entry>,
+    place: Place,
+    signer: Participant,
+    kind: Kind,
+    seen: Seen,
+)
+    requires place { place ≡ place_of (map key_of entries.old.items) signer.0 }
+    requires range { signer.0 < entries.old.participants }
+    requires room { IfErr place (λ _. 1 ≤ entries.old.room) }
+    ensures items { entries.new.items ≡ entries_with signer kind seen entries.old.items }
+    ensures participants { entries.new.participants ≡ entries.old.participants }
+{
+    match place {
+        Ok(index) => set_at(entries, index, kind, seen),
+        Err(index) => {
+            let mut entry = Entry::unseen(signer);
+            entry.set(kind, seen);
+            entries.insert_at(index, entry);
+        }
+    }
+}
+
+// Makes room for the entry of a signer that has none at its place, and for one vote of the kind
+// where it isn't compacted. Nothing else changes.
+fn make_room_at<G: Copy, D: Digest>(
+    entries: &mut AttributableMap<Entry>,
+    kept: &mut KeptLists<G, D>,
+    place: Place,
+    kind: Kind,
+    is_compacted: bool,
+) -> Result<(), AllocError>
+    ensures entry { OnOk result (IfErr place (λ _. 1 ≤ entries.new.room)) }
+    ensures vote { OnOk result (is_compacted ≡ false → 1 ≤ of_kind (room_in kept.new) kind) }
+    ensures no_memory { IfErr place (λ _. 1 ≤ entries.old.room)
+        → (is_compacted ≡ false → 1 ≤ of_kind (room_in kept.old) kind) → IsOk result }
+    ensures items { entries.new.items ≡ entries.old.items }
+    ensures participants { entries.new.participants ≡ entries.old.participants }
+    ensures votes { votes_in kept.new ≡ votes_in kept.old }
+{
+    if place.is_err() {
+        entries.make_room()?;
+    }
+    if is_compacted {
+        return Ok(());
+    }
+    kept.make_room(kind, entries.participants())
 }
 
 // Puts facts in the place of each kept vote of the kind.
 fn release_each<G: Copy, D: Digest>(
-    entries: &mut AttributableMap<Entry<G, D>>,
+    entries: &mut AttributableMap<Entry>,
+    kept: &KeptLists<G, D>,
     kind: Kind,
-    selected: Option<Proposal<D>>,
+    selected: Option<&Proposal<D>>,
 )
-    ensures items { entries.new.items ≡ map (entry_released D.eq selected kind) entries.old.items }
+    ensures items { entries.new.items ≡ map (entry_released D.eq (option_copied selected.entry) kind
+        (of_kind (votes_in kept.now) kind)) entries.old.items }
     ensures participants { entries.new.participants ≡ entries.old.participants }
-    ensures room { entries.new.room ≡ entries.old.room }
 {
-    for place in 0..entries.len() {
-        let entry = *entries.item_at(place);
-        entries.replace_at(place, entry.released(kind, selected));
+    for index in 0..entries.len() {
+        let seen = entries.item_at(index).seen(kind);
+        set_at(entries, index, kind, kept.released(kind, seen, selected));
     }
 }
 
@@ -139,14 +208,16 @@ fn release_each<G: Copy, D: Digest>(
 ///
 /// The votes of a kind are kept in full, as evidence and for a certificate, until the kind is
 /// compacted. From then on facts of each signer take their place: they tell a repeat from a
-/// conflict, and whether a signer has the selected proposal's block. Facts take no memory that
-/// the votes didn't have, so a kind is compacted without any.
+/// conflict, and whether a signer has the selected proposal's block. They stand in the signers'
+/// entries, where the places of the votes were, so a kind is compacted without any memory, and
+/// that of its votes goes back.
 #[derive(Drop)]
 pub struct VoteTracker<G: Copy, D: Digest> {
     mode: Mode,
-    // Of which kinds votes aren't kept. An entry's state is read by its kind's mark.
+    // Of which kinds votes aren't kept. Their entries have no places, and those of others no facts.
     compacted: Marks,
-    entries: AttributableMap<Entry<G, D>>,
+    entries: AttributableMap<Entry>,
+    kept: KeptLists<G, D>,
 }
 
 impl<G: Copy, D: Digest> Model for VoteTracker<G, D> {
@@ -155,31 +226,32 @@ impl<G: Copy, D: Digest> Model for VoteTracker<G, D> {
     ghost Value = { Tracker G D };
 
     ghost use Rattle.std.specs.Prelude.{map};
-    ghost use Rattle.batcher_votes.specs.Entries.{tracked_by, marks_of};
+    ghost use Rattle.batcher_votes.specs.Entries.{tracked_by, marks_of, key_of, votes_in, room_in, IsTracked};
 
     ghost view = { λ t. record {
       participants = t.entries.participants;
       mode = t.mode;
-      holds = tracked_by
-          (marks_of t.compacted) t.entries.items;
-      signers = map (λ entry. entry.signer.0)
-          t.entries.items;
+      holds = tracked_by (marks_of t.compacted) (votes_in t.kept) t.entries.items;
+      signers = map key_of t.entries.items;
       room = t.entries.room;
+      vote_room = room_in t.kept;
     } };
+
+    ghost invariant = { λ t. IsTracked t.entries.participants (marks_of t.compacted)
+        (votes_in t.kept) t.entries.items };
 }
 
 impl<G: Copy, D: Digest> VoteTracker<G, D> {
     ghost use Rattle.batcher_votes.specs.declared.votes.Mode.TheVariants.{Retaining, Releasing, Skipped};
-    ghost use Rattle.batcher_types.specs.declared.messages.Vote.TheVariants.{Notarize as NotarizeVote, Nullify as NullifyVote, Finalize as FinalizeVote};
-    ghost use Rattle.batcher_votes.specs.Tracking.{nothing_tracked, outcome_of, outcome_by, RecordsKind, ReleasesKind, SameTracked, is_known, kept_vote, observed, shown, observed_map, is_seen_for, is_released_in, KeepsEach};
+    ghost use Rattle.batcher_types.specs.declared.messages.Vote.TheVariants.{Notarize as NotarizeVote};
+    ghost use Rattle.batcher_votes.specs.Tracking.{nothing_tracked, outcome_of, outcome_by, RecordsKind, ReleasesKind, SameTracked, is_known, is_seen, kept_vote, observed, shown, is_seen_for, is_released_in, KeepsEach, HasRoomToRecord};
     ghost use Rattle.batcher_types.specs.Votes.{signer_of, is_kind};
-    ghost use Rattle.batcher_votes.specs.Held.{of_kind};
-    ghost use Rattle.batcher_votes.specs.Entries.{observed_of, kept_of};
-    ghost use Rattle.std.specs.Prelude.{if◌then◌else◌, false};
+    ghost use Rattle.std.specs.Prelude.{if◌then◌else◌};
 
     /// A tracker that keeps votes in full, to the end or until their kind is certified. It takes
     /// no memory.
     pub fn new(alloc: Global, participants: usize, retain_votes_after_certification: bool) -> Self
+        requires { participants < 2 ^ 32 }
         ensures participants { result.participants ≡ participants }
         ensures mode { result.mode ≡ (if retain_votes_after_certification then Retaining else
             Releasing) }
@@ -198,11 +270,13 @@ impl<G: Copy, D: Digest> VoteTracker<G, D> {
                 finalize: false,
             },
             entries: AttributableMap::new(alloc, participants),
+            kept: KeptLists::new(alloc),
         }
     }
 
     /// A tracker of a skipped view, which keeps facts alone. It takes no memory.
     pub fn skipped(alloc: Global, participants: usize) -> Self
+        requires { participants < 2 ^ 32 }
         ensures participants { result.participants ≡ participants }
         ensures mode { result.mode ≡ Skipped }
         ensures holds { result.holds ≡ nothing_tracked Skipped }
@@ -215,6 +289,7 @@ impl<G: Copy, D: Digest> VoteTracker<G, D> {
                 finalize: true,
             },
             entries: AttributableMap::new(alloc, participants),
+            kept: KeptLists::new(alloc),
         }
     }
 
@@ -223,39 +298,6 @@ impl<G: Copy, D: Digest> VoteTracker<G, D> {
         ensures { result ≡ self.now.mode }
     {
         self.mode
-    }
-
-    /// Records a vote, in full or in its signer's facts, where its signer is in range.
-    pub fn record(
-        &mut self,
-        vote: &Vote<G, D>,
-        proposal: Option<&Proposal<D>>,
-    ) -> Result<Outcome, AllocError>
-        ensures outcome { IfOk result (λ outcome. outcome
-            ≡ outcome_of D.eq self.old.participants self.old.holds (option_copied proposal.entry)
-            vote.now) }
-        ensures records { OnOk result ((kind : Kind)
-            → RecordsKind D.eq self.old.holds self.new.holds (option_copied proposal.entry)
-            (nat_lt (signer_of vote.now) self.old.participants) vote.now kind) }
-        ensures err { OnErr result (self.new.holds ≡ self.old.holds) }
-        ensures participants { self.new.participants ≡ self.old.participants }
-        ensures mode { self.new.mode ≡ self.old.mode }
-
-        // It takes memory for a signer in range of whom no vote was recorded, and none after
-        // `make_room`.
-        ensures known { is_known self.old.holds (signer_of vote.now) ≡ true → IsOk result }
-        ensures out_of_range { self.old.participants ≤ signer_of vote.now → IsOk result }
-        ensures with_room { OnErr result (self.old.room ≡ 0) }
-        ensures room { self.old.room ≤ self.new.room + 1 }
-    {
-        let signer = signer_of(vote);
-        if usize::from(signer) >= self.entries.participants() {
-            return Ok(Outcome::Duplicate {
-                retained: !self.compacted.of(kind_of(vote)),
-            });
-        }
-        let place = self.place(signer);
-        self.record_at(place, vote, proposal)
     }
 
     /// Where the signer's entry stands, else where it would. `make_room` keeps all places. It
@@ -285,27 +327,31 @@ impl<G: Copy, D: Digest> VoteTracker<G, D> {
         ensures participants { self.new.participants ≡ self.old.participants }
         ensures mode { self.new.mode ≡ self.old.mode }
 
-        // It takes memory for a signer of whom no vote was recorded, and none after `make_room`.
-        ensures known { is_known self.old.holds (signer_of vote.now) ≡ true → IsOk result }
-        ensures with_room { OnErr result (self.old.room ≡ 0) }
-        ensures room { self.old.room ≤ self.new.room + 1 }
+        // It takes memory for a signer of whom no vote was recorded, and for a vote that is kept.
+        // After `make_room` it takes none.
+        ensures known { is_known self.old.holds (signer_of vote.now) ≡ true
+            → of_kind self.old.holds.compacted (kind_of vote.now) ≡ true → IsOk result }
+        ensures repeated { is_seen (observed self.old.holds (kind_of vote.now)
+            (signer_of vote.now)) ≡ true → IsOk result }
+        ensures with_room { HasRoomToRecord self.old place (kind_of vote.now) → IsOk result }
     {
-        let is_compacted = self.compacted.of(kind_of(vote));
-        let selected = proposal.copied();
-        match place {
-            Ok(index) => {
-                let entry = *self.entries.item_at(index);
-                self.entries
-                    .replace_at(index, entry.with(is_compacted, vote, selected));
-                Ok(entry.outcome(is_compacted, vote, selected))
-            }
-            Err(index) => {
-                let entry = Entry::unseen(signer_of(vote));
-                self.entries
-                    .insert_at(index, entry.with(is_compacted, vote, selected))?;
-                Ok(entry.outcome(is_compacted, vote, selected))
-            }
+        let kind = vote.kind();
+        let is_compacted = self.compacted.of(kind);
+        let seen = seen_at(&self.entries, place, kind);
+        if seen.is_kept() {
+            return Ok(Outcome::Duplicate { retained: true });
         }
+        make_room_at(&mut self.entries, &mut self.kept, place, kind, is_compacted)?;
+        if is_compacted {
+            let is_selected = is_selected(vote.proposal(), proposal);
+            let next = seen.compared(is_selected);
+            put_at(&mut self.entries, place, vote.signer(), kind, next);
+            return Ok(seen.outcome(true, is_selected));
+        }
+        let next = Seen::Kept(self.kept.len(kind) as u32);
+        self.kept.push(vote);
+        put_at(&mut self.entries, place, vote.signer(), kind, next);
+        Ok(Outcome::Added { retained: true })
     }
 
     /// What `record_at` would answer, with nothing changed. It takes no memory.
@@ -320,65 +366,28 @@ impl<G: Copy, D: Digest> VoteTracker<G, D> {
             (of_kind self.now.holds.compacted (kind_of vote.now))
             (observed self.now.holds (kind_of vote.now) (signer_of vote.now)) vote.now }
     {
-        let is_compacted = self.compacted.of(kind_of(vote));
-        match self.entry_at(place) {
-            Some(entry) => entry.outcome(is_compacted, vote, proposal),
-            None => Outcome::Added {
-                retained: !is_compacted,
-            },
-        }
+        let kind = vote.kind();
+        let seen = seen_at(&self.entries, place, kind);
+        let is_selected = is_selected(vote.proposal(), proposal.as_ref());
+        seen.outcome(self.compacted.of(kind), is_selected)
     }
 
-    /// Makes room for one record, and changes nothing else. Where there is room it takes no memory.
-    pub fn make_room(&mut self) -> Result<(), AllocError>
-        ensures room { OnOk result (1 ≤ self.new.room) }
+    /// Makes room for one record of a vote of the kind, of a signer whose place `place` gave, and
+    /// changes nothing else. Where there is room it takes no memory.
+    pub fn make_room(&mut self, place: Place, kind: Kind) -> Result<(), AllocError>
+        ensures room { OnOk result (HasRoomToRecord self.new place kind) }
         ensures holds { self.new.holds ≡ self.old.holds }
         ensures signers { self.new.signers ≡ self.old.signers }
         ensures participants { self.new.participants ≡ self.old.participants }
         ensures mode { self.new.mode ≡ self.old.mode }
-        ensures no_memory { 1 ≤ self.old.room → IsOk result }
+        ensures no_memory { HasRoomToRecord self.old place kind → IsOk result }
     {
-        self.entries.make_room()
-    }
-
-    /// Releases the notarizes with a certificate for the proposal, unless votes are retained.
-    pub fn release_notarizes(&mut self, proposal: &Proposal<D>)
-        ensures releases { (kind : Kind)
-            → ReleasesKind D.eq self.old.holds self.new.holds (Some proposal.now)
-            (is_kind Notarization kind && is_released_in self.old.mode true) kind }
-        ensures participants { self.new.participants ≡ self.old.participants }
-        ensures mode { self.new.mode ≡ self.old.mode }
-        ensures room { self.new.room ≡ self.old.room }
-    {
-        self.release(Kind::Notarization, Some(*proposal));
-    }
-
-    /// Releases the nullifies, unless votes are retained.
-    pub fn release_nullifies(&mut self)
-        ensures releases { (kind : Kind)
-            → ReleasesKind D.eq self.old.holds self.new.holds None
-            (is_kind Nullification kind && is_released_in self.old.mode true) kind }
-        ensures participants { self.new.participants ≡ self.old.participants }
-        ensures mode { self.new.mode ≡ self.old.mode }
-        ensures room { self.new.room ≡ self.old.room }
-    {
-        self.release(Kind::Nullification, None);
-    }
-
-    /// Releases the finalizes with a certificate for the proposal, unless votes are retained.
-    pub fn release_finalizes(&mut self, proposal: &Proposal<D>)
-        ensures releases { (kind : Kind)
-            → ReleasesKind D.eq self.old.holds self.new.holds (Some proposal.now)
-            (is_kind Finalization kind && is_released_in self.old.mode true) kind }
-        ensures participants { self.new.participants ≡ self.old.participants }
-        ensures mode { self.new.mode ≡ self.old.mode }
-        ensures room { self.new.room ≡ self.old.room }
-    {
-        self.release(Kind::Finalization, Some(*proposal));
+        let is_compacted = self.compacted.of(kind);
+        make_room_at(&mut self.entries, &mut self.kept, place, kind, is_compacted)
     }
 
     /// Releases the votes of a kind, unless votes are retained: facts take their place, compared
-    /// with the proposal. It takes no memory.
+    /// with the proposal. It takes no memory, and gives that of the votes back.
     pub fn release(&mut self, released: Kind, selected: Option<Proposal<D>>)
         ensures releases { (kind : Kind)
             → ReleasesKind D.eq self.old.holds self.new.holds selected
@@ -387,10 +396,10 @@ impl<G: Copy, D: Digest> VoteTracker<G, D> {
             → SameTracked self.old.holds self.new.holds kind }
         ensures participants { self.new.participants ≡ self.old.participants }
         ensures mode { self.new.mode ≡ self.old.mode }
-        ensures room { self.new.room ≡ self.old.room }
     {
         if self.mode.is_releasing() && !self.compacted.of(released) {
-            release_each(&mut self.entries, released, selected);
+            release_each(&mut self.entries, &self.kept, released, selected.as_ref());
+            self.kept.clear(released);
             self.compacted = self.compacted.with(released);
         }
     }
@@ -399,21 +408,8 @@ impl<G: Copy, D: Digest> VoteTracker<G, D> {
     pub fn notarize(&self, signer: Participant) -> Option<Notarize<G, D>>
         ensures { option_map NotarizeVote result ≡ kept_vote self.now.holds Notarization signer.0 }
     {
-        self.entry(signer)?.kept_notarize(self.compacted.notarize)
-    }
-
-    /// The nullify of the signer that is kept.
-    pub fn nullify(&self, signer: Participant) -> Option<Nullify<G>>
-        ensures { option_map NullifyVote result ≡ kept_vote self.now.holds Nullification signer.0 }
-    {
-        self.entry(signer)?.kept_nullify(self.compacted.nullify)
-    }
-
-    /// The finalize of the signer that is kept.
-    pub fn finalize(&self, signer: Participant) -> Option<Finalize<G, D>>
-        ensures { option_map FinalizeVote result ≡ kept_vote self.now.holds Finalization signer.0 }
-    {
-        self.entry(signer)?.kept_finalize(self.compacted.finalize)
+        let seen = seen_of(&self.entries, signer, Kind::Notarization);
+        self.kept.notarize(seen)
     }
 
     /// The vote of the kind, where one was seen of the signer whose place `place` gave.
@@ -421,7 +417,8 @@ impl<G: Copy, D: Digest> VoteTracker<G, D> {
         ensures { (i : ℕ) → place ≡ place_of self.now.signers i → result
             ≡ shown (observed self.now.holds kind i) }
     {
-        self.entry_at(place)?.seen(self.compacted.of(kind), kind)
+        self.kept
+            .observed(kind, seen_at(&self.entries, place, kind))
     }
 
     /// Whether votes of the kind aren't kept.
@@ -431,32 +428,13 @@ impl<G: Copy, D: Digest> VoteTracker<G, D> {
         self.compacted.of(kind)
     }
 
-    /// The nullify of the signer, where one was seen.
-    pub fn saw_nullify(&self, signer: Participant) -> Option<ObservedVote<Nullify<G>>>
-        ensures { option_map (observed_map NullifyVote) result
-            ≡ shown (observed self.now.holds Nullification signer.0) }
-    {
-        self.entry(signer)?.seen_nullify(self.compacted.nullify)
-    }
-
-    /// The finalize of the signer, where one was seen.
-    pub fn saw_finalize(&self, signer: Participant) -> Option<ObservedVote<Finalize<G, D>>>
-        ensures { option_map (observed_map FinalizeVote) result
-            ≡ shown (observed self.now.holds Finalization signer.0) }
-    {
-        self.entry(signer)?.seen_finalize(self.compacted.finalize)
-    }
-
     /// Whether the signer is known to have notarized the proposal. Of notarizes that aren't kept
     /// it is known whether one was for the selected proposal, so another one isn't told from it.
     pub fn has_notarize_for(&self, signer: Participant, proposal: &Proposal<D>) -> bool
         ensures { result ≡ is_seen_for D.eq proposal.now
             (observed self.now.holds Notarization signer.0) }
     {
-        match self.entry(signer) {
-            Some(entry) => entry.has_notarize_for(self.compacted.notarize, proposal),
-            None => false,
-        }
+        self.has_vote_for(Kind::Notarization, signer, proposal)
     }
 
     /// Whether the signer is known to have finalized the proposal. Of finalizes that aren't kept
@@ -465,36 +443,22 @@ impl<G: Copy, D: Digest> VoteTracker<G, D> {
         ensures { result ≡ is_seen_for D.eq proposal.now
             (observed self.now.holds Finalization signer.0) }
     {
-        match self.entry(signer) {
-            Some(entry) => entry.has_finalize_for(self.compacted.finalize, proposal),
-            None => false,
-        }
+        self.has_vote_for(Kind::Finalization, signer, proposal)
     }
 
     /// Whether a nullify of the signer is kept.
     pub fn has_nullify(&self, signer: Participant) -> bool
         ensures { result ≡ is_some (kept_vote self.now.holds Nullification signer.0) }
     {
-        self.nullify(signer).is_some()
+        seen_of(&self.entries, signer, Kind::Nullification).is_kept()
     }
 
-    // The entry of the signer.
-    fn entry(&self, signer: Participant) -> Option<&Entry<G, D>>
-        ensures observed { (kind : Kind) → observed self.now.holds kind signer.0
-            ≡ observed_of (of_kind self.now.holds.compacted kind) kind (option_copied result) }
-        ensures kept { (kind : Kind) → kept_vote self.now.holds kind signer.0
-            ≡ kept_of (of_kind self.now.holds.compacted kind) kind (option_copied result) }
+    // Whether a vote of the signer for the proposal was seen, as far as is known.
+    fn has_vote_for(&self, kind: Kind, signer: Participant, proposal: &Proposal<D>) -> bool
+        ensures { result ≡ is_seen_for D.eq proposal.now (observed self.now.holds kind signer.0) }
     {
-        self.entries.get(signer)
-    }
-
-    // The entry at a place.
-    fn entry_at(&self, place: Place) -> Option<&Entry<G, D>>
-        ensures { (i : ℕ) → place ≡ place_of self.now.signers i → (kind : Kind)
-            → observed self.now.holds kind i
-            ≡ observed_of (of_kind self.now.holds.compacted kind) kind (option_copied result) }
-    {
-        self.entries.get_at(place)
+        let seen = seen_of(&self.entries, signer, kind);
+        self.kept.is_seen_for(kind, seen, proposal)
     }
 
     /// The votes of a kind that are kept, in ascending order of their signers.
@@ -502,16 +466,10 @@ impl<G: Copy, D: Digest> VoteTracker<G, D> {
         ensures votes { result ≡ of_kind self.now.holds.kept kind }
         ensures each { KeepsEach self.now.holds kind }
     {
-        let entries = self.entries.as_slice();
-        if self.compacted.of(kind) {
-            return KeptVotes {
-                kind,
-                rest: &entries[..0],
-            };
-        }
         KeptVotes {
             kind,
-            rest: entries,
+            rest: self.entries.as_slice(),
+            kept: &self.kept,
         }
     }
 
@@ -537,26 +495,24 @@ impl<G: Copy, D: Digest> VoteTracker<G, D> {
             (of_kind self.now.holds.kept kind)) }
         ensures none { of_kind self.now.holds.compacted kind ≡ true → result ≡ 0 }
     {
-        if self.compacted.of(kind) {
-            return 0;
-        }
-        count_for(self.entries.as_slice(), kind, proposal)
+        count_for(self.entries.as_slice(), &self.kept, kind, proposal)
     }
 }
 
-// How many of the entries keep a vote of the kind that waits with the proposal.
+// How many of the entries' votes of the kind wait with the proposal.
 fn count_for<G: Copy, D: Digest>(
-    entries: &[Entry<G, D>],
+    entries: &[Entry],
+    kept: &KeptLists<G, D>,
     kind: Kind,
     proposal: &Proposal<D>,
 ) -> usize
     ensures { result ≡ length (filter
-        (λ entry. is_some_and (kept_part kind entry) (waits D.eq (Some proposal.now)))
-        entries.now) }
+        (λ entry. is_some_and (vote_at (of_kind (votes_in kept.now) kind) (part kind entry))
+        (waits D.eq (Some proposal.now))) entries.now) }
 {
     entries
         .iter()
-        .filter(|entry| entry.keeps_for(kind, proposal))
+        .filter(|entry| kept.keeps_for(kind, entry.seen(kind), proposal))
         .count()
 }
 
@@ -564,7 +520,8 @@ fn count_for<G: Copy, D: Digest>(
 #[derive(Drop)]
 pub struct KeptVotes<'a, G: Copy, D: Digest> {
     kind: Kind,
-    rest: &'a [Entry<G, D>],
+    rest: &'a [Entry],
+    kept: &'a KeptLists<G, D>,
 }
 
 impl<'a, G: Copy, D: Digest> Model for KeptVotes<'a, G, D> {
@@ -574,9 +531,11 @@ impl<'a, G: Copy, D: Digest> Model for KeptVotes<'a, G, D> {
     ghost Value = { List (Vote G D) };
 
     ghost use Rattle.std.specs.List.{filter_map};
-    ghost use Rattle.batcher_votes.specs.Entries.{kept_part};
+    ghost use Rattle.batcher_votes.specs.Held.{of_kind};
+    ghost use Rattle.batcher_votes.specs.Entries.{part, votes_in, vote_at};
 
-    ghost view = { λ s. filter_map (kept_part s.kind) s.rest.now };
+    ghost view = { λ s. filter_map
+        (λ entry. vote_at (of_kind (votes_in s.kept.now) s.kind) (part s.kind entry)) s.rest.now };
 }
 
 impl<'a, G: Copy, D: Digest> Iterator for KeptVotes<'a, G, D> {
@@ -589,7 +548,7 @@ impl<'a, G: Copy, D: Digest> Iterator for KeptVotes<'a, G, D> {
     fn next(&mut self) -> Option<Vote<G, D>> {
         while let Some((first, others)) = self.rest.split_first() {
             self.rest = others;
-            if let Some(vote) = first.kept(self.kind) {
+            if let Some(vote) = self.kept.vote(self.kind, first.seen(self.kind)) {
                 return Some(vote);
             }
         }

@@ -41,12 +41,6 @@ kept_outcome (Added false) h = absurd (cc)
 kept_outcome (Duplicate retained) h = absurd (cc)
 kept_outcome Conflicting h = absurd (cc)
 
--- Where a signer is known, or there is room, memory isn't refused.
-pub never_full : (known : Bool) (room : ℕ) → (known ≡ true → false ≡ true) → room ≡ 0
-    → (known ≡ false → 1 ≤ room) → false ≡ true
-never_full true room fails none h = fails refl
-never_full false room fails none h = let one = h refl in absurd (omega (arith, one, none))
-
 module _ {D : Type 0} where
   pub fixed_some : (s : ProposalState D) (o : Option (Proposal D)) (p : Proposal D) → o ≡ Some p
       → proposal_of (updated s (FixedProposal p)) ≡ proposal_of (fixes s o)
@@ -141,15 +135,6 @@ result_is unseen kind outcome r h = unopposed_is kind outcome r h
 result_is (in_full vote) kind outcome r h = absurd (cc)
 result_is (as_facts facts) kind outcome r h = absurd (cc)
 
-either : (a b c : Bool) → b ≡ true → (a || (b || c)) ≡ true
-either true b c e = refl
-either false b c e = rw e refl
-
-last : (a b c : Bool) → c ≡ true → (a || (b || c)) ≡ true
-last true b c e = refl
-last false true c e = refl
-last false false c e = e
-
 module _ {G D : Type 0} (same : D → D → Bool) where
   pub may_fix_selects : (old : Buffered G D) (kept : PerKind (List (Vote G D)))
       (o : Option (Proposal D)) (new : Buffered G D) → MayFix same old kept o new → new.selection
@@ -170,22 +155,13 @@ module _ {G D : Type 0} (same : D → D → Bool) where
   unseen_known held selected compacted (in_full kept) vote h = refl
   unseen_known held selected compacted (as_facts facts) vote h = refl
 
-  known_by : (held : Tracked G D) (kind : Kind) (i : ℕ) → is_seen (observed held kind i) ≡ true
-      → is_known held i ≡ true
-  known_by held Notarization i h = rw h refl
-  known_by held Nullification i h =
-      either (is_seen (observed held Notarization i)) (is_seen (observed held Nullification i)) (is_seen (observed held Finalization i)) h
-  known_by held Finalization i h =
-      last (is_seen (observed held Notarization i)) (is_seen (observed held Nullification i)) (is_seen (observed held Finalization i)) h
-
-  -- a vote that isn't added is of a signer of whom one was seen
-  pub known_signer : (held : Tracked G D) (selected : Option (Proposal D)) (vote : Vote G D)
+  -- of a vote that isn't added an earlier one of its kind and signer was seen
+  pub seen_before : (held : Tracked G D) (selected : Option (Proposal D)) (vote : Vote G D)
       → is_added (outcome_by same selected (of_kind held.compacted (kind_of vote))
-      (observed held (kind_of vote) (signer_of vote)) vote) ≡ false → is_known held (signer_of vote)
-      ≡ true
-  known_signer held selected vote h =
-      known_by held (kind_of vote) (signer_of vote) (unseen_known held selected (of_kind held.compacted (kind_of vote))
-      (observed held (kind_of vote) (signer_of vote)) vote h)
+      (observed held (kind_of vote) (signer_of vote)) vote) ≡ false
+      → is_seen (observed held (kind_of vote) (signer_of vote)) ≡ true
+  seen_before held selected vote h =
+      unseen_known held selected (of_kind held.compacted (kind_of vote)) (observed held (kind_of vote) (signer_of vote)) vote h
 
 released_again : (mode : Mode) (b : Bool) → (is_released_in mode true || is_released_in mode b)
     ≡ is_released_in mode true

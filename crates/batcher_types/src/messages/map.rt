@@ -14,6 +14,9 @@ use std::alloc::{AllocError, Global};
 use std::marker::Model;
 use std::mem;
 
+// For how many items there is room at first.
+const FIRST_ROOM: usize = 4;
+
 /// `Ok` of where the item of a signer stands, else `Err` of where it would.
 pub type Place = Result<usize, usize>;
 
@@ -23,7 +26,8 @@ pub type Place = Result<usize, usize>;
 #[derive(Drop)]
 pub struct AttributableMap<T: Attributable> {
     participants: usize,
-    items: Vec<T>,
+    // What changes an item where it stands shows that its signer stays.
+    pub items: Vec<T>,
 }
 
 impl<T: Attributable> Model for AttributableMap<T> {
@@ -70,7 +74,8 @@ impl<T: Attributable> AttributableMap<T> {
         match self.place(item.signer()) {
             Ok(_) => Ok(false),
             Err(place) => {
-                self.items.insert(place, item)?;
+                make_room_below(&mut self.items, self.participants)?;
+                insert_reserved(&mut self.items, place, item);
                 Ok(true)
             }
         }
@@ -90,6 +95,7 @@ impl<T: Attributable> AttributableMap<T> {
         ensures item { (i : ℕ) → place ≡ place_of (map (λ x. (T.signed_by x).0) self.now.items) i
             → option_copied result ≡ item_of (λ x. (T.signed_by x).0) self.now.items i }
         ensures ascending { IsAscending (λ x. (T.signed_by x).0) self.now.items }
+        ensures few { length self.now.items ≤ self.now.participants }
     {
         match place {
             Ok(index) => self.items.get(index),
@@ -127,7 +133,7 @@ impl<T: Attributable> AttributableMap<T> {
         ensures participants { self.new.participants ≡ self.old.participants }
         ensures no_memory { 1 ≤ self.old.room → IsOk result }
     {
-        self.items.reserve(1)
+        make_room_below(&mut self.items, self.participants)
     }
 
     /// Puts the item in the place of its signer's, and answers that one. It takes no memory.
@@ -163,39 +169,21 @@ impl<T: Attributable> AttributableMap<T> {
     pub fn item_at(&self, place: usize) -> &T
         requires { place < length self.now.items }
         ensures item { (default : T) → result.now ≡ slice_index_or self.now.items place default }
-        ensures ascending { IsAscending (λ x. (T.signed_by x).0) self.now.items }
     {
         &self.items[place]
     }
 
-    /// Puts the item in the place of one of the same signer. It takes no memory.
-    pub fn replace_at(&mut self, place: usize, item: T)
-        requires place { place < length self.old.items }
-        requires signer { T.signed_by (slice_index_or self.old.items place item)
-            ≡ T.signed_by item }
-        ensures items { self.new.items ≡ slice_set self.old.items place item }
-        ensures participants { self.new.participants ≡ self.old.participants }
-        ensures room { self.new.room ≡ self.old.room }
-    {
-        self.items[place] = item;
-    }
-
-    /// Puts the item of a signer that has none in its place, which `place` tells. After
-    /// `make_room` it takes no memory.
-    pub fn insert_at(&mut self, place: usize, item: T) -> Result<(), AllocError>
+    /// Puts the item of a signer that has none in its place, which `place` tells. It takes no
+    /// memory.
+    pub fn insert_at(&mut self, place: usize, item: T)
         requires signer { (T.signed_by item).0 < self.old.participants }
         requires place { place_of (map (λ x. (T.signed_by x).0) self.old.items) (T.signed_by item).0
             ≡ Err place }
-        ensures items { MatchResult result
-            (λ _. self.new.items ≡ insert_by (λ x. (T.signed_by x).0) item self.old.items)
-            (λ _. self.new.items ≡ self.old.items) }
-        ensures ascending { IsAscending (λ x. (T.signed_by x).0) self.old.items }
+        requires room { 1 ≤ self.old.room }
+        ensures items { self.new.items ≡ insert_by (λ x. (T.signed_by x).0) item self.old.items }
         ensures participants { self.new.participants ≡ self.old.participants }
-        ensures with_room { OnErr result (self.old.room ≡ 0) }
-        ensures room { self.old.room ≤ self.new.room + 1 }
     {
-        self.items.insert(place, item)?;
-        Ok(())
+        insert_reserved(&mut self.items, place, item);
     }
 
     /// The item at a place in the order of the signers. It takes no memory.
@@ -249,6 +237,35 @@ impl<T: Attributable> AttributableMap<T> {
     {
         self.items
             .binary_search_by_key(&signer.0, |item| item.signer().0)
+    }
+}
+
+/// Makes room for one more item, of so many at most, and changes nothing else. The room doubles up
+/// to the bound, so that a full list has none to spare. Where there is room it takes no memory.
+pub fn make_room_below<T>(items: &mut Vec<T>, most: usize) -> Result<(), AllocError>
+    ensures room { OnOk result (1 ≤ vec_capacity items.new - vec_len items.new) }
+    ensures items { items.new.items ≡ items.old.items }
+    ensures kept { vec_capacity items.old - vec_len items.old
+        ≤ vec_capacity items.new - vec_len items.new }
+    ensures no_memory { 1 ≤ vec_capacity items.old - vec_len items.old → IsOk result }
+{
+    let len = items.len();
+    if len < items.capacity() {
+        return Ok(());
+    }
+    items.reserve_exact(len.max(FIRST_ROOM).min(most.saturating_sub(len)).max(1))
+}
+
+// Inserts an item at a place. It takes no memory.
+fn insert_reserved<T: Drop>(items: &mut Vec<T>, place: usize, item: T)
+    requires place { place ≤ vec_len items.old }
+    requires room { 1 ≤ vec_capacity items.old - vec_len items.old }
+    ensures items { items.new.items ≡ insert items.old.items place item }
+    ensures room { vec_capacity items.old - vec_len items.old
+        ≤ vec_capacity items.new - vec_len items.new + 1 }
+{
+    if items.insert(place, item).is_err() {
+        unreachable!()
     }
 }
 

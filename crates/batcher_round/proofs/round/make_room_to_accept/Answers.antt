@@ -1,6 +1,8 @@
 use Rattle.std.proofs.Common.{◌≤◌, ◌∙◌, ap, sym, subst, refl}
 use Rattle.std.proofs.Math.Nat.{le_trans}
 use Rattle.batcher_votes.specs.Held.{of_kind}
+use Rattle.batcher_types.specs.Votes.{kind_of}
+use Rattle.batcher_votes.specs.Tracking.{HasRoomToRecord}
 use Rattle.batcher_histories.specs.Steps.{is_added}
 use Rattle.std.proofs.lemmas.Bool.{false≢true}
 use Rattle.batcher_histories.proofs.Right.Failed.{no_value}
@@ -106,12 +108,14 @@ returns-in_ok-make_room-2-clause-to_fix g c = λ proposal is takes kind has unce
 
 pub returns-in_ok-make_room-2-clause-to_wait : goal.returns-in_ok-make_room-2-clause-to_wait
 returns-in_ok-make_room-2-clause-to_wait g c =
-    λ kept. subst (λ k. 1 ≤ of_kind c.make_room-then-is_kept.new.self.verified_room k) c.kind.ensures c.in_ok-make_room-2.ensures.room
+    λ kept. subst (λ k. 1 ≤ of_kind c.make_room-then-is_kept.new.self.verified_room k) c.kind-kind.ensures c.in_ok-make_room-2.ensures.room
 
 pub returns-in_ok-make_room-2-clause-to_record : goal.returns-in_ok-make_room-2-clause-to_record
 returns-in_ok-make_room-2-clause-to_record g c = λ added.
     elim c.if-is_added.branch [
-      | then-is_added+in_ok-make_room w ↦ subst (λ v. 1 ≤ v.room) (sym w.votes-is) w.in_ok-make_room.ensures.room
+      | then-is_added+in_ok-make_room w ↦
+          subst (λ v. HasRoomToRecord v c.args.place (kind_of c.args.vote.now)) (sym w.votes-is)
+          (subst (λ k. HasRoomToRecord w.make_room.new.self c.args.place k) c.kind-kind.ensures w.in_ok-make_room.ensures.room)
       | else-is_added w ↦ absurd (false≢true (sym w.if-is_added.false ∙ c.is_added.ensures ∙ added))
     ]
 
@@ -150,7 +154,9 @@ returns-else-is_kept-clause-to_wait g c = λ kept. absurd (false≢true (sym c.i
 pub returns-else-is_kept-clause-to_record : goal.returns-else-is_kept-clause-to_record
 returns-else-is_kept-clause-to_record g c = λ added.
     elim c.if-is_added.branch [
-      | then-is_added+in_ok-make_room w ↦ subst (λ v. 1 ≤ v.room) (sym w.votes-is) w.in_ok-make_room.ensures.room
+      | then-is_added+in_ok-make_room w ↦
+          subst (λ v. HasRoomToRecord v c.args.place (kind_of c.args.vote.now)) (sym w.votes-is)
+          (subst (λ k. HasRoomToRecord w.make_room.new.self c.args.place k) c.kind-kind.ensures w.in_ok-make_room.ensures.room)
       | else-is_added w ↦ absurd (false≢true (sym w.if-is_added.false ∙ c.is_added.ensures ∙ added))
     ]
 

@@ -11,7 +11,7 @@ use Rattle.batcher_histories.specs.Steps.{is_kept}
 use Rattle.batcher_histories.proofs.Right.Admission.{IsNew, added_new, not_buffered, right_recorded, right_waiting}
 use Rattle.std.proofs.lemmas.Bool.{false≢true}
 use Rattle.batcher_histories.proofs.Right.Failed.{no_value, whichever}
-use Rattle.batcher_histories.proofs.Right.Own.{kept_outcome, never_full}
+use Rattle.batcher_histories.proofs.Right.Own.{kept_outcome}
 use Rattle.batcher_votes.proofs.Waits.{not_both}
 use Rattle.batcher_round.proofs.round.take_in.Goals as goal
 
@@ -54,9 +54,14 @@ returns-then-is_kept-clause-right g c =
     c.in_ok-outcome.ensures.participants c.in_ok-outcome.ensures.mode c.in_ok-outcome.ensures.records
     c.take.new.self.holds c.args.verified c.take.ensures.adds new refl
 
+pub returns-in_err-outcome-clause-known : goal.returns-in_err-outcome-clause-known
+returns-in_err-outcome-clause-known g c = λ known on. absurd (false≢true (c.in_err-outcome.ensures.known known on))
+
+pub returns-in_err-outcome-clause-repeated : goal.returns-in_err-outcome-clause-repeated
+returns-in_err-outcome-clause-repeated g c = λ before. absurd (false≢true (c.in_err-outcome.ensures.repeated before))
+
 pub returns-in_err-outcome-clause-with_room : goal.returns-in_err-outcome-clause-with_room
-returns-in_err-outcome-clause-with_room g c = λ h.
-    absurd (false≢true (never_full _ _ c.in_err-outcome.ensures.known c.in_err-outcome.ensures.with_room h))
+returns-in_err-outcome-clause-with_room g c = λ room. absurd (false≢true (c.in_err-outcome.ensures.with_room room))
 
 pub record_at-requires-clause-range : goal.record_at-requires-clause-range
 record_at-requires-clause-range g c = subst (λ n. signer_of c.args.vote < n) (sym c.requires.right.bound) c.requires.range

@@ -1,16 +1,22 @@
-use Rattle.std.proofs.Common.{◌∙◌, ap, arith, set}
+use Rattle.std.proofs.Common.{◌≡◌, ◌∙◌, ap, sym, arith, set, get_or}
 use Rattle.std.proofs.lemmas.List.Edits.{map_over_more}
-use Rattle.batcher_votes.specs.Entries.{entry_released}
+use Rattle.std.specs.Option.{option_copied}
+use Rattle.batcher_votes.specs.Held.{of_kind}
+use Rattle.batcher_votes.specs.Entries.{entry_released, part, with_part, seen_released, votes_in}
 use Rattle.batcher_votes.proofs.votes.release_each.Goals as goal
 
-pub loop-place-preserved : goal.loop-place-preserved
-loop-place-preserved g c = record {
-  items =
-      c.replace_at.ensures.items
-      ∙ ap (λ e. set c.loop-place.entries.items c.loop-place.place e) c.released.ensures
-      ∙ map_over_more (entry_released g.D.PartialEq.eq c.args.selected c.args.kind) c.args.entries.now.items c.loop-place.entries.items c.loop-place.place
-      c.item_at-entry.result.now
-      (omega arith) c.loop-place.invariant.items (c.item_at-entry.ensures.item c.item_at-entry.result.now);
-  participants = c.replace_at.ensures.participants ∙ c.loop-place.invariant.participants;
-  room = c.replace_at.ensures.room ∙ c.loop-place.invariant.room;
-}
+pub loop-index-preserved : goal.loop-index-preserved
+loop-index-preserved g c =
+    let item = c.item_at.result.now in
+    let is : c.item_at.result.now ≡ get_or c.loop-index.entries.items c.loop-index.index c.item_at.result.now = c.item_at.ensures.item c.item_at.result.now in
+    let f = entry_released g.D.PartialEq.eq (option_copied c.args.selected) c.args.kind (of_kind (votes_in c.args.kept.now) c.args.kind) in
+    let says = c.released.ensures ∙ ap (seen_released g.D.PartialEq.eq (option_copied c.args.selected) (of_kind (votes_in c.args.kept.now) c.args.kind))
+    c.seen-seen.ensures in
+    record {
+      items =
+          c.set_at.ensures.items item
+          ∙ ap (λ e. set c.loop-index.entries.items c.loop-index.index (with_part c.args.kind c.released.result e)) (sym is)
+          ∙ ap (λ s. set c.loop-index.entries.items c.loop-index.index (with_part c.args.kind s item)) says
+          ∙ map_over_more f c.args.entries.now.items c.loop-index.entries.items c.loop-index.index item (omega arith) c.loop-index.invariant.items is;
+      participants = c.set_at.ensures.participants ∙ c.loop-index.invariant.participants;
+    }

@@ -1,8 +1,9 @@
 use Rattle.std.proofs.Common.{rules, ◌≡◌, ◌∙◌, ap, sym, subst, refl, true, nat_lt, arith}
+use Rattle.std.proofs.lemmas.Bool.{false≢true}
 use Rattle.std.proofs.lemmas.Bool.Decides.{nat_tests}
 use Rattle.std.specs.Prelude.{IfErr}
 use Rattle.batcher_types.specs.Votes.{kind_of, signer_of, subject_of, attestation_of}
-use Rattle.batcher_votes.specs.Tracking.{observed_opposite, is_known}
+use Rattle.batcher_votes.specs.Tracking.{observed, observed_opposite, is_seen}
 use Rattle.batcher_histories.specs.Steps.{fault_or_memory, is_added}
 use Rattle.batcher_histories.specs.Setting.{setting}
 use Rattle.batcher_votes.specs.Held.{Held}
@@ -10,7 +11,7 @@ use Rattle.batcher_histories.proofs.History.Laws.{HasLaws}
 use Rattle.batcher_histories.proofs.Shown.Named.{own_same}
 use Rattle.batcher_histories.proofs.Follow.Own.{own_follows}
 use Rattle.batcher_histories.proofs.Right.Room.{fixes_no_more}
-use Rattle.batcher_histories.proofs.Right.Own.{err_only, known_signer, ok_is, own_step, result_is}
+use Rattle.batcher_histories.proofs.Right.Own.{err_only, seen_before, ok_is, own_step, result_is}
 use Rattle.batcher_histories.proofs.Memory.Needed.{own_needed}
 use Rattle.batcher_round.proofs.round.Round.accept_vote.Goals as goal
 
@@ -56,13 +57,9 @@ returns-in_err-take_in-clause-no_memory g c =
     rw (← c.self.view_is)
     (λ outcome is not_added.
     let told = result_is (observed_opposite held vote) (kind_of vote) _ outcome is in
-    let known = known_signer g.D.PartialEq.eq held _ vote (ap is_added (sym told) ∙ not_added) in
-    let wrong =
-    c.in_err-take_in.ensures.with_room
-    (λ unknown.
-    let other = ap (λ h. is_known h (signer_of vote)) (sym c.in_ok-make_room_to_accept.ensures.votes) ∙ unknown in
-    absurd (cc)) in
-    absurd (cc))
+    let before = seen_before g.D.PartialEq.eq held _ vote (ap is_added (sym told) ∙ not_added) in
+    absurd (false≢true (c.in_err-take_in.ensures.repeated
+    (ap (λ h. is_seen (observed h (kind_of vote) (signer_of vote))) c.in_ok-make_room_to_accept.ensures.votes ∙ before))))
 
 pub returns-clause-meets : goal.returns-clause-meets
 returns-clause-meets g c =

@@ -1,14 +1,20 @@
 use Rattle.std.proofs.Common.{◌≡◌, length}
 use Rattle.std.specs.List.{filter_map}
-use Rattle.batcher_votes.specs.Entries.{kept_part}
+use Rattle.batcher_votes.specs.Held.{of_kind}
+use Rattle.batcher_votes.specs.Entries.{part, vote_at, votes_in}
 use Rattle.batcher_votes.proofs.votes.KeptVotesIterator.next.Given as goal
 
 -- The entries that are left show the votes that are left.
 abbrev pub invariant-loop-first : goal.invariant-loop-first
 invariant-loop-first g l = record {
   kind : l.self-inside.kind ≡ l.initial.self-inside.kind;
-  votes : filter_map (kept_part l.self-inside.kind) l.self-inside.rest.now
-      ≡ filter_map (kept_part l.initial.self-inside.kind) l.initial.self-inside.rest.now;
+  kept : l.self-inside.kept ≡ l.initial.self-inside.kept;
+  votes : filter_map (λ entry. vote_at (of_kind
+      (votes_in l.self-inside.kept.now) l.self-inside.kind)
+      (part l.self-inside.kind entry)) l.self-inside.rest.now
+      ≡ filter_map (λ entry. vote_at (of_kind (votes_in l.initial.self-inside.kept.now)
+      l.initial.self-inside.kind) (part l.initial.self-inside.kind entry))
+      l.initial.self-inside.rest.now;
 }
 
 abbrev pub decreases-loop-first : goal.decreases-loop-first

@@ -1,19 +1,28 @@
-use Rattle.std.proofs.Common.{Some, true, false, length, filter, ◌∙◌, sym, ap}
+use Rattle.std.proofs.Common.{◌≡◌, ◌∙◌, Some, true, false, length, filter, sym, ap, refl}
+use Rattle.batcher_votes.specs.Held.{of_kind}
 use Rattle.batcher_types.specs.Votes.{waits}
-use Rattle.batcher_votes.specs.Entries.{kept_part, marks_of}
-use Rattle.batcher_votes.proofs.Keeping.{length-filter_map, kept_open}
+use Rattle.batcher_votes.specs.Entries.{marks_of, part, vote_at, votes_in, kept_among, tracked_by}
+use Rattle.batcher_votes.proofs.Keeping.{length-filter_map, kept_shown}
+use Rattle.batcher_votes.proofs.Shown.{kept_is}
 use Rattle.batcher_votes.proofs.votes.VoteTracker.count_for.Goals as goal
-
-pub returns-then-of-clause-count : goal.returns-then-of-clause-count
-returns-then-of-clause-count g c =
-    let p = waits g.D.PartialEq.eq (Some c.args.proposal.now) in
-    rw (← c.self.view_is) (sym (ap (λ votes. length (filter p votes))
-    (kept_open (marks_of c.self.inside.compacted) c.self.inside.entries.items c.args.kind true (sym c.of.ensures ∙ c.if-of.true))))
 
 pub returns-clause-count : goal.returns-clause-count
 returns-clause-count g c =
-    let p = waits g.D.PartialEq.eq (Some c.args.proposal.now) in
+    let marks = marks_of c.self.inside.compacted in
+    let votes = votes_in c.self.inside.kept in
     let es = c.self.inside.entries.items in
+    let p = waits g.D.PartialEq.eq (Some c.args.proposal.now) in
     rw (← c.self.view_is)
-    ((rw c.as_slice.ensures.items at c.count_for.ensures) ∙ length-filter_map (kept_part c.args.kind) p es
-    ∙ sym (ap (λ votes. length (filter p votes)) (kept_open (marks_of c.self.inside.compacted) es c.args.kind false (sym c.of.ensures ∙ c.if-of.false))))
+    ((rw c.as_slice.ensures.items at c.count_for.ensures) ∙ length-filter_map (λ e. vote_at (of_kind votes c.args.kind) (part c.args.kind e)) p es
+    ∙ sym (ap (λ votes. length (filter p votes)) (kept_shown marks votes es c.args.kind (c.self.invariant.kinds c.args.kind))))
+
+pub returns-clause-none : goal.returns-clause-none
+returns-clause-none g c =
+    let marks = marks_of c.self.inside.compacted in
+    let votes = votes_in c.self.inside.kept in
+    let es = c.self.inside.entries.items in
+    let p = waits g.D.PartialEq.eq (Some c.args.proposal.now) in
+    let count = rw (← c.self.view_is) at (returns-clause-count g c) in
+    rw (← c.self.view_is)
+    (λ on. count ∙ ap (λ votes. length (filter p votes))
+    (kept_is marks votes es c.args.kind ∙ ap (λ b. kept_among b (of_kind votes c.args.kind) c.args.kind es) on))

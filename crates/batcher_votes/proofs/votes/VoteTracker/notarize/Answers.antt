@@ -1,8 +1,16 @@
+use Rattle.std.proofs.Common.{◌∙◌, ap, sym, refl, nat_eq, find}
 use Rattle.batcher_types.specs.declared.messages.Kind.TheVariants.{Notarization}
+use Rattle.batcher_votes.specs.Entries.{key_of, marks_of, vote_at, votes_in}
+use Rattle.batcher_votes.proofs.Recorded.{kept_vote_found}
 use Rattle.batcher_votes.proofs.votes.VoteTracker.notarize.Goals as goal
 
-pub returns-in_err-entry : goal.returns-in_err-entry
-returns-in_err-entry g c = rw (c.in_err-entry.ensures.kept Notarization, c.from_residual.ensures)
-
 pub returns : goal.returns
-returns g c = rw (c.in_ok-entry.ensures.kept Notarization, ← c.self.view_is) c.kept_notarize.ensures
+returns g c =
+    let marks = marks_of c.self.inside.compacted in
+    let votes = votes_in c.self.inside.kept in
+    let es = c.self.inside.entries.items in
+    let i = c.args.signer.0 in
+    rw (← c.self.view_is)
+    (c.notarize.ensures ∙ ap (λ s. vote_at votes.notarize s) c.seen_of-seen.ensures.seen
+    ∙ sym (kept_vote_found marks votes es Notarization i (find (λ e. nat_eq (key_of e) i) es) c.seen_of-seen.ensures.ascending
+    (c.self.invariant.kinds Notarization).each refl))

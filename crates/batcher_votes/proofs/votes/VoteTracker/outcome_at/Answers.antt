@@ -1,13 +1,21 @@
+use Rattle.std.proofs.Common.{◌∙◌, ap, sym, refl, nat_eq, find}
+use Rattle.std.specs.Option.{option_copied}
+use Rattle.batcher_votes.specs.Held.{of_kind}
 use Rattle.batcher_types.specs.Votes.{signer_of, kind_of}
+use Rattle.batcher_votes.specs.Entries.{key_of, marks_of, seen_in, seen_outcome, tested, votes_in}
+use Rattle.batcher_votes.proofs.Recorded.{outcome_here}
 use Rattle.batcher_votes.proofs.votes.VoteTracker.outcome_at.Goals as goal
 
-pub returns-in-Some : goal.returns-in-Some
-returns-in-Some g c =
-    let seen = c.in-Some.ensures (signer_of c.args.vote.now) c.requires (kind_of c.args.vote.now) in
-    let given = rw (c.of-is_compacted.ensures, c.kind_of.ensures) at c.outcome.ensures in
-    rw (seen, ← c.self.view_is) given
-
-pub returns-in-None : goal.returns-in-None
-returns-in-None g c =
-    let seen = c.in-None.ensures (signer_of c.args.vote.now) c.requires (kind_of c.args.vote.now) in
-    rw (seen, ← c.self.view_is, c.of-is_compacted.ensures, c.kind_of.ensures)
+pub returns : goal.returns
+returns g c =
+    let marks = marks_of c.self.inside.compacted in
+    let votes = votes_in c.self.inside.kept in
+    let es = c.self.inside.entries.items in
+    let vote = c.args.vote.now in
+    let i = signer_of vote in
+    let seen = c.seen_at-seen.ensures.seen i (rw (← c.self.view_is) at c.requires) in
+    let given = rw
+    (c.of.ensures, seen, c.is_selected-is_selected.ensures, c.proposal.ensures, c.as_ref.ensures.value, c.kind-kind.ensures) at c.outcome.ensures in
+    rw (← c.self.view_is)
+    (given ∙ outcome_here g.D.PartialEq.eq marks votes es c.args.proposal vote c.seen_at-seen.ensures.ascending (λ kind. c.self.invariant.kinds kind)
+    (find (λ e. nat_eq (key_of e) i) es) refl)

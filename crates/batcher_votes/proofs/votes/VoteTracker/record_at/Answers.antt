@@ -1,114 +1,243 @@
-use Rattle.std.proofs.Common.{◌≡◌, ◌<◌, ◌∙◌, ℕ, true, false, nat_lt, ap, sym, arith, get_or, set, Ok, Err, map}
+use Rattle.std.proofs.Common.{◌≡◌, ◌<◌, ◌∙◌, ◌^◌, ℕ, true, false, nat_eq, nat_lt, length, find, ap, sym, refl, arith}
+use Rattle.std.proofs.lemmas.Bool.{false≢true}
 use Rattle.std.proofs.lemmas.Bool.Decides.{nat_tests}
 use Rattle.std.specs.Option.{option_copied}
-use Rattle.batcher_types.specs.Ascending.{insert_by}
-use Rattle.batcher_types.specs.Votes.{signer_of, attestation_of, kind_of}
+use Rattle.batcher_types.specs.Votes.{signer_of, kind_of}
 use Rattle.batcher_votes.specs.Held.{of_kind}
-use Rattle.batcher_types.specs.Items.{place_of}
-use Rattle.batcher_votes.specs.Tracking.{outcome_by, is_known}
-use Rattle.batcher_votes.specs.Entries.{nothing_seen, marks_of, observed_at, entry_with}
-use Rattle.batcher_types.proofs.Places.{place_below, place_item, place_absent}
-use Rattle.batcher_votes.proofs.Recorded.{key_of, signed_entry, recorded_at, outcome_at, recorded_new, outcome_new, unknown, entry_with_key}
+use Rattle.batcher_votes.specs.Tracking.{is_known}
+use Rattle.batcher_votes.specs.Entries.{marks_of, key_of, part, seen_in, has_place, compared, seen_outcome, is_selected_in, tested, tracked_by, votes_in}
+use Rattle.batcher_votes.proofs.Putting.{count_few}
+use Rattle.batcher_votes.proofs.Recorded.{known_entry, seen_known, recorded_none, recorded_compared, recorded_full, tracked_compared, tracked_full, outcome_found, outcome_first, outcome_kept, seen_compacted}
 use Rattle.batcher_votes.proofs.votes.VoteTracker.record_at.Goals as goal
 
-in_range : (signer participants : ℕ) → signer < participants → nat_lt signer participants ≡ true
-in_range signer participants below = grind (arith, nat_tests)
+below : (signer participants : ℕ) → signer < participants → nat_lt signer participants ≡ true
+below signer participants lower = grind (arith, nat_tests)
 
-pub item_at-requires : goal.item_at-requires
-item_at-requires g c =
-    let place : place_of (map key_of c.self.inside.entries.items) (signer_of c.args.vote.now)
-    ≡ Ok c.in-Ok.index = rw (← c.self.view_is) at (sym c.requires.place ∙ c.in-Ok.is) in
-    place_below key_of c.self.inside.entries.items (signer_of c.args.vote.now) c.in-Ok.index place
-
-pub replace_at-requires-clause-place : goal.replace_at-requires-clause-place
-replace_at-requires-clause-place g c =
-    let place : place_of (map key_of c.self.inside.entries.items) (signer_of c.args.vote.now)
-    ≡ Ok c.in-Ok.index = rw (← c.self.view_is) at (sym c.requires.place ∙ c.in-Ok.is) in
-    place_below key_of c.self.inside.entries.items (signer_of c.args.vote.now) c.in-Ok.index place
-
-pub returns-in-Ok-clause-outcome : goal.returns-in-Ok-clause-outcome
-returns-in-Ok-clause-outcome g c =
-    let d = nothing_seen {G = g.row.G.Denot} {D = g.row.D.Denot} (attestation_of c.args.vote.now).signer in
-    let below = rw (← c.self.view_is) at c.requires.range in
+pub returns-then-is_kept-clause-outcome : goal.returns-then-is_kept-clause-outcome
+returns-then-is_kept-clause-outcome g c =
     let marks = marks_of c.self.inside.compacted in
+    let votes = votes_in c.self.inside.kept in
     let es = c.self.inside.entries.items in
-    let place : place_of (map key_of c.self.inside.entries.items) (signer_of c.args.vote.now)
-    ≡ Ok c.in-Ok.index = rw (← c.self.view_is) at (sym c.requires.place ∙ c.in-Ok.is) in
-    let found = place_item key_of c.self.inside.entries.items (signer_of c.args.vote.now) c.in-Ok.index d c.item_at.ensures.ascending place in
-    let given : c.outcome.result ≡ outcome_by g.D.PartialEq.eq (option_copied c.args.proposal) (of_kind marks (kind_of c.args.vote.now))
-    (observed_at (of_kind marks (kind_of c.args.vote.now)) (kind_of c.args.vote.now) (get_or es c.in-Ok.index d)) c.args.vote.now =
-    rw (c.of-is_compacted.ensures, c.kind_of.ensures, c.copied-selected.ensures, c.item_at.ensures.item d) at c.outcome.ensures in
-    rw (← c.self.view_is)
-    (given ∙ outcome_at g.D.PartialEq.eq marks es (option_copied c.args.proposal) c.args.vote.now c.item_at.ensures.ascending c.in-Ok.index d
-    (place_below key_of es (signer_of c.args.vote.now) c.in-Ok.index place) found (signed_entry c.args.vote.now es (get_or es c.in-Ok.index d) found)
-    c.self.inside.entries.participants (in_range _ _ below))
-
-pub returns-in-Ok-clause-records : goal.returns-in-Ok-clause-records
-returns-in-Ok-clause-records g c = λ kind.
-    let d = nothing_seen {G = g.row.G.Denot} {D = g.row.D.Denot} (attestation_of c.args.vote.now).signer in
-    let marks = marks_of c.self.inside.compacted in
-    let es = c.self.inside.entries.items in
-    let place : place_of (map key_of c.self.inside.entries.items) (signer_of c.args.vote.now)
-    ≡ Ok c.in-Ok.index = rw (← c.self.view_is) at (sym c.requires.place ∙ c.in-Ok.is) in
-    let found = place_item key_of c.self.inside.entries.items (signer_of c.args.vote.now) c.in-Ok.index d c.item_at.ensures.ascending place in
-    let stored : c.replace_at.new.self.items ≡ set es c.in-Ok.index
-    (entry_with g.D.PartialEq.eq (of_kind marks (kind_of c.args.vote.now)) (option_copied c.args.proposal) c.args.vote.now (get_or es c.in-Ok.index d)) =
-    c.replace_at.ensures.items ∙ ap (λ e. set es c.in-Ok.index e)
-    (rw (c.of-is_compacted.ensures, c.kind_of.ensures, c.copied-selected.ensures, c.item_at.ensures.item d) at c.with.ensures) in
-    rw (← c.self.view_is, stored)
-    (recorded_at g.D.PartialEq.eq marks es (option_copied c.args.proposal) c.args.vote.now c.item_at.ensures.ascending c.in-Ok.index d
-    (place_below key_of es (signer_of c.args.vote.now) c.in-Ok.index place) found (signed_entry c.args.vote.now es (get_or es c.in-Ok.index d) found) kind)
-
-pub insert_at-requires : goal.insert_at-requires
-insert_at-requires g c =
-    let place : place_of (map key_of c.self.inside.entries.items) (signer_of c.args.vote.now)
-    ≡ Err c.in-Err.index = rw (← c.self.view_is) at (sym c.requires.place ∙ c.in-Err.is) in
+    let vote = c.args.vote.now in
+    let i = signer_of vote in
+    let k = kind_of vote in
+    let up = c.seen_at-seen.ensures.ascending in
+    let place = rw (← c.self.view_is) at c.requires.place in
+    let o = find (λ e. nat_eq (key_of e) (signer_of c.args.vote.now)) c.self.inside.entries.items in
+    let seen : c.seen_at-seen.result ≡ seen_in (kind_of c.args.vote.now) (find (λ e. nat_eq (key_of e) (signer_of c.args.vote.now)) c.self.inside.entries.items)
+    = c.seen_at-seen.ensures.seen i place ∙ ap (λ k. seen_in k o) c.kind-kind.ensures in
     let range : signer_of c.args.vote.now < c.self.inside.entries.participants = rw (← c.self.view_is) at c.requires.range in
-    let signer : c.with-in-Err.result.signer.0 ≡ signer_of c.args.vote.now =
-    ap key_of c.with-in-Err.ensures ∙ entry_with_key g.D.PartialEq.eq c.of-is_compacted.result c.copied-selected.result c.args.vote.now c.unseen-entry.result
-    ∙ ap key_of c.unseen-entry.ensures ∙ ap (λ p. p.0) c.signer_of.ensures in
-    record { signer = rw signer range; place = rw signer place }
-
-pub returns-in_ok-insert_at-in-Err-clause-outcome :
-    goal.returns-in_ok-insert_at-in-Err-clause-outcome
-returns-in_ok-insert_at-in-Err-clause-outcome g c =
-    let below = rw (← c.self.view_is) at c.requires.range in
-    let marks = marks_of c.self.inside.compacted in
-    let es = c.self.inside.entries.items in
-    let place : place_of (map key_of c.self.inside.entries.items) (signer_of c.args.vote.now)
-    ≡ Err c.in-Err.index = rw (← c.self.view_is) at (sym c.requires.place ∙ c.in-Err.is) in
-    let absent = place_absent key_of c.self.inside.entries.items (signer_of c.args.vote.now) c.in-Err.index place in
-    let given : c.outcome-in-Err.result ≡ outcome_by g.D.PartialEq.eq (option_copied c.args.proposal) (of_kind marks (kind_of c.args.vote.now))
-    (observed_at (of_kind marks (kind_of c.args.vote.now)) (kind_of c.args.vote.now) (nothing_seen c.signer_of.result)) c.args.vote.now =
-    rw (c.of-is_compacted.ensures, c.kind_of.ensures, c.copied-selected.ensures, c.unseen-entry.ensures) at c.outcome-in-Err.ensures in
+    let in_range : nat_lt (signer_of c.args.vote.now) c.self.inside.entries.participants ≡ true = below _ _ range in
+    let has = ap has_place (sym seen) ∙ sym c.is_kept.ensures ∙ c.if-is_kept.true in
     rw (← c.self.view_is)
-    (given ∙ outcome_new g.D.PartialEq.eq marks es (option_copied c.args.proposal) c.args.vote.now c.in_ok-insert_at-in-Err.ensures.ascending c.signer_of.result
-    absent c.signer_of.ensures c.self.inside.entries.participants (in_range _ _ below))
+    (outcome_kept g.D.PartialEq.eq marks votes es (option_copied c.args.proposal) vote up (λ kind. c.self.invariant.kinds kind) o refl has
+    c.self.inside.entries.participants in_range)
 
-pub returns-in_ok-insert_at-in-Err-clause-records :
-    goal.returns-in_ok-insert_at-in-Err-clause-records
-returns-in_ok-insert_at-in-Err-clause-records g c = λ kind.
+pub returns-then-is_kept-clause-records : goal.returns-then-is_kept-clause-records
+returns-then-is_kept-clause-records g c = λ kind.
     let marks = marks_of c.self.inside.compacted in
+    let votes = votes_in c.self.inside.kept in
     let es = c.self.inside.entries.items in
-    let place : place_of (map key_of c.self.inside.entries.items) (signer_of c.args.vote.now)
-    ≡ Err c.in-Err.index = rw (← c.self.view_is) at (sym c.requires.place ∙ c.in-Err.is) in
-    let absent = place_absent key_of c.self.inside.entries.items (signer_of c.args.vote.now) c.in-Err.index place in
-    let stored : c.insert_at.new.self.items ≡ insert_by key_of
-    (entry_with g.D.PartialEq.eq (of_kind marks (kind_of c.args.vote.now)) (option_copied c.args.proposal) c.args.vote.now
-    (nothing_seen c.signer_of.result)) es =
-    c.in_ok-insert_at-in-Err.ensures.items ∙ ap (λ e. insert_by key_of e es)
-    (rw (c.of-is_compacted.ensures, c.kind_of.ensures, c.copied-selected.ensures, c.unseen-entry.ensures) at c.with-in-Err.ensures) in
-    rw (← c.self.view_is, stored)
-    (recorded_new g.D.PartialEq.eq marks es (option_copied c.args.proposal) c.args.vote.now c.in_ok-insert_at-in-Err.ensures.ascending c.signer_of.result absent
-    c.signer_of.ensures kind)
+    let vote = c.args.vote.now in
+    let i = signer_of vote in
+    let k = kind_of vote in
+    let up = c.seen_at-seen.ensures.ascending in
+    let place = rw (← c.self.view_is) at c.requires.place in
+    let o = find (λ e. nat_eq (key_of e) (signer_of c.args.vote.now)) c.self.inside.entries.items in
+    let seen : c.seen_at-seen.result ≡ seen_in (kind_of c.args.vote.now) (find (λ e. nat_eq (key_of e) (signer_of c.args.vote.now)) c.self.inside.entries.items)
+    = c.seen_at-seen.ensures.seen i place ∙ ap (λ k. seen_in k o) c.kind-kind.ensures in
+    let has = ap has_place (sym seen) ∙ sym c.is_kept.ensures ∙ c.if-is_kept.true in
+    rw (← c.self.view_is)
+    (recorded_none g.D.PartialEq.eq marks votes es (option_copied c.args.proposal) vote up (λ kind. c.self.invariant.kinds kind) o refl has kind)
 
-pub returns-in_err-insert_at-in-Err-clause-known : goal.returns-in_err-insert_at-in-Err-clause-known
-returns-in_err-insert_at-in-Err-clause-known g c = λ seen.
-    let place : place_of (map key_of c.self.inside.entries.items) (signer_of c.args.vote.now)
-    ≡ Err c.in-Err.index = rw (← c.self.view_is) at (sym c.requires.place ∙ c.in-Err.is) in
-    let absent = place_absent key_of c.self.inside.entries.items (signer_of c.args.vote.now) c.in-Err.index place in
-    let never : is_known c.args.self.now.holds (signer_of c.args.vote.now) ≡ false =
-    rw (← c.self.view_is) (unknown (marks_of c.self.inside.compacted) c.self.inside.entries.items (signer_of c.args.vote.now)
-    c.in_err-insert_at-in-Err.ensures.ascending absent) in
-    let clash : true ≡ false = sym seen ∙ never in
-    absurd (cc)
+pub returns-in_err-make_room_at-clause-known : goal.returns-in_err-make_room_at-clause-known
+returns-in_err-make_room_at-clause-known g c =
+    let marks = marks_of c.self.inside.compacted in
+    let votes = votes_in c.self.inside.kept in
+    let es = c.self.inside.entries.items in
+    let vote = c.args.vote.now in
+    let i = signer_of vote in
+    let k = kind_of vote in
+    let up = c.seen_at-seen.ensures.ascending in
+    let place = rw (← c.self.view_is) at c.requires.place in
+    let o = find (λ e. nat_eq (key_of e) (signer_of c.args.vote.now)) c.self.inside.entries.items in
+    let seen : c.seen_at-seen.result ≡ seen_in (kind_of c.args.vote.now) (find (λ e. nat_eq (key_of e) (signer_of c.args.vote.now)) c.self.inside.entries.items)
+    = c.seen_at-seen.ensures.seen i place ∙ ap (λ k. seen_in k o) c.kind-kind.ensures in
+    rw (← c.self.view_is)
+    (λ known on. absurd (false≢true (c.in_err-make_room_at.ensures.no_memory (known_entry marks votes es i c.args.place _ up place known)
+    (λ off. absurd (false≢true (sym off ∙ c.of-is_compacted.ensures ∙ ap (of_kind marks) c.kind-kind.ensures ∙ on))))))
+
+pub returns-in_err-make_room_at-clause-repeated : goal.returns-in_err-make_room_at-clause-repeated
+returns-in_err-make_room_at-clause-repeated g c =
+    let marks = marks_of c.self.inside.compacted in
+    let votes = votes_in c.self.inside.kept in
+    let es = c.self.inside.entries.items in
+    let vote = c.args.vote.now in
+    let i = signer_of vote in
+    let k = kind_of vote in
+    let up = c.seen_at-seen.ensures.ascending in
+    let place = rw (← c.self.view_is) at c.requires.place in
+    let o = find (λ e. nat_eq (key_of e) (signer_of c.args.vote.now)) c.self.inside.entries.items in
+    let seen : c.seen_at-seen.result ≡ seen_in (kind_of c.args.vote.now) (find (λ e. nat_eq (key_of e) (signer_of c.args.vote.now)) c.self.inside.entries.items)
+    = c.seen_at-seen.ensures.seen i place ∙ ap (λ k. seen_in k o) c.kind-kind.ensures in
+    let none = ap has_place (sym seen) ∙ sym c.is_kept.ensures ∙ c.if-is_kept.false in
+    rw (← c.self.view_is)
+    (λ before.
+    let on = seen_compacted g.D.PartialEq.eq marks votes es (option_copied c.args.proposal) vote up (λ kind. c.self.invariant.kinds kind) o refl none before in
+    let known = seen_known (tracked_by marks votes es) k i before in
+    absurd (false≢true (c.in_err-make_room_at.ensures.no_memory (known_entry marks votes es i c.args.place _ up place known)
+    (λ off. absurd (false≢true (sym off ∙ c.of-is_compacted.ensures ∙ ap (of_kind marks) c.kind-kind.ensures ∙ on))))))
+
+pub invariant_of-self-then-is_compacted : goal.invariant_of-self-then-is_compacted
+invariant_of-self-then-is_compacted g c =
+    let marks = marks_of c.self.inside.compacted in
+    let votes = votes_in c.self.inside.kept in
+    let es = c.self.inside.entries.items in
+    let vote = c.args.vote.now in
+    let i = signer_of vote in
+    let k = kind_of vote in
+    let up = c.seen_at-seen.ensures.ascending in
+    let place = rw (← c.self.view_is) at c.requires.place in
+    let o = find (λ e. nat_eq (key_of e) (signer_of c.args.vote.now)) c.self.inside.entries.items in
+    let seen : c.seen_at-seen.result ≡ seen_in (kind_of c.args.vote.now) (find (λ e. nat_eq (key_of e) (signer_of c.args.vote.now)) c.self.inside.entries.items)
+    = c.seen_at-seen.ensures.seen i place ∙ ap (λ k. seen_in k o) c.kind-kind.ensures in
+    let on : of_kind (marks_of c.self.inside.compacted) (kind_of c.args.vote.now) ≡ true =
+    ap (of_kind marks) (sym c.kind-kind.ensures) ∙ sym c.of-is_compacted.ensures ∙ c.if-is_compacted.true in
+    let tests : c.is_selected-is_selected.result ≡ tested g.D.PartialEq.eq (option_copied c.args.proposal) c.args.vote.now =
+    c.is_selected-is_selected.ensures ∙ ap (is_selected_in g.D.PartialEq.eq (option_copied c.args.proposal)) c.proposal.ensures in
+    let next : c.compared-next.result ≡ compared (tested g.D.PartialEq.eq (option_copied c.args.proposal) c.args.vote.now) (seen_in (kind_of c.args.vote.now) o)
+    = c.compared-next.ensures ∙ ap (λ t. compared t c.seen_at-seen.result) tests
+    ∙ ap (compared (tested g.D.PartialEq.eq (option_copied c.args.proposal) c.args.vote.now)) seen in
+    let left = rw (c.make_room_at.ensures.items, c.signer.ensures, c.kind-kind.ensures, next) at c.put_at.ensures.items in
+    let bound = c.put_at.ensures.participants ∙ c.make_room_at.ensures.participants in
+    rw (bound, c.make_room_at.ensures.votes, left)
+    (tracked_compared g.D.PartialEq.eq marks votes es (option_copied c.args.proposal) vote up on c.self.inside.entries.participants c.self.invariant)
+
+pub returns-then-is_compacted-clause-outcome : goal.returns-then-is_compacted-clause-outcome
+returns-then-is_compacted-clause-outcome g c =
+    let marks = marks_of c.self.inside.compacted in
+    let votes = votes_in c.self.inside.kept in
+    let es = c.self.inside.entries.items in
+    let vote = c.args.vote.now in
+    let i = signer_of vote in
+    let k = kind_of vote in
+    let up = c.seen_at-seen.ensures.ascending in
+    let place = rw (← c.self.view_is) at c.requires.place in
+    let o = find (λ e. nat_eq (key_of e) (signer_of c.args.vote.now)) c.self.inside.entries.items in
+    let seen : c.seen_at-seen.result ≡ seen_in (kind_of c.args.vote.now) (find (λ e. nat_eq (key_of e) (signer_of c.args.vote.now)) c.self.inside.entries.items)
+    = c.seen_at-seen.ensures.seen i place ∙ ap (λ k. seen_in k o) c.kind-kind.ensures in
+    let range : signer_of c.args.vote.now < c.self.inside.entries.participants = rw (← c.self.view_is) at c.requires.range in
+    let in_range : nat_lt (signer_of c.args.vote.now) c.self.inside.entries.participants ≡ true = below _ _ range in
+    let on : of_kind (marks_of c.self.inside.compacted) (kind_of c.args.vote.now) ≡ true =
+    ap (of_kind marks) (sym c.kind-kind.ensures) ∙ sym c.of-is_compacted.ensures ∙ c.if-is_compacted.true in
+    let tests : c.is_selected-is_selected.result ≡ tested g.D.PartialEq.eq (option_copied c.args.proposal) c.args.vote.now =
+    c.is_selected-is_selected.ensures ∙ ap (is_selected_in g.D.PartialEq.eq (option_copied c.args.proposal)) c.proposal.ensures in
+    let given : c.outcome.result
+    ≡ seen_outcome true (tested g.D.PartialEq.eq (option_copied c.args.proposal) c.args.vote.now) (seen_in (kind_of c.args.vote.now) o)
+    = c.outcome.ensures ∙ ap (λ t. seen_outcome true t c.seen_at-seen.result) tests
+    ∙ ap (seen_outcome true (tested g.D.PartialEq.eq (option_copied c.args.proposal) c.args.vote.now)) seen in
+    rw (← c.self.view_is)
+    (given ∙ ap (λ b. seen_outcome b (tested g.D.PartialEq.eq (option_copied c.args.proposal) vote) (seen_in k o)) (sym on)
+    ∙ outcome_found g.D.PartialEq.eq marks votes es (option_copied c.args.proposal) vote up (λ kind. c.self.invariant.kinds kind) o refl
+    c.self.inside.entries.participants in_range)
+
+pub returns-then-is_compacted-clause-records : goal.returns-then-is_compacted-clause-records
+returns-then-is_compacted-clause-records g c = λ kind.
+    let marks = marks_of c.self.inside.compacted in
+    let votes = votes_in c.self.inside.kept in
+    let es = c.self.inside.entries.items in
+    let vote = c.args.vote.now in
+    let i = signer_of vote in
+    let k = kind_of vote in
+    let up = c.seen_at-seen.ensures.ascending in
+    let place = rw (← c.self.view_is) at c.requires.place in
+    let o = find (λ e. nat_eq (key_of e) (signer_of c.args.vote.now)) c.self.inside.entries.items in
+    let seen : c.seen_at-seen.result ≡ seen_in (kind_of c.args.vote.now) (find (λ e. nat_eq (key_of e) (signer_of c.args.vote.now)) c.self.inside.entries.items)
+    = c.seen_at-seen.ensures.seen i place ∙ ap (λ k. seen_in k o) c.kind-kind.ensures in
+    let on : of_kind (marks_of c.self.inside.compacted) (kind_of c.args.vote.now) ≡ true =
+    ap (of_kind marks) (sym c.kind-kind.ensures) ∙ sym c.of-is_compacted.ensures ∙ c.if-is_compacted.true in
+    let tests : c.is_selected-is_selected.result ≡ tested g.D.PartialEq.eq (option_copied c.args.proposal) c.args.vote.now =
+    c.is_selected-is_selected.ensures ∙ ap (is_selected_in g.D.PartialEq.eq (option_copied c.args.proposal)) c.proposal.ensures in
+    let next : c.compared-next.result ≡ compared (tested g.D.PartialEq.eq (option_copied c.args.proposal) c.args.vote.now) (seen_in (kind_of c.args.vote.now) o)
+    = c.compared-next.ensures ∙ ap (λ t. compared t c.seen_at-seen.result) tests
+    ∙ ap (compared (tested g.D.PartialEq.eq (option_copied c.args.proposal) c.args.vote.now)) seen in
+    let left = rw (c.make_room_at.ensures.items, c.signer.ensures, c.kind-kind.ensures, next) at c.put_at.ensures.items in
+    rw (← c.self.view_is)
+    (recorded_compared g.D.PartialEq.eq marks votes es (option_copied c.args.proposal) vote up _ _ c.make_room_at.ensures.votes left on kind)
+
+pub overflow_cast-next : goal.overflow_cast-next
+overflow_cast-next g c =
+    let kind = c.kind-kind.result in
+    let kept = c.len.ensures ∙ ap (λ v. length (of_kind v c.kind-kind.result)) c.make_room_at.ensures.votes in
+    let counted = (c.self.invariant.kinds c.kind-kind.result).counted in
+    let few = count_few (λ e. has_place (part c.kind-kind.result e)) c.self.inside.entries.items in
+    omega (arith, kept, counted, few, c.seen_at-seen.ensures.few, c.self.invariant.few)
+
+pub invariant_of-self-2 : goal.invariant_of-self-2
+invariant_of-self-2 g c =
+    let marks = marks_of c.self.inside.compacted in
+    let votes = votes_in c.self.inside.kept in
+    let es = c.self.inside.entries.items in
+    let vote = c.args.vote.now in
+    let i = signer_of vote in
+    let k = kind_of vote in
+    let up = c.seen_at-seen.ensures.ascending in
+    let place = rw (← c.self.view_is) at c.requires.place in
+    let o = find (λ e. nat_eq (key_of e) (signer_of c.args.vote.now)) c.self.inside.entries.items in
+    let seen : c.seen_at-seen.result ≡ seen_in (kind_of c.args.vote.now) (find (λ e. nat_eq (key_of e) (signer_of c.args.vote.now)) c.self.inside.entries.items)
+    = c.seen_at-seen.ensures.seen i place ∙ ap (λ k. seen_in k o) c.kind-kind.ensures in
+    let none = ap has_place (sym seen) ∙ sym c.is_kept.ensures ∙ c.if-is_kept.false in
+    let off : of_kind (marks_of c.self.inside.compacted) (kind_of c.args.vote.now) ≡ false =
+    ap (of_kind marks) (sym c.kind-kind.ensures) ∙ sym c.of-is_compacted.ensures ∙ c.if-is_compacted.false in
+    let length_is : c.len.result ≡ length (of_kind (votes_in c.self.inside.kept) (kind_of c.args.vote.now)) =
+    c.len.ensures ∙ ap (λ v. length (of_kind v c.kind-kind.result)) c.make_room_at.ensures.votes ∙ ap (λ k. length (of_kind votes k)) c.kind-kind.ensures in
+    let left = rw (c.make_room_at.ensures.items, c.signer-2.ensures, c.kind-kind.ensures, length_is) at c.put_at-2.ensures.items in
+    let kept = rw c.make_room_at.ensures.votes at c.push.ensures in
+    let bound = c.put_at-2.ensures.participants ∙ c.make_room_at.ensures.participants in
+    rw (bound, kept, left)
+    (tracked_full g.D.PartialEq.eq marks votes es (option_copied c.args.proposal) vote up off none c.self.inside.entries.participants c.self.invariant)
+
+pub returns-clause-outcome : goal.returns-clause-outcome
+returns-clause-outcome g c =
+    let marks = marks_of c.self.inside.compacted in
+    let votes = votes_in c.self.inside.kept in
+    let es = c.self.inside.entries.items in
+    let vote = c.args.vote.now in
+    let i = signer_of vote in
+    let k = kind_of vote in
+    let up = c.seen_at-seen.ensures.ascending in
+    let place = rw (← c.self.view_is) at c.requires.place in
+    let o = find (λ e. nat_eq (key_of e) (signer_of c.args.vote.now)) c.self.inside.entries.items in
+    let seen : c.seen_at-seen.result ≡ seen_in (kind_of c.args.vote.now) (find (λ e. nat_eq (key_of e) (signer_of c.args.vote.now)) c.self.inside.entries.items)
+    = c.seen_at-seen.ensures.seen i place ∙ ap (λ k. seen_in k o) c.kind-kind.ensures in
+    let range : signer_of c.args.vote.now < c.self.inside.entries.participants = rw (← c.self.view_is) at c.requires.range in
+    let in_range : nat_lt (signer_of c.args.vote.now) c.self.inside.entries.participants ≡ true = below _ _ range in
+    let none = ap has_place (sym seen) ∙ sym c.is_kept.ensures ∙ c.if-is_kept.false in
+    let off : of_kind (marks_of c.self.inside.compacted) (kind_of c.args.vote.now) ≡ false =
+    ap (of_kind marks) (sym c.kind-kind.ensures) ∙ sym c.of-is_compacted.ensures ∙ c.if-is_compacted.false in
+    rw (← c.self.view_is)
+    (outcome_first g.D.PartialEq.eq marks votes es (option_copied c.args.proposal) vote up (λ kind. c.self.invariant.kinds kind) o refl off none
+    c.self.inside.entries.participants in_range)
+
+pub returns-clause-records : goal.returns-clause-records
+returns-clause-records g c = λ kind.
+    let marks = marks_of c.self.inside.compacted in
+    let votes = votes_in c.self.inside.kept in
+    let es = c.self.inside.entries.items in
+    let vote = c.args.vote.now in
+    let i = signer_of vote in
+    let k = kind_of vote in
+    let up = c.seen_at-seen.ensures.ascending in
+    let place = rw (← c.self.view_is) at c.requires.place in
+    let o = find (λ e. nat_eq (key_of e) (signer_of c.args.vote.now)) c.self.inside.entries.items in
+    let seen : c.seen_at-seen.result ≡ seen_in (kind_of c.args.vote.now) (find (λ e. nat_eq (key_of e) (signer_of c.args.vote.now)) c.self.inside.entries.items)
+    = c.seen_at-seen.ensures.seen i place ∙ ap (λ k. seen_in k o) c.kind-kind.ensures in
+    let none = ap has_place (sym seen) ∙ sym c.is_kept.ensures ∙ c.if-is_kept.false in
+    let off : of_kind (marks_of c.self.inside.compacted) (kind_of c.args.vote.now) ≡ false =
+    ap (of_kind marks) (sym c.kind-kind.ensures) ∙ sym c.of-is_compacted.ensures ∙ c.if-is_compacted.false in
+    let length_is : c.len.result ≡ length (of_kind (votes_in c.self.inside.kept) (kind_of c.args.vote.now)) =
+    c.len.ensures ∙ ap (λ v. length (of_kind v c.kind-kind.result)) c.make_room_at.ensures.votes ∙ ap (λ k. length (of_kind votes k)) c.kind-kind.ensures in
+    let left = rw (c.make_room_at.ensures.items, c.signer-2.ensures, c.kind-kind.ensures, length_is) at c.put_at-2.ensures.items in
+    let kept = rw c.make_room_at.ensures.votes at c.push.ensures in
+    rw (← c.self.view_is)
+    (recorded_full g.D.PartialEq.eq marks votes es (option_copied c.args.proposal) vote up _ _ kept left off none (λ kind. c.self.invariant.kinds kind) kind)

@@ -2,7 +2,7 @@ use Rattle.std.proofs.Common.{◌≡◌, ◌∙◌, ap, sym, arith, slice_get}
 use Rattle.std.proofs.lemmas.Grind.{common_steps}
 use Rattle.std.proofs.lemmas.Option.{gets}
 use Rattle.std.specs.Option.{option_copied}
-use Rattle.batcher_types.proofs.Places.{place_found, place_absent}
+use Rattle.batcher_types.proofs.Places.{place_found, place_absent, ascending_few}
 use Rattle.batcher_types.proofs.messages.map.AttributableMap.get_at.Goals as goal
 
 pub returns-in-Ok-clause-item : goal.returns-in-Ok-clause-item
@@ -17,3 +17,13 @@ returns-in-Ok-clause-item g c = λ i is.
 pub returns-in-Err-clause-item : goal.returns-in-Err-clause-item
 returns-in-Err-clause-item g c =
     λ i is. sym (place_absent (λ x. (g.T.Attributable.signed_by x).0) c.args.self.now.items i c.in-Err.field-0 (sym is ∙ c.in-Err.is))
+
+pub returns-in-Ok-clause-few : goal.returns-in-Ok-clause-few
+returns-in-Ok-clause-few g c =
+    rw (← c.self.view_is)
+    (ascending_few (λ x. (g.T.Attributable.signed_by x).0) c.self.inside.items.items c.self.inside.participants c.self.invariant.0 c.self.invariant.1)
+
+pub returns-in-Err-clause-few : goal.returns-in-Err-clause-few
+returns-in-Err-clause-few g c =
+    rw (← c.self.view_is)
+    (ascending_few (λ x. (g.T.Attributable.signed_by x).0) c.self.inside.items.items c.self.inside.participants c.self.invariant.0 c.self.invariant.1)

@@ -1,0 +1,26 @@
+-- The votes that are kept, as lists of each kind.
+use Rattle.std.proofs.Common.{◌≡◌, ◌∙◌, ℕ, List, Option, Some, None, map, refl, ap, sym}
+use Rattle.std.proofs.lemmas.Option.{slice_get-map}
+use Rattle.std.specs.List.{slice_get}
+use Rattle.std.specs.Option.{option_map}
+use Rattle.batcher_types.specs.declared.messages.Nullify.{Nullify}
+use Rattle.batcher_types.specs.declared.messages.Finalize.{Finalize}
+use Rattle.batcher_types.specs.declared.messages.Vote.{Vote}
+use Rattle.batcher_types.specs.declared.messages.Vote.TheVariants.{Nullify as NullifyVote, Finalize as FinalizeVote}
+use Rattle.batcher_votes.specs.Entries.{proposal_at}
+
+module _ {G D : Type 0} where
+  -- A nullify carries no proposal.
+  pub none_carried : (votes : List (Nullify G)) (place : ℕ)
+      → proposal_at {G = G} {D = D} (slice_get (map NullifyVote votes) place) ≡ None
+  none_carried votes place = ap proposal_at (slice_get-map NullifyVote votes place) ∙ none_of (slice_get votes place) where
+    none_of : (o : Option (Nullify G))
+        → proposal_at {G = G} {D = D} (option_map NullifyVote o) ≡ None
+    none_of None = refl
+    none_of (Some vote) = refl
+
+  pub finalize_carried : (votes : List (Finalize G D)) (place : ℕ) (vote : Finalize G D)
+      → slice_get votes place ≡ Some vote
+      → proposal_at (slice_get (map FinalizeVote votes) place) ≡ Some vote.proposal
+  finalize_carried votes place vote is =
+      ap proposal_at (slice_get-map FinalizeVote votes place ∙ ap (option_map FinalizeVote) is)

@@ -1,0 +1,16 @@
+use Rattle.std.proofs.Common.{◌∙◌, ap, sym, refl, nat_eq, find}
+use Rattle.batcher_types.specs.declared.messages.Kind.TheVariants.{Nullification}
+use Rattle.batcher_votes.specs.Entries.{key_of, marks_of, has_place, votes_in}
+use Rattle.batcher_votes.proofs.Recorded.{has_kept_vote}
+use Rattle.batcher_votes.proofs.votes.VoteTracker.has_nullify.Goals as goal
+
+pub returns : goal.returns
+returns g c =
+    let marks = marks_of c.self.inside.compacted in
+    let votes = votes_in c.self.inside.kept in
+    let es = c.self.inside.entries.items in
+    let i = c.args.signer.0 in
+    rw (← c.self.view_is)
+    (c.is_kept.ensures ∙ ap has_place c.seen_of.ensures.seen
+    ∙ has_kept_vote marks votes es Nullification i (find (λ e. nat_eq (key_of e) i) es) c.seen_of.ensures.ascending
+    (c.self.invariant.kinds Nullification).each refl)
