@@ -1,8 +1,12 @@
--- Votes as their subjects and attestations side by side.
-use Rattle.std.proofs.Common.{◌≡◌, ◌≤◌, ◌<◌, ◌+◌, ℕ, zero, suc, Bool, true, false, Some, List, [], ◌∷◌, ◌++◌, length, map, filter, take, drop, get_or, set, refl, ap, sym, arith, ◌==◌, ◌||◌, ◌&&◌, ◌-◌, ◌∙◌, cond, replicate}
+-- Votes as their subjects and attestations side by side, and runs of one subject.
+use Rattle.std.proofs.Common.{◌≡◌, ◌≤◌, ◌<◌, ◌+◌, ℕ, zero, suc, Bool, true, false, Some, List, [], ◌∷◌, ◌++◌, length, map, filter, take}
+use Rattle.std.proofs.Common.{drop, get_or, set, refl, ap, sym, subst, arith, ◌==◌, ◌||◌, ◌&&◌, ◌-◌, ◌∙◌, cond, replicate, length-append, append-nil, append_assoc, add-one}
+use Rattle.std.proofs.Math.Seq.{paste}
+use Rattle.std.proofs.Math.ListN.{drop_of_length-le}
 use Rattle.std.specs.List.{list_any, list_all}
-use Rattle.std.proofs.lemmas.List.{length-set, take_all, take_at}
-use Rattle.std.proofs.lemmas.List.Filters.{FiltersInPlace, FiltersInPlace-all, FiltersInPlace-more_no, FiltersInPlace-more_set}
+use Rattle.std.proofs.lemmas.List.{drop-drop, drop_more, length-drop, length-replicate, length-take-le, take-append-drop, take_at}
+use Rattle.std.proofs.lemmas.List.Edits.{drop-paste, length-paste, take-paste}
+use Rattle.std.proofs.lemmas.List.Elements.{filter-append}
 use Rattle.batcher_types.specs.declared.messages.Attestation.{Attestation}
 use Rattle.batcher_types.specs.declared.messages.Proposal.{Proposal}
 use Rattle.batcher_types.specs.declared.messages.Subject.{Subject}
@@ -11,7 +15,8 @@ use Rattle.batcher_types.specs.declared.messages.Vote.{Vote}
 use Rattle.batcher_types.specs.declared.messages.Vote.TheVariants.{Notarize as NotarizeVote, Nullify as NullifyVote, Finalize as FinalizeVote}
 use Rattle.batcher_votes.specs.Buffering.{vote_for, attestations_of, have_one_subject}
 use Rattle.batcher_types.specs.Votes.{subject_of, attestation_of, signer_of, same_subject, waits}
-use Rattle.batcher_votes.specs.Waiting.{votes_from, may_wait, one_subject}
+use Rattle.batcher_votes.specs.declared.verifier.buffer.Run.{Run}
+use Rattle.batcher_votes.specs.Waiting.{votes_from, may_wait, one_subject, one_subject_in, spread, fitting}
 
 -- a vote is that of its subject and attestation
 pub vote_again : {G D : Type 0} (v : Vote G D) → vote_for (subject_of v) (attestation_of v) ≡ v
@@ -87,98 +92,6 @@ module _ {G D : Type 0} where
   repeat-from s [] = refl
   repeat-from s (a ∷ attestations) = ap (λ votes. vote_for s a ∷ votes) (repeat-from s attestations)
 
-  pub get_or-from : (subjects : List (Subject D)) (attestations : List (Attestation G)) (i : ℕ)
-      (s : Subject D) (a : Attestation G) → length subjects ≡ length attestations
-      → get_or (votes_from subjects attestations) i (vote_for s a)
-      ≡ vote_for (get_or subjects i s) (get_or attestations i a)
-  get_or-from [] [] i s a h = refl
-  get_or-from [] (x ∷ attestations) i s a h = absurd (omega arith)
-  get_or-from (t ∷ subjects) [] i s a h = absurd (omega arith)
-  get_or-from (t ∷ subjects) (x ∷ attestations) zero s a h = refl
-  get_or-from (t ∷ subjects) (x ∷ attestations) (suc i) s a h = get_or-from subjects attestations i s a (omega arith)
-
-  pub set-from : (subjects : List (Subject D)) (attestations : List (Attestation G)) (i : ℕ)
-      (s : Subject D) (a : Attestation G) → length subjects ≡ length attestations
-      → votes_from (set subjects i s) (set attestations i a)
-      ≡ set (votes_from subjects attestations) i (vote_for s a)
-  set-from [] [] i s a h = refl
-  set-from [] (x ∷ attestations) i s a h = absurd (omega arith)
-  set-from (t ∷ subjects) [] i s a h = absurd (omega arith)
-  set-from (t ∷ subjects) (x ∷ attestations) zero s a h = refl
-  set-from (t ∷ subjects) (x ∷ attestations) (suc i) s a h = ap (λ votes. vote_for t x ∷ votes) (set-from subjects attestations i s a (omega arith))
-
-  pub take-from : (subjects : List (Subject D)) (attestations : List (Attestation G)) (n : ℕ)
-      → votes_from (take n subjects) (take n attestations)
-      ≡ take n (votes_from subjects attestations)
-  take-from [] attestations zero = refl
-  take-from [] attestations (suc n) = refl
-  take-from (t ∷ subjects) [] zero = refl
-  take-from (t ∷ subjects) [] (suc n) = refl
-  take-from (t ∷ subjects) (x ∷ attestations) zero = refl
-  take-from (t ∷ subjects) (x ∷ attestations) (suc n) = ap (λ votes. vote_for t x ∷ votes) (take-from subjects attestations n)
-
--- A loop has moved what passes the test among the first votes to the front, in both lists alike.
-pub record Keeping {G D : Type 0} (p : Vote G D → Bool) (subjects : List (Subject D))
-    (attestations : List (Attestation G)) (new_subjects : List (Subject D))
-    (new_attestations : List (Attestation G)) (kept i : ℕ) : Type 0 where
-  pub long : length new_subjects ≡ length new_attestations
-  pub filters : FiltersInPlace p (votes_from subjects attestations)
-      (votes_from new_subjects new_attestations) kept i
-
-at_place : {G D : Type 0} (new_subjects : List (Subject D))
-    (new_attestations : List (Attestation G)) (i : ℕ) (s : Subject D) (a : Attestation G)
-    → length new_subjects ≡ length new_attestations → s ≡ get_or new_subjects i s → a
-    ≡ get_or new_attestations i a → vote_for s a
-    ≡ get_or (votes_from new_subjects new_attestations) i (vote_for s a)
-at_place new_subjects new_attestations i s a long at_s at_a = let here = get_or-from new_subjects new_attestations i s a long in cc
-
-module _ {G D : Type 0} {p : Vote G D → Bool} {subjects : List (Subject D)}
-    {attestations : List (Attestation G)} {new_subjects : List (Subject D)}
-    {new_attestations : List (Attestation G)} {kept i : ℕ} where
-  pub keeping_no : (s : Subject D) (a : Attestation G)
-      → Keeping p subjects attestations new_subjects new_attestations kept i → i
-      < length new_attestations → p (vote_for s a) ≡ false → s ≡ get_or new_subjects i s → a
-      ≡ get_or new_attestations i a → Keeping p subjects attestations new_subjects new_attestations
-      kept (i + 1)
-  keeping_no s a h below fails at_s at_a =
-      let within : i < length (votes_from new_subjects new_attestations) = omega (arith, length-from new_subjects new_attestations h.long) in
-      record {
-        long = h.long;
-        filters = FiltersInPlace-more_no h.filters within fails
-            (at_place new_subjects new_attestations i s a h.long at_s at_a);
-      }
-
-  pub keeping_set : (s : Subject D) (a : Attestation G)
-      → Keeping p subjects attestations new_subjects new_attestations kept i → i
-      < length new_attestations → p (vote_for s a) ≡ true → s ≡ get_or new_subjects i s → a
-      ≡ get_or new_attestations i a → Keeping p subjects attestations (set new_subjects kept s)
-      (set new_attestations kept a) (kept + 1) (i + 1)
-  keeping_set s a h below passes at_s at_a =
-      let within : i < length (votes_from new_subjects new_attestations) = omega (arith, length-from new_subjects new_attestations h.long) in
-      record {
-        long = simp length-set h.long;
-        filters =
-            rw (set-from new_subjects new_attestations kept s a h.long)
-            (FiltersInPlace-more_set h.filters within passes (at_place new_subjects new_attestations i s a h.long at_s at_a));
-      }
-
-  pub kept_all : Keeping p subjects attestations new_subjects new_attestations kept i
-      → length attestations ≤ i → length subjects ≡ length attestations
-      → take kept (votes_from new_subjects new_attestations)
-      ≡ filter p (votes_from subjects attestations)
-  kept_all h end long =
-      let within : length (votes_from subjects attestations) ≤ i = omega (arith, length-from subjects attestations long) in
-      FiltersInPlace-all h.filters within
-
--- what `resize` leaves of a list that grows
-pub resized : {X : Type 0} (old new : List X) (n len more : ℕ) (x : X) (b : Bool) → new
-    ≡ cond b (take n old ++ replicate (n - len) x) old → b ≡ true → len ≡ length old → n
-    ≡ len + more → new ≡ old ++ replicate more x
-resized old new n len more x b is grown long e =
-    let rest : n - len ≡ more = omega arith in
-    let all : take n old ≡ old = take_all n old (omega arith) in
-    is ∙ rw (grown, rest, all)
-
 -- a whole slice that is written back
 pub written_back : {X : Type 0} (items new : List X) (n : ℕ) → length new ≡ length items → n
     ≡ length items → take n (new ++ drop (length new) items) ≡ new
@@ -206,3 +119,281 @@ module _ {G D : Type 0} (same : D → D → Bool) where
   one-from (s ∷ subjects) (a ∷ attestations) h =
       ap (λ x. list_all (λ v. same_subject same x (subject_of v)) (votes_from subjects attestations)) (subject_again s a)
       ∙ all-from s subjects attestations (omega arith)
+
+-- Runs, and the votes of them.
+length-spread_run : {D : Type 0} (s : Subject D) (n : ℕ) (runs : List (Run D))
+    → length (replicate n s ++ spread runs) ≡ n + length (spread runs)
+length-spread_run s n runs = length-append (replicate n s) (spread runs) ∙ ap (λ k. k + length (spread runs)) (length-replicate n s)
+
+pub spread-append : {D : Type 0} (runs : List (Run D)) (run : Run D) → spread (runs ++ run ∷ [])
+    ≡ spread runs ++ (run.subject ∷ replicate run.more run.subject)
+spread-append [] run = ap (λ xs. run.subject ∷ xs) (append-nil (replicate run.more run.subject))
+spread-append (r ∷ runs) run =
+    ap (λ xs. r.subject ∷ xs)
+    (ap (λ xs. replicate r.more r.subject ++ xs) (spread-append runs run)
+    ∙ sym (append_assoc (replicate r.more r.subject) (spread runs) (run.subject ∷ replicate run.more run.subject)))
+
+one_more : {X : Type 0} (n : ℕ) (x : X) → replicate (suc n) x ++ []
+    ≡ (replicate n x ++ []) ++ x ∷ []
+one_more zero x = refl
+one_more (suc n) x = ap (λ xs. x ∷ xs) (one_more n x)
+
+-- the last run has one vote more
+pub spread-grow : {D : Type 0} (runs : List (Run D)) (n : ℕ) (run : Run D) (subject : Subject D)
+    → length runs ≡ n + 1 → run ≡ get_or runs n run → run.subject ≡ subject
+    → spread (set runs n (record { subject = run.subject; more = run.more + 1 }))
+    ≡ spread runs ++ subject ∷ []
+spread-grow [] n run subject long here is = absurd (omega arith)
+spread-grow (r ∷ []) zero run subject long here is =
+    let grown = ap (λ k. replicate k run.subject ++ []) (add-one run.more) ∙ one_more run.more run.subject in
+    let whole : spread (set (run ∷ []) 0 (record { subject = run.subject; more = run.more + 1 })) ≡ spread (run ∷ []) ++ run.subject ∷ []
+    = ap (λ xs. run.subject ∷ xs) grown in
+    subst (λ t. spread (set (t ∷ []) 0 (record { subject = run.subject; more = run.more + 1 })) ≡ spread (t ∷ []) ++ subject ∷ []) here
+    (subst (λ u. spread (set (run ∷ []) 0 (record { subject = run.subject; more = run.more + 1 })) ≡ spread (run ∷ []) ++ u ∷ []) is whole)
+spread-grow (r ∷ (t ∷ runs)) zero run subject long here is = absurd (omega arith)
+spread-grow (r ∷ runs) (suc n) run subject long here is =
+    ap (λ xs. r.subject ∷ xs)
+    (ap (λ xs. replicate r.more r.subject ++ xs) (spread-grow runs n run subject (omega arith) here is)
+    ∙ sym (append_assoc (replicate r.more r.subject) (spread runs) (subject ∷ [])))
+
+module _ {D : Type 0} (same : D → D → Bool) where
+  all-replicate : (s t : Subject D) (n : ℕ) (others : List (Subject D)) → same_subject same s t
+      ≡ true → list_all (λ u. same_subject same s u) (replicate n t ++ others)
+      ≡ list_all (λ u. same_subject same s u) others
+  all-replicate s t zero others e = refl
+  all-replicate s t (suc n) others e = rw e (all-replicate s t n others e)
+
+  mutual_all : (s t : Subject D) (n : ℕ) (others : List (Subject D)) (b : Bool)
+      → same_subject same s t ≡ b
+      → (b && list_all (λ u. same_subject same s u) (replicate n t ++ others))
+      ≡ (b && list_all (λ u. same_subject same s u) others)
+  mutual_all s t n others true e = all-replicate s t n others e
+  mutual_all s t n others false e = refl
+
+  all-spread : (s : Subject D) (runs : List (Run D))
+      → list_all (λ u. same_subject same s u) (spread runs)
+      ≡ list_all (λ run. same_subject same s run.subject) runs
+  all-spread s [] = refl
+  all-spread s (r ∷ runs) =
+      mutual_all s r.subject r.more (spread runs) (same_subject same s r.subject) refl
+      ∙ ap (λ b. same_subject same s r.subject && b) (all-spread s runs)
+
+  -- all votes have one subject where all runs have
+  pub one-spread : ((s : Subject D) → same_subject same s s ≡ true) → (runs : List (Run D))
+      → one_subject_in same runs ≡ one_subject same (spread runs)
+  one-spread itself [] = refl
+  one-spread itself (first ∷ others) =
+      let s = first.subject in
+      sym (all-replicate s s first.more (spread others) (itself s) ∙ all-spread s others)
+
+-- a run joins as many attestations
+pub run_joins : {G D : Type 0} (subjects : List (Subject D))
+    (attestations more : List (Attestation G)) (s : Subject D) → length subjects
+    ≡ length attestations → length (subjects ++ replicate (length more) s)
+    ≡ length (attestations ++ more)
+run_joins subjects attestations more s long =
+    length-append subjects (replicate (length more) s) ∙ (ap (λ n. length subjects + n) (length-replicate (length more) s)
+    ∙ (ap (λ n. n + length more) long ∙ sym (length-append attestations more)))
+
+-- a run of as many as there are
+pub as_many : {X : Type 0} (x : X) (count : ℕ) → 1 ≤ count → x ∷ replicate (count - 1) x
+    ≡ replicate count x
+as_many x zero some = absurd (omega arith)
+as_many x (suc n) some = let same : suc n - 1 ≡ n = omega arith in ap (λ k. x ∷ replicate k x) same
+
+-- what stands in one place is one
+pub same_item : {X : Type 0} (xs : List X) (i : ℕ) (x y : X) → i < length xs → x ≡ get_or xs i x → y
+    ≡ get_or xs i y → x ≡ y
+same_item [] i x y below at_x at_y = absurd (omega arith)
+same_item (z ∷ xs) zero x y below at_x at_y = at_x ∙ sym at_y
+same_item (z ∷ xs) (suc i) x y below at_x at_y = same_item xs i x y (omega arith) at_x at_y
+
+-- whether a run's votes wait where the proposal is selected
+abbrev pub waits_run : {D : Type 0} → (D → D → Bool) → Proposal D → Run D → Bool
+waits_run same p run = may_wait same p run.subject
+
+module _ {G D : Type 0} (same : D → D → Bool) (p : Proposal D) where
+  filter-run : (s : Subject D) (xs : List (Attestation G)) (b : Bool) → may_wait same p s ≡ b
+      → filter (waits same (Some p)) (map (vote_for s) xs) ≡ cond b (map (vote_for s) xs) []
+  filter-run s [] true e = refl
+  filter-run s [] false e = refl
+  filter-run s (a ∷ xs) true e = rw (waits_again same p s a ∙ e) (ap (λ votes. vote_for s a ∷ votes) (filter-run s xs true e))
+  filter-run s (a ∷ xs) false e = rw (waits_again same p s a ∙ e) (filter-run s xs false e)
+
+  -- the votes of a run and those behind it
+  split_run : (run : Run D) (subjects : List (Subject D)) (xs ys : List (Attestation G))
+      → length xs ≡ suc run.more
+      → votes_from (run.subject ∷ (replicate run.more run.subject ++ subjects)) (xs ++ ys)
+      ≡ map (vote_for run.subject) xs ++ votes_from subjects ys
+  split_run run subjects xs ys long =
+      let n = suc run.more in
+      let s = run.subject in
+      append-from (replicate n s) subjects xs ys (length-replicate n s ∙ sym long)
+      ∙ ap (λ votes. votes ++ votes_from subjects ys)
+      (ap (λ k. votes_from (replicate k s) xs) (sym long) ∙ repeat-from s xs)
+
+  by_run : (run : Run D) (runs kept : List (Run D)) (xs ys left : List (Attestation G)) (b : Bool)
+      → may_wait same p run.subject ≡ b → length xs ≡ suc run.more
+      → votes_from (spread kept) left ≡ filter (waits same (Some p)) (votes_from (spread runs) ys)
+      → votes_from (spread (cond b (run ∷ kept) kept)) (cond b xs [] ++ left)
+      ≡ filter (waits same (Some p))
+      (votes_from (run.subject ∷ (replicate run.more run.subject ++ spread runs)) (xs ++ ys))
+  by_run run runs kept xs ys left true e long others =
+      rw (
+        split_run run (spread runs) xs ys long,
+        filter-append (waits same (Some p)) (map (vote_for run.subject) xs) (votes_from (spread runs) ys),
+        filter-run run.subject xs true e,
+        split_run run (spread kept) xs left long,
+        others,
+      ) refl
+  by_run run runs kept xs ys left false e long others =
+      rw (
+        split_run run (spread runs) xs ys long,
+        filter-append (waits same (Some p)) (map (vote_for run.subject) xs) (votes_from (spread runs) ys),
+        filter-run run.subject xs false e,
+      ) others
+
+  -- the runs that wait, with their attestations, are the votes that wait
+  pub fitting_votes : (runs : List (Run D)) (xs : List (Attestation G)) → length (spread runs)
+      ≡ length xs → votes_from (spread (filter (waits_run same p) runs)) (fitting same p runs xs)
+      ≡ filter (waits same (Some p)) (votes_from (spread runs) xs)
+  fitting_votes [] xs long = refl
+  fitting_votes (run ∷ runs) xs long =
+      let n = suc run.more in
+      let counts : n + length (spread runs) ≡ length xs = sym (length-spread_run run.subject n runs) ∙ long in
+      let front : length (take n xs) ≡ n = length-take-le n xs (omega (arith, counts)) in
+      let behind : length (spread runs) ≡ length (drop n xs) = omega (arith, counts, length-drop n xs) in
+      subst (λ ys. votes_from (spread (filter (waits_run same p) (run ∷ runs))) (fitting same p (run ∷ runs) xs)
+      ≡ filter (waits same (Some p)) (votes_from (spread (run ∷ runs)) ys))
+      (take-append-drop n xs)
+      (by_run run runs (filter (waits_run same p) runs) (take n xs) (drop n xs) (fitting same p runs (drop n xs)) (waits_run same p run) refl front
+      (fitting_votes runs (drop n xs) behind))
+
+  -- how many attestations of the runs that wait there are
+  pub length-fitting : (runs : List (Run D)) (xs : List (Attestation G)) → length (spread runs)
+      ≡ length xs → length (spread (filter (waits_run same p) runs))
+      ≡ length (fitting same p runs xs)
+  length-fitting [] xs long = refl
+  length-fitting (run ∷ runs) xs long =
+      let n = suc run.more in
+      let counts : n + length (spread runs) ≡ length xs = sym (length-spread_run run.subject n runs) ∙ long in
+      let front : length (take n xs) ≡ n = length-take-le n xs (omega (arith, counts)) in
+      let behind : length (spread runs) ≡ length (drop n xs) = omega (arith, counts, length-drop n xs) in
+      either (waits_run same p run) (length-fitting runs (drop n xs) behind) front where
+        either : (b : Bool)
+            → length (spread (filter (waits_run same p) runs))
+            ≡ length (fitting same p runs (drop (suc run.more) xs))
+            → length (take (suc run.more) xs) ≡ suc run.more
+            → length (spread (cond b (run ∷ filter (waits_run same p) runs)
+            (filter (waits_run same p) runs)))
+            ≡ length (cond b (take (suc run.more) xs) []
+            ++ fitting same p runs (drop (suc run.more) xs))
+        either true others front =
+            length-spread_run run.subject (suc run.more) (filter (waits_run same p) runs)
+            ∙ (ap (λ k. suc run.more + k) others
+            ∙ sym (length-append (take (suc run.more) xs) (fitting same p runs (drop (suc run.more) xs))
+            ∙ ap (λ k. k + length (fitting same p runs (drop (suc run.more) xs))) front))
+        either false others front = others
+
+  -- A loop has moved the attestations of the runs that wait, among the first ones, to the front.
+  pub record Moved (runs : List (Run D)) (old new : List (Attestation G)) (kept start i : ℕ) :
+      Type 0 where
+    pub all : take kept new ++ fitting same p (drop i runs) (drop start new)
+        ≡ fitting same p runs old
+    pub behind : kept ≤ start
+    pub rest : start + length (spread (drop i runs)) ≡ length new
+    pub long : length new ≡ length old
+
+  pub moved_start : (runs : List (Run D)) (xs : List (Attestation G)) → length (spread runs)
+      ≡ length xs → Moved runs xs xs 0 0 0
+  moved_start runs xs long =
+      let whole : 0 + length (spread runs) ≡ length xs = omega (arith, long) in
+      record { all = refl; behind = omega arith; rest = whole; long = refl }
+
+  module _ {runs : List (Run D)} {old new : List (Attestation G)} {kept start i : ℕ} (run : Run D)
+      (h : Moved runs old new kept start i) (within : i < length runs)
+      (here : run ≡ get_or runs i run) where
+    next : drop i runs ≡ run ∷ drop (i + 1) runs
+    next = drop_more runs i run within ∙ ap (λ r. r ∷ drop (i + 1) runs) (sym here)
+
+    pub fits_in : start + (run.more + 1) ≤ length new
+    fits_in =
+        let counts = ap (λ rs. length (spread rs)) next ∙ ap suc (length-spread_run run.subject run.more (drop (i + 1) runs)) in
+        omega (arith, h.rest, counts)
+
+    rest_next : (end : ℕ) → end ≡ start + (run.more + 1)
+        → end + length (spread (drop (i + 1) runs)) ≡ length new
+    rest_next end e =
+        let counts = ap (λ rs. length (spread rs)) next ∙ ap suc (length-spread_run run.subject run.more (drop (i + 1) runs)) in
+        omega (arith, h.rest, counts)
+
+    after_run : (end : ℕ) → end ≡ start + (run.more + 1) → drop (run.more + 1) (drop start new)
+        ≡ drop end new
+    after_run end e = drop-drop (run.more + 1) start new ∙ ap (λ k. drop k new) (sym e)
+
+    by_next : (b : Bool) → may_wait same p run.subject ≡ b → (end : ℕ) → end
+        ≡ start + (run.more + 1)
+        → fitting same p (drop i runs) (drop start new)
+        ≡ cond b (take (run.more + 1) (drop start new)) []
+        ++ fitting same p (drop (i + 1) runs) (drop end new)
+    by_next b is end e =
+        let n = add-one run.more in
+        ap (λ rs. fitting same p rs (drop start new)) next
+        ∙ (ap (λ k. cond (may_wait same p run.subject) (take k (drop start new)) [] ++ fitting same p (drop (i + 1) runs) (drop k (drop start new))) (sym n)
+        ∙ (ap (λ c. cond c (take (run.more + 1) (drop start new)) [] ++ fitting same p (drop (i + 1) runs) (drop (run.more + 1) (drop start new))) is
+        ∙ ap (λ ys. cond b (take (run.more + 1) (drop start new)) [] ++ fitting same p (drop (i + 1) runs) ys) (after_run end e)))
+
+    taken_run : (end : ℕ) → end ≡ start + (run.more + 1) → may_wait same p run.subject ≡ true
+        → fitting same p (drop i runs) (drop start new)
+        ≡ take (run.more + 1) (drop start new)
+        ++ fitting same p (drop (i + 1) runs) (drop end new)
+    taken_run end e passes = by_next true passes end e
+
+    pub moved_no : (end : ℕ) → end ≡ start + (run.more + 1) → may_wait same p run.subject ≡ false
+        → Moved runs old new kept end (i + 1)
+    moved_no end e fails =
+        record {
+          all = ap (λ ys. take kept new ++ ys) (sym (by_next false fails end e)) ∙ h.all;
+          behind = omega (arith, h.behind, e);
+          rest = rest_next end e;
+          long = h.long;
+        }
+
+    pub moved_yes : (end : ℕ) (moved : List (Attestation G)) → end ≡ start + (run.more + 1)
+        → moved ≡ paste new kept (drop start new) (end - start)
+        → may_wait same p run.subject ≡ true
+        → Moved runs old moved (kept + (run.more + 1)) end (i + 1)
+    moved_yes end moved e is passes =
+        let n = run.more + 1 in
+        let counted : end - start ≡ n = omega (arith, e) in
+        let room = fits_in in
+        let source : n ≤ length (drop start new) = omega (arith, room, length-drop start new) in
+        let front : kept ≤ length new = omega (arith, h.behind, room) in
+        let pasted : moved ≡ paste new kept (drop start new) n = is ∙ ap (λ k. paste new kept (drop start new) k) counted in
+        let taken : take (kept + n) moved ≡ take kept new ++ take n (drop start new) = ap (λ xs. take (kept + n) xs) pasted
+        ∙ take-paste new kept (drop start new) n front source in
+        let gap = start - kept in
+        let end_is : (kept + n) + gap ≡ end = omega (arith, h.behind, e) in
+        let behind_it : drop (kept + n) moved ≡ drop (kept + n) new = ap (λ xs. drop (kept + n) xs) pasted
+        ∙ drop-paste new kept (drop start new) n front source in
+        let left : drop end moved ≡ drop end new = ap (λ k. drop k moved) (sym end_is) ∙ (sym (drop-drop gap (kept + n) moved)
+        ∙ (ap (λ xs. drop gap xs) behind_it ∙ (drop-drop gap (kept + n) new ∙ ap (λ k. drop k new) end_is))) in
+        let size : length moved ≡ length new = ap length pasted ∙ length-paste new kept (drop start new) n (omega (arith, h.behind, room)) source in
+        record {
+          all =
+              ap (λ xs. xs ++ fitting same p (drop (i + 1) runs) (drop end moved)) taken
+              ∙ (append_assoc (take kept new) (take n (drop start new)) (fitting same p (drop (i + 1) runs) (drop end moved))
+              ∙ (ap (λ ys. take kept new ++ (take n (drop start new) ++ fitting same p (drop (i + 1) runs) ys)) left
+              ∙ (ap (λ ys. take kept new ++ ys) (sym (taken_run end e passes)) ∙ h.all)));
+          behind = omega (arith, h.behind, e);
+          rest = rest_next end e ∙ sym size;
+          long = size ∙ h.long;
+        }
+
+  -- all runs were looked at
+  pub moved_all : (runs : List (Run D)) (old new : List (Attestation G)) (kept start i : ℕ)
+      → Moved runs old new kept start i → length runs ≤ i → take kept new
+      ≡ fitting same p runs old
+  moved_all runs old new kept start i h end =
+      let none : drop i runs ≡ [] = drop_of_length-le runs end in
+      sym (append-nil (take kept new)) ∙ (ap (λ rs. take kept new ++ fitting same p rs (drop start new)) (sym none) ∙ h.all)

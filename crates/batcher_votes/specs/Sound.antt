@@ -101,6 +101,14 @@ pub record RestoresRoom (restored : Kind)
       ≤ of_kind new_pending kind
   pub verified : (kind : Kind) → of_kind old_verified kind ≤ of_kind new_verified kind
 
+-- the room stays, but that of the votes of a kind
+pub record KeepsOtherRoom (freed : Kind)
+    (old_pending old_verified new_pending new_verified : PerKind ℕ) : Type 0 where
+  pub pending : (kind : Kind) → is_kind freed kind ≡ false → of_kind old_pending kind
+      ≤ of_kind new_pending kind
+  pub verified : (kind : Kind) → is_kind freed kind ≡ false → of_kind old_verified kind
+      ≤ of_kind new_verified kind
+
 -- whether there is at least the room that there was, in each buffer
 pub record KeepsRoom (old_pending old_verified new_pending new_verified : PerKind ℕ) : Type 0 where
   pub pending : (kind : Kind) → of_kind old_pending kind ≤ of_kind new_pending kind

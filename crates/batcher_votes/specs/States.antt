@@ -37,3 +37,6 @@ module _ {G D : Type 0} where
 
   abbrev pub verified_room_of : State G D → PerKind ℕ
   verified_room_of state = per_kind (λ c. c.verified.room) state
+
+  abbrev pub verified_run_of : State G D → PerKind ℕ
+  verified_run_of state = per_kind (λ c. c.verified.room_for_run) state

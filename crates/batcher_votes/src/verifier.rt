@@ -14,7 +14,7 @@ ghost use Rattle.batcher_votes.specs.Selected.{proposal_of, updated, same_select
 ghost use Rattle.batcher_votes.specs.Held.{of_kind, SameVerifier};
 ghost use Rattle.batcher_types.specs.Attempts.{attempt_of};
 ghost use Rattle.batcher_votes.specs.Buffering.{attestations_of, nothing_buffered, is_buffered, is_dropped, leader_answer, is_ready, certificate_for, Buffers, TriesKind, AddsVote, SetsLeader, SetsProposal, CompletesKind};
-ghost use Rattle.batcher_votes.specs.Sound.{IsSound, KeepsAllRoom, RestoresRoom};
+ghost use Rattle.batcher_votes.specs.Sound.{IsSound, KeepsAllRoom, KeepsOtherRoom, RestoresRoom};
 ghost use Rattle.batcher_votes.specs.Verifiers.{is_of_round, subject_ready, IfGiven, BatchCertifies, NamesSomebody};
 
 mod attempt;
@@ -265,10 +265,12 @@ impl<S: Scheme<D>, D: Digest> Verifier<S, D> {
         }
     }
 
-    /// A certificate of the kind is there, so its votes go. It takes no memory.
+    /// A certificate of the kind is there, so its votes go, and their memory goes back. It takes no
+    /// memory.
     pub fn record_certificate(&mut self, kind: Kind)
         ensures completes { CompletesKind D.eq self.old.holds kind self.new.holds }
-        ensures room { KeepsAllRoom self.old self.new }
+        ensures room { KeepsOtherRoom kind self.old.pending_room self.old.verified_room
+            self.new.pending_room self.new.verified_room }
         ensures same { SameVerifier self.old self.new }
     {
         self.state.record_certificate(kind);
@@ -508,7 +510,7 @@ impl<S: Scheme<D>, D: Digest> Verifier<S, D> {
                 })
             }
             None => {
-                self.state.make_room(kind, true, joining.len())?;
+                self.state.make_room_to_absorb(kind, joining.len())?;
                 self.state.absorb(kind, subject, joining.as_slice());
                 Ok(Batch {
                     processed,

@@ -1,12 +1,12 @@
 -- Where no vote comes back, no room is needed.
-use Rattle.std.proofs.Common.{◌≡◌, ◌∙◌, [], ℕ, Bool, true, false, cond, Option, Some, None, Ok, refl, sym, ap, arith}
+use Rattle.std.proofs.Common.{◌≡◌, ◌∙◌, ◌||◌, [], List, ℕ, Bool, true, false, cond, subst, Option, Some, None, Ok, refl, sym, ap, arith}
 use Rattle.std.proofs.lemmas.Option.{none-some}
 use Rattle.batcher_types.specs.declared.messages.Proposal.{Proposal}
 use Rattle.batcher_types.specs.declared.messages.Vote.{Vote}
 use Rattle.batcher_types.specs.declared.messages.Vote.TheVariants.{Notarize as NotarizeVote, Nullify as NullifyVote, Finalize as FinalizeVote}
 use Rattle.batcher_types.specs.declared.messages.Certificate.{Certificate}
 use Rattle.batcher_types.specs.declared.messages.Kind.{Kind}
-use Rattle.batcher_types.specs.declared.messages.Kind.TheVariants.{Finalization}
+use Rattle.batcher_types.specs.declared.messages.Kind.TheVariants.{Notarization, Nullification, Finalization}
 use Rattle.batcher_votes.specs.declared.votes.Mode.{Mode}
 use Rattle.batcher_votes.specs.declared.votes.Mode.TheVariants.{Retaining, Releasing, Skipped}
 use Rattle.batcher_votes.specs.declared.votes.Outcome.{Outcome}
@@ -16,7 +16,10 @@ use Rattle.batcher_types.specs.Votes.{is_kind, has_proposals, kind_of, signer_of
 use Rattle.batcher_votes.specs.Selected.{replaces}
 use Rattle.batcher_votes.specs.Held.{PerKind, of_kind, Facts, Tracked, Tracker, Buffered, Held}
 use Rattle.batcher_votes.specs.Tracking.{Observed, unseen, in_full, as_facts, from_facts, from_kept, known_facts, kept_vote, observed, outcome_by, is_released_in}
-use Rattle.batcher_votes.specs.Sound.{HasRoomFor}
+use Rattle.std.proofs.Math.Nat.{le_trans}
+use Rattle.batcher_types.specs.Lists.{is_some_and}
+use Rattle.batcher_votes.specs.Buffering.{CompletesKind}
+use Rattle.batcher_votes.specs.Sound.{HasRoomFor, KeepsOtherRoom, WhereItReplaces}
 use Rattle.batcher_histories.specs.Steps.{IsRight, restored_by, restored_with, own_result_by, fixed_by, is_added}
 use Rattle.batcher_votes.proofs.Fixing.{fixed_stays}
 use Rattle.batcher_histories.proofs.Right.Own.{result_is}
@@ -95,3 +98,34 @@ module _ {D K G C : Type 0} (m : Meaning D K G C) (same : D → D → Bool) (tra
       let wrong = not_added_own (observed tracker.holds Finalization vote.attestation.signer.0) opposite selected (of_kind tracker.holds.compacted Finalization)
       outcome (FinalizeVote vote) (facts_compacted tracker.holds Finalization vote.attestation.signer.0) is not_added in
       absurd (cc)
+
+is_other : (a b : Kind) → is_kind a b ≡ is_kind b a
+is_other Notarization Notarization = refl
+is_other Notarization Nullification = refl
+is_other Notarization Finalization = refl
+is_other Nullification Notarization = refl
+is_other Nullification Nullification = refl
+is_other Nullification Finalization = refl
+is_other Finalization Notarization = refl
+is_other Finalization Nullification = refl
+is_other Finalization Finalization = refl
+
+not_either : (a b : Bool) → (a || b) ≡ false → (a ≡ false) × (b ≡ false)
+not_either true b h = absurd (cc)
+not_either false b h = (refl, h)
+
+-- The room that was made is there once a kind is completed, whose own room was given back.
+pub room_left : {G D : Type 0} (same : D → D → Bool) (old mid : Buffered G D) (completed : Kind)
+    (kept : PerKind (List (Vote G D))) (proposal : Option (Proposal D))
+    (room verified new_room new_verified : PerKind ℕ) → CompletesKind same old completed mid
+    → KeepsOtherRoom completed room verified new_room new_verified
+    → WhereItReplaces same old.selection proposal (λ fixed kind.
+    is_some_and (Some completed) (is_kind kind) ≡ false
+    → HasRoomFor same old.certified kept fixed room kind)
+    → WhereItReplaces same mid.selection proposal (λ fixed kind.
+    HasRoomFor same mid.certified kept fixed new_room kind)
+room_left same old mid completed kept proposal room verified new_room new_verified completes keeps made =
+    λ fixed is takes kind has uncertified.
+    let parts = not_either (is_kind completed kind) (of_kind old.certified kind) (sym (completes.certified kind) ∙ uncertified) in
+    let replaced = subst (λ s. replaces same s fixed ≡ true) completes.selection takes in
+    le_trans (made fixed is replaced kind has (is_other kind completed ∙ parts.0) parts.1) (keeps.pending kind parts.0)

@@ -1,10 +1,10 @@
 //! A buffer of votes that wait for a certificate.
 
-ghost use Rattle.std.specs.Prelude.{◌≡◌, ◌+◌, ◌≤◌, ◌==◌, ◌++◌, ◌∷◌, [], Some, length, filter, map, take, OnOk, vec_len, vec_capacity};
+ghost use Rattle.std.specs.Prelude.{◌≡◌, ◌+◌, ◌-◌, ◌≤◌, ◌<◌, ◌==◌, ◌++◌, ◌∷◌, [], Some, length, filter, map, replicate, take, OnOk, vec_len, vec_capacity};
 ghost use Rattle.std.specs.List.{list_all, list_any};
 ghost use Rattle.batcher_types.specs.Votes.{signer_of, subject_of, attestation_of, same_subject, waits};
 ghost use Rattle.batcher_votes.specs.Buffering.{attestations_of, first_proposal, have_one_subject, vote_for};
-ghost use Rattle.batcher_votes.specs.Waiting.{votes_from, may_wait, one_subject};
+ghost use Rattle.batcher_votes.specs.Waiting.{may_wait, one_subject_in, spread, fitting};
 
 use crate::votes::KeptVotes;
 use batcher_types::messages::{Attestation, Digest, Proposal, Subject, Vote};
@@ -12,28 +12,38 @@ use batcher_types::positions::Participant;
 use std::alloc::{AllocError, Global};
 use std::marker::Model;
 
-/// Votes in the order in which they came. Their subjects stand beside their attestations, so that
-/// the attestations are lent to a scheme as one slice and none is copied.
+/// Votes in a row with one subject: one, and so many more.
+#[derive(Clone, Copy)]
+pub(crate) struct Run<D> {
+    pub(crate) subject: Subject<D>,
+    pub(crate) more: usize,
+}
+
+/// Votes in the order in which they came. Their attestations stand by themselves, so that they are
+/// lent to a scheme as one slice and none is copied. Votes in a row have one subject as a rule, so
+/// it is kept once for each run of them.
 #[derive(Drop)]
 pub(crate) struct Buffer<G, D> {
-    subjects: Vec<Subject<D>>,
+    runs: Vec<Run<D>>,
     attestations: Vec<Attestation<G>>,
 }
 
 impl<G, D> Model for Buffer<G, D> {
-    ghost use Rattle.std.specs.Prelude.{◌≡◌, ◌-◌, length, min, vec_len, vec_capacity};
-    ghost use Rattle.batcher_votes.specs.Waiting.{Waiting, votes_from};
+    ghost use Rattle.std.specs.Prelude.{◌≡◌, ◌-◌, cond, length, min, nat_lt, vec_len, vec_capacity};
+    ghost use Rattle.batcher_votes.specs.Waiting.{Waiting, votes_from, spread};
 
     ghost Value = { Waiting G D };
 
     ghost view = { λ b. record {
-      votes = votes_from b.subjects.items b.attestations.items;
+      votes = votes_from (spread b.runs.items) b.attestations.items;
       room = min
-          (vec_capacity b.subjects - vec_len b.subjects)
+          (vec_capacity b.runs - vec_len b.runs)
           (vec_capacity b.attestations - vec_len b.attestations);
+      room_for_run = cond (nat_lt (vec_len b.runs) (vec_capacity b.runs))
+          (vec_capacity b.attestations - vec_len b.attestations) 0;
     } };
 
-    ghost invariant = { λ b. length b.subjects.items ≡ length b.attestations.items };
+    ghost invariant = { λ b. length (spread b.runs.items) ≡ length b.attestations.items };
 }
 
 impl<G: Copy, D: Digest> Buffer<G, D> {
@@ -42,7 +52,7 @@ impl<G: Copy, D: Digest> Buffer<G, D> {
         ensures { result.votes ≡ [] }
     {
         Buffer {
-            subjects: Vec::new(alloc),
+            runs: Vec::new(alloc),
             attestations: Vec::new(alloc),
         }
     }
@@ -71,14 +81,14 @@ impl<G: Copy, D: Digest> Buffer<G, D> {
     pub(crate) fn is_about_one(&self) -> bool
         ensures { result ≡ have_one_subject D.eq self.now.votes }
     {
-        about_one(self.subjects.as_slice())
+        about_one(self.runs.as_slice())
     }
 
     /// The proposal of the first vote.
     pub(crate) fn first_proposal(&self) -> Option<Proposal<D>>
         ensures { result ≡ first_proposal self.now.votes }
     {
-        match *self.subjects.first()? {
+        match self.runs.first()?.subject {
             Subject::Notarize { proposal } => Some(proposal),
             Subject::Nullify { round: _ } => None,
             Subject::Finalize { proposal } => Some(proposal),
@@ -92,30 +102,41 @@ impl<G: Copy, D: Digest> Buffer<G, D> {
         ensures kept { self.old.room ≤ self.new.room }
         ensures no_memory { additional ≤ self.old.room → result ≡ Ok tt }
     {
-        self.subjects.reserve(additional)?;
+        self.runs.reserve(additional)?;
+        self.attestations.reserve(additional)
+    }
+
+    /// Makes room for so many more votes of one subject, and changes nothing else.
+    pub(crate) fn make_room_for_run(&mut self, additional: usize) -> Result<(), AllocError>
+        ensures room { OnOk result (additional ≤ self.new.room_for_run) }
+        ensures votes { self.new.votes ≡ self.old.votes }
+        ensures kept { self.old.room ≤ self.new.room }
+    {
+        self.runs.reserve(1)?;
         self.attestations.reserve(additional)
     }
 
     /// Takes the vote to the end. With the room that it asks for it takes no memory.
-    pub(crate) fn push(&mut self, vote: Vote<G, D>)
+    pub(crate) fn push(&mut self, vote: &Vote<G, D>)
         requires { 1 ≤ self.old.room }
-        ensures votes { self.new.votes ≡ self.old.votes ++ vote ∷ [] }
+        ensures votes { self.new.votes ≡ self.old.votes ++ vote.now ∷ [] }
         ensures room { self.old.room ≤ self.new.room + 1 }
     {
         let (subject, attestation) = parts(vote);
-        let _ = self.subjects.push(subject);
+        push_subject(&mut self.runs, subject);
         let _ = self.attestations.push(attestation);
     }
 
     /// Takes votes with one subject to the end. With the room that it asks for it takes no memory.
     pub(crate) fn extend(&mut self, subject: Subject<D>, attestations: &[Attestation<G>])
-        requires { length attestations.now ≤ self.old.room }
-        ensures votes { self.new.votes ≡ self.old.votes ++ map (vote_for subject) attestations.now }
-        ensures room { self.old.room ≤ self.new.room + length attestations.now }
+        requires { length attestations.now ≤ self.old.room_for_run }
+        ensures { self.new.votes ≡ self.old.votes ++ map (vote_for subject) attestations.now }
     {
-        let _ = self
-            .subjects
-            .resize(self.subjects.len() + attestations.len(), subject);
+        let count = attestations.len();
+        if count == 0 {
+            return;
+        }
+        push_run(&mut self.runs, subject, count);
         let _ = self.attestations.extend_from_slice(attestations);
     }
 
@@ -128,7 +149,7 @@ impl<G: Copy, D: Digest> Buffer<G, D> {
     {
         while let Some(vote) = votes.next() {
             if vote.waits_with(proposal) {
-                self.push(vote);
+                self.push(&vote);
             }
         }
     }
@@ -139,12 +160,13 @@ impl<G: Copy, D: Digest> Buffer<G, D> {
         ensures room { self.old.room ≤ self.new.room }
     {
         let kept = keep(
-            self.subjects.as_mut_slice(),
+            self.runs.as_slice(),
             self.attestations.as_mut_slice(),
             proposal,
         );
-        self.subjects.truncate(kept);
         self.attestations.truncate(kept);
+        let runs = keep_runs(self.runs.as_mut_slice(), proposal);
+        self.runs.truncate(runs);
     }
 
     /// Drops all votes. The room stays.
@@ -152,15 +174,25 @@ impl<G: Copy, D: Digest> Buffer<G, D> {
         ensures votes { self.new.votes ≡ [] }
         ensures room { self.old.room ≤ self.new.room }
     {
-        self.subjects.clear();
+        self.runs.clear();
         self.attestations.clear();
+    }
+
+    /// Drops all votes, and gives their memory back.
+    pub(crate) fn free(&mut self)
+        ensures { self.new.votes ≡ [] }
+    {
+        self.runs.clear();
+        self.runs.shrink_to_fit();
+        self.attestations.clear();
+        self.attestations.shrink_to_fit();
     }
 }
 
 // What the signer of a vote signs, and its attestation.
-fn parts<G, D>(vote: Vote<G, D>) -> (Subject<D>, Attestation<G>)
-    ensures subject { result.0 ≡ subject_of vote }
-    ensures attestation { result.1 ≡ attestation_of vote }
+fn parts<G: Copy, D: Copy>(vote: &Vote<G, D>) -> (Subject<D>, Attestation<G>)
+    ensures subject { result.0 ≡ subject_of vote.now }
+    ensures attestation { result.1 ≡ attestation_of vote.now }
 {
     match vote {
         Vote::Notarize(vote) => (
@@ -200,22 +232,49 @@ fn are_same<D: Digest>(one: &Subject<D>, other: &Subject<D>) -> bool
     }
 }
 
-// Whether all subjects are the first one.
-fn about_one<D: Digest>(subjects: &[Subject<D>]) -> bool
-    ensures { result ≡ one_subject D.eq subjects.now }
+// Takes the subject to the end, to the last run where it has the same.
+fn push_subject<D: Digest>(runs: &mut Vec<Run<D>>, subject: Subject<D>)
+    requires { 1 ≤ vec_capacity runs.old - vec_len runs.old }
+    ensures subjects { spread runs.new.items ≡ spread runs.old.items ++ subject ∷ [] }
+    ensures room { vec_capacity runs.old - vec_len runs.old
+        ≤ vec_capacity runs.new - vec_len runs.new + 1 }
 {
-    match subjects.split_first() {
-        None => true,
-        Some((first, others)) => all_same(first, others),
+    let len = runs.len();
+    if len > 0 && runs[len - 1].more < usize::MAX && are_same(&runs[len - 1].subject, &subject) {
+        runs[len - 1].more += 1;
+    } else {
+        push_run(runs, subject, 1);
     }
 }
 
-// Whether all of the others are the subject.
-fn all_same<D: Digest>(subject: &Subject<D>, others: &[Subject<D>]) -> bool
-    ensures { result ≡ list_all (λ other. same_subject D.eq subject.now other) others.now }
+// Takes a run of so many to the end.
+fn push_run<D: Digest>(runs: &mut Vec<Run<D>>, subject: Subject<D>, count: usize)
+    requires room { 1 ≤ vec_capacity runs.old - vec_len runs.old }
+    requires some { 1 ≤ count }
+    ensures subjects { spread runs.new.items ≡ spread runs.old.items ++ replicate count subject }
+    ensures room { vec_capacity runs.old - vec_len runs.old
+        ≤ vec_capacity runs.new - vec_len runs.new + 1 }
 {
-    for other in others {
-        if !are_same(subject, other) {
+    let more = count - 1;
+    let _ = runs.push(Run { subject, more });
+}
+
+// Whether all runs have the first one's subject.
+fn about_one<D: Digest>(runs: &[Run<D>]) -> bool
+    ensures { result ≡ one_subject_in D.eq runs.now }
+{
+    match runs.split_first() {
+        None => true,
+        Some((first, others)) => all_same(&first.subject, others),
+    }
+}
+
+// Whether all runs have the subject.
+fn all_same<D: Digest>(subject: &Subject<D>, runs: &[Run<D>]) -> bool
+    ensures { result ≡ list_all (λ run. same_subject D.eq subject.now run.subject) runs.now }
+{
+    for run in runs {
+        if !are_same(subject, &run.subject) {
             return false;
         }
     }
@@ -233,24 +292,42 @@ fn fits<D: Digest>(subject: Subject<D>, proposal: &Proposal<D>) -> bool
     }
 }
 
-// Moves the votes that wait with the proposal to the front, and answers how many they are.
+// Moves the attestations of the runs that wait with the proposal to the front, each run at once,
+// and answers how many they are.
 fn keep<G: Copy, D: Digest>(
-    subjects: &mut [Subject<D>],
+    runs: &[Run<D>],
     attestations: &mut [Attestation<G>],
     proposal: &Proposal<D>,
 ) -> usize
-    requires { length subjects.old ≡ length attestations.old }
-    ensures within { result ≤ length subjects.old }
-    ensures votes { take result (votes_from subjects.new attestations.new)
-        ≡ filter (waits D.eq (Some proposal.now)) (votes_from subjects.old attestations.old) }
+    requires { length (spread runs.now) ≡ length attestations.old }
+    ensures within { result ≤ length attestations.old }
+    ensures votes { take result attestations.new ≡ fitting D.eq proposal.now runs.now
+        attestations.old }
 {
     let mut kept = 0;
-    for i in 0..subjects.len() {
-        let subject = subjects[i];
-        let attestation = attestations[i];
-        if fits(subject, proposal) {
-            subjects[kept] = subject;
-            attestations[kept] = attestation;
+    let mut start = 0;
+    for run in runs {
+        let end = start + run.more + 1;
+        if fits(run.subject, proposal) {
+            attestations.copy_within(start..end, kept);
+            kept += run.more + 1;
+        }
+        start = end;
+    }
+    kept
+}
+
+// Moves the runs that wait with the proposal to the front, and answers how many they are.
+fn keep_runs<D: Digest>(runs: &mut [Run<D>], proposal: &Proposal<D>) -> usize
+    ensures within { result ≤ length runs.old }
+    ensures runs { take result runs.new
+        ≡ filter (λ run. may_wait D.eq proposal.now run.subject) runs.old }
+{
+    let mut kept = 0;
+    for i in 0..runs.len() {
+        let run = runs[i];
+        if fits(run.subject, proposal) {
+            runs[kept] = run;
             kept += 1;
         }
     }

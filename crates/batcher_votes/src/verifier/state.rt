@@ -8,9 +8,9 @@ ghost use Rattle.batcher_types.specs.Votes.{kind_of, has_proposals, is_of_kind, 
 ghost use Rattle.batcher_votes.specs.Selected.{proposal_of, updated, selects, same_selected};
 ghost use Rattle.batcher_votes.specs.Held.{of_kind};
 ghost use Rattle.batcher_votes.specs.Buffering.{nothing_buffered, have_one_subject, subject_from, vote_for, is_dropped, leaders_vote, leader_answer, AddsVote, SetsLeader, SetsProposal, CompletesKind};
-ghost use Rattle.batcher_votes.specs.Sound.{Absorbs, IsTidy, KeepsRoom, Places, Restores, RestoresRoom, Retains};
+ghost use Rattle.batcher_votes.specs.Sound.{Absorbs, IsTidy, KeepsOtherRoom, KeepsRoom, Places, Restores, RestoresRoom, Retains};
 ghost use Rattle.batcher_votes.specs.Verifiers.{subject_ready};
-ghost use Rattle.batcher_votes.specs.States.{held_by, certification_of, pending_room_of, verified_room_of};
+ghost use Rattle.batcher_votes.specs.States.{held_by, certification_of, pending_room_of, verified_room_of, verified_run_of};
 
 use crate::verifier::buffer::Buffer;
 use crate::verifier::{LeaderFault, ProposalState};
@@ -81,14 +81,26 @@ impl<G: Copy, D: Digest> Certification<G, D> {
         }
     }
 
+    // Makes room for votes of one subject among the verified ones.
+    fn make_room_for_run(&mut self, additional: usize) -> Result<(), AllocError>
+        ensures votes { (self.new.complete ≡ self.old.complete)
+            × (self.new.pending.votes ≡ self.old.pending.votes)
+            × (self.new.verified.votes ≡ self.old.verified.votes) }
+        ensures kept { (self.old.pending.room ≤ self.new.pending.room)
+            × (self.old.verified.room ≤ self.new.verified.room) }
+        ensures room { OnOk result (additional ≤ self.new.verified.room_for_run) }
+    {
+        self.verified.make_room_for_run(additional)
+    }
+
     // Takes the vote to the end of one of the buffers, in which there is room.
-    fn place(&mut self, vote: Vote<G, D>, verified: bool)
+    fn place(&mut self, vote: &Vote<G, D>, verified: bool)
         requires { 1 ≤ cond verified self.old.verified.room self.old.pending.room }
         ensures complete { self.new.complete ≡ self.old.complete }
         ensures pending { self.new.pending.votes ≡ self.old.pending.votes
-            ++ cond (not verified) (vote ∷ []) [] }
+            ++ cond (not verified) (vote.now ∷ []) [] }
         ensures verified { self.new.verified.votes ≡ self.old.verified.votes
-            ++ cond verified (vote ∷ []) [] }
+            ++ cond verified (vote.now ∷ []) [] }
         ensures room { (self.old.pending.room ≤ self.new.pending.room + cond (not verified) 1 0)
             × (self.old.verified.room ≤ self.new.verified.room + cond verified 1 0) }
     {
@@ -125,22 +137,20 @@ impl<G: Copy, D: Digest> Certification<G, D> {
         self.pending.restore(votes, proposal);
     }
 
-    // A certificate is there.
+    // A certificate is there, so the memory of the votes goes back.
     fn finish(&mut self)
         ensures complete { self.new.complete ≡ true }
         ensures pending { self.new.pending.votes ≡ [] }
         ensures verified { self.new.verified.votes ≡ [] }
-        ensures room { (self.old.pending.room ≤ self.new.pending.room)
-            × (self.old.verified.room ≤ self.new.verified.room) }
     {
         self.complete = true;
-        self.pending.clear();
-        self.verified.clear();
+        self.pending.free();
+        self.verified.free();
     }
 
     // Verified votes join the others, and none is pending any more.
     fn absorb(&mut self, subject: Subject<D>, joining: &[Attestation<G>])
-        requires { length joining.now ≤ self.old.verified.room }
+        requires { length joining.now ≤ self.old.verified.room_for_run }
         ensures complete { self.new.complete ≡ self.old.complete }
         ensures pending { self.new.pending.votes ≡ [] }
         ensures verified { self.new.verified.votes ≡ self.old.verified.votes
@@ -226,6 +236,24 @@ impl<G: Copy, D: Digest> State<G, D> {
         }
     }
 
+    /// Makes room to absorb so many votes of a kind, and changes nothing else.
+    pub(crate) fn make_room_to_absorb(
+        &mut self,
+        kind: Kind,
+        additional: usize,
+    ) -> Result<(), AllocError>
+        ensures held { held_by self.new ≡ held_by self.old }
+        ensures kept { KeepsRoom (pending_room_of self.old) (verified_room_of self.old)
+            (pending_room_of self.new) (verified_room_of self.new) }
+        ensures room { OnOk result (additional ≤ of_kind (verified_run_of self.new) kind) }
+    {
+        match kind {
+            Kind::Notarization => self.notarizes.make_room_for_run(additional),
+            Kind::Nullification => self.nullifies.make_room_for_run(additional),
+            Kind::Finalization => self.finalizes.make_room_for_run(additional),
+        }
+    }
+
     // Takes the vote to the end of one of the buffers of its kind, in which there is room.
     fn place(&mut self, vote: Vote<G, D>, verified: bool)
         requires { 1 ≤ cond verified (of_kind (verified_room_of self.old) (kind_of vote))
@@ -239,9 +267,9 @@ impl<G: Copy, D: Digest> State<G, D> {
             0 }
     {
         match vote {
-            Vote::Notarize(_) => self.notarizes.place(vote, verified),
-            Vote::Nullify(_) => self.nullifies.place(vote, verified),
-            Vote::Finalize(_) => self.finalizes.place(vote, verified),
+            Vote::Notarize(_) => self.notarizes.place(&vote, verified),
+            Vote::Nullify(_) => self.nullifies.place(&vote, verified),
+            Vote::Finalize(_) => self.finalizes.place(&vote, verified),
         }
     }
 
@@ -277,10 +305,10 @@ impl<G: Copy, D: Digest> State<G, D> {
         }
     }
 
-    /// A certificate of the kind is there, so its votes go.
+    /// A certificate of the kind is there, so its votes and their memory go.
     pub(crate) fn record_certificate(&mut self, kind: Kind)
         ensures completes { CompletesKind D.eq (held_by self.old) kind (held_by self.new) }
-        ensures room { KeepsRoom (pending_room_of self.old) (verified_room_of self.old)
+        ensures room { KeepsOtherRoom kind (pending_room_of self.old) (verified_room_of self.old)
             (pending_room_of self.new) (verified_room_of self.new) }
     {
         match kind {
@@ -316,7 +344,7 @@ impl<G: Copy, D: Digest> State<G, D> {
 
     /// What came of an attempt that gave no certificate.
     pub(crate) fn absorb(&mut self, kind: Kind, subject: Subject<D>, joining: &[Attestation<G>])
-        requires { length joining.now ≤ of_kind (verified_room_of self.old) kind }
+        requires { length joining.now ≤ of_kind (verified_run_of self.old) kind }
         ensures { Absorbs (held_by self.old) kind subject joining.now (held_by self.new) }
     {
         match kind {

@@ -10,7 +10,7 @@ use Rattle.batcher_votes.specs.Held.{Held}
 use Rattle.batcher_histories.proofs.History.Laws.{HasLaws}
 use Rattle.batcher_histories.proofs.Follow.Recorded.{certificate_follows}
 use Rattle.batcher_histories.proofs.Right.Own.{right_certified}
-use Rattle.batcher_histories.proofs.Right.Room.{no_room_with}
+use Rattle.batcher_histories.proofs.Right.Room.{no_room_with, room_left}
 use Rattle.batcher_histories.proofs.Memory.Needed.{certificate_needed}
 use Rattle.batcher_round.proofs.round.Round.record_certificate.Goals as goal
 use Rattle.batcher_votes.proofs.Fixing.{finalization_for}
@@ -31,6 +31,17 @@ invariant_of-self-2 g c =
     c.release.ensures.releases c.release.ensures.others
     (λ h. ap is_some c.proposal-proposal.ensures
     ∙ finalization_for c.args.certificate.now (ap (λ k. is_kind k Finalization) (sym c.kind-kind.ensures) ∙ h)))
+
+pub may_fix-changed-requires-clause-room : goal.may_fix-changed-requires-clause-room
+may_fix-changed-requires-clause-room g c =
+    let b = c.self.inside in
+    let same = g.D.PartialEq.eq in
+    let kind = c.kind-kind.result in
+    let made = c.in_ok-make_room_to_fix.ensures in
+    let completes : CompletesKind same b.verifier.holds kind c.record_certificate.new.self.holds = subst
+    (λ h. CompletesKind same h kind c.record_certificate.new.self.holds) made.holds c.record_certificate.ensures.completes in
+    room_left same b.verifier.holds c.record_certificate.new.self.holds kind b.votes.holds.kept c.proposal_certified-proposal.result _ _ _ _ completes
+    c.record_certificate.ensures.room made.room
 
 pub returns-clause-step : goal.returns-clause-step
 returns-clause-step g c =

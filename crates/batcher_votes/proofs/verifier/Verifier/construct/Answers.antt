@@ -32,7 +32,7 @@ returns-clause-tries g c =
     let ready : subject_ready same m.batchable v.quorum held v.round kind ≡ Some subject = rw (← c.self.view_is) at c.requires in
     let attempted = rw (← c.self.view_is) at c.in_ok-batch.ensures in
     let about = verified_about same g.met.D.Digest.identical v.round subject m.batchable v.quorum held kind ready (c.self.invariant.kinds kind).verified in
-    let absorbs = rw (c.in_ok-make_room-in-None.ensures.held, c.as_slice.ensures.value) at c.absorb.ensures in
+    let absorbs = rw (c.in_ok-make_room_to_absorb-in-None.ensures.held, c.as_slice.ensures.value) at c.absorb.ensures in
     rw (← c.self.view_is)
     (tries_without_one m same v.round v.quorum held (held_by c.absorb.new.self) kind subject ready _ _ b.processed b.invalid b.certificate b.fallback
     c.in_ok-batch.field-0.joining.items attempted c.in-None.is about absorbs)
@@ -69,7 +69,7 @@ invariant_of-self-in-None g c =
     let attempted = rw (← c.self.view_is) at c.in_ok-batch.ensures in
     let about = verified_about same g.met.D.Digest.identical v.round subject m.batchable v.quorum held kind ready (c.self.invariant.kinds kind).verified in
     let fine = fine_attempt m (g.met.S.Scheme.lawful v.scheme.value) same v.round v.quorum held kind subject c.self.invariant about _ _ _ attempted in
-    let absorbs = rw (c.in_ok-make_room-in-None.ensures.held, c.as_slice.ensures.value) at c.absorb.ensures in
+    let absorbs = rw (c.in_ok-make_room_to_absorb-in-None.ensures.held, c.as_slice.ensures.value) at c.absorb.ensures in
     sound_tries m same g.met.D.Eq.laws.refl v.round v.quorum held (held_by c.absorb.new.self) kind _ _ _ c.self.invariant
     (tries_without_one m same v.round v.quorum held (held_by c.absorb.new.self) kind subject ready _ _ b.processed b.invalid b.certificate b.fallback
     c.in_ok-batch.field-0.joining.items attempted c.in-None.is about absorbs)

@@ -3,5 +3,5 @@ use Rattle.std.specs.List.{list_all}
 use Rattle.batcher_types.specs.Votes.{same_subject}
 use Rattle.batcher_votes.proofs.verifier.buffer.all_same.Given as goal
 
-abbrev pub invariant-loop-other : goal.invariant-loop-other
-invariant-loop-other g l = list_all (λ other. same_subject g.D.PartialEq.eq l.subject other) (take l.other-index l.others) ≡ true
+abbrev pub invariant-loop-run : goal.invariant-loop-run
+invariant-loop-run g l = list_all (λ run. same_subject g.D.PartialEq.eq l.subject run.subject) (take l.run-index l.runs) ≡ true

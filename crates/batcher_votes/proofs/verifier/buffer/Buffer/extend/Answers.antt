@@ -1,24 +1,28 @@
-use Rattle.std.proofs.Common.{◌≡◌, ◌++◌, true, length, replicate, vec_len, rules, arith}
-use Rattle.std.specs.Result.{is_ok}
-use Rattle.batcher_votes.proofs.Pairing.{append-from, repeat-from, resized}
+use Rattle.std.proofs.Common.{◌≡◌, ◌++◌, length, replicate, rules}
+use Rattle.batcher_votes.specs.Waiting.{spread}
+use Rattle.batcher_votes.proofs.Pairing.{append-from, repeat-from, run_joins}
 use Rattle.batcher_votes.proofs.verifier.buffer.Buffer.extend.Goals as goal
 
-pub returns-clause-votes : goal.returns-clause-votes
-returns-clause-votes g c =
-    let subjects = c.self.inside.subjects.items in
+pub invariant_of-self : goal.invariant_of-self
+invariant_of-self g c =
     let attestations = c.self.inside.attestations.items in
     let more = c.args.attestations.now in
-    let done : is_ok c.resize.result ≡ true = search rules in
-    let left : c.resize.new.self.items ≡ subjects ++ replicate (length more) c.args.subject
-    =
-    resized subjects c.resize.new.self.items _ (vec_len c.self.inside.subjects) (length more) c.args.subject (is_ok c.resize.result) c.resize.ensures.items
-    done c.self.inside.subjects.ok.0 (omega arith) in
+    let left = c.push_run.ensures.subjects in
+    let right : c.extend_from_slice.new.self.items ≡ attestations ++ more = search rules in
+    rw (left, right) (run_joins (spread c.self.inside.runs.items) attestations more c.args.subject c.self.invariant)
+
+pub returns : goal.returns
+returns g c =
+    let runs = c.self.inside.runs.items in
+    let attestations = c.self.inside.attestations.items in
+    let more = c.args.attestations.now in
+    let left = c.push_run.ensures.subjects in
     let right : c.extend_from_slice.new.self.items ≡ attestations ++ more = search rules in
     rw (
       ← c.self.view_is,
       left,
       right,
-      append-from subjects (replicate (length more) c.args.subject) attestations more c.self.invariant,
+      append-from (spread runs) (replicate (length more) c.args.subject) attestations more c.self.invariant,
       repeat-from
           c.args.subject more,
     )

@@ -1,10 +1,14 @@
 use Rattle.std.proofs.Common.{sym, ap, ◌∙◌}
-use Rattle.batcher_votes.specs.Waiting.{one_subject}
-use Rattle.batcher_votes.proofs.Pairing.{one-from}
+use Rattle.batcher_votes.specs.Waiting.{one_subject_in, spread}
+use Rattle.batcher_votes.proofs.Constructing.{same_subjects}
+use Rattle.batcher_votes.proofs.Pairing.{one-from, one-spread}
 use Rattle.batcher_votes.proofs.verifier.buffer.Buffer.is_about_one.Goals as goal
 
 pub returns : goal.returns
 returns g c =
+    let same = g.D.PartialEq.eq in
+    let runs = c.self.inside.runs.items in
     rw (← c.self.view_is)
-    (c.about_one.ensures ∙ (ap (one_subject g.D.PartialEq.eq) c.as_slice.ensures.value
-    ∙ sym (one-from g.D.PartialEq.eq c.self.inside.subjects.items c.self.inside.attestations.items c.self.invariant)))
+    (c.about_one.ensures ∙ (ap (one_subject_in same) c.as_slice.ensures.value
+    ∙ (one-spread same (same_subjects same g.met.D.Eq.laws.refl) runs
+    ∙ sym (one-from same (spread runs) c.self.inside.attestations.items c.self.invariant))))
