@@ -1,6 +1,6 @@
 //! Calls of a round as values, and whole lists of them.
 
-ghost use Rattle.std.specs.Prelude.{◌≡◌, All, IfOk, OnErr};
+ghost use Rattle.std.specs.Prelude.{◌≡◌, ◌≤◌, All, IfOk, OnErr, [], true, vec_capacity};
 ghost use Rattle.std.specs.List.{list_any};
 ghost use Rattle.std.specs.List.Sorted.{IsStrictlySortedBy};
 ghost use Rattle.batcher_votes.specs.Held.{SameRound};
@@ -9,12 +9,15 @@ ghost use Rattle.batcher_histories.specs.Steps.{nothing_held};
 ghost use Rattle.batcher_histories.specs.Answers.{IsAnswered};
 ghost use Rattle.batcher_histories.specs.Stands.{Meets};
 ghost use Rattle.batcher_promises.specs.Ran.{IsRun};
-ghost use Rattle.batcher_histories.specs.Runs.{MayCall, Steps, blocked_sender, blocked_senders};
+ghost use Rattle.batcher_histories.specs.Runs.{MayCall, Steps, StepsNetwork, StepsOwn, StepsCertificate, StepsConstruct, StepsMissing, blocked_sender, blocked_senders};
+ghost use Rattle.batcher_histories.specs.declared.calls.Call.TheVariants.{Network as NetworkCall, Own as OwnCall, Certificate as CertificateCall, Construct as ConstructCall, Missing as MissingCall};
+ghost use Rattle.batcher_types.specs.Votes.{round_in, subject_of, attestation_of, subject_certified};
+ghost use Rattle.rand_core.specs.Stream.{Stream};
 
 mod pair;
 mod theorems;
 
-use crate::messages::Digest;
+use crate::messages::{Certificate, Digest, Proposal, Vote};
 use crate::round::{Judge, OwnFault, Round};
 use crate::scheme::Scheme;
 pub use batcher_histories::answers::Answer;
@@ -57,6 +60,22 @@ pub fn run<S: Scheme<D>, D: Digest, R: CryptoRng>(
     Ok(Ran { round, answers })
 }
 
+// The round before its calls, with room for as many answers.
+fn with_room<S: Scheme<D>, D: Digest>(
+    alloc: Global,
+    round: Round<S, D>,
+    calls: usize,
+) -> Result<Ran<S, D>, AllocError>
+    ensures round { IfOk result (λ ran. ran.round ≡ round) }
+    ensures answers { IfOk result (λ ran. ran.answers.items ≡ []) }
+    ensures room { IfOk result (λ ran. calls ≤ vec_capacity ran.answers) }
+{
+    Ok(Ran {
+        round,
+        answers: Vec::with_capacity(alloc, calls)?,
+    })
+}
+
 // Makes one call.
 fn step<S: Scheme<D>, D: Digest, R: CryptoRng>(
     round: &mut Round<S, D>,
@@ -72,29 +91,112 @@ fn step<S: Scheme<D>, D: Digest, R: CryptoRng>(
     ensures same { SameRound round.old round.new }
 {
     match call {
-        Call::Network(sender, vote) => match round.add_network(*sender, *vote) {
-            Ok(admission) => Answer::Network(admission),
-            Err(_) => Answer::OutOfMemory,
-        },
-        Call::Own(vote) => match round.accept_vote(*vote) {
-            Ok((outcome, report)) => Answer::Own(outcome, report),
-            Err(OwnFault::OutOfMemory) => Answer::OutOfMemory,
-            Err(fault) => Answer::OwnRefused(fault),
-        },
-        Call::Certificate(certificate) => match round.record_certificate(certificate) {
-            Ok(changed) => Answer::Certificate(changed),
-            Err(_) => Answer::OutOfMemory,
-        },
+        Call::Network(sender, vote) => answer_network(round, *sender, *vote),
+        Call::Own(vote) => answer_own(round, *vote),
+        Call::Certificate(certificate) => answer_certificate(round, certificate),
         Call::Leader(leader) => Answer::Leader(round.set_leader(*leader)),
-        Call::Construct => match round.try_construct(rng) {
-            Ok(batch) => Answer::Construct(batch),
-            Err(_) => Answer::OutOfMemory,
-        },
+        Call::Construct => answer_construct(round, rng),
         Call::Forward(me) => Answer::Forward(round.try_forward_proposal(*me)),
-        Call::Missing(proposal) => match round.missing_voters(proposal) {
-            Ok(missing) => Answer::Missing(missing),
-            Err(_) => Answer::OutOfMemory,
-        },
+        Call::Missing(proposal) => answer_missing(round, proposal),
+    }
+}
+
+// Each kind of call that may be refused has a function of its own, with the clauses of `step` for
+// that kind: what is known of one call is then out of the way where another is proved.
+
+// Takes in a vote that the network brought.
+fn answer_network<S: Scheme<D>, D: Digest>(
+    round: &mut Round<S, D>,
+    sender: S::PublicKey,
+    vote: Vote<S::Signature, D>,
+) -> Answer<S::Signature, S::Certificate, D>
+    requires { round_in (subject_of vote) ≡ round.old.number }
+    ensures steps { (stream : Stream) → StepsNetwork (⟦<S as Judge<D>>⟧.of round.old)
+        round.old.holds stream sender vote result round.new.holds stream }
+    ensures meets { WhereverItStands ⟦<S as Judge<D>>⟧.of round.old
+        (λ x past. (Meets x past round.old.holds (NetworkCall sender vote, result) round.new.holds)
+        × (IsAnswered x past (NetworkCall sender vote) result)) }
+    ensures same { SameRound round.old round.new }
+{
+    match round.add_network(sender, vote) {
+        Ok(admission) => Answer::Network(admission),
+        Err(_) => Answer::OutOfMemory,
+    }
+}
+
+// Takes in a vote of the node's own.
+fn answer_own<S: Scheme<D>, D: Digest>(
+    round: &mut Round<S, D>,
+    vote: Vote<S::Signature, D>,
+) -> Answer<S::Signature, S::Certificate, D>
+    requires belongs { round_in (subject_of vote) ≡ round.old.number }
+    requires attests { (S.meaning round.old.scheme).attests (subject_of vote) (attestation_of vote)
+        ≡ true }
+    ensures steps { (stream : Stream) → StepsOwn (⟦<S as Judge<D>>⟧.of round.old)
+        round.old.holds stream vote result round.new.holds stream }
+    ensures meets { WhereverItStands ⟦<S as Judge<D>>⟧.of round.old
+        (λ x past. (Meets x past round.old.holds (OwnCall vote, result) round.new.holds)
+        × (IsAnswered x past (OwnCall vote) result)) }
+    ensures same { SameRound round.old round.new }
+{
+    match round.accept_vote(vote) {
+        Ok((outcome, report)) => Answer::Own(outcome, report),
+        Err(OwnFault::OutOfMemory) => Answer::OutOfMemory,
+        Err(fault) => Answer::OwnRefused(fault),
+    }
+}
+
+// Records a certificate.
+fn answer_certificate<S: Scheme<D>, D: Digest>(
+    round: &mut Round<S, D>,
+    certificate: &Certificate<S::Certificate, D>,
+) -> Answer<S::Signature, S::Certificate, D>
+    requires { round_in (subject_certified certificate.now) ≡ round.old.number }
+    ensures steps { (stream : Stream) → StepsCertificate (⟦<S as Judge<D>>⟧.of round.old)
+        round.old.holds stream certificate.now result round.new.holds stream }
+    ensures meets { WhereverItStands ⟦<S as Judge<D>>⟧.of round.old
+        (λ x past. (Meets x past round.old.holds (CertificateCall certificate.now, result)
+        round.new.holds) × (IsAnswered x past (CertificateCall certificate.now) result)) }
+    ensures same { SameRound round.old round.new }
+{
+    match round.record_certificate(certificate) {
+        Ok(changed) => Answer::Certificate(changed),
+        Err(_) => Answer::OutOfMemory,
+    }
+}
+
+// Tries to make a certificate.
+fn answer_construct<S: Scheme<D>, D: Digest, R: CryptoRng>(
+    round: &mut Round<S, D>,
+    rng: &mut R,
+) -> Answer<S::Signature, S::Certificate, D>
+    ensures steps { StepsConstruct (⟦<S as Judge<D>>⟧.of round.old) round.old.holds
+        (R.stream rng.old) result round.new.holds (R.stream rng.new) }
+    ensures meets { WhereverItStands ⟦<S as Judge<D>>⟧.of round.old
+        (λ x past. (Meets x past round.old.holds (ConstructCall, result) round.new.holds)
+        × (IsAnswered x past ConstructCall result)) }
+    ensures same { SameRound round.old round.new }
+{
+    match round.try_construct(rng) {
+        Ok(batch) => Answer::Construct(batch),
+        Err(_) => Answer::OutOfMemory,
+    }
+}
+
+// Lists the participants without a proposal's block.
+fn answer_missing<S: Scheme<D>, D: Digest>(
+    round: &Round<S, D>,
+    proposal: &Proposal<D>,
+) -> Answer<S::Signature, S::Certificate, D>
+    ensures steps { (stream : Stream) → StepsMissing (⟦<S as Judge<D>>⟧.of round.now)
+        round.now.holds stream proposal.now result round.now.holds stream }
+    ensures meets { WhereverItStands ⟦<S as Judge<D>>⟧.of round.now
+        (λ x past. (Meets x past round.now.holds (MissingCall proposal.now, result) round.now.holds)
+        × (IsAnswered x past (MissingCall proposal.now) result)) }
+{
+    match round.missing_voters(proposal) {
+        Ok(missing) => Answer::Missing(missing),
+        Err(_) => Answer::OutOfMemory,
     }
 }
 

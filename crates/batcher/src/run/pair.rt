@@ -7,7 +7,7 @@ ghost use Rattle.batcher_histories.specs.Steps.{nothing_held};
 ghost use Rattle.batcher_histories.specs.Runs.{MayCall};
 ghost use Rattle.batcher_promises.specs.Pairs.{IsPairRun, ends_pair};
 
-use super::{Answer, Call, Ran, step};
+use super::{Answer, Call, Ran, step, with_room};
 use crate::messages::Digest;
 use crate::round::Round;
 use crate::scheme::Scheme;
@@ -34,8 +34,8 @@ pub struct PairRan<S: Scheme<D>, D: Digest> {
 /// are then dropped.
 pub fn run_pair<S: Scheme<D>, D: Digest, R: CryptoRng>(
     alloc: Global,
-    mut retaining: Round<S, D>,
-    mut releasing: Round<S, D>,
+    retaining: Round<S, D>,
+    releasing: Round<S, D>,
     rng_a: &mut R,
     rng_b: &mut R,
     calls: &[Call<S::PublicKey, S::Signature, S::Certificate, D>],
@@ -57,25 +57,17 @@ pub fn run_pair<S: Scheme<D>, D: Digest, R: CryptoRng>(
         (pair.retaining.round ≡ record retaining { holds = pair.retaining.round.holds })
         × (pair.releasing.round ≡ record releasing { holds = pair.releasing.round.holds })) }
 {
-    let mut retained = Vec::with_capacity(alloc, calls.len())?;
-    let mut released = Vec::with_capacity(alloc, calls.len())?;
+    let mut retaining = with_room(alloc, retaining, calls.len())?;
+    let mut releasing = with_room(alloc, releasing, calls.len())?;
     let stopped = step_both(
-        &mut retaining,
-        &mut releasing,
+        &mut retaining.round,
+        &mut releasing.round,
         rng_a,
         rng_b,
         calls,
-        &mut retained,
-        &mut released,
+        &mut retaining.answers,
+        &mut releasing.answers,
     );
-    let retaining = Ran {
-        round: retaining,
-        answers: retained,
-    };
-    let releasing = Ran {
-        round: releasing,
-        answers: released,
-    };
     Ok(PairRan {
         retaining,
         releasing,

@@ -1,0 +1,15 @@
+use Rattle.std.proofs.Common.{refl}
+use Rattle.batcher_promises.proofs.Runs.Histories.{named}
+use Rattle.batcher.proofs.run.answer_missing.Goals as goal
+
+pub returns-in-Ok : goal.returns-in-Ok
+returns-in-Ok g c = record {
+  steps = λ stream. (c.in-Ok.ensures.held, (refl, refl));
+  meets = λ past stands. named _ (c.in-Ok.ensures.meets past stands);
+}
+
+pub returns-in-Err : goal.returns-in-Err
+returns-in-Err g c = record {
+  steps = λ stream. (refl, refl);
+  meets = λ past stands. (refl, refl);
+}
