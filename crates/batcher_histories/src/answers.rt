@@ -15,16 +15,25 @@ use thiserror::Error;
 /// Why the sender of a vote is blocked.
 #[derive(Clone, Copy, Debug, PartialEq, Eq)]
 pub enum BlockReason {
+    /// The sender is no participant of the round's scheme.
     UnknownParticipant,
+    /// The notarize names another signer than its sender.
     NotarizeSignerMismatch,
+    /// The nullify names another signer than its sender.
     NullifySignerMismatch,
+    /// The finalize names another signer than its sender.
     FinalizeSignerMismatch,
+    /// An earlier notarize of the signer was for another proposal.
     ConflictingNotarize,
+    /// The nullify differs from the one that is kept, which can only be in its signature.
     ConflictingNullify,
+    /// An earlier finalize of the signer was for another proposal.
     ConflictingFinalize,
     /// The vote differs from the one that is kept in its signature alone.
     InvalidSignature,
+    /// The signer of the nullify has finalized before.
     NullifyAfterFinalize,
+    /// The signer of the finalize has nullified before.
     FinalizeAfterNullify,
 }
 
@@ -60,10 +69,13 @@ pub enum OwnFault {
     /// selected proposal.
     #[error("conflicting constructed vote")]
     Conflicting,
+    /// Memory was refused. The same call may succeed later.
     #[error("out of memory")]
     OutOfMemory,
+    /// A finalize of its index was seen: who finalizes a view doesn't give up on it.
     #[error("nullify after finalize")]
     NullifyAfterFinalize,
+    /// A nullify of its index was seen: who gave up on a view doesn't finalize it.
     #[error("finalize after nullify")]
     FinalizeAfterNullify,
 }

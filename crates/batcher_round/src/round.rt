@@ -252,7 +252,11 @@ impl<S: Scheme<D>, D: Digest> Round<S, D> {
     }
 
     /// Whether the participant isn't known to have the proposal's block, which its notarize or
-    /// finalize for it shows. An index out of range is of no one who has it.
+    /// finalize for it shows. Who voted for another proposal alone is missing too, since it has
+    /// another block and still needs this one. An index out of range is of no one who has it.
+    ///
+    /// Of votes that aren't kept a round knows only which were for the selected proposal. Such a
+    /// one counts for whichever proposal is asked about.
     pub fn is_missing_voter(&self, proposal: &Proposal<D>, participant: Participant) -> bool
         ensures held { result ≡ not (has_block_held D.eq self.now.holds participant.0
             proposal.now) }
@@ -289,7 +293,8 @@ impl<S: Scheme<D>, D: Digest> Round<S, D> {
         Ok(Participants::from(missing))
     }
 
-    /// Sets the leader. If its notarize is kept, that selects its proposal. It takes no memory.
+    /// Sets the leader. If its notarize is kept, that selects its proposal where none is
+    /// selected. It takes no memory.
     ///
     /// The same leader again changes nothing; another one is refused.
     pub fn set_leader(&mut self, leader: Participant) -> Result<(), LeaderFault>
@@ -303,6 +308,8 @@ impl<S: Scheme<D>, D: Digest> Round<S, D> {
         ensures refused { OnErr result (self.new ≡ self.old) }
         ensures same { SameRound self.old self.new }
     {
+        // Its notarize may have come before the leader was known. The tracker finds it by its
+        // signer, and tells it also where no buffer has it, as once notarizes are certified.
         let notarize = self.votes.notarize(leader);
         self.verifier.set_leader(leader, notarize.as_ref())
     }
@@ -367,8 +374,11 @@ impl<S: Scheme<D>, D: Digest> Round<S, D> {
     ///
     /// It is refused beside a kept vote of its kind, or beside the other of nullify and finalize;
     /// a nullify that is there already is a duplicate. A finalize fixes its proposal first, also
-    /// where it is a duplicate of one that isn't kept. An added vote waits as verified. A refusal,
-    /// also one for memory, leaves the round as it was.
+    /// where it is a duplicate of one that isn't kept. An added vote waits as verified.
+    ///
+    /// Where the earlier vote of its kind isn't kept, a vote for another proposal is refused as
+    /// `Conflicting`, as far as facts show that the two differ. A refusal, also one for memory,
+    /// leaves the round as it was.
     pub fn accept_vote(
         &mut self,
         vote: Vote<S::Signature, D>,
@@ -405,8 +415,9 @@ impl<S: Scheme<D>, D: Digest> Round<S, D> {
     ///
     /// Where its proposal takes another's place, the kept votes for it come back as pending. A
     /// notarization answers whether another proposal is selected than before, other certificates
-    /// answer false. A refusal for memory leaves the round as it was; where no vote comes back it
-    /// takes none.
+    /// answer false. True tells the caller to construct: finalizes that wait may be for the
+    /// proposal that is selected now, and so be ready. A refusal for memory leaves the round as it
+    /// was; where no vote comes back it takes none.
     pub fn record_certificate(
         &mut self,
         certificate: &Certificate<S::Certificate, D>,
@@ -601,7 +612,9 @@ fn own_result<S: Scheme<D>, D: Digest>(
     unopposed_result(vote.kind(), votes.outcome_at(place, &vote, selected))
 }
 
-// The proposal that an own vote fixes.
+// The proposal that an own vote fixes. A finalize does, since the node finalizes a proposal only
+// once it knows it to be notarized: a quorum stands behind it, as where a certificate is recorded.
+// A notarize is for what the node has seen of the leader, who may have sent two.
 fn fixed_by<G, D: Copy>(vote: &Vote<G, D>) -> Option<Proposal<D>>
     ensures { result ≡ fixed_by vote.now }
 {

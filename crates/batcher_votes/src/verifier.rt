@@ -65,8 +65,10 @@ pub struct Batch<C> {
 /// Why a leader was refused.
 #[derive(Clone, Copy, Debug, PartialEq, Eq, Error)]
 pub enum LeaderFault {
+    /// Another leader is set already: a view has one.
     #[error("leader changed within round")]
     LeaderChanged,
+    /// The notarize that was handed in is of another signer. A round never hands in such a one.
     #[error("notarize must be from leader")]
     NotFromLeader,
 }

@@ -115,7 +115,9 @@ pub(super) fn opposite_fault(kind: Kind) -> OwnFault
     }
 }
 
-// What comes of an own vote that isn't excluded so, or why it is refused.
+// What comes of an own vote that isn't excluded so, or why it is refused. A node casts one notarize
+// and one finalize in a view, so a second is a fault of its own. A repeated nullify is none: a
+// driver casts it again at each retry, for peers that haven't got it.
 pub(super) fn unopposed_result(kind: Kind, outcome: Outcome) -> Result<Outcome, OwnFault>
     ensures { result ≡ unopposed_result kind outcome }
 {

@@ -16,8 +16,10 @@ use thiserror::Error;
 /// Why a list of keys is no set.
 #[derive(Clone, Copy, Debug, PartialEq, Eq, Error)]
 pub enum SetFault {
+    /// A key comes twice. Of a list that is too long it isn't asked.
     #[error("duplicate key")]
     Duplicate,
+    /// There are 2^32 keys or more, so that an index of 32 bits couldn't tell them apart.
     #[error("too many keys")]
     TooMany,
 }
