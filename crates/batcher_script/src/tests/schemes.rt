@@ -245,7 +245,7 @@ impl Scheme<Digest> for Trusting {
         let mut verified = Vec::new(alloc);
         let mut invalid = Vec::new(alloc);
         for attestation in pending {
-            if usize::from(attestation.signer) < self.participants.len() && attestation.signature {
+            if (attestation.signer.0 as usize) < self.participants.len() && attestation.signature {
                 verified.push(*attestation)?;
             } else {
                 invalid.push(attestation.signer)?;
