@@ -1,0 +1,4 @@
+pub mod Windows
+pub mod Events
+pub mod Nodes
+pub mod Stands
