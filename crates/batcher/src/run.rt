@@ -3,60 +3,26 @@
 ghost use Rattle.std.specs.Prelude.{◌≡◌, All, IfOk, OnErr};
 ghost use Rattle.std.specs.List.{list_any};
 ghost use Rattle.std.specs.List.Sorted.{IsStrictlySortedBy};
-ghost use Rattle.batcher.specs.Held.{SameRound};
-ghost use Rattle.batcher.specs.Judged.{WhereverItStands};
-ghost use Rattle.batcher.specs.Steps.{nothing_held};
-ghost use Rattle.batcher.specs.Answers.{IsAnswered};
-ghost use Rattle.batcher.specs.Stands.{Meets};
-ghost use Rattle.batcher.specs.Ran.{IsRun};
-ghost use Rattle.batcher.specs.Runs.{MayCall, Steps, blocked_sender, blocked_senders};
+ghost use Rattle.batcher_votes.specs.Held.{SameRound};
+ghost use Rattle.batcher_histories.specs.Judged.{WhereverItStands};
+ghost use Rattle.batcher_histories.specs.Steps.{nothing_held};
+ghost use Rattle.batcher_histories.specs.Answers.{IsAnswered};
+ghost use Rattle.batcher_histories.specs.Stands.{Meets};
+ghost use Rattle.batcher_promises.specs.Ran.{IsRun};
+ghost use Rattle.batcher_histories.specs.Runs.{MayCall, Steps, blocked_sender, blocked_senders};
 
 mod pair;
 mod theorems;
 
-use crate::messages::{Activity, Certificate, Digest, Proposal, Vote};
-use crate::positions::{Participant, Participants};
-use crate::round::{Admission, Judge, OwnFault, Round};
+use crate::messages::Digest;
+use crate::round::{Judge, OwnFault, Round};
 use crate::scheme::Scheme;
-use crate::verifier::{Batch, LeaderFault};
-use crate::votes::Outcome;
+pub use batcher_histories::answers::Answer;
+pub use batcher_histories::calls::Call;
 pub use pair::{PairRan, run_pair};
 use rand_core::CryptoRng;
 use std::alloc::{AllocError, Global};
 pub use theorems::{order_is_free, replays, worked_examples};
-
-/// A call of a round, with keys `P`, signatures `G`, certificates `C` and digests `D`.
-#[derive(Debug, Drop)]
-pub enum Call<P, G, C, D> {
-    /// A vote that the peer with the key sent. It need not take part.
-    Network(P, Vote<G, D>),
-    /// A vote of the node's own, which attests.
-    Own(Vote<G, D>),
-    /// A certificate that the caller has verified.
-    Certificate(Certificate<C, D>),
-    Leader(Participant),
-    Construct,
-    /// This participant asks for the selected proposal, to hand it on.
-    Forward(Participant),
-    /// Who isn't known to have the proposal's block.
-    Missing(Proposal<D>),
-}
-
-/// The answer to a call, with certificates `C`.
-#[derive(Debug, Drop)]
-pub enum Answer<G, C, D> {
-    Network(Admission<G, D>),
-    Own(Outcome, Option<Activity<G, D>>),
-    /// An own vote is refused, not for want of memory.
-    OwnRefused(OwnFault),
-    Certificate(bool),
-    Leader(Result<(), LeaderFault>),
-    Construct(Option<Batch<Certificate<C, D>>>),
-    Forward(Option<Proposal<D>>),
-    Missing(Participants),
-    /// Memory was refused, and the round is as it was before the call.
-    OutOfMemory,
-}
 
 /// A round after its calls, with the answers in their order.
 #[derive(Drop)]
@@ -82,7 +48,8 @@ pub fn run<S: Scheme<D>, D: Digest, R: CryptoRng>(
     ensures drawn { OnErr result (R.stream rng.new ≡ R.stream rng.old) }
     ensures same { IfOk result (λ ran. SameRound round ran.round) }
 {
-    round.has_participants();
+    // For what it says of every round: that it has participants.
+    let _ = round.number();
     let mut answers = Vec::with_capacity(alloc, calls.len())?;
     for call in calls {
         answers.push_reserved(step(&mut round, rng, call));
@@ -99,9 +66,9 @@ fn step<S: Scheme<D>, D: Digest, R: CryptoRng>(
     requires { MayCall (S.meaning round.old.scheme) round.old.number call.now }
     ensures steps { Steps (⟦<S as Judge<D>>⟧.of round.old) round.old.holds (R.stream rng.old)
         call.now result round.new.holds (R.stream rng.new) }
-    ensures meets { WhereverItStands (⟦<S as Judge<D>>⟧.of round.old) round.old.holds
-        (λ past. (Meets (⟦<S as Judge<D>>⟧.of round.old) past round.old.holds (call.now, result)
-        round.new.holds) × (IsAnswered (⟦<S as Judge<D>>⟧.of round.old) past call.now result)) }
+    ensures meets { WhereverItStands ⟦<S as Judge<D>>⟧.of round.old
+        (λ x past. (Meets x past round.old.holds (call.now, result) round.new.holds)
+        × (IsAnswered x past call.now result)) }
     ensures same { SameRound round.old round.new }
 {
     match call {

@@ -6,9 +6,9 @@ use Rattle.std.proofs.lemmas.Bool.Decides.{nat_tests}
 use Rattle.rand_core.specs.Stream.{Stream}
 use Rattle.batcher.specs.Quorum.{quorum_of}
 use Rattle.batcher.specs.Attestations.{IsQuorum}
-use Rattle.batcher.specs.declared.messages.Attestation.{Attestation}
-use Rattle.batcher.specs.declared.messages.Subject.{Subject}
-use Rattle.batcher.specs.declared.messages.Sha256Digest.{Sha256Digest}
+use Rattle.batcher.specs.messages.Attestation.{Attestation}
+use Rattle.batcher.specs.messages.Subject.{Subject}
+use Rattle.batcher.specs.messages.Sha256Digest.{Sha256Digest}
 use Rattle.batcher_bench.specs.declared.plain.Tally.{Tally}
 use Rattle.batcher_bench.specs.Plain.{is_signed, is_enough, tally_of, tallied_at_once}
 

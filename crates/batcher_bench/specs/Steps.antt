@@ -1,6 +1,6 @@
 -- The steps of a run.
 use Rattle.std.specs.Prelude.{◌≡◌, ⊤}
-use Rattle.batcher.specs.declared.positions.Round.{Round}
+use Rattle.batcher.specs.positions.Round.{Round}
 use Rattle.batcher.specs.Votes.{round_in, subject_of}
 use Rattle.batcher_bench.specs.declared.plan.Step.{Step}
 use Rattle.batcher_bench.specs.declared.plan.Step.TheVariants.{Send, Construct}

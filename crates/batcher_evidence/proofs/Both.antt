@@ -10,9 +10,9 @@ use Rattle.batcher.specs.Ascending.{IsAscending}
 use Rattle.batcher.specs.Attestations.{index_of_signer}
 use Rattle.batcher.specs.Meaning.{Meaning, IsLawful}
 use Rattle.batcher.specs.Votes.{subject_certified, content_of}
-use Rattle.batcher.specs.declared.messages.Attestation.{Attestation}
-use Rattle.batcher.specs.declared.messages.Subject.{Subject}
-use Rattle.batcher.specs.declared.messages.Certificate.{Certificate}
+use Rattle.batcher.specs.messages.Attestation.{Attestation}
+use Rattle.batcher.specs.messages.Subject.{Subject}
+use Rattle.batcher.specs.messages.Certificate.{Certificate}
 use Rattle.batcher_evidence.specs.declared.certificates.Culprit.{Culprit}
 use Rattle.batcher_evidence.specs.Shown.{ShowsQuorum, has_signed}
 use Rattle.batcher_evidence.specs.Culprits.{AreCulprits, attests_both, beside, index_of_culprit, signed_both}

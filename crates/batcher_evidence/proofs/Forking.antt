@@ -15,17 +15,17 @@ use Rattle.batcher.specs.FirstVotes.{first_votes, is_free}
 use Rattle.batcher.specs.Promises.{AtEachEvent, votes_cast}
 use Rattle.batcher.specs.Reported.{subjects_contradict}
 use Rattle.batcher.specs.Backed.{GivesBacked, IsBacked, IsGiven, votes_behind}
-use Rattle.batcher.specs.declared.positions.Round.{Round}
-use Rattle.batcher.specs.declared.messages.Proposal.{Proposal}
-use Rattle.batcher.specs.declared.messages.Subject.{Subject}
-use Rattle.batcher.specs.declared.messages.Subject.TheVariants.{Notarize as NotarizeSubject, Nullify as NullifySubject, Finalize as FinalizeSubject}
-use Rattle.batcher.specs.declared.messages.Vote.{Vote}
-use Rattle.batcher.specs.declared.messages.Certificate.{Certificate}
-use Rattle.batcher.specs.declared.votes.Mode.{Mode}
-use Rattle.batcher.specs.declared.verifier.Batch.{Batch}
-use Rattle.batcher.specs.declared.run.Answer.{Answer}
-use Rattle.batcher.specs.declared.run.Answer.TheVariants.{OutOfMemory, Network as NetworkAnswer, Own as OwnAnswer, OwnRefused, Certificate as CertificateAnswer}
-use Rattle.batcher.specs.declared.run.Answer.TheVariants.{Leader as LeaderAnswer, Construct as ConstructAnswer, Forward as ForwardAnswer, Missing as MissingAnswer}
+use Rattle.batcher.specs.positions.Round.{Round}
+use Rattle.batcher.specs.messages.Proposal.{Proposal}
+use Rattle.batcher.specs.messages.Subject.{Subject}
+use Rattle.batcher.specs.messages.Subject.TheVariants.{Notarize as NotarizeSubject, Nullify as NullifySubject, Finalize as FinalizeSubject}
+use Rattle.batcher.specs.messages.Vote.{Vote}
+use Rattle.batcher.specs.messages.Certificate.{Certificate}
+use Rattle.batcher.specs.votes.Mode.{Mode}
+use Rattle.batcher.specs.verifier.Batch.{Batch}
+use Rattle.batcher.specs.answers.Answer.{Answer}
+use Rattle.batcher.specs.answers.Answer.TheVariants.{OutOfMemory, Network as NetworkAnswer, Own as OwnAnswer, OwnRefused, Certificate as CertificateAnswer}
+use Rattle.batcher.specs.answers.Answer.TheVariants.{Leader as LeaderAnswer, Construct as ConstructAnswer, Forward as ForwardAnswer, Missing as MissingAnswer}
 use Rattle.batcher_evidence.specs.Culprits.{certificates_contradict}
 use Rattle.batcher_evidence.specs.Rounds.{TakeContradictingVotes, TakesContradicting, count_below, votes_contradict, round_of}
 use Rattle.batcher_evidence.proofs.Counting.{any_within, below_both, below_more, count-append, count-filter, count_mono, distinct_below, filter_passes, has_number, quorums_overlap}

@@ -6,7 +6,7 @@ use Rattle.std.proofs.lemmas.Bool.{eq-eqb}
 use Rattle.std.proofs.lemmas.Bool.Decides.{nat_tests}
 use Rattle.batcher.specs.Ascending.{IsAscending}
 use Rattle.batcher.specs.Attestations.{index_of_signer}
-use Rattle.batcher.specs.declared.messages.Attestation.{Attestation}
+use Rattle.batcher.specs.messages.Attestation.{Attestation}
 use Rattle.batcher_evidence.specs.declared.certificates.Culprit.{Culprit}
 use Rattle.batcher_evidence.specs.Culprits.{signed_both}
 

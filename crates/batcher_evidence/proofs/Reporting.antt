@@ -9,12 +9,12 @@ use Rattle.batcher.specs.Votes.{signer_of, subject_of, attestation_of}
 use Rattle.batcher.specs.Reported.{subjects_contradict, evidence_in, AreContrary, ReportsContrary}
 use Rattle.batcher.specs.History.{History, history, names_sender}
 use Rattle.batcher.specs.Promises.{AtEachVote, votes_cast}
-use Rattle.batcher.specs.declared.positions.Participant.{Participant}
-use Rattle.batcher.specs.declared.messages.Vote.{Vote}
-use Rattle.batcher.specs.declared.messages.Activity.{Activity}
-use Rattle.batcher.specs.declared.round.Admission.{Admission}
-use Rattle.batcher.specs.declared.run.Call.TheVariants.{Network as NetworkCall}
-use Rattle.batcher.specs.declared.run.Answer.TheVariants.{Network as NetworkAnswer}
+use Rattle.batcher.specs.positions.Participant.{Participant}
+use Rattle.batcher.specs.messages.Vote.{Vote}
+use Rattle.batcher.specs.messages.Activity.{Activity}
+use Rattle.batcher.specs.answers.Admission.{Admission}
+use Rattle.batcher.specs.calls.Call.TheVariants.{Network as NetworkCall}
+use Rattle.batcher.specs.answers.Answer.TheVariants.{Network as NetworkAnswer}
 use Rattle.batcher_evidence.specs.Convicted.{both_attest, convicts, convicted_by}
 use Rattle.batcher_evidence.specs.Rounds.{ConvictsIfAttested, ReportsConvict, round_of}
 

@@ -3,9 +3,9 @@ use Rattle.std.specs.Prelude.{◌≡◌, ◌==◌, ◌&&◌, Bool, true, cond, O
 use Rattle.batcher.specs.Meaning.{Meaning}
 use Rattle.batcher.specs.Votes.{signer_of, subject_of, attestation_of}
 use Rattle.batcher.specs.Reported.{subjects_contradict, evidence_in}
-use Rattle.batcher.specs.declared.positions.Participant.{Participant}
-use Rattle.batcher.specs.declared.messages.Vote.{Vote}
-use Rattle.batcher.specs.declared.messages.Activity.{Activity}
+use Rattle.batcher.specs.positions.Participant.{Participant}
+use Rattle.batcher.specs.messages.Vote.{Vote}
+use Rattle.batcher.specs.messages.Activity.{Activity}
 
 module _ {D K G C : Type 0} (m : Meaning D K G C) where
   -- whether both votes attest

@@ -1,12 +1,12 @@
 -- A fork of four participants that exactly two of them made, and what is near to one.
 use Rattle.std.specs.Prelude.{◌≡◌, ◌+◌, ◌&&◌, ◌==◌, ℕ, Bool, true, nat_lt, nat_le, List, [], ◌∷◌, length, Option, Some, None}
 use Rattle.std.specs.List.{list_all, range_with_len}
-use Rattle.batcher.specs.declared.messages.Attestation.{Attestation}
-use Rattle.batcher.specs.declared.messages.Certificate.{Certificate}
-use Rattle.batcher.specs.declared.messages.Certificate.TheVariants.{Notarization as NotarizationCertificate, Nullification as NullificationCertificate, Finalization as FinalizationCertificate}
-use Rattle.batcher.specs.declared.messages.Activity.{Activity}
-use Rattle.batcher.specs.declared.messages.Activity.TheVariants.{ConflictingNotarize as ReportConflictingNotarize, Notarize as ReportNotarize}
-use Rattle.batcher.specs.declared.votes.Mode.TheVariants.{Retaining, Releasing}
+use Rattle.batcher.specs.messages.Attestation.{Attestation}
+use Rattle.batcher.specs.messages.Certificate.{Certificate}
+use Rattle.batcher.specs.messages.Certificate.TheVariants.{Notarization as NotarizationCertificate, Nullification as NullificationCertificate, Finalization as FinalizationCertificate}
+use Rattle.batcher.specs.messages.Activity.{Activity}
+use Rattle.batcher.specs.messages.Activity.TheVariants.{ConflictingNotarize as ReportConflictingNotarize, Notarize as ReportNotarize}
+use Rattle.batcher.specs.votes.Mode.TheVariants.{Retaining, Releasing}
 use Rattle.batcher.specs.Quorum.{quorum_of}
 use Rattle.batcher.specs.Keys.{participant}
 use Rattle.batcher.specs.Ascending.{is_ascending}
@@ -14,7 +14,7 @@ use Rattle.batcher.specs.Attestations.{index_of_signer}
 use Rattle.batcher.specs.Meaning.{Meaning}
 use Rattle.batcher.specs.Promises.{votes_cast}
 use Rattle.batcher.specs.Backed.{IsGiven}
-use Rattle.batcher.specs.Examples.{TinyCall, the_round, p, four, signed, notarize, notarization, net, lead, construct, played}
+use Rattle.batcher.specs.Examples.Answers.{TinyCall, the_round, p, four, signed, notarize, notarization, net, lead, construct, played}
 use Rattle.batcher_evidence.specs.declared.certificates.Culprit.{Culprit}
 use Rattle.batcher_evidence.specs.Culprits.{certificates_contradict, culprits_of}
 use Rattle.batcher_evidence.specs.Convicted.{convicted_by}

@@ -9,9 +9,9 @@ use Rattle.batcher.specs.Ascending.{IsAscending, is_ascending}
 use Rattle.batcher.specs.Attestations.{IsQuorum, index_of_signer}
 use Rattle.batcher.specs.Hashed.{is_signed}
 use Rattle.batcher.specs.Keyed.{is_listed}
-use Rattle.batcher.specs.declared.messages.Attestation.{Attestation}
-use Rattle.batcher.specs.declared.messages.Subject.{Subject}
-use Rattle.batcher.specs.declared.messages.Sha256Digest.{Sha256Digest}
+use Rattle.batcher.specs.messages.Attestation.{Attestation}
+use Rattle.batcher.specs.messages.Subject.{Subject}
+use Rattle.batcher.specs.messages.Sha256Digest.{Sha256Digest}
 
 module _ {X : Type 0} (number : X → ℕ) where
   above :

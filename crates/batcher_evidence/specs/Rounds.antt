@@ -3,14 +3,14 @@ use Rattle.std.specs.Prelude.{◌≡◌, ◌<◌, ◌≤◌, ◌+◌, ◌-◌, �
 use Rattle.std.specs.List.{list_any}
 use Rattle.std.specs.declared.cmp.Ordering.{Ordering}
 use Rattle.rand_core.specs.Stream.{Stream}
-use Rattle.batcher.specs.declared.positions.Round.{Round}
-use Rattle.batcher.specs.declared.messages.Attestation.{Attestation}
-use Rattle.batcher.specs.declared.messages.Vote.{Vote}
-use Rattle.batcher.specs.declared.messages.Certificate.{Certificate}
-use Rattle.batcher.specs.declared.votes.Mode.{Mode}
-use Rattle.batcher.specs.declared.round.Admission.{Admission}
-use Rattle.batcher.specs.declared.run.Call.{Call}
-use Rattle.batcher.specs.declared.run.Answer.{Answer}
+use Rattle.batcher.specs.positions.Round.{Round}
+use Rattle.batcher.specs.messages.Attestation.{Attestation}
+use Rattle.batcher.specs.messages.Vote.{Vote}
+use Rattle.batcher.specs.messages.Certificate.{Certificate}
+use Rattle.batcher.specs.votes.Mode.{Mode}
+use Rattle.batcher.specs.answers.Admission.{Admission}
+use Rattle.batcher.specs.calls.Call.{Call}
+use Rattle.batcher.specs.answers.Answer.{Answer}
 use Rattle.batcher.specs.Quorum.{quorum_of}
 use Rattle.batcher.specs.Meaning.{Meaning}
 use Rattle.batcher.specs.Setting.{Setting, setting}

@@ -4,8 +4,8 @@ use Rattle.std.specs.List.{list_any, AllPass}
 use Rattle.batcher.specs.Ascending.{IsAscending}
 use Rattle.batcher.specs.Attestations.{IsQuorum, index_of_signer}
 use Rattle.batcher.specs.Meaning.{Meaning}
-use Rattle.batcher.specs.declared.messages.Attestation.{Attestation}
-use Rattle.batcher.specs.declared.messages.Subject.{Subject}
+use Rattle.batcher.specs.messages.Attestation.{Attestation}
+use Rattle.batcher.specs.messages.Subject.{Subject}
 
 module _ {D K G C : Type 0} (m : Meaning D K G C) where
   -- whether one of the attestations is the participant's and attests the subject

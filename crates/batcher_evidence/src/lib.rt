@@ -3,8 +3,8 @@
 #![tactic(auto)]
 
 ghost use Rattle.std.specs.Prelude.{◌≡◌, true, List};
-ghost use Rattle.batcher.specs.declared.messages.Attestation.{Attestation as TheAttestation};
-ghost use Rattle.batcher.specs.declared.messages.Subject.{Subject as TheSubject};
+ghost use Rattle.batcher.specs.messages.Attestation.{Attestation as TheAttestation};
+ghost use Rattle.batcher.specs.messages.Subject.{Subject as TheSubject};
 ghost use Rattle.batcher_evidence.specs.Shown.{ShowsQuorum};
 
 mod certificates;

@@ -4,12 +4,12 @@ use Rattle.std.specs.Prelude.{MatchOption, IfSome}
 use Rattle.std.specs.Option.{option_map_or}
 use Rattle.std.specs.declared.cmp.Ordering.{Ordering}
 use Rattle.std.proofs.lemmas.Bool.{eq-eqb, cases_eq, false≢true}
-use Rattle.batcher.specs.declared.messages.Vote.{Vote}
-use Rattle.batcher.specs.declared.messages.Certificate.{Certificate}
-use Rattle.batcher.specs.declared.round.Admission.{Admission}
-use Rattle.batcher.specs.declared.run.Call.TheVariants.{Network as NetworkCall, Certificate as CertificateCall}
-use Rattle.batcher.specs.declared.run.Answer.TheVariants.{Network as NetworkAnswer, Certificate as CertificateAnswer}
-use Rattle.batcher.specs.declared.positions.Round.{Round}
+use Rattle.batcher.specs.messages.Vote.{Vote}
+use Rattle.batcher.specs.messages.Certificate.{Certificate}
+use Rattle.batcher.specs.answers.Admission.{Admission}
+use Rattle.batcher.specs.calls.Call.TheVariants.{Network as NetworkCall, Certificate as CertificateCall}
+use Rattle.batcher.specs.answers.Answer.TheVariants.{Network as NetworkAnswer, Certificate as CertificateAnswer}
+use Rattle.batcher.specs.positions.Round.{Round}
 use Rattle.batcher.specs.Meaning.{Meaning}
 use Rattle.batcher.specs.Votes.{subject_of, subject_certified, round_in}
 use Rattle.batcher.specs.Held.{RoundView}
@@ -24,7 +24,7 @@ use Rattle.batcher.specs.Answers.{certificate_answer}
 use Rattle.batcher_node.specs.declared.window.Window.{Window}
 use Rattle.batcher_node.specs.Windows.{contains, numbered, is_of}
 use Rattle.batcher_node.specs.declared.slot.Slot.{Slot}
-use Rattle.batcher.specs.declared.positions.Epoch.{Epoch}
+use Rattle.batcher.specs.positions.Epoch.{Epoch}
 use Rattle.batcher_node.specs.Events.{NodeEvent, vote_came, certificate_came, NodeHistory, told, at_view, blocked_in, window_in, is_blocked, told_by, blocked_by}
 use Rattle.batcher_node.specs.Nodes.{NodeView, slot_at, fresh_round, Tells, IsTended}
 use Rattle.batcher_node.specs.Stands.{NodeSetting, NodeStands, judge_node, receipt, is_within, setting_of}

@@ -3,8 +3,8 @@ use Rattle.std.proofs.Common.{◌≡◌, ◌≢◌, ◌≤◌, ◌⊎◌, inl, i
 use Rattle.std.specs.Prelude.{MatchOption, IfSome}
 use Rattle.std.specs.declared.cmp.Ordering.{Ordering}
 use Rattle.std.proofs.lemmas.Bool.{cases_eq, false≢true}
-use Rattle.batcher.specs.declared.run.Call.{Call}
-use Rattle.batcher.specs.declared.run.Answer.{Answer}
+use Rattle.batcher.specs.calls.Call.{Call}
+use Rattle.batcher.specs.answers.Answer.{Answer}
 use Rattle.batcher.specs.Meaning.{Meaning}
 use Rattle.batcher.specs.Setting.{Setting, setting}
 use Rattle.batcher.specs.Lists.{is_empty}

@@ -7,12 +7,12 @@ use Rattle.std.specs.Ordering.{nat_cmp, is_eq}
 use Rattle.std.specs.BTreeMap.{BTreeMap, get}
 use Rattle.std.specs.Map.{lookup}
 use Rattle.std.proofs.lemmas.Map.Lookups.{exact_unsigned}
-use Rattle.batcher.specs.declared.run.Call.{Call}
-use Rattle.batcher.specs.declared.run.Answer.{Answer}
+use Rattle.batcher.specs.calls.Call.{Call}
+use Rattle.batcher.specs.answers.Answer.{Answer}
 use Rattle.batcher.specs.Setting.{Setting}
 use Rattle.batcher.specs.Held.{RoundView, SameRound}
-use Rattle.batcher.specs.Judged.{WhereverItStands}
-use Rattle.batcher.specs.Stands.{Stands, Follows}
+use Rattle.batcher.specs.Judged.{FollowsAlways}
+use Rattle.batcher.specs.Stands.{Stands}
 use Rattle.batcher_node.specs.declared.slot.Slot.{Slot}
 use Rattle.batcher_node.specs.Nodes.{Tells}
 
@@ -48,8 +48,7 @@ module _ {S D K G C : Type 0} (judge : RoundView S G D → Setting D K G C)
   pub told_fresh : (fresh round : RoundView S G D) (call : Call K G C D) (answer : Answer G C D)
       → round ≡ fresh → Stands (judge round) [] round.holds
       → (after : RoundView S G D) → SameRound round after
-      → WhereverItStands (judge round) round.holds
-      (λ past. Follows (judge round) past round.holds (call, answer) after.holds)
+      → FollowsAlways judge round (call, answer) after.holds
       → get nat_cmp n view ≡ Some (record { round = after; changed = true })
       → ((other : ℕ) → other ≢ view → get nat_cmp n other ≡ get nat_cmp middle other)
       → Tells judge (get nat_cmp m) (get nat_cmp n) view fresh call answer true
@@ -60,8 +59,7 @@ module _ {S D K G C : Type 0} (judge : RoundView S G D → Setting D K G C)
         goes_on = record {
           after = after;
           same = subst (λ r. SameRound r after) is same;
-          follows = subst (λ r. WhereverItStands (judge r) r.holds
-              (λ past. Follows (judge r) past r.holds (call, answer) after.holds)) is follows;
+          follows = subst (λ r. FollowsAlways judge r (call, answer) after.holds) is follows;
           here = here;
           others = λ other apart. others other apart ∙ same_get m middle untold other;
         };

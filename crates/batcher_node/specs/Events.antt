@@ -2,16 +2,16 @@
 use Rattle.std.specs.Prelude.{ℕ, Bool, true, false, cond, ◌==◌, List, [], ◌∷◌, ◌++◌, Option, Some, None, max}
 use Rattle.std.specs.List.{list_any}
 use Rattle.std.specs.Option.{option_map_or}
-use Rattle.batcher.specs.declared.positions.Participant.{Participant}
-use Rattle.batcher.specs.declared.positions.Round.{Round}
-use Rattle.batcher.specs.declared.messages.Vote.{Vote}
-use Rattle.batcher.specs.declared.messages.Certificate.{Certificate}
-use Rattle.batcher.specs.declared.messages.Activity.{Activity}
-use Rattle.batcher.specs.declared.verifier.Batch.{Batch}
-use Rattle.batcher.specs.declared.votes.Outcome.{Outcome}
-use Rattle.batcher.specs.declared.round.Admission.{Admission}
-use Rattle.batcher.specs.declared.run.Call.TheVariants.{Network as NetworkCall, Own as OwnCall, Certificate as CertificateCall, Leader as LeaderCall, Construct as ConstructCall}
-use Rattle.batcher.specs.declared.run.Answer.TheVariants.{Network as NetworkAnswer, Own as OwnAnswer, Certificate as CertificateAnswer, Leader as LeaderAnswer, Construct as ConstructAnswer}
+use Rattle.batcher.specs.positions.Participant.{Participant}
+use Rattle.batcher.specs.positions.Round.{Round}
+use Rattle.batcher.specs.messages.Vote.{Vote}
+use Rattle.batcher.specs.messages.Certificate.{Certificate}
+use Rattle.batcher.specs.messages.Activity.{Activity}
+use Rattle.batcher.specs.verifier.Batch.{Batch}
+use Rattle.batcher.specs.votes.Outcome.{Outcome}
+use Rattle.batcher.specs.answers.Admission.{Admission}
+use Rattle.batcher.specs.calls.Call.TheVariants.{Network as NetworkCall, Own as OwnCall, Certificate as CertificateCall, Leader as LeaderCall, Construct as ConstructCall}
+use Rattle.batcher.specs.answers.Answer.TheVariants.{Network as NetworkAnswer, Own as OwnAnswer, Certificate as CertificateAnswer, Leader as LeaderAnswer, Construct as ConstructAnswer}
 use Rattle.batcher.specs.Votes.{subject_of, subject_certified, round_in}
 use Rattle.batcher.specs.History.{Event, History}
 use Rattle.std.specs.Prelude.{Ok}

@@ -3,16 +3,16 @@ use Rattle.std.specs.Prelude.{◌≡◌, ◌≢◌, ◌≤◌, ◌⊎◌, ℕ, B
 use Rattle.std.specs.Ordering.{nat_cmp}
 use Rattle.std.specs.Map.{lookup}
 use Rattle.std.specs.BTreeMap.{is_at}
-use Rattle.batcher.specs.declared.positions.Epoch.{Epoch}
-use Rattle.batcher.specs.declared.run.Call.{Call}
-use Rattle.batcher.specs.declared.run.Answer.{Answer}
+use Rattle.batcher.specs.positions.Epoch.{Epoch}
+use Rattle.batcher.specs.calls.Call.{Call}
+use Rattle.batcher.specs.answers.Answer.{Answer}
 use Rattle.batcher.specs.Meaning.{Meaning}
 use Rattle.batcher.specs.Setting.{Setting}
 use Rattle.batcher.specs.Held.{Held, RoundView, SameRound}
 use Rattle.batcher.specs.Steps.{nothing_held}
 use Rattle.batcher.specs.History.{History}
-use Rattle.batcher.specs.Judged.{WhereverItStands}
-use Rattle.batcher.specs.Stands.{Stands, Follows}
+use Rattle.batcher.specs.Judged.{FollowsAlways}
+use Rattle.batcher.specs.Stands.{Stands}
 use Rattle.batcher_node.specs.declared.window.Window.{Window}
 use Rattle.batcher_node.specs.declared.answers.Blocked.{Blocked}
 use Rattle.batcher_node.specs.declared.slot.Slot.{Slot}
@@ -65,9 +65,7 @@ module _ {S D K G C : Type 0} (judge : RoundView S G D → Setting D K G C)
       (changed : Bool) : Type 0 where
     pub after : RoundView S G D
     pub same : SameRound before after
-    pub follows :
-        WhereverItStands (judge before) before.holds
-        (λ past. Follows (judge before) past before.holds (call, answer) after.holds)
+    pub follows : FollowsAlways judge before (call, answer) after.holds
     pub here : new view ≡ Some (record { round = after; changed = changed })
     pub others : (other : ℕ) → other ≢ view → new other ≡ old other
 

@@ -1,11 +1,11 @@
 -- When a node stands after a history of its calls, and how it goes on with one more.
 use Rattle.std.specs.Prelude.{◌≡◌, ◌≤◌, ⊤, ℕ, Bool, true, false, not, cond, ◌==◌, ◌&&◌, List, [], ◌∷◌, Option, Some, None, Ok, MatchOption}
 use Rattle.std.specs.declared.cmp.Ordering.{Ordering}
-use Rattle.batcher.specs.declared.positions.Epoch.{Epoch}
-use Rattle.batcher.specs.declared.positions.Round.{Round}
-use Rattle.batcher.specs.declared.votes.Mode.{Mode}
-use Rattle.batcher.specs.declared.run.Call.TheVariants.{Construct as ConstructCall}
-use Rattle.batcher.specs.declared.run.Answer.TheVariants.{Construct as ConstructAnswer}
+use Rattle.batcher.specs.positions.Epoch.{Epoch}
+use Rattle.batcher.specs.positions.Round.{Round}
+use Rattle.batcher.specs.votes.Mode.{Mode}
+use Rattle.batcher.specs.calls.Call.TheVariants.{Construct as ConstructCall}
+use Rattle.batcher.specs.answers.Answer.TheVariants.{Construct as ConstructAnswer}
 use Rattle.batcher.specs.Meaning.{Meaning}
 use Rattle.batcher.specs.Setting.{Setting, setting}
 use Rattle.batcher.specs.Lists.{is_empty}

@@ -1,9 +1,9 @@
 -- Which views a node keeps rounds of: from the finalized one to some beyond the current one.
 use Rattle.std.specs.Prelude.{◌≤◌, ◌+◌, ◌-◌, ◌&&◌, ◌==◌, ℕ, Bool, cond, nat_le, nat_lt, max}
-use Rattle.batcher.specs.declared.positions.Epoch.{Epoch}
-use Rattle.batcher.specs.declared.positions.Round.{Round}
-use Rattle.batcher.specs.declared.votes.Mode.{Mode}
-use Rattle.batcher.specs.declared.votes.Mode.TheVariants.{Retaining, Releasing, Skipped}
+use Rattle.batcher.specs.positions.Epoch.{Epoch}
+use Rattle.batcher.specs.positions.Round.{Round}
+use Rattle.batcher.specs.votes.Mode.{Mode}
+use Rattle.batcher.specs.votes.Mode.TheVariants.{Retaining, Releasing, Skipped}
 use Rattle.batcher_node.specs.declared.window.Window.{Window}
 
 -- whether the view of this number is in the window

@@ -3,8 +3,8 @@
 ghost use Rattle.std.specs.Prelude.{◌≡◌, ◌≢◌, ◌≤◌, ℕ, true, length, [], Some, None, Ok, is_some, IfOk, OnOk, OnErr, IfSome, IfNone};
 ghost use Rattle.std.specs.Ordering.{nat_cmp};
 ghost use Rattle.std.specs.BTreeMap.{get};
-ghost use Rattle.batcher.specs.declared.run.Call.TheVariants.{Network as NetworkCall, Own as OwnCall, Certificate as CertificateCall, Leader as LeaderCall, Construct as ConstructCall};
-ghost use Rattle.batcher.specs.declared.run.Answer.TheVariants.{Network as NetworkAnswer, Own as OwnAnswer, Certificate as CertificateAnswer, Leader as LeaderAnswer, Construct as ConstructAnswer};
+ghost use Rattle.batcher.specs.calls.Call.TheVariants.{Network as NetworkCall, Own as OwnCall, Certificate as CertificateCall, Leader as LeaderCall, Construct as ConstructCall};
+ghost use Rattle.batcher.specs.answers.Answer.TheVariants.{Network as NetworkAnswer, Own as OwnAnswer, Certificate as CertificateAnswer, Leader as LeaderAnswer, Construct as ConstructAnswer};
 ghost use Rattle.batcher.specs.Votes.{subject_of, subject_certified, attestation_of, round_in};
 ghost use Rattle.batcher.specs.Runs.{MayCall};
 ghost use Rattle.batcher.specs.Stands.{Stands};

@@ -2,12 +2,12 @@
 use Rattle.std.specs.Prelude.{ℕ, List}
 use Rattle.std.specs.declared.cmp.Ordering.{Ordering}
 use Rattle.rand_core.specs.Stream.{Stream}
-use Rattle.batcher.specs.declared.positions.Round.{Round}
-use Rattle.batcher.specs.declared.messages.Sha256Digest.{Sha256Digest}
-use Rattle.batcher.specs.declared.scheme.keyed.Name.{Name}
-use Rattle.batcher.specs.declared.votes.Mode.{Mode}
-use Rattle.batcher.specs.declared.run.Call.{Call}
-use Rattle.batcher.specs.declared.run.Answer.{Answer}
+use Rattle.batcher.specs.positions.Round.{Round}
+use Rattle.batcher.specs.messages.Sha256Digest.{Sha256Digest}
+use Rattle.batcher.specs.scheme.keyed.Name.{Name}
+use Rattle.batcher.specs.votes.Mode.{Mode}
+use Rattle.batcher.specs.calls.Call.{Call}
+use Rattle.batcher.specs.answers.Answer.{Answer}
 use Rattle.batcher.specs.Hashed.{same_bytes}
 use Rattle.batcher.specs.Meaning.{Meaning}
 use Rattle.batcher.specs.Setting.{setting}

@@ -2,7 +2,7 @@
 
 ghost use Rattle.std.specs.Prelude.{◌≡◌, ◌<◌, ◌≤◌, ◌&&◌, ℕ, List, All, IfOk, length, nat_lt, true, false};
 ghost use Rattle.std.specs.List.{AllPass, AllZip};
-ghost use Rattle.batcher.specs.declared.messages.Attestation.{Attestation as TheAttestation};
+ghost use Rattle.batcher.specs.messages.Attestation.{Attestation as TheAttestation};
 ghost use Rattle.batcher.specs.Attestations.{IsQuorum};
 ghost use Rattle.batcher.specs.Runs.{MayCall};
 ghost use Rattle.batcher.specs.Hashed.{same_bytes};

@@ -1,11 +1,11 @@
 //! Two rounds that take the same calls, one that retains its votes and one that releases them.
 
 ghost use Rattle.std.specs.Prelude.{◌≡◌, ◌≤◌, All, IfOk, OnErr, [], length, vec_capacity};
-ghost use Rattle.batcher.specs.declared.votes.Mode.{Mode};
-ghost use Rattle.batcher.specs.Setting.{setting};
-ghost use Rattle.batcher.specs.Steps.{nothing_held};
-ghost use Rattle.batcher.specs.Runs.{MayCall};
-ghost use Rattle.batcher.specs.Pairs.{IsPairRun, ends_pair};
+ghost use Rattle.batcher_votes.specs.declared.votes.Mode.{Mode};
+ghost use Rattle.batcher_histories.specs.Setting.{setting};
+ghost use Rattle.batcher_histories.specs.Steps.{nothing_held};
+ghost use Rattle.batcher_histories.specs.Runs.{MayCall};
+ghost use Rattle.batcher_promises.specs.Pairs.{IsPairRun, ends_pair};
 
 use super::{Answer, Call, Ran, step};
 use crate::messages::Digest;
@@ -110,7 +110,8 @@ fn step_both<S: Scheme<D>, D: Digest, R: CryptoRng>(
     ensures kept { (retaining.new ≡ record retaining.old { holds = retaining.new.holds })
         × (releasing.new ≡ record releasing.old { holds = releasing.new.holds }) }
 {
-    retaining.has_participants();
+    // For what it says of every round: that it has participants.
+    let _ = retaining.number();
     for call in calls {
         let place = released.len();
         let answer = step(retaining, rng_a, call);

@@ -1,15 +1,15 @@
 //! What holds of all rounds, as the contracts of functions that do nothing.
 
-ghost use Rattle.batcher.specs.declared.positions.Round.{Round as TheNumber};
-ghost use Rattle.batcher.specs.declared.votes.Mode.{Mode as TheMode};
-ghost use Rattle.batcher.specs.Setting.{setting, Setting as TheSetting};
-ghost use Rattle.batcher.specs.Converge.{OrderIsFree};
-ghost use Rattle.batcher.specs.Examples.{WorkedExamples};
-ghost use Rattle.batcher.specs.CertificateExamples.{CertificateExamples};
-ghost use Rattle.batcher.specs.BlockExamples.{BlockExamples};
-ghost use Rattle.batcher.specs.HonestExamples.{HonestExamples};
-ghost use Rattle.batcher.specs.ReplayExamples.{ReplayExamples};
-ghost use Rattle.batcher.specs.Replay.{EqualRunsGoAlike};
+ghost use Rattle.batcher_types.specs.declared.positions.Round.{Round as TheNumber};
+ghost use Rattle.batcher_votes.specs.declared.votes.Mode.{Mode as TheMode};
+ghost use Rattle.batcher_histories.specs.Setting.{setting, Setting as TheSetting};
+ghost use Rattle.batcher_promises.specs.Converge.{OrderIsFree};
+ghost use Rattle.batcher_promises.specs.Examples.Answers.{WorkedExamples};
+ghost use Rattle.batcher_promises.specs.Examples.Certificates.{CertificateExamples};
+ghost use Rattle.batcher_promises.specs.Examples.Blocks.{BlockExamples};
+ghost use Rattle.batcher_promises.specs.Examples.Honest.{HonestExamples};
+ghost use Rattle.batcher_promises.specs.Examples.Replays.{ReplayExamples};
+ghost use Rattle.batcher_promises.specs.Replay.{EqualRunsGoAlike};
 
 use crate::messages::Digest;
 use crate::scheme::Scheme;

@@ -1,10 +1,10 @@
 use Rattle.std.proofs.Common.{subst, ◌≡◌, ◌∙◌, ◌++◌, ◌∷◌, ◌+◌, [], refl, sym, ap, take, arith, length-append}
 use Rattle.std.proofs.lemmas.Grind.{common_steps}
 use Rattle.std.proofs.lemmas.List.{take_more}
-use Rattle.batcher.specs.Setting.{setting}
-use Rattle.batcher.specs.History.{history}
-use Rattle.batcher.proofs.Laws.{HasLaws}
-use Rattle.batcher.proofs.Going.{Goes, goes_first, goes_more, goes_to}
+use Rattle.batcher_histories.specs.Setting.{setting}
+use Rattle.batcher_histories.specs.History.{history}
+use Rattle.batcher_histories.proofs.History.Laws.{HasLaws}
+use Rattle.batcher_promises.proofs.Runs.Going.{Goes, goes_first, goes_more, goes_to}
 use Rattle.batcher.proofs.run.run.Goals as goal
 
 pub step-requires : goal.step-requires
@@ -55,7 +55,7 @@ returns-clause-ran g c =
     let x = setting (g.S.Scheme.meaning round.scheme) g.S.PublicKey.Ord.cmp g.S.Signature.PartialEq.eq g.D.PartialEq.eq round.number round.mode in
     let laws : HasLaws x = record {
       scheme = g.met.S.Scheme.lawful round.scheme;
-      some_participant = c.has_participants.ensures;
+      some_participant = c.number.ensures.participants;
       digests_equal = g.met.D.Digest.identical;
       digests_same = g.met.D.Eq.laws.refl;
     } in

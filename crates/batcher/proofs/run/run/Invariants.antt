@@ -1,6 +1,6 @@
 use Rattle.std.proofs.Common.{◌≡◌, ◌≤◌, length, take, vec_capacity}
-use Rattle.batcher.specs.Setting.{setting}
-use Rattle.batcher.proofs.Going.{Goes}
+use Rattle.batcher_histories.specs.Setting.{setting}
+use Rattle.batcher_promises.proofs.Runs.Going.{Goes}
 use Rattle.batcher.proofs.run.run.Given as goal
 
 abbrev pub invariant-loop-call : goal.invariant-loop-call

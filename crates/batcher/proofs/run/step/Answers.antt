@@ -1,9 +1,9 @@
 use Rattle.std.proofs.Common.{rules, Err, ap, sym, ◌∙◌}
-use Rattle.batcher.specs.Setting.{setting}
-use Rattle.batcher.proofs.Histories.{named}
-use Rattle.batcher.specs.declared.run.Answer.TheVariants.{OwnRefused}
-use Rattle.batcher.specs.Runs.{Steps}
-use Rattle.batcher.proofs.Naming.{own_same}
+use Rattle.batcher_histories.specs.Setting.{setting}
+use Rattle.batcher_promises.proofs.Runs.Histories.{named}
+use Rattle.batcher_histories.specs.declared.answers.Answer.TheVariants.{OwnRefused}
+use Rattle.batcher_histories.specs.Runs.{Steps}
+use Rattle.batcher_histories.proofs.Shown.Named.{own_same}
 use Rattle.batcher.proofs.run.step.Goals as goal
 
 pub returns-in-Ok-clause-meets : goal.returns-in-Ok-clause-meets

@@ -1,12 +1,12 @@
 use Rattle.std.proofs.Common.{◌≡◌, ◌∙◌, ◌++◌, ◌∷◌, ◌+◌, [], refl, sym, ap, take, length, arith}
 use Rattle.std.proofs.lemmas.Grind.{common_steps}
 use Rattle.std.proofs.lemmas.List.{take_more, length-take-le}
-use Rattle.batcher.specs.declared.votes.Mode.TheVariants.{Retaining, Releasing}
-use Rattle.batcher.specs.Setting.{setting}
-use Rattle.batcher.specs.History.{history}
-use Rattle.batcher.specs.Pairs.{in_mode}
-use Rattle.batcher.proofs.Laws.{HasLaws}
-use Rattle.batcher.proofs.PairRuns.{Takes, pair_first, pair_more, pair_ends, pair_stops, pair_stops_later}
+use Rattle.batcher_votes.specs.declared.votes.Mode.TheVariants.{Retaining, Releasing}
+use Rattle.batcher_histories.specs.Setting.{setting}
+use Rattle.batcher_histories.specs.History.{history}
+use Rattle.batcher_promises.specs.Pairs.{in_mode}
+use Rattle.batcher_histories.proofs.History.Laws.{HasLaws}
+use Rattle.batcher_promises.proofs.Pairs.Runs.{Takes, pair_first, pair_more, pair_ends, pair_stops, pair_stops_later}
 use Rattle.batcher.proofs.run.pair.step_both.Goals as goal
 
 pub step-answer-requires : goal.step-answer-requires
@@ -86,7 +86,7 @@ returns-then-is_refused-clause-ran g c =
     let x = setting (g.S.Scheme.meaning start.scheme) g.S.PublicKey.Ord.cmp g.S.Signature.PartialEq.eq g.D.PartialEq.eq start.number Retaining in
     let laws : HasLaws x = record {
       scheme = g.met.S.Scheme.lawful start.scheme;
-      some_participant = c.has_participants.ensures;
+      some_participant = c.number.ensures.participants;
       digests_equal = g.met.D.Digest.identical;
       digests_same = g.met.D.Eq.laws.refl;
     } in
@@ -114,7 +114,7 @@ returns-then-is_refused-2-clause-ran g c =
     let x = setting (g.S.Scheme.meaning start.scheme) g.S.PublicKey.Ord.cmp g.S.Signature.PartialEq.eq g.D.PartialEq.eq start.number Retaining in
     let laws : HasLaws x = record {
       scheme = g.met.S.Scheme.lawful start.scheme;
-      some_participant = c.has_participants.ensures;
+      some_participant = c.number.ensures.participants;
       digests_equal = g.met.D.Digest.identical;
       digests_same = g.met.D.Eq.laws.refl;
     } in
@@ -154,7 +154,7 @@ returns-clause-ran g c =
     let x = setting (g.S.Scheme.meaning start.scheme) g.S.PublicKey.Ord.cmp g.S.Signature.PartialEq.eq g.D.PartialEq.eq start.number Retaining in
     let laws : HasLaws x = record {
       scheme = g.met.S.Scheme.lawful start.scheme;
-      some_participant = c.has_participants.ensures;
+      some_participant = c.number.ensures.participants;
       digests_equal = g.met.D.Digest.identical;
       digests_same = g.met.D.Eq.laws.refl;
     } in

@@ -1,6 +1,6 @@
-use Rattle.batcher.specs.Setting.{setting}
-use Rattle.batcher.proofs.Laws.{HasLaws}
-use Rattle.batcher.proofs.Converging.{order_is_free}
+use Rattle.batcher_histories.specs.Setting.{setting}
+use Rattle.batcher_histories.proofs.History.Laws.{HasLaws}
+use Rattle.batcher_promises.proofs.Order.Free.{order_is_free}
 use Rattle.batcher.proofs.run.theorems.order_is_free.Goals as goal
 
 pub returns : goal.returns

@@ -1,8 +1,8 @@
-use Rattle.batcher.proofs.Worked.{worked}
-use Rattle.batcher.proofs.CertificatesWorked.{computed}
-use Rattle.batcher.proofs.BlocksWorked.{just}
-use Rattle.batcher.proofs.HonestWorked.{honest_computed}
-use Rattle.batcher.proofs.ReplayWorked.{replay_computed}
+use Rattle.batcher_promises.proofs.Examples.Answers.{worked}
+use Rattle.batcher_promises.proofs.Examples.Certificates.{computed}
+use Rattle.batcher_promises.proofs.Examples.Blocks.{just}
+use Rattle.batcher_promises.proofs.Examples.Honest.{honest_computed}
+use Rattle.batcher_promises.proofs.Examples.Replays.{replay_computed}
 use Rattle.batcher.proofs.run.theorems.worked_examples.Goals as goal
 
 pub returns : goal.returns

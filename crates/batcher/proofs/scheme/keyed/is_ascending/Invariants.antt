@@ -1,6 +1,0 @@
-use Rattle.std.proofs.Common.{◌<◌}
-use Rattle.std.specs.List.{AllAdjacentBelow}
-use Rattle.batcher.proofs.scheme.keyed.is_ascending.Given as goal
-
-abbrev pub invariant-loop-i : goal.invariant-loop-i
-invariant-loop-i l = AllAdjacentBelow (λ x y. x.signer.0 < y.signer.0) l.attestations l.i

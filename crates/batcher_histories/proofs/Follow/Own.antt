@@ -1,0 +1,190 @@
+-- An own vote: what a round does with it is what the history with it names.
+use Rattle.std.proofs.Common.{◌≡◌, Bool, true, false, not, cond, ◌&&◌, [], ◌∷◌, ◌++◌, Option, Some, None, Ok, refl, ap, sym, ◌∙◌, subst}
+use Rattle.std.specs.Prelude.{filter, is_none}
+use Rattle.std.proofs.lemmas.Bool.{or_right}
+use Rattle.std.proofs.lemmas.List.{append-nil}
+use Rattle.std.proofs.Math.Bool.{and-true}
+use Rattle.batcher_types.specs.declared.messages.Proposal.{Proposal}
+use Rattle.batcher_types.specs.declared.messages.Vote.{Vote}
+use Rattle.batcher_types.specs.declared.messages.Vote.TheVariants.{Notarize as NotarizeVote, Nullify as NullifyVote, Finalize as FinalizeVote}
+use Rattle.batcher_types.specs.declared.messages.Kind.{Kind}
+use Rattle.batcher_types.specs.declared.messages.Kind.TheVariants.{Notarization, Nullification, Finalization}
+use Rattle.batcher_types.specs.declared.messages.Activity.{Activity}
+use Rattle.batcher_votes.specs.declared.verifier.ProposalState.TheVariants.{Certificate as FixedProposal}
+use Rattle.batcher_votes.specs.declared.votes.Outcome.{Outcome}
+use Rattle.batcher_votes.specs.declared.votes.Outcome.TheVariants.{Added, Duplicate}
+use Rattle.batcher_histories.specs.declared.calls.Call.TheVariants.{Own as OwnCall}
+use Rattle.batcher_histories.specs.declared.answers.Answer.TheVariants.{Own as OwnAnswer}
+use Rattle.batcher_histories.specs.Setting.{Setting}
+use Rattle.batcher_types.specs.Votes.{kind_of, is_of_kind, waits}
+use Rattle.batcher_votes.specs.Selected.{proposal_of, updated, fixes}
+use Rattle.batcher_votes.specs.Held.{of_kind, Buffered, Held}
+use Rattle.batcher_votes.specs.Tracking.{is_skipped, RecordsKind}
+use Rattle.batcher_votes.specs.Buffering.{MayFix, FixesProposal, coming_back}
+use Rattle.batcher_histories.specs.Steps.{fixed_by, selected_with, unopposed_result, is_kept, AfterOwn}
+use Rattle.batcher_histories.specs.Runs.{MayCall}
+use Rattle.batcher_histories.specs.History.{Event, History}
+use Rattle.batcher_histories.specs.FirstVotes.{is_free, first_votes, first_like, opposite_vote}
+use Rattle.batcher_histories.specs.Selection.{selection, fixing_evidence, comes_back, is_certified, is_released}
+use Rattle.batcher_histories.specs.Comparison.{conflicts}
+use Rattle.batcher_histories.specs.Standing.{waiting_votes}
+use Rattle.batcher_histories.specs.Answers.{own_answer, own_answer_against, outcome_by_first}
+use Rattle.batcher_histories.specs.Stands.{Stands, Follows, pending_after, verified_after}
+use Rattle.batcher_histories.proofs.History.Laws.{HasLaws}
+use Rattle.batcher_histories.proofs.Shown.Named.{own_same}
+use Rattle.batcher_histories.proofs.Follow.Frame.{Moves, followed, leader_same, closed_verified}
+use Rattle.batcher_histories.proofs.Follow.FirstVotes.{free_is, is_taken}
+use Rattle.batcher_histories.proofs.Follow.Waiting.{none_joins, is_closed, state_fixed, waiting_by, WaitsFixed, WaitsAfter, released_selects, waits_after, moves_kind, with_restored, waits_unfixed}
+use Rattle.batcher_votes.proofs.Counts.{open_or_closed, filter_behind}
+use Rattle.batcher_histories.proofs.Follow.Restored.{returned_fixed, nothing_comes}
+
+module _ {D K G C : Type 0} (x : Setting D K G C) where
+  -- WHICH VOTES ARE ADDED
+  pub unopposed : (past : History D K G C) (opposite : Option (Vote G D)) (vote : Vote G D)
+      (outcome : Outcome) → own_answer_against x past opposite vote ≡ Ok outcome → opposite ≡ None
+  unopposed past None vote outcome h = refl
+  unopposed past (Some earlier) vote outcome h = absurd (cc)
+
+  kept_by_first : (kind : Kind) (first : Option (Vote G D)) (r c : Bool) (outcome : Outcome)
+      → unopposed_result kind (outcome_by_first x first r c) ≡ Ok outcome → is_kept outcome
+      ≡ (is_none first && not r)
+  kept_by_first kind None r c outcome h = let e : Added (not r) ≡ outcome = cc in ap is_kept (sym e)
+  kept_by_first Notarization (Some kept) false c outcome h = absurd (cc)
+  kept_by_first Nullification (Some kept) false c outcome h = let e : Duplicate true ≡ outcome = cc in ap is_kept (sym e)
+  kept_by_first Finalization (Some kept) false c outcome h = absurd (cc)
+  kept_by_first kind (Some kept) true true outcome h = absurd (cc)
+  kept_by_first kind (Some kept) true false outcome h = let e : Duplicate false ≡ outcome = cc in ap is_kept (sym e)
+
+  kept_as_answered : (past : History D K G C) (vote : Vote G D) (outcome : Outcome)
+      → own_answer x past vote ≡ Ok outcome → is_kept outcome
+      ≡ (is_free (first_votes x past) vote && not (is_released x past (kind_of vote)))
+  kept_as_answered past vote outcome h =
+      let none : opposite_vote x past vote ≡ None = unopposed past (opposite_vote x past vote) vote outcome h in
+      kept_by_first (kind_of vote) (first_like x past vote) (is_released x past (kind_of vote)) (conflicts x past vote) outcome
+      (ap (λ o. own_answer_against x past o vote) (sym none) ∙ h)
+      ∙ ap (λ b. b && not (is_released x past (kind_of vote)))
+      (sym (and-true (is_none (first_like x past vote)))
+      ∙ (ap (λ o. is_none (first_like x past vote) && is_none o) (sym none) ∙ sym (free_is (first_votes x past) vote)))
+
+  -- WHAT THE CALL MOVES
+  module _ (past : History D K G C) (old : Held G D) (vote : Vote G D) (outcome : Outcome)
+      (report : Option (Activity G D)) (new : Held G D) (stands : Stands x past old)
+      (step : AfterOwn x old vote outcome report new) where
+    abbrev event : Event D K G C
+    event = (OwnCall vote, OwnAnswer outcome report)
+
+    answered : own_answer x past vote ≡ Ok outcome
+    answered = sym (own_same x past old vote stands) ∙ step.outcome_is
+
+    evidence_is : (w : Vote G D) → fixing_evidence {D = D} {K = K} {G = G} {C = C}
+        (OwnCall w, OwnAnswer outcome report) ≡ fixed_by w
+    evidence_is (NotarizeVote v) = refl
+    evidence_is (NullifyVote v) = refl
+    evidence_is (FinalizeVote v) = refl
+
+    records : (kind : Kind) → RecordsKind x.same_digest old.tracked new.tracked
+        (selected_with x old vote) (is_taken x past event vote true) vote kind
+    records kind =
+        subst (λ (b : Bool). RecordsKind x.same_digest old.tracked new.tracked (selected_with x old vote) b vote kind)
+        (sym (ap is_none (unopposed past (opposite_vote x past vote) vote outcome answered))) (step.tracked kind)
+
+    selected_is : selected_with x old vote ≡ proposal_of (state_fixed x past event)
+    selected_is =
+        ap (λ s. proposal_of (fixes s (fixed_by vote))) stands.selection_is ∙ ap (λ e. proposal_of (fixes (selection x past) e)) (sym (evidence_is vote))
+
+    waits_fixed : (fixed : Buffered G D) (p : Proposal D) → fixing_evidence event ≡ Some p
+        → FixesProposal x.same_digest old.buffered old.tracked.kept p fixed
+        → WaitsFixed x past event fixed (with_restored x past event old)
+        (of_kind old.buffered.verified)
+    waits_fixed fixed p fixing f =
+        let selection_goes : fixed.selection ≡ fixes (selection x past) (Some p) = f.selection ∙ ap (λ s. updated s (FixedProposal p)) stands.selection_is in
+        let certified_goes : (kind : Kind) → of_kind fixed.certified kind ≡ is_certified past kind = λ kind. (f.buffers kind).certified
+        ∙ (stands.each_kind kind).certified_is in
+        record {
+          leader_is = f.leader ∙ stands.leader_is;
+          selection_is = selection_goes ∙ ap (fixes (selection x past)) (sym fixing);
+          certified_is = certified_goes;
+          pending_are = λ kind.
+              (f.buffers kind).pending
+              ∙ (ap (λ c. waiting_by x.same_digest c (proposal_of fixed.selection)
+              (of_kind old.buffered.pending kind ++ coming_back x.same_digest old.buffered old.tracked.kept p kind)) (certified_goes kind)
+              ∙ (ap (λ s. waiting_by x.same_digest (is_certified past kind) (proposal_of s)
+              (of_kind old.buffered.pending kind ++ coming_back x.same_digest old.buffered old.tracked.kept p kind)) selection_goes
+              ∙ (open_or_closed (waits x.same_digest (proposal_of (fixes (selection x past) (Some p)))) (is_certified past kind) (is_skipped x.mode)
+              (of_kind old.buffered.pending kind ++ coming_back x.same_digest old.buffered old.tracked.kept p kind) (with_restored x past event old kind)
+              (nothing_comes x past old kind p old.buffered stands)
+              (λ by_new still.
+              filter_behind (waits x.same_digest (proposal_of (fixes (selection x past) (Some p)))) (of_kind old.buffered.pending kind)
+              (coming_back x.same_digest old.buffered old.tracked.kept p kind) (filter (comes_back x past event) (of_kind old.tracked.kept kind))
+              (returned_fixed x past event old kind p old.buffered stands refl fixing still))
+              ∙ ap (λ e. waiting_by x.same_digest (is_closed x past event kind) (proposal_of (fixes (selection x past) e))
+              (with_restored x past event old kind)) (sym fixing))));
+          verified_are = λ kind.
+              (f.buffers kind).verified
+              ∙ (ap (λ c. waiting_by x.same_digest c (proposal_of fixed.selection) (of_kind old.buffered.verified kind ++ [])) (certified_goes kind)
+              ∙ (ap (λ s. waiting_by x.same_digest (is_certified past kind) (proposal_of s) (of_kind old.buffered.verified kind ++ [])) selection_goes
+              ∙ (ap (waiting_by x.same_digest (is_certified past kind) (proposal_of (fixes (selection x past) (Some p))))
+              (append-nil (of_kind old.buffered.verified kind))
+              ∙ (open_or_closed (waits x.same_digest (proposal_of (fixes (selection x past) (Some p)))) (is_certified past kind) (is_skipped x.mode)
+              (of_kind old.buffered.verified kind) (of_kind old.buffered.verified kind)
+              (λ skips. closed_verified x past old kind stands (or_right (is_certified past kind) (is_skipped x.mode) skips)) (λ by_new still. refl)
+              ∙ ap (λ e. waiting_by x.same_digest (is_closed x past event kind) (proposal_of (fixes (selection x past) e)) (of_kind old.buffered.verified kind))
+              (sym fixing)))));
+        }
+
+    -- what waits once the evidence of the vote is taken in
+    waits_by : (evidence : Option (Proposal D)) (fixed : Buffered G D) → fixing_evidence event
+        ≡ evidence → MayFix x.same_digest old.buffered old.tracked.kept evidence fixed
+        → WaitsFixed x past event fixed (with_restored x past event old)
+        (of_kind old.buffered.verified)
+    waits_by None fixed unfixing same = waits_unfixed x past event old fixed stands refl unfixing same
+    waits_by (Some p) fixed fixing f = waits_fixed fixed p fixing f
+
+    waits_then : WaitsAfter x past event vote true new.buffered true
+        (with_restored x past event old) (of_kind old.buffered.verified)
+    waits_then =
+        waits_after x past event vote true step.fixed new.buffered true (is_kept outcome) (with_restored x past event old) (of_kind old.buffered.verified) refl
+        refl refl
+        (kept_as_answered past vote outcome answered) (waits_by (fixed_by vote) step.fixed (evidence_is vote) step.fixes) step.buffered
+
+    pending_goes : (kind : Kind) → of_kind new.buffered.pending kind
+        ≡ pending_after x past old event kind
+    pending_goes kind =
+        waits_then.pending_are kind
+        ∙ ap (λ b. waiting_votes x (event ∷ past) kind (with_restored x past event old kind ++ cond b (vote ∷ []) []))
+        (none_joins (is_of_kind kind vote) (is_free (first_votes x past) vote))
+
+    verified_goes : (kind : Kind) → of_kind new.buffered.verified kind
+        ≡ verified_after x past old event kind
+    verified_goes kind =
+        waits_then.verified_are kind
+        ∙ ap (λ b. waiting_votes x (event ∷ past) kind (of_kind old.buffered.verified kind ++ cond b (vote ∷ []) []))
+        (ap (λ f. is_of_kind kind vote && f) (and-true (is_free (first_votes x past) vote)))
+
+    moves : MayCall x.meaning x.number (OwnCall vote)
+        → Moves x past old (OwnCall vote) (OwnAnswer outcome report) new
+    moves allowed =
+        record {
+          allowed = allowed;
+          made = refl;
+          answered = (answered, step.report_is);
+          leader_is = waits_then.leader_is ∙ sym (leader_same x past event refl);
+          selection_is = waits_then.selection_is;
+          forwarded_is = step.forwarded ∙ stands.forwarded_is;
+          kinds =
+              moves_kind x past event vote true old new (selected_with x old vote) true (with_restored x past event old) (of_kind old.buffered.verified) stands
+              refl refl
+              (λ released. selected_is ∙ released_selects x past event vote true refl refl released) waits_then records;
+          pending_are = pending_goes;
+          verified_are = verified_goes;
+          attempt = tt;
+        }
+
+  -- An own vote is followed.
+  pub own_follows : HasLaws x → (past : History D K G C) (old : Held G D) (vote : Vote G D)
+      (outcome : Outcome) (report : Option (Activity G D)) (new : Held G D) →
+      Stands x past old → MayCall x.meaning x.number (OwnCall vote)
+      → AfterOwn x old vote outcome report new →
+      Follows x past old (OwnCall vote, OwnAnswer outcome report) new
+  own_follows lawful past old vote outcome report new stands allowed step =
+      followed x lawful past old (OwnCall vote) (OwnAnswer outcome report) new stands (moves past old vote outcome report new stands step allowed)

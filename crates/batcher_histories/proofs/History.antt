@@ -1,0 +1,7 @@
+-- What holds of histories by themselves.
+
+pub mod Laws
+pub mod Distinct
+pub mod Past
+pub mod Selection
+pub mod Attempts

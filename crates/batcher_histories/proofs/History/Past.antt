@@ -1,0 +1,233 @@
+-- What holds of the first votes, of the trials and of the standing votes of a history.
+use Rattle.std.proofs.Common.{◌≡◌, ℕ, Bool, true, false, not, ◌&&◌, ◌||◌, List, [], ◌∷◌, map, Option, Some, None, refl, ap, sym, ◌∙◌, ⊎_elim, eqb, ltb, subst}
+use Rattle.std.specs.Prelude.{filter, is_some}
+use Rattle.std.specs.List.{list_any}
+use Rattle.std.proofs.lemmas.Bool.{cases_Bool, and_parts, or_cases, false_from_ne_true}
+use Rattle.std.proofs.lemmas.List.Folds.{list_any-append}
+use Rattle.batcher_histories.specs.FirstVotes.{first_vote, first_votes, is_free, own_first_votes}
+use Rattle.batcher_histories.specs.History.{Event, History, batch_given, own_votes}
+use Rattle.batcher_types.specs.Lists.{count, is_some_and}
+use Rattle.batcher_histories.specs.Selection.{comes_back, is_certified, restored_votes, selected_proposal, votes_restored_by}
+use Rattle.batcher_histories.specs.Setting.{Setting}
+use Rattle.batcher_histories.specs.Standing.{fresh_votes, holds_vote, is_among, is_trusted, proven_votes, ready_kind, standing_votes, stood_before, trials, was_invalid, with_batch, waiting_votes}
+use Rattle.batcher_histories.specs.Stands.{tries_kind}
+use Rattle.batcher_votes.specs.Tracking.{is_skipped}
+use Rattle.batcher_types.specs.Votes.{is_kind, is_of_kind, is_vote_of, kind_of, signer_of, waits}
+use Rattle.batcher_types.specs.declared.messages.Certificate.{Certificate}
+use Rattle.batcher_types.specs.declared.messages.Kind.{Kind}
+use Rattle.batcher_types.specs.declared.messages.Vote.{Vote}
+use Rattle.batcher_histories.specs.declared.calls.Call.TheVariants.{Certificate as CertificateCall, Construct as ConstructCall, Forward as ForwardCall, Leader as LeaderCall, Missing as MissingCall, Network as NetworkCall, Own as OwnCall}
+use Rattle.batcher_votes.specs.declared.verifier.Batch.{Batch}
+use Rattle.batcher_histories.proofs.History.Distinct.{free_apart, new_votes, new_cases, firsts_apart, filled_stays, IsAt, any_count, any_filtered, any_is_found, count-filter, count_at, is_kind-true, positive, some_where}
+use Rattle.batcher_votes.proofs.Counts.{count-map, count_same}
+
+module _ {D K G C : Type 0} (x : Setting D K G C) where
+  -- the standing votes of a kind, by signer
+  pub kind_and_signer : (k w s : Bool) → (k && (w && s)) ≡ (w && (k && s))
+  kind_and_signer true true s = refl
+  kind_and_signer true false s = refl
+  kind_and_signer false true s = refl
+  kind_and_signer false false s = refl
+
+  pub among_standing : (past : History D K G C) (kind : Kind) (i : ℕ) →
+      is_among i (map signer_of (standing_votes x past kind))
+      ≡ (not (is_certified past kind || is_skipped x.mode)
+      && is_some_and (first_vote x past kind i)
+      (waits x.same_digest (selected_proposal x past)))
+  among_standing past kind i =
+      ⊎_elim
+      (λ closed. rw closed refl)
+      (λ still. rw still still_open)
+      (cases_Bool (is_certified past kind || is_skipped x.mode))
+    where
+      passed : List (Vote G D)
+      passed = filter (waits x.same_digest (selected_proposal x past)) (filter (is_of_kind kind) (first_votes x past))
+
+      still_open : is_among i (map signer_of passed)
+          ≡ is_some_and (first_vote x past kind i) (waits x.same_digest (selected_proposal x past))
+      still_open =
+          any_count (λ j. eqb j i) (map signer_of passed)
+          ∙ (ap (λ n. ltb 0 n)
+          (count-map (λ j. eqb j i) signer_of passed
+          ∙ (count-filter (λ v. eqb (signer_of v) i) (waits x.same_digest (selected_proposal x past)) (filter (is_of_kind kind) (first_votes x past))
+          ∙ (count-filter (λ v. waits x.same_digest (selected_proposal x past) v && eqb (signer_of v) i) (is_of_kind kind) (first_votes x past)
+          ∙ (count_same _ (λ v. waits x.same_digest (selected_proposal x past) v && is_vote_of kind i v) (first_votes x past)
+          (λ v. kind_and_signer (is_of_kind kind v) (waits x.same_digest (selected_proposal x past) v) (eqb (signer_of v) i))
+          ∙ count_at (waits x.same_digest (selected_proposal x past)) (first_votes x past) kind i (firsts_apart x past)))))
+          ∙ positive (is_some_and (first_vote x past kind i) (waits x.same_digest (selected_proposal x past))))
+
+  -- what a batch has tried and found, after one more event
+  of_kind_alike : (k l : Kind) (f : Kind → Bool) → (is_kind k l && f k) ≡ (is_kind k l && f l)
+  of_kind_alike k l f =
+      ⊎_elim (λ e. let same : k ≡ l = is_kind-true k l e in ap (λ m. is_kind k l && f m) same) (λ e. rw e refl) (cases_Bool (is_kind k l))
+
+  tried_with : (past : History D K G C) (batch : Option (Batch (Certificate C D)))
+      (ready : Option Kind) (v : Vote G D) → ready_kind x past ≡ ready →
+      stood_before (with_batch x past (trials x past) batch) v
+      ≡ (((is_some batch && is_some_and ready (λ k. is_kind k (kind_of v)))
+      && is_among (signer_of v) (map signer_of (standing_votes x past (kind_of v))))
+      || stood_before (trials x past) v)
+  tried_with past None ready v e = refl
+  tried_with past (Some batch) None v e = rw e refl
+  tried_with past (Some batch) (Some k) v e =
+      rw e (ap (λ b. b || stood_before (trials x past) v) (of_kind_alike k (kind_of v) (λ l. is_among (signer_of v) (map signer_of (standing_votes x past l)))))
+
+  pub tried_after : (past : History D K G C) (event : Event D K G C) (v : Vote G D) →
+      stood_before (trials x (event ∷ past)) v
+      ≡ ((tries_kind x past event.1 (kind_of v)
+      && is_among (signer_of v) (map signer_of (standing_votes x past (kind_of v))))
+      || stood_before (trials x past) v)
+  tried_after past event v = tried_with past (batch_given event.1) (ready_kind x past) v refl
+
+  abbrev pub invalid_in : Option (Batch (Certificate C D)) → List ℕ
+  invalid_in None = []
+  invalid_in (Some batch) = map (λ i. i.0) batch.invalid
+
+  invalid_with : (past : History D K G C) (batch : Option (Batch (Certificate C D)))
+      (ready : Option Kind) (v : Vote G D) → ready_kind x past ≡ ready →
+      was_invalid (with_batch x past (trials x past) batch) v
+      ≡ (((is_some batch && is_some_and ready (λ k. is_kind k (kind_of v)))
+      && is_among (signer_of v) (invalid_in batch)) || was_invalid (trials x past) v)
+  invalid_with past None ready v e = refl
+  invalid_with past (Some batch) None v e = rw e refl
+  invalid_with past (Some batch) (Some k) v e = rw e refl
+
+  pub invalid_after : (past : History D K G C) (event : Event D K G C) (v : Vote G D) →
+      was_invalid (trials x (event ∷ past)) v
+      ≡ ((tries_kind x past event.1 (kind_of v)
+      && is_among (signer_of v) (invalid_in (batch_given event.1)))
+      || was_invalid (trials x past) v)
+  invalid_after past event v = invalid_with past (batch_given event.1) (ready_kind x past) v refl
+
+  -- what was tried has a first vote
+  pub tried_filled : (past : History D K G C) (v : Vote G D) → stood_before (trials x past) v ≡ true
+      → is_some (first_vote x past (kind_of v) (signer_of v)) ≡ true
+  tried_filled [] v h = cc
+  tried_filled (event ∷ past) v h =
+      filled_stays x past event (kind_of v) (signer_of v)
+      (⊎_elim
+      (λ now. some_where (waits x.same_digest (selected_proposal x past)) _
+      (and_parts _ _ (sym (among_standing past (kind_of v) (signer_of v)) ∙ (and_parts _ _ now).1)).1)
+      (λ before. tried_filled past v before)
+      (or_cases _ _ (sym (tried_after past event v) ∙ h)))
+
+  -- own first votes and restored ones are first votes
+  own_is_new : (past : History D K G C) (event : Event D K G C) (test : Vote G D → Bool) →
+      list_any test (filter (is_free (first_votes x past)) (own_votes event.0)) ≡ true
+      → list_any test (new_votes x past event) ≡ true
+  own_is_new past (NetworkCall sender vote, answer) test h = cc
+  own_is_new past (OwnCall vote, answer) test h = h
+  own_is_new past (CertificateCall certificate, answer) test h = h
+  own_is_new past (LeaderCall named, answer) test h = h
+  own_is_new past (ConstructCall, answer) test h = h
+  own_is_new past (ForwardCall me, answer) test h = h
+  own_is_new past (MissingCall p, answer) test h = h
+
+  pub own_filled : (past : History D K G C) (v : Vote G D) → holds_vote (own_first_votes x past) v
+      ≡ true → is_some (first_vote x past (kind_of v) (signer_of v)) ≡ true
+  own_filled [] v h = cc
+  own_filled (event ∷ past) v h =
+      ⊎_elim
+      (λ now. sym (any_is_found (first_votes x (event ∷ past)) (kind_of v) (signer_of v))
+      ∙ (list_any-append (is_vote_of (kind_of v) (signer_of v)) (new_votes x past event) (first_votes x past)
+      ∙ ap (λ b. b || list_any (is_vote_of (kind_of v) (signer_of v)) (first_votes x past))
+      (own_is_new past event (is_vote_of (kind_of v) (signer_of v)) now)))
+      (λ before. filled_stays x past event (kind_of v) (signer_of v) (own_filled past v before))
+      (or_cases _ _ (sym (list_any-append (is_vote_of (kind_of v) (signer_of v)) (filter (is_free (first_votes x past)) (own_votes event.0))
+      (own_first_votes x past)) ∙ h))
+
+  pub restored_filled : (past : History D K G C) (v : Vote G D)
+      → holds_vote (restored_votes x past) v ≡ true
+      → is_some (first_vote x past (kind_of v) (signer_of v)) ≡ true
+  restored_filled [] v h = cc
+  restored_filled (event ∷ past) v h =
+      filled_stays x past event (kind_of v) (signer_of v)
+      (⊎_elim
+      (λ now. some_where (comes_back x past event) _ (sym
+      (any_filtered (comes_back x past event) (first_votes x past) (kind_of v) (signer_of v) (firsts_apart x past)) ∙ now))
+      (λ before. restored_filled past v before)
+      (or_cases _ _ (sym (list_any-append (is_vote_of (kind_of v) (signer_of v)) (votes_restored_by x past event) (restored_votes x past)) ∙ h)))
+
+  -- whether a first vote is trusted, after one more event
+  no_new_own : (past : History D K G C) (event : Event D K G C) (v : Vote G D)
+      → IsAt (first_votes x past) v →
+      list_any (is_vote_of (kind_of v) (signer_of v))
+      (filter (is_free (first_votes x past)) (own_votes event.0)) ≡ false
+  no_new_own past event v found =
+      false_from_ne_true _ (λ there.
+      let some : list_any (is_vote_of (kind_of v) (signer_of v)) (new_votes x past event)
+      ≡ true = own_is_new past event (is_vote_of (kind_of v) (signer_of v)) there in
+      ⊎_elim
+      (λ none. let no : false ≡ true = subst (λ (vs : List (Vote G D)). list_any (is_vote_of (kind_of v) (signer_of v)) vs ≡ true) none some in cc)
+      (λ (one : (w : Vote G D) × (new_votes x past event ≡ w ∷ []) × (is_free (first_votes x past) w ≡ true)).
+      let k : list_any (is_vote_of (kind_of v) (signer_of v)) (one.0 ∷ [])
+      ≡ true = subst (λ (vs : List (Vote G D)). list_any (is_vote_of (kind_of v) (signer_of v)) vs ≡ true) one.1 some in
+      let e : is_vote_of (kind_of v) (signer_of v) one.0 ≡ false = free_apart (first_votes x past) one.0 v (kind_of v) (signer_of v) one.2 found in
+      let no : (false || false) ≡ true = rw e at k in cc)
+      (new_cases x past event))
+
+  pub own_stays : (past : History D K G C) (event : Event D K G C) (v : Vote G D)
+      → IsAt (first_votes x past) v →
+      holds_vote (own_first_votes x (event ∷ past)) v ≡ holds_vote (own_first_votes x past) v
+  own_stays past event v found =
+      list_any-append (is_vote_of (kind_of v) (signer_of v)) (filter (is_free (first_votes x past)) (own_votes event.0)) (own_first_votes x past)
+      ∙ ap (λ b. b || holds_vote (own_first_votes x past) v) (no_new_own past event v found)
+
+  pub restored_after : (past : History D K G C) (event : Event D K G C) (v : Vote G D)
+      → IsAt (first_votes x past) v →
+      holds_vote (restored_votes x (event ∷ past)) v
+      ≡ (comes_back x past event v || holds_vote (restored_votes x past) v)
+  restored_after past event v found =
+      list_any-append (is_vote_of (kind_of v) (signer_of v)) (votes_restored_by x past event) (restored_votes x past)
+      ∙ ap (λ b. b || holds_vote (restored_votes x past) v)
+      (any_filtered (comes_back x past event) (first_votes x past) (kind_of v) (signer_of v) (firsts_apart x past)
+      ∙ ap (λ o. is_some_and o (comes_back x past event)) found)
+
+  -- of a kind that is closed nothing waits
+  pub nothing_waits : (past : History D K G C) (kind : Kind) (votes : List (Vote G D))
+      → (is_certified past kind || is_skipped x.mode) ≡ true → waiting_votes x past kind votes ≡ []
+  nothing_waits past kind votes closed = rw closed refl
+
+  pub open_waits : (past : History D K G C) (kind : Kind) (votes : List (Vote G D))
+      → (is_certified past kind || is_skipped x.mode) ≡ false →
+      waiting_votes x past kind votes ≡ filter (waits x.same_digest (selected_proposal x past))
+      votes
+  open_waits past kind votes still = rw still refl
+
+  -- the fresh and the proven votes by counts over the first votes
+  pub closed_is_empty : (past : History D K G C) (kind : Kind)
+      → (is_certified past kind || is_skipped x.mode) ≡ true →
+      (fresh_votes x past kind ≡ []) × (proven_votes x past kind ≡ [])
+  closed_is_empty past kind h = (rw h refl, rw h refl)
+
+  pub count_passed : (past : History D K G C) (kind : Kind) (test : Vote G D → Bool)
+      → (is_certified past kind || is_skipped x.mode) ≡ false →
+      count test (standing_votes x past kind)
+      ≡ count (λ v. is_of_kind kind v &&
+      (waits x.same_digest (selected_proposal x past) v && test v)) (first_votes x past)
+  count_passed past kind test still =
+      ap (count test) (open_waits past kind (filter (is_of_kind kind) (first_votes x past)) still)
+      ∙ (count-filter test (waits x.same_digest (selected_proposal x past)) (filter (is_of_kind kind) (first_votes x past))
+      ∙ count-filter (λ v. waits x.same_digest (selected_proposal x past) v && test v) (is_of_kind kind) (first_votes x past))
+
+  pub count_fresh : (past : History D K G C) (kind : Kind) (test : Vote G D → Bool)
+      → (is_certified past kind || is_skipped x.mode) ≡ false →
+      count test (fresh_votes x past kind)
+      ≡ count (λ v. is_of_kind kind v &&
+      (waits x.same_digest (selected_proposal x past) v
+      && (not (is_trusted x past v || stood_before (trials x past) v) && test v)))
+      (first_votes x past)
+  count_fresh past kind test still =
+      count-filter test (λ v. not (is_trusted x past v || stood_before (trials x past) v)) (standing_votes x past kind)
+      ∙ count_passed past kind (λ v. not (is_trusted x past v || stood_before (trials x past) v) && test v) still
+
+  pub count_proven : (past : History D K G C) (kind : Kind) (test : Vote G D → Bool)
+      → (is_certified past kind || is_skipped x.mode) ≡ false →
+      count test (proven_votes x past kind)
+      ≡ count (λ v. is_of_kind kind v &&
+      (waits x.same_digest (selected_proposal x past) v
+      && (((is_trusted x past v || stood_before (trials x past) v)
+      && not (was_invalid (trials x past) v)) && test v))) (first_votes x past)
+  count_proven past kind test still =
+      count-filter test (λ v. (is_trusted x past v || stood_before (trials x past) v) && not (was_invalid (trials x past) v)) (standing_votes x past kind)
+      ∙ count_passed past kind (λ v. ((is_trusted x past v || stood_before (trials x past) v) && not (was_invalid (trials x past) v)) && test v) still

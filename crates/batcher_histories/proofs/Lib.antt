@@ -1,0 +1,5 @@
+pub mod History
+pub mod Shown
+pub mod Right
+pub mod Follow
+pub mod Memory

@@ -1,0 +1,106 @@
+-- Calls that take no memory, by the history.
+use Rattle.std.proofs.Common.{◌≡◌, Bool, true, false, cond, ◌&&◌, ◌||◌, List, [], ◌∷◌, length, Option, Some, None, refl, ap, sym, ◌∙◌, arith}
+use Rattle.std.specs.Prelude.{filter}
+use Rattle.std.proofs.lemmas.List.{nil_from_length}
+use Rattle.std.proofs.Math.Bool.{and-true}
+use Rattle.batcher_types.specs.declared.messages.Proposal.{Proposal}
+use Rattle.batcher_types.specs.declared.messages.Kind.{Kind}
+use Rattle.batcher_types.specs.declared.messages.Certificate.{Certificate}
+use Rattle.batcher_histories.specs.declared.calls.Call.TheVariants.{Certificate as CertificateCall}
+use Rattle.batcher_histories.specs.declared.answers.Answer.TheVariants.{Certificate as CertificateAnswer}
+use Rattle.batcher_histories.specs.Setting.{Setting}
+use Rattle.batcher_types.specs.Lists.{count, is_empty}
+use Rattle.batcher_types.specs.Votes.{is_kind, is_of_kind, has_proposals, kind_certified, subject_certified, proposal_in, signer_of, waits}
+use Rattle.batcher_votes.specs.Selected.{proposal_of, replaces, fixes}
+use Rattle.batcher_votes.specs.Held.{of_kind, Held}
+use Rattle.batcher_votes.specs.Buffering.{coming_back}
+use Rattle.batcher_histories.specs.Steps.{restored_by, restored_with}
+use Rattle.batcher_histories.specs.History.{Event, History}
+use Rattle.batcher_histories.specs.FirstVotes.{first_votes}
+use Rattle.batcher_histories.specs.Selection.{selected_proposal, leader_of, is_certified, leaders_proposal, comes_back, votes_restored_by, is_released}
+use Rattle.batcher_histories.specs.Stands.{Stands, first_by_signer}
+use Rattle.batcher_votes.proofs.Counts.{count-filter_le, count_same, count-true}
+use Rattle.batcher_histories.proofs.History.Distinct.{is_kind-refl, is_kind-true, count-filter}
+use Rattle.batcher_histories.proofs.Follow.Buffers.{count_ordered}
+use Rattle.batcher_histories.proofs.Follow.Frame.{or_nothing, leaders_same}
+use Rattle.batcher_histories.proofs.Follow.Restored.{returned, replaced_is}
+use Rattle.batcher_histories.proofs.History.Selection.{selection_fixes}
+
+empty_is : {X : Type 0} (xs : List X) → is_empty xs ≡ true → xs ≡ []
+empty_is [] h = refl
+empty_is (x ∷ xs) h = absurd (cc)
+
+pub counted : {X : Type 0} (p : X → Bool) (xs : List X) → count p xs ≡ length (filter p xs)
+counted p xs = count_same p (λ v. p v && true) xs (λ v. sym (and-true (p v))) ∙ (sym (count-filter (λ v. true) p xs) ∙ count-true (filter p xs))
+
+either_empty : {X : Type 0} (b : Bool) (xs : List X) → (b ≡ false → xs ≡ []) → cond b [] xs ≡ []
+either_empty true xs h = refl
+either_empty false xs h = h refl
+
+kind_swapped : (a b : Kind) → is_kind a b ≡ false → is_kind b a ≡ false
+kind_swapped a b h = by (is_kind b a) refl
+  where
+    by : (t : Bool) → is_kind b a ≡ t → t ≡ false
+    by true e = let same : b ≡ a = is_kind-true b a e in let no : true ≡ false = sym (is_kind-refl a) ∙ (ap (is_kind a) (sym same) ∙ h) in absurd (cc)
+    by false e = refl
+
+module _ {D K G C : Type 0} (x : Setting D K G C) where
+  -- where no first vote comes back, no kept one does
+  none_kept_back : (past : History D K G C) (event : Event D K G C) (held : Held G D) (kind : Kind)
+      → Stands x past held → is_empty (votes_restored_by x past event) ≡ true →
+      filter (comes_back x past event) (of_kind held.tracked.kept kind) ≡ []
+  none_kept_back past event held kind stands none =
+      nil_from_length (filter (comes_back x past event) (of_kind held.tracked.kept kind))
+      (sym (counted (comes_back x past event) (of_kind held.tracked.kept kind)) ∙ ap (count (comes_back x past event)) (stands.each_kind kind).kept_are
+      ∙ by_released (is_released x past kind))
+    where
+      none_first : count (comes_back x past event) (first_votes x past) ≡ 0
+      none_first = counted (comes_back x past event) (first_votes x past) ∙ ap length (empty_is (votes_restored_by x past event) none)
+
+      by_released : (r : Bool) → count (comes_back x past event)
+          (cond r [] (first_by_signer x past kind)) ≡ 0
+      by_released true = refl
+      by_released false =
+          count_ordered (comes_back x past event) signer_of (filter (is_of_kind kind) (first_votes x past))
+          ∙ omega (arith, none_first, count-filter_le (comes_back x past event) (is_of_kind kind) (first_votes x past))
+
+  -- With a certificate that brings no vote back, nothing waits again.
+  pub nothing_restored : (past : History D K G C) (held : Held G D) (c : Certificate C D)
+      (answer : Bool) → Stands x past held →
+      is_empty (votes_restored_by x past (CertificateCall c, CertificateAnswer answer)) ≡ true
+      → (kind : Kind) → restored_with x held c kind ≡ []
+  nothing_restored past held c answer stands none kind =
+      either_empty (is_kind kind (kind_certified c)) _ (λ other. by_proposal other (proposal_in (subject_certified c)) refl)
+    where
+      leaders_stay : leaders_proposal x ((CertificateCall c, CertificateAnswer answer) ∷ past)
+          ≡ leaders_proposal x past
+      leaders_stay = leaders_same x past (CertificateCall c, CertificateAnswer answer) refl (or_nothing (leader_of past))
+
+      by_proposal : is_kind kind (kind_certified c) ≡ false → (o : Option (Proposal D))
+          → proposal_in (subject_certified c) ≡ o → restored_by x held o kind ≡ []
+      by_proposal other None is = refl
+      by_proposal other (Some p) is =
+          either_empty (of_kind held.buffered.certified kind) _ (λ unfinished. by_replaced unfinished (replaces x.same_digest held.buffered.selection p) refl)
+        where
+          by_replaced : of_kind held.buffered.certified kind ≡ false → (r : Bool)
+              → replaces x.same_digest held.buffered.selection p ≡ r
+              → filter (waits x.same_digest (Some p))
+              (coming_back x.same_digest held.buffered held.tracked.kept p kind) ≡ []
+          by_replaced unfinished false e =
+              ap (λ b. filter (waits x.same_digest (Some p)) (cond (b && has_proposals kind) (of_kind held.tracked.kept kind) [])) e
+          by_replaced unfinished true e =
+              ap (λ o. filter (waits x.same_digest o) (coming_back x.same_digest held.buffered held.tracked.kept p kind)) (sym selected)
+              ∙ (returned x past (CertificateCall c, CertificateAnswer answer) held kind p held.buffered stands refl is leaders_stay still
+              ∙ ap (filter (waits x.same_digest (selected_proposal x ((CertificateCall c, CertificateAnswer answer) ∷ past))))
+              (none_kept_back past (CertificateCall c, CertificateAnswer answer) held kind stands none))
+            where
+              still : is_certified ((CertificateCall c, CertificateAnswer answer) ∷ past) kind
+                  ≡ false
+              still =
+                  ap (λ b. b || is_certified past kind) (kind_swapped kind (kind_certified c) other) ∙ (sym (stands.each_kind kind).certified_is ∙ unfinished)
+
+              selected : selected_proposal x ((CertificateCall c, CertificateAnswer answer) ∷ past)
+                  ≡ Some p
+              selected =
+                  ap proposal_of (selection_fixes x past (CertificateCall c, CertificateAnswer answer) (Some p) leaders_stay is)
+                  ∙ (ap (λ s. proposal_of (fixes s (Some p))) (sym stands.selection_is) ∙ replaced_is x held.buffered.selection p e)

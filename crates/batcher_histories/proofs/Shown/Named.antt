@@ -1,0 +1,388 @@
+-- What is answered by what is held is what the history names.
+use Rattle.std.proofs.Common.{◌≡◌, ℕ, Bool, true, false, not, cond, ◌&&◌, ◌||◌, List, [], ◌∷◌, ◌++◌, Option, Some, None, refl, ap, sym, ◌∙◌, ⊎_elim, eqb}
+use Rattle.std.specs.Prelude.{filter, find, is_some, option_and_then}
+use Rattle.std.specs.Option.{option_or}
+use Rattle.std.specs.List.{list_any}
+use Rattle.std.proofs.lemmas.Bool.{cases_Bool, and_parts, false_from_ne_true, and_right, and_left}
+use Rattle.std.proofs.Math.Bool.{and-true}
+use Rattle.batcher_types.specs.declared.positions.Participant.{Participant}
+use Rattle.batcher_types.specs.declared.messages.Proposal.{Proposal}
+use Rattle.batcher_types.specs.declared.messages.Vote.{Vote}
+use Rattle.batcher_types.specs.declared.messages.Vote.TheVariants.{Notarize as NotarizeVote, Nullify as NullifyVote, Finalize as FinalizeVote}
+use Rattle.batcher_types.specs.declared.messages.Kind.{Kind}
+use Rattle.batcher_types.specs.declared.messages.Kind.TheVariants.{Notarization, Nullification, Finalization}
+use Rattle.batcher_types.specs.declared.messages.Certificate.{Certificate}
+use Rattle.batcher_types.specs.declared.messages.Certificate.TheVariants.{Notarization as NotarizationCertificate, Nullification as NullificationCertificate, Finalization as FinalizationCertificate}
+use Rattle.batcher_votes.specs.declared.votes.Mode.{Mode}
+use Rattle.batcher_votes.specs.declared.votes.Mode.TheVariants.{Retaining, Releasing, Skipped}
+use Rattle.batcher_votes.specs.declared.votes.Outcome.{Outcome}
+use Rattle.batcher_votes.specs.declared.votes.Outcome.TheVariants.{Duplicate, Conflicting}
+use Rattle.batcher_histories.specs.Setting.{Setting, sender_in}
+use Rattle.batcher_types.specs.Lists.{is_some_and, is_empty, exactly_one}
+use Rattle.batcher_types.specs.Votes.{is_kind, kind_of, signer_of, proposal_in, kind_certified, subject_certified, has_proposals, is_vote_of, is_for, opposes, are_opposite}
+use Rattle.batcher_votes.specs.Selected.{proposal_of, fixes}
+use Rattle.batcher_votes.specs.Held.{of_kind, Held}
+use Rattle.batcher_votes.specs.Tracking.{unseen, from_kept, from_facts, observed, observed_opposite, conflicts_with, outcome_by, is_skipped, is_released_in}
+use Rattle.batcher_histories.specs.Admissions.{refusal, block_for, mismatch_reason, conflict_reason, admission_after, admission_after_facts}
+use Rattle.batcher_histories.specs.Steps.{admission, admission_by, admission_named, admission_from, own_result, own_result_by, own_outcome, fixed_by, unopposed_result, forward_answer, is_participant}
+use Rattle.batcher_histories.specs.History.{History, cast_votes}
+use Rattle.batcher_histories.specs.FirstVotes.{first_votes, first_vote, first_like, opposite_vote}
+use Rattle.batcher_histories.specs.Selection.{leader_of, selection_by, selection, selected_proposal, is_certified, certificate_of, finalized_by, fixed_proposal, fixing_evidence, leaders_proposal, was_forwarded, is_released}
+use Rattle.batcher_histories.specs.Comparison.{compared_votes, compared_votes_of, is_compared, is_compared_at_release, differs_from, conflicts}
+use Rattle.batcher_histories.specs.Answers.{network_answer, admission_sent_by, admission_against, admission_by_first, outcome_by_first, own_answer, own_answer_against, forward_after}
+use Rattle.batcher_histories.specs.Stands.{Stands, facts_of}
+use Rattle.batcher_votes.specs.Buffering.{selected_in}
+use Rattle.batcher_histories.proofs.History.Distinct.{found_is_of, is_kind-true}
+use Rattle.batcher_histories.proofs.Shown.Observed.{observed_is}
+use Rattle.batcher_votes.proofs.Counts.{filter_none}
+
+pub or_none : {X : Type 0} (a b : Option X) → option_or a b ≡ None → (a ≡ None) × (b ≡ None)
+or_none None b h = (refl, h)
+or_none (Some v) b h = cc
+
+find_same : {X : Type 0} (p q : X → Bool) (xs : List X) → ((v : X) → p v ≡ q v) → find p xs
+    ≡ find q xs
+find_same p q [] same = refl
+find_same p q (x ∷ xs) same = rw (same x, find_same p q xs same) refl
+
+find_never : {X : Type 0} (xs : List X) → find (λ x. false) xs ≡ None
+find_never [] = refl
+find_never (x ∷ xs) = find_never xs
+
+and_swap : (a b c : Bool) → b ≡ c → (a && b) ≡ (c && a)
+and_swap true b c h = h ∙ sym (and-true c)
+and_swap false b c h = sym (and_right c false refl)
+
+against_nullify : (k : Kind) → are_opposite k Nullification ≡ is_kind k Finalization
+against_nullify Notarization = refl
+against_nullify Nullification = refl
+against_nullify Finalization = refl
+
+against_finalize : (k : Kind) → are_opposite k Finalization ≡ is_kind k Nullification
+against_finalize Notarization = refl
+against_finalize Nullification = refl
+against_finalize Finalization = refl
+
+against_notarize : (k : Kind) → are_opposite k Notarization ≡ false
+against_notarize Notarization = refl
+against_notarize Nullification = refl
+against_notarize Finalization = refl
+
+pub certificate_has_proposal : {C D : Type 0} (c : Certificate C D)
+    → has_proposals (kind_certified c) ≡ true → is_some (proposal_in (subject_certified c)) ≡ true
+certificate_has_proposal (NotarizationCertificate c) h = refl
+certificate_has_proposal (NullificationCertificate c) h = cc
+certificate_has_proposal (FinalizationCertificate c) h = refl
+
+pub unreleased_pair : (h r s : Bool) → (h ≡ true → s ≡ false) → (h && (r && s)) ≡ false
+unreleased_pair true true s f = f refl
+unreleased_pair true false s f = refl
+unreleased_pair false r s f = refl
+
+pub uncompared_pair : (h r s o : Bool) → (h ≡ true → r ≡ false) → ((h && r) && (s && o)) ≡ false
+uncompared_pair true r s o f = rw (f refl) refl
+uncompared_pair false r s o f = refl
+
+pub released_where : (mode : Mode) (certified : Bool) → is_skipped mode ≡ false → certified ≡ false
+    → is_released_in mode certified ≡ false
+released_where Retaining certified by_new h = refl
+released_where Releasing certified by_new h = h
+released_where Skipped certified by_new h = absurd (cc)
+
+pub always_released : (mode : Mode) (certified : Bool) → is_skipped mode ≡ true
+    → is_released_in mode certified ≡ true
+always_released Retaining certified h = absurd (cc)
+always_released Releasing certified h = absurd (cc)
+always_released Skipped certified h = refl
+
+module _ {D K G C : Type 0} (x : Setting D K G C) where
+  -- a certificate with a proposal fixes one
+  pub certified_fixes : (past : History D K G C) (kind : Kind) → fixed_proposal past ≡ None
+      → has_proposals kind ≡ true → is_certified past kind ≡ false
+  certified_fixes [] kind unfixed has = refl
+  certified_fixes (event ∷ past) kind unfixed has =
+      let both = or_none (fixed_proposal past) (fixing_evidence event) unfixed in
+      let none : option_and_then (λ c. proposal_in (subject_certified c)) (certificate_of event) ≡ None = (or_none (finalized_by event.0) _ both.1).1 in
+      rw (now (certificate_of event) none) (certified_fixes past kind both.0 has)
+    where
+      now : (o : Option (Certificate C D))
+          → option_and_then (λ c. proposal_in (subject_certified c)) o ≡ None
+          → is_some_and o (λ c. is_kind (kind_certified c) kind) ≡ false
+      now None h = refl
+      now (Some c) h = false_from_ne_true _ (λ e.
+          let k : kind_certified c ≡ kind = is_kind-true _ _ e in
+          let some : is_some (proposal_in (subject_certified c)) ≡ true = certificate_has_proposal c (ap has_proposals k ∙ has) in
+          let no : false ≡ true = sym (ap is_some h) ∙ some in cc)
+
+  unreleased_before : (past : History D K G C) (kind : Kind) → is_skipped x.mode ≡ false
+      → fixed_proposal past ≡ None → has_proposals kind ≡ true → is_released x past kind ≡ false
+  unreleased_before past kind by_new unfixed has = released_where x.mode (is_certified past kind) by_new (certified_fixes past kind unfixed has)
+
+  -- Nothing is compared until a proposal is fixed.
+  pub compared_if_fixed : (past : History D K G C) → fixed_proposal past ≡ None
+      → compared_votes x past ≡ []
+  compared_if_fixed [] unfixed = refl
+  compared_if_fixed (event ∷ past) unfixed =
+      ap (λ votes. votes ++ (filter (is_compared_at_release x past event) (first_votes x past) ++ compared_votes x past))
+      (filter_none (is_compared x past event) (cast_votes x event.0) not_compared)
+      ∙ (ap (λ votes. votes ++ compared_votes x past)
+      (filter_none (is_compared_at_release x past event) (first_votes x past) not_released)
+      ∙ compared_if_fixed past before)
+    where
+      before : fixed_proposal past ≡ None
+      before = (or_none (fixed_proposal past) (fixing_evidence event) unfixed).0
+
+      not_compared : (v : Vote G D) → is_compared x past event v ≡ false
+      not_compared v =
+          ⊎_elim
+          (λ skips.
+          let no_leaders : leaders_proposal x (event ∷ past) ≡ None = rw skips refl in
+          let none : selected_proposal x (event ∷ past) ≡ None = ap (λ f. proposal_of (selection_by f (leaders_proposal x (event ∷ past)))) unfixed
+          ∙ ap (λ l. proposal_of (selection_by None l)) no_leaders in
+          and_right (has_proposals (kind_of v) && is_released x past (kind_of v)) _
+          (and_left (is_some (selected_proposal x (event ∷ past))) _ (ap is_some none)))
+          (λ by_new. uncompared_pair (has_proposals (kind_of v)) (is_released x past (kind_of v)) (is_some (selected_proposal x (event ∷ past))) _
+          (unreleased_before past (kind_of v) by_new before))
+          (cases_Bool (is_skipped x.mode))
+
+      not_released : (v : Vote G D) → is_compared_at_release x past event v ≡ false
+      not_released v =
+          ⊎_elim
+          (λ skips. and_right (has_proposals (kind_of v)) _
+          (ap (λ r. not r && is_released x (event ∷ past) (kind_of v)) (always_released x.mode (is_certified past (kind_of v)) skips)))
+          (λ by_new. unreleased_pair (has_proposals (kind_of v)) (not (is_released x past (kind_of v))) (is_released x (event ∷ past) (kind_of v))
+          (unreleased_before (event ∷ past) (kind_of v) by_new unfixed))
+          (cases_Bool (is_skipped x.mode))
+
+  -- the opposite vote, by kind
+  abbrev pub opposite_first : History D K G C → Vote G D → Option (Vote G D)
+  opposite_first past (NotarizeVote v) = None
+  opposite_first past (NullifyVote v) = first_vote x past Finalization v.attestation.signer.0
+  opposite_first past (FinalizeVote v) = first_vote x past Nullification v.attestation.signer.0
+
+  pub opposite_is : (past : History D K G C) (vote : Vote G D) → opposite_vote x past vote
+      ≡ opposite_first past vote
+  opposite_is past (NotarizeVote v) =
+      find_same (λ w. opposes w (NotarizeVote v)) (λ w. false) (first_votes x past)
+      (λ w. and_right (eqb (signer_of w) v.attestation.signer.0) _ (against_notarize (kind_of w))) ∙ find_never (first_votes x past)
+  opposite_is past (NullifyVote v) =
+      find_same (λ w. opposes w (NullifyVote v)) (is_vote_of Finalization v.attestation.signer.0) (first_votes x past)
+      (λ w. and_swap (eqb (signer_of w) v.attestation.signer.0) _ _ (against_nullify (kind_of w)))
+  opposite_is past (FinalizeVote v) =
+      find_same (λ w. opposes w (FinalizeVote v)) (is_vote_of Nullification v.attestation.signer.0) (first_votes x past)
+      (λ w. and_swap (eqb (signer_of w) v.attestation.signer.0) _ _ (against_finalize (kind_of w)))
+
+  conflict_by : (i : ℕ) (vote : Vote G D) (selected : Option (Proposal D))
+      (others : List (Vote G D)) →
+      conflicts_with x.same_digest selected vote
+      (record {
+        signer = i;
+        has_compared = not (is_empty others);
+        has_matched = is_some_and
+            selected (λ q. list_any (is_for x.same_digest q) others);
+      })
+      ≡ is_some_and selected (differs_from x others vote)
+  conflict_by i vote None others = and_right (not (is_empty others)) false refl
+  conflict_by i vote (Some p) others = refl
+
+  -- whether a vote conflicts with the facts of its signer
+  conflict_same : (past : History D K G C) (vote : Vote G D)
+      → conflicts_with x.same_digest (selected_proposal x past) vote
+      (facts_of x past (kind_of vote) (signer_of vote)) ≡ conflicts x past vote
+  conflict_same past vote = conflict_by (signer_of vote) vote (selected_proposal x past) (compared_votes_of x past (kind_of vote) (signer_of vote))
+
+  -- NETWORK VOTES
+  by_first : (past : History D K G C) (vote : Vote G D) (r : Bool) (first : Option (Vote G D)) →
+      admission_by x (selected_proposal x past)
+      (cond r (from_facts (option_and_then
+      (λ v. Some (facts_of x past (kind_of vote) (signer_of vote))) first)) (from_kept first))
+      vote
+      ≡ admission_by_first x first r (conflicts x past vote) vote
+  by_first past vote true None = refl
+  by_first past vote false None = refl
+  by_first past vote false (Some k) = refl
+  by_first past vote true (Some k) =
+      by_conflict (conflicts_with x.same_digest (selected_proposal x past) vote (facts_of x past (kind_of vote) (signer_of vote))) (conflicts x past vote)
+      (conflict_same past vote)
+    where
+      by_conflict : (a b : Bool) → a ≡ b
+          → cond a (block_for (conflict_reason (kind_of vote)) None) refusal
+          ≡ admission_by_first x (Some k) true b vote
+      by_conflict true true e = refl
+      by_conflict true false e = absurd (cc)
+      by_conflict false true e = absurd (cc)
+      by_conflict false false e = refl
+
+  named_same : (past : History D K G C) (held : Held G D) (vote : Vote G D) → Stands x past held
+      → admission_named x held unseen vote ≡ admission_against x past None vote
+  named_same past held vote stands =
+      ap (λ s. admission_by x (proposal_of s) (observed held.tracked (kind_of vote) (signer_of vote)) vote) stands.selection_is
+      ∙ (ap (λ o. admission_by x (selected_proposal x past) o vote) (observed_is x past held (kind_of vote) (signer_of vote) stands)
+      ∙ by_first past vote (is_released x past (kind_of vote)) (first_like x past vote))
+
+  -- the answer by what is observed of the opposite votes
+  after_same : (past : History D K G C) (held : Held G D) (vote : Vote G D) (kind : Kind) (i : ℕ)
+      (r : Bool) (o : Option (Vote G D)) → is_released x past kind ≡ r
+      → ((earlier : Vote G D) → o ≡ Some earlier → kind_of earlier ≡ kind) → Stands x past held →
+      admission_named x held (cond r (from_facts
+      (option_and_then (λ v. Some (facts_of x past kind i)) o)) (from_kept o)) vote
+      ≡ admission_against x past o vote
+  after_same past held vote kind i true None er only stands = named_same past held vote stands
+  after_same past held vote kind i false None er only stands = named_same past held vote stands
+  after_same past held vote kind i true (Some earlier) er only stands =
+      sym (ap (λ b. cond b (admission_after_facts vote) (admission_after earlier vote)) (ap (is_released x past) (only earlier refl) ∙ er))
+  after_same past held vote kind i false (Some earlier) er only stands =
+      sym (ap (λ b. cond b (admission_after_facts vote) (admission_after earlier vote)) (ap (is_released x past) (only earlier refl) ∙ er))
+
+  first_kind : (past : History D K G C) (kind : Kind) (i : ℕ) (earlier : Vote G D)
+      → first_vote x past kind i ≡ Some earlier → kind_of earlier ≡ kind
+  first_kind past kind i earlier e = is_kind-true _ _ (and_parts _ _ (found_is_of (first_votes x past) kind i earlier e)).0
+
+  against_same : (past : History D K G C) (held : Held G D) (vote : Vote G D) → Stands x past held
+      → admission_named x held (observed_opposite held.tracked vote) vote
+      ≡ admission_against x past (opposite_vote x past vote) vote
+  against_same past held (NotarizeVote v) stands =
+      named_same past held (NotarizeVote v) stands ∙ ap (λ o. admission_against x past o (NotarizeVote v)) (sym (opposite_is past (NotarizeVote v)))
+  against_same past held (NullifyVote v) stands =
+      ap (λ o. admission_named x held o (NullifyVote v)) (observed_is x past held Finalization v.attestation.signer.0 stands)
+      ∙ (after_same past held (NullifyVote v) Finalization v.attestation.signer.0 (is_released x past Finalization)
+      (first_vote x past Finalization v.attestation.signer.0) refl (first_kind past Finalization v.attestation.signer.0) stands
+      ∙ ap (λ o. admission_against x past o (NullifyVote v)) (sym (opposite_is past (NullifyVote v))))
+  against_same past held (FinalizeVote v) stands =
+      ap (λ o. admission_named x held o (FinalizeVote v)) (observed_is x past held Nullification v.attestation.signer.0 stands)
+      ∙ (after_same past held (FinalizeVote v) Nullification v.attestation.signer.0 (is_released x past Nullification)
+      (first_vote x past Nullification v.attestation.signer.0) refl (first_kind past Nullification v.attestation.signer.0) stands
+      ∙ ap (λ o. admission_against x past o (FinalizeVote v)) (sym (opposite_is past (FinalizeVote v))))
+
+  by_index : (past : History D K G C) (held : Held G D) (vote : Vote G D)
+      (index : Option Participant) → Stands x past held → admission_from x held index vote
+      ≡ admission_sent_by x past index vote
+  by_index past held vote None stands = refl
+  by_index past held vote (Some i) stands =
+      ap (λ a. cond (eqb i.0 (signer_of vote)) a (block_for (mismatch_reason (kind_of vote)) None)) (against_same past held vote stands)
+
+  -- A network vote is answered as the history names.
+  pub network_same : (past : History D K G C) (held : Held G D) (sender : K) (vote : Vote G D)
+      → Stands x past held → admission x held sender vote ≡ network_answer x past sender vote
+  network_same past held sender vote stands = by_index past held vote (sender_in x sender) stands
+
+  -- OWN VOTES
+  fixed_selects : (fixed leaders evidence : Option (Proposal D)) (f : Proposal D) → fixed ≡ Some f
+      → proposal_of (fixes (selection_by fixed leaders) evidence)
+      ≡ proposal_of (selection_by fixed leaders)
+  fixed_selects None leaders evidence f e = absurd (cc)
+  fixed_selects (Some g) leaders None f e = refl
+  fixed_selects (Some g) leaders (Some p) f e = refl
+
+  unmatched : (i : ℕ) (kind : Kind) (selected with_evidence : Option (Proposal D)) (vote : Vote G D)
+      (others : List (Vote G D)) → filter (is_vote_of kind i) others ≡ [] →
+      conflicts_with x.same_digest with_evidence vote
+      (record {
+        signer = i;
+        has_compared = not (is_empty (filter (is_vote_of kind i) others));
+        has_matched = is_some_and selected
+            (λ q. list_any (is_for x.same_digest q) (filter (is_vote_of kind i) others));
+      })
+      ≡ conflicts_with x.same_digest selected vote
+      (record {
+        signer = i;
+        has_compared = not (is_empty (filter (is_vote_of kind i) others));
+        has_matched = is_some_and selected
+            (λ q. list_any (is_for x.same_digest q) (filter (is_vote_of kind i) others));
+      })
+  unmatched i kind selected with_evidence vote others none =
+      ap (λ c. not (is_empty c) && is_some_and with_evidence
+      (λ p. exactly_one (is_for x.same_digest p vote) (is_some_and selected (λ q. list_any (is_for x.same_digest q) (filter (is_vote_of kind i) others))))) none
+      ∙ sym (ap (λ c. not (is_empty c) && is_some_and selected
+      (λ p. exactly_one (is_for x.same_digest p vote) (is_some_and selected (λ q. list_any (is_for x.same_digest q) (filter (is_vote_of kind i) others)))))
+      none)
+
+  -- The evidence of an own finalize makes no difference to a conflict: nothing is compared before a
+  -- proposal is fixed.
+  own_conflict : (past : History D K G C) (vote : Vote G D) (fixed : Option (Proposal D))
+      → fixed_proposal past ≡ fixed →
+      conflicts_with x.same_digest (proposal_of (fixes (selection x past) (fixed_by vote))) vote
+      (facts_of x past (kind_of vote) (signer_of vote)) ≡ conflicts x past vote
+  own_conflict past vote None e =
+      unmatched (signer_of vote) (kind_of vote) (selected_proposal x past) _ vote (compared_votes x past)
+      (ap (filter (is_vote_of (kind_of vote) (signer_of vote))) (compared_if_fixed past e)) ∙ conflict_same past vote
+  own_conflict past vote (Some f) e =
+      ap (λ s. conflicts_with x.same_digest s vote (facts_of x past (kind_of vote) (signer_of vote)))
+      (fixed_selects (fixed_proposal past) (leaders_proposal x past) (fixed_by vote) f e) ∙ conflict_same past vote
+
+  outcome_first : (past : History D K G C) (vote : Vote G D) (selected : Option (Proposal D))
+      (r : Bool) (first : Option (Vote G D)) →
+      conflicts_with x.same_digest selected vote (facts_of x past (kind_of vote) (signer_of vote))
+      ≡ conflicts x past vote →
+      outcome_by x.same_digest selected r
+      (cond r (from_facts (option_and_then
+      (λ v. Some (facts_of x past (kind_of vote) (signer_of vote))) first)) (from_kept first))
+      vote ≡ outcome_by_first x first r (conflicts x past vote)
+  outcome_first past vote selected true None e = refl
+  outcome_first past vote selected false None e = refl
+  outcome_first past vote selected false (Some k) e = refl
+  outcome_first past vote selected true (Some k) e =
+      by_conflict (conflicts_with x.same_digest selected vote (facts_of x past (kind_of vote) (signer_of vote))) (conflicts x past vote) e
+    where
+      by_conflict : (a b : Bool) → a ≡ b → cond a Conflicting (Duplicate false)
+          ≡ outcome_by_first x (Some k) true b
+      by_conflict true true h = refl
+      by_conflict true false h = absurd (cc)
+      by_conflict false true h = absurd (cc)
+      by_conflict false false h = refl
+
+  own_outcome_same : (past : History D K G C) (held : Held G D) (vote : Vote G D)
+      → Stands x past held → own_outcome x held vote
+      ≡ outcome_by_first x (first_like x past vote) (is_released x past (kind_of vote))
+      (conflicts x past vote)
+  own_outcome_same past held vote stands =
+      ap (λ s. outcome_by x.same_digest (proposal_of (fixes s (fixed_by vote))) (of_kind held.tracked.compacted (kind_of vote))
+      (observed held.tracked (kind_of vote) (signer_of vote)) vote) stands.selection_is
+      ∙ (ap (λ c. outcome_by x.same_digest (proposal_of (fixes (selection x past) (fixed_by vote))) c (observed held.tracked (kind_of vote) (signer_of vote))
+      vote) (stands.each_kind (kind_of vote)).compacted_is
+      ∙ (ap (λ o. outcome_by x.same_digest (proposal_of (fixes (selection x past) (fixed_by vote))) (is_released x past (kind_of vote)) o vote)
+      (observed_is x past held (kind_of vote) (signer_of vote) stands)
+      ∙ outcome_first past vote (proposal_of (fixes (selection x past) (fixed_by vote))) (is_released x past (kind_of vote)) (first_like x past vote)
+      (own_conflict past vote (fixed_proposal past) refl)))
+
+  own_against : (past : History D K G C) (vote : Vote G D) (kind : Kind) (i : ℕ) (r : Bool)
+      (o : Option (Vote G D)) (outcome : Outcome) → outcome
+      ≡ outcome_by_first x (first_like x past vote) (is_released x past (kind_of vote))
+      (conflicts x past vote) →
+      own_result_by (cond r (from_facts (option_and_then (λ v. Some (facts_of x past kind i)) o))
+      (from_kept o)) (kind_of vote) outcome ≡ own_answer_against x past o vote
+  own_against past vote kind i true None outcome e = ap (unopposed_result (kind_of vote)) e
+  own_against past vote kind i false None outcome e = ap (unopposed_result (kind_of vote)) e
+  own_against past vote kind i true (Some earlier) outcome e = refl
+  own_against past vote kind i false (Some earlier) outcome e = refl
+
+  own_opposed : (past : History D K G C) (held : Held G D) (vote : Vote G D) (outcome : Outcome)
+      → Stands x past held → outcome ≡ outcome_by_first x (first_like x past vote)
+      (is_released x past (kind_of vote)) (conflicts x past vote) →
+      own_result_by (observed_opposite held.tracked vote) (kind_of vote) outcome
+      ≡ own_answer_against x past (opposite_vote x past vote) vote
+  own_opposed past held (NotarizeVote v) outcome stands e =
+      ap (unopposed_result Notarization) e ∙ ap (λ o. own_answer_against x past o (NotarizeVote v)) (sym (opposite_is past (NotarizeVote v)))
+  own_opposed past held (NullifyVote v) outcome stands e =
+      ap (λ o. own_result_by o Nullification outcome) (observed_is x past held Finalization v.attestation.signer.0 stands)
+      ∙ (own_against past (NullifyVote v) Finalization v.attestation.signer.0 (is_released x past Finalization)
+      (first_vote x past Finalization v.attestation.signer.0) outcome e
+      ∙ ap (λ o. own_answer_against x past o (NullifyVote v)) (sym (opposite_is past (NullifyVote v))))
+  own_opposed past held (FinalizeVote v) outcome stands e =
+      ap (λ o. own_result_by o Finalization outcome) (observed_is x past held Nullification v.attestation.signer.0 stands)
+      ∙ (own_against past (FinalizeVote v) Nullification v.attestation.signer.0 (is_released x past Nullification)
+      (first_vote x past Nullification v.attestation.signer.0) outcome e
+      ∙ ap (λ o. own_answer_against x past o (FinalizeVote v)) (sym (opposite_is past (FinalizeVote v))))
+
+  -- An own vote is answered as the history names.
+  pub own_same : (past : History D K G C) (held : Held G D) (vote : Vote G D) → Stands x past held
+      → own_result x held vote ≡ own_answer x past vote
+  own_same past held vote stands = own_opposed past held vote (own_outcome x held vote) stands (own_outcome_same past held vote stands)
+
+  -- What is handed on is what the history names.
+  pub forward_same : (past : History D K G C) (held : Held G D) (me : Participant)
+      → Stands x past held → forward_answer held me ≡ forward_after x past me
+  forward_same past held me stands =
+      ap (λ b. cond (b || is_participant held.buffered.leader me) None (selected_in held.buffered)) stands.forwarded_is
+      ∙ (ap (λ l. cond (was_forwarded past || is_participant l me) None (selected_in held.buffered)) stands.leader_is
+      ∙ ap (λ s. cond (was_forwarded past || is_participant (leader_of past) me) None (proposal_of s)) stands.selection_is)

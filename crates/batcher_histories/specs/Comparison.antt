@@ -1,0 +1,69 @@
+-- Votes compared with the selected proposal once their kind is released, and what follows from
+-- them.
+use Rattle.std.specs.Prelude.{ℕ, Bool, not, cond, ◌&&◌, ◌||◌, List, [], ◌∷◌, ◌++◌, is_some, is_none, filter}
+use Rattle.std.specs.List.{list_any}
+use Rattle.batcher_types.specs.declared.messages.Proposal.{Proposal}
+use Rattle.batcher_types.specs.declared.messages.Vote.{Vote}
+use Rattle.batcher_types.specs.declared.messages.Kind.{Kind}
+use Rattle.batcher_types.specs.declared.messages.Kind.TheVariants.{Notarization, Finalization}
+use Rattle.batcher_histories.specs.Setting.{Setting}
+use Rattle.batcher_types.specs.Lists.{is_empty, is_some_and, exactly_one}
+use Rattle.batcher_types.specs.Votes.{kind_of, signer_of, is_vote_of, has_proposals, is_for}
+use Rattle.batcher_histories.specs.History.{Event, History, cast_votes}
+use Rattle.batcher_histories.specs.FirstVotes.{first_votes, first_vote, opposite_vote}
+use Rattle.batcher_histories.specs.Selection.{selected_proposal, is_released}
+
+module _ {D K G C : Type 0} (x : Setting D K G C) where
+  -- A vote that a call casts is compared where its kind is released and a proposal is selected, by
+  -- the evidence of the call
+  -- at the latest. It need not be added, but its signer's opposite vote must not stand against it.
+  abbrev pub is_compared : History D K G C → Event D K G C → Vote G D → Bool
+  is_compared past event vote =
+      (has_proposals (kind_of vote) && is_released x past (kind_of vote))
+      && (is_some (selected_proposal x (event ∷ past)) && is_none (opposite_vote x past vote))
+
+  -- A first vote is compared at the event that releases its kind.
+  abbrev pub is_compared_at_release : History D K G C → Event D K G C → Vote G D → Bool
+  is_compared_at_release past event vote =
+      has_proposals (kind_of vote) && (not (is_released x past (kind_of vote))
+      && is_released x (event ∷ past) (kind_of vote))
+
+  abbrev pub compared_votes : History D K G C → List (Vote G D)
+  compared_votes [] = []
+  compared_votes (event ∷ past) =
+      filter (is_compared past event) (cast_votes x event.0)
+      ++ (filter (is_compared_at_release past event) (first_votes x past) ++ compared_votes past)
+
+  abbrev pub compared_votes_of : History D K G C → Kind → ℕ → List (Vote G D)
+  compared_votes_of past kind i = filter (is_vote_of kind i) (compared_votes past)
+
+  -- whether some compared vote is for the selected proposal
+  abbrev pub is_matched : History D K G C → Kind → ℕ → Bool
+  is_matched past kind i =
+      is_some_and (selected_proposal x past)
+      (λ p. list_any (is_for x.same_digest p) (compared_votes_of past kind i))
+
+  -- whether the vote is for the proposal and none of the others is, or some of them is and the vote
+  -- isn't
+  abbrev pub differs_from : List (Vote G D) → Vote G D → Proposal D → Bool
+  differs_from others vote p =
+      not (is_empty others) && exactly_one (is_for x.same_digest p vote)
+      (list_any (is_for x.same_digest p) others)
+
+  -- whether a vote conflicts with the compared votes of its kind and signer
+  abbrev pub conflicts : History D K G C → Vote G D → Bool
+  conflicts past vote =
+      is_some_and (selected_proposal x past)
+      (differs_from (compared_votes_of past (kind_of vote) (signer_of vote)) vote)
+
+  -- Votes of a kind show that a participant has the block: while they are kept, by the proposal
+  -- that its first one carries;
+  -- once they are released, by a compared one for the selected proposal, whatever proposal is asked
+  -- for.
+  abbrev pub shows_block : History D K G C → Kind → ℕ → Proposal D → Bool
+  shows_block past kind i p =
+      cond (is_released x past kind) (is_matched past kind i)
+      (is_some_and (first_vote x past kind i) (is_for x.same_digest p))
+
+  abbrev pub has_block : History D K G C → ℕ → Proposal D → Bool
+  has_block past i p = shows_block past Notarization i p || shows_block past Finalization i p

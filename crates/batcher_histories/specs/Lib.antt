@@ -1,0 +1,14 @@
+pub mod Setting
+pub mod Reasons
+pub mod Admissions
+pub mod Steps
+pub mod Runs
+pub mod History
+pub mod FirstVotes
+pub mod Selection
+pub mod Comparison
+pub mod Standing
+pub mod Trying
+pub mod Answers
+pub mod Stands
+pub mod Judged

@@ -1,0 +1,330 @@
+-- What each call of a round answers and changes, by what the round holds alone.
+use Rattle.std.specs.Prelude.{◌≡◌, ◌≤◌, ℕ, Bool, true, false, not, cond, ◌&&◌, ◌||◌, ◌==◌, List, [], ◌++◌, length, Option, Some, None, is_some, Result, Ok, Err, MatchBool, filter, map}
+use Rattle.std.specs.List.{range_with_len}
+use Rattle.rand_core.specs.Stream.{Stream}
+use Rattle.batcher_types.specs.declared.positions.Participant.{Participant}
+use Rattle.batcher_types.specs.declared.messages.Proposal.{Proposal}
+use Rattle.batcher_types.specs.declared.messages.Certificate.{Certificate}
+use Rattle.batcher_types.specs.declared.messages.Vote.{Vote}
+use Rattle.batcher_types.specs.declared.messages.Vote.TheVariants.{Notarize as NotarizeVote, Nullify as NullifyVote, Finalize as FinalizeVote}
+use Rattle.batcher_types.specs.declared.messages.Kind.{Kind}
+use Rattle.batcher_types.specs.declared.messages.Kind.TheVariants.{Notarization, Nullification, Finalization}
+use Rattle.batcher_histories.specs.declared.answers.Admission.{Admission}
+use Rattle.batcher_types.specs.declared.messages.Activity.{Activity}
+use Rattle.batcher_histories.specs.declared.answers.BlockReason.TheVariants.{UnknownParticipant}
+use Rattle.batcher_histories.specs.declared.answers.OwnFault.{OwnFault}
+use Rattle.batcher_histories.specs.declared.answers.OwnFault.TheVariants.{DuplicateNotarize, DuplicateFinalize, Conflicting as ConflictingFault, OutOfMemory, NullifyAfterFinalize, FinalizeAfterNullify}
+use Rattle.batcher_votes.specs.declared.votes.Outcome.{Outcome}
+use Rattle.batcher_votes.specs.declared.votes.Outcome.TheVariants.{Added, Duplicate, Conflicting}
+use Rattle.batcher_votes.specs.declared.votes.Mode.{Mode}
+use Rattle.batcher_votes.specs.declared.verifier.Batch.{Batch}
+use Rattle.batcher_votes.specs.declared.verifier.ProposalState.TheVariants.{Certificate as FixedProposal}
+use Rattle.batcher_votes.specs.declared.verifier.LeaderFault.{LeaderFault}
+use Rattle.batcher_votes.specs.declared.verifier.LeaderFault.TheVariants.{LeaderChanged}
+use Rattle.batcher_types.specs.Lists.{count, is_some_and}
+use Rattle.batcher_types.specs.Keys.{participant}
+use Rattle.batcher_types.specs.Quorum.{quorum_of}
+use Rattle.batcher_types.specs.Meaning.{Meaning}
+use Rattle.batcher_histories.specs.Setting.{Setting, quorum_in, sender_in}
+use Rattle.batcher_types.specs.Votes.{is_kind, kind_of, signer_of, proposal_in, subject_of, kind_certified, subject_certified, waits}
+use Rattle.batcher_votes.specs.Selected.{proposal_of, is_fixed, updated, fixes, same_selected}
+use Rattle.batcher_votes.specs.Held.{of_kind, Tracked, Buffered, Tracker, Held}
+use Rattle.batcher_votes.specs.Tracking.{Observed, unseen, in_full, as_facts, is_seen, is_seen_for, observed, observed_opposite, kept_vote, conflicts_with, outcome_by, RecordsKind, ReleasesKind, nothing_tracked, is_released_in}
+use Rattle.batcher_votes.specs.Buffering.{nothing_buffered, AddsVote, SetsLeader, SetsProposal, MayFix, CompletesKind, TriesKind, is_ready, coming_back, selected_in}
+use Rattle.batcher_histories.specs.Admissions.{report_of, addition, refusal, block_for, mismatch_reason, conflict_reason, admission_after, admission_after_facts, admission_beside}
+use Rattle.batcher_votes.specs.Sound.{WaitsWhereKept}
+
+module _ {G D : Type 0} where
+  -- what a new round holds
+  abbrev pub nothing_held : Mode → Held G D
+  nothing_held mode =
+      record { tracked = nothing_tracked mode; buffered = nothing_buffered; forwarded = false }
+
+-- the proposal of a notarize
+abbrev pub option_proposal : {G D : Type 0} → Option (Vote G D) → Option (Proposal D)
+option_proposal None = None
+option_proposal (Some vote) = proposal_in (subject_of vote)
+
+-- What a round keeps true: votes wait where they are kept; those of a kind are compacted exactly
+-- where they are released; and a
+-- finalization has fixed its proposal.
+pub record IsRight {D K G C : Type 0} (m : Meaning D K G C) (tracker : Tracker G D)
+    (held : Buffered G D) (quorum : ℕ) : Type 0 where
+  pub some : 1 ≤ length m.participants
+  pub quorum_is : quorum ≡ quorum_of (length m.participants)
+  pub bound : tracker.participants ≡ length m.participants
+  pub within : WaitsWhereKept tracker.holds held
+  pub compacted : (kind : Kind) → of_kind tracker.holds.compacted kind
+      ≡ is_released_in tracker.mode (of_kind held.certified kind)
+  pub fixed : of_kind held.certified Finalization ≡ true → is_fixed held.selection ≡ true
+
+-- whether it is the participant
+abbrev pub is_participant : Option Participant → Participant → Bool
+is_participant leader me = is_some_and leader (λ i. i.0 == me.0)
+
+-- another leader than the one that is set is refused
+abbrev pub leader_set_answer : Option Participant → Participant → Result (Unit {0}) LeaderFault
+leader_set_answer None leader = Ok tt
+leader_set_answer (Some known) leader = cond (known.0 == leader.0) (Ok tt) (Err LeaderChanged)
+
+module _ {G D : Type 0} where
+  -- what is handed on to a participant
+  abbrev pub forward_answer : Held G D → Participant → Option (Proposal D)
+  forward_answer held me =
+      cond (held.forwarded || is_participant held.buffered.leader me) None
+      (selected_in held.buffered)
+
+-- whether a participant is known to have the proposal's block
+abbrev pub has_block : {G D : Type 0} → (D → D → Bool) → Held G D → ℕ → Proposal D → Bool
+has_block same held i p =
+    is_seen_for same p (observed held.tracked Notarization i)
+    || is_seen_for same p (observed held.tracked Finalization i)
+
+-- the participants, of so many, that aren't known to have it
+abbrev pub missing_in : {G D : Type 0} → (D → D → Bool) → Held G D → Proposal D → ℕ
+    → List Participant
+missing_in same held p n =
+    filter (λ i. not (has_block same held i.0 p)) (map participant (range_with_len 0 n))
+
+-- The fault of an own vote that its index's other one of nullify and finalize excludes. A notarize
+-- has no opposite.
+abbrev pub opposite_fault : Kind → OwnFault
+opposite_fault Notarization = FinalizeAfterNullify
+opposite_fault Nullification = NullifyAfterFinalize
+opposite_fault Finalization = FinalizeAfterNullify
+
+-- An own notarize or finalize is refused where one of its index is kept.
+abbrev pub duplicate_result : Kind → Result Outcome OwnFault
+duplicate_result Notarization = Err DuplicateNotarize
+duplicate_result Nullification = Ok (Duplicate true)
+duplicate_result Finalization = Err DuplicateFinalize
+
+abbrev pub unopposed_result : Kind → Outcome → Result Outcome OwnFault
+unopposed_result kind (Added retained) = Ok (Added retained)
+unopposed_result kind (Duplicate true) = duplicate_result kind
+unopposed_result kind (Duplicate false) = Ok (Duplicate false)
+unopposed_result kind Conflicting = Err ConflictingFault
+
+abbrev pub own_result_by : {G D : Type 0} → Observed G D → Kind → Outcome → Result Outcome OwnFault
+own_result_by unseen kind outcome = unopposed_result kind outcome
+own_result_by (in_full earlier) kind outcome = Err (opposite_fault kind)
+own_result_by (as_facts facts) kind outcome = Err (opposite_fault kind)
+
+-- what is told where memory is refused, if nothing else stands against the vote
+abbrev pub fault_or_memory : Result Outcome OwnFault → OwnFault
+fault_or_memory (Ok outcome) = OutOfMemory
+fault_or_memory (Err fault) = fault
+
+-- the proposal that an own vote fixes
+abbrev pub fixed_by : {G D : Type 0} → Vote G D → Option (Proposal D)
+fixed_by (NotarizeVote vote) = None
+fixed_by (NullifyVote vote) = None
+fixed_by (FinalizeVote vote) = Some vote.proposal
+
+-- a vote that is added is reported
+abbrev pub report_by : {G D : Type 0} → Outcome → Vote G D → Option (Activity G D)
+report_by (Added retained) vote = Some (report_of vote)
+report_by (Duplicate retained) vote = None
+report_by Conflicting vote = None
+
+abbrev pub is_added : Outcome → Bool
+is_added (Added retained) = true
+is_added (Duplicate retained) = false
+is_added Conflicting = false
+
+-- whether the vote is added and kept in full
+abbrev pub is_kept : Outcome → Bool
+is_kept (Added retained) = retained
+is_kept (Duplicate retained) = false
+is_kept Conflicting = false
+
+module _ {D K G C : Type 0} (x : Setting D K G C) where
+  -- LEADER
+  pub record AfterLeader (old : Held G D) (leader : Participant) (new : Held G D) : Type 0 where
+    pub tracked : new.tracked ≡ old.tracked
+    pub forwarded : new.forwarded ≡ old.forwarded
+    -- The first leader that is named stays. Its kept notarize selects its proposal.
+    pub buffered :
+        MatchBool (is_some old.buffered.leader) (new.buffered ≡ old.buffered)
+        (SetsLeader x.same_digest old.buffered leader
+        (option_proposal (kept_vote old.tracked Notarization leader.0)) new.buffered)
+
+  -- NETWORK
+  abbrev pub admission_by : Option (Proposal D) → Observed G D → Vote G D → Admission G D
+  admission_by selected unseen vote = addition vote
+  admission_by selected (in_full kept) vote =
+      admission_beside x.same_digest x.same_signature kept vote
+  admission_by selected (as_facts facts) vote =
+      cond (conflicts_with x.same_digest selected vote facts)
+      (block_for (conflict_reason (kind_of vote)) None) refusal
+
+  -- What is answered to a vote that is not to be recorded: a nullify after a finalize or the
+  -- reverse, and one beside a kept vote.
+  abbrev pub objection_by : Observed G D → Observed G D → Vote G D → Option (Admission G D)
+  objection_by (in_full earlier) own vote = Some (admission_after earlier vote)
+  objection_by (as_facts facts) own vote = Some (admission_after_facts vote)
+  objection_by unseen (in_full kept) vote =
+      Some (admission_beside x.same_digest x.same_signature kept vote)
+  objection_by unseen unseen vote = None
+  objection_by unseen (as_facts facts) vote = None
+
+  abbrev pub objection_to : Held G D → Vote G D → Option (Admission G D)
+  objection_to held vote =
+      objection_by (observed_opposite held.tracked vote)
+      (observed held.tracked (kind_of vote) (signer_of vote)) vote
+
+  -- What a vote that names its sender is answered: by what is known of its opposite, and then of
+  -- its own kind.
+  abbrev pub admission_named : Held G D → Observed G D → Vote G D → Admission G D
+  admission_named held unseen vote =
+      admission_by (selected_in held.buffered)
+      (observed held.tracked (kind_of vote) (signer_of vote)) vote
+  admission_named held (in_full earlier) vote = admission_after earlier vote
+  admission_named held (as_facts facts) vote = admission_after_facts vote
+
+  abbrev pub admission_from : Held G D → Option Participant → Vote G D → Admission G D
+  admission_from held None vote = block_for UnknownParticipant None
+  admission_from held (Some i) vote =
+      cond (i.0 == signer_of vote) (admission_named held (observed_opposite held.tracked vote) vote)
+      (block_for (mismatch_reason (kind_of vote)) None)
+
+  -- what a network vote is answered
+  abbrev pub admission : Held G D → K → Vote G D → Admission G D
+  admission held sender vote = admission_from held (sender_in x sender) vote
+
+  -- A vote is recorded where it names its sender and isn't opposed.
+  abbrev pub is_recorded : Held G D → K → Vote G D → Bool
+  is_recorded held sender vote =
+      is_some_and (sender_in x sender) (λ i. i.0 == signer_of vote)
+      && not (is_seen (observed_opposite held.tracked vote))
+
+  pub record AfterNetwork (old : Held G D) (sender : K) (vote : Vote G D) (answer : Admission G D)
+      (new : Held G D) : Type 0 where
+    pub answer_is : answer ≡ admission old sender vote
+    pub forwarded : new.forwarded ≡ old.forwarded
+    pub tracked : (kind : Kind) → RecordsKind x.same_digest old.tracked new.tracked
+        (selected_in old.buffered) (is_recorded old sender vote) vote kind
+    -- One that is added and kept in full waits for its certificate.
+    pub buffered :
+        MatchBool (answer.added && not (of_kind old.tracked.compacted (kind_of vote)))
+        (AddsVote x.same_digest old.buffered vote false new.buffered) (new.buffered ≡ old.buffered)
+
+  -- OWN
+  -- the selected proposal once an own vote has fixed its own
+  abbrev pub selected_with : Held G D → Vote G D → Option (Proposal D)
+  selected_with held vote = proposal_of (fixes held.buffered.selection (fixed_by vote))
+
+  abbrev pub own_outcome : Held G D → Vote G D → Outcome
+  own_outcome held vote =
+      outcome_by x.same_digest (selected_with held vote)
+      (of_kind held.tracked.compacted (kind_of vote))
+      (observed held.tracked (kind_of vote) (signer_of vote)) vote
+
+  -- what comes of an own vote, or why it is refused
+  abbrev pub own_result : Held G D → Vote G D → Result Outcome OwnFault
+  own_result held vote =
+      own_result_by (observed_opposite held.tracked vote) (kind_of vote) (own_outcome held vote)
+
+  pub record AfterOwn (old : Held G D) (vote : Vote G D) (outcome : Outcome)
+      (report : Option (Activity G D)) (new : Held G D) : Type 0 where
+    pub outcome_is : own_result old vote ≡ Ok outcome
+    pub report_is : report ≡ report_by outcome vote
+    pub forwarded : new.forwarded ≡ old.forwarded
+    -- A finalize fixes its proposal first.
+    pub fixed : Buffered G D
+    pub fixes : MayFix x.same_digest old.buffered old.tracked.kept (fixed_by vote) fixed
+    pub tracked : (kind : Kind) → RecordsKind x.same_digest old.tracked new.tracked
+        (selected_with old vote) true vote kind
+    -- One that is added and kept in full waits as verified.
+    pub buffered : MatchBool (is_kept outcome) (AddsVote x.same_digest fixed vote true new.buffered)
+        (new.buffered ≡ fixed)
+
+  -- the kept votes of a kind that wait again where a proposal is fixed
+  abbrev pub restored_by : Held G D → Option (Proposal D) → Kind → List (Vote G D)
+  restored_by old None kind = []
+  restored_by old (Some p) kind =
+      cond (of_kind old.buffered.certified kind) []
+      (filter (waits x.same_digest (Some p))
+      (coming_back x.same_digest old.buffered old.tracked.kept p kind))
+
+  -- CERTIFICATE
+  -- those that wait again where a certificate is recorded: none of its own kind
+  abbrev pub restored_with : Held G D → Certificate C D → Kind → List (Vote G D)
+  restored_with old certificate kind =
+      cond (is_kind kind (kind_certified certificate)) []
+      (restored_by old (proposal_in (subject_certified certificate)) kind)
+
+  pub record AfterCertificate (old : Held G D) (certificate : Certificate C D) (answer : Bool)
+      (new : Held G D) : Type 0 where
+    -- A notarization answers whether another proposal is selected than before.
+    pub answer_is :
+        answer
+        ≡ (is_kind Notarization (kind_certified certificate)
+        && not (same_selected x.same_digest (proposal_of old.buffered.selection)
+        (proposal_of new.buffered.selection)))
+    pub forwarded : new.forwarded ≡ old.forwarded
+    -- Its kind is complete, so no vote of the kind comes back where its proposal is fixed.
+    pub completed : Buffered G D
+    pub completes : CompletesKind x.same_digest old.buffered (kind_certified certificate) completed
+    pub fixes : MayFix x.same_digest completed old.tracked.kept
+        (proposal_in (subject_certified certificate)) new.buffered
+    pub releases :
+        (kind : Kind)
+        → ReleasesKind x.same_digest old.tracked new.tracked (proposal_of new.buffered.selection)
+        (is_kind (kind_certified certificate) kind && is_released_in x.mode true) kind
+
+  -- CONSTRUCT
+  abbrev pub is_ready_in : Held G D → Kind → Bool
+  is_ready_in held kind =
+      is_ready x.same_digest x.meaning.batchable (quorum_in x) held.buffered kind
+
+  -- the kind whose certificate is tried, of notarize, nullify and finalize the first that is ready
+  abbrev pub kind_tried : Held G D → Option Kind
+  kind_tried held =
+      cond (is_ready_in held Notarization) (Some Notarization)
+      (cond (is_ready_in held Nullification) (Some Nullification)
+      (cond (is_ready_in held Finalization) (Some Finalization) None))
+
+  -- a certificate for a proposal fixes it where none is fixed, and votes for others go
+  abbrev pub Fixes : Buffered G D → Option (Proposal D) → Buffered G D → Type 0
+  Fixes old None new = new ≡ old
+  Fixes old (Some p) new =
+      SetsProposal x.same_digest old (updated old.selection (FixedProposal p)) new
+
+  -- What a certificate of a kind changes once its votes are gone: the proposal, and what is kept of
+  -- the kind.
+  pub record Settles (old : Held G D) (kind : Kind) (proposal : Option (Proposal D))
+      (new : Held G D) : Type 0 where
+    pub buffered : Fixes old.buffered proposal new.buffered
+    pub tracked : (other : Kind) → ReleasesKind x.same_digest old.tracked new.tracked proposal
+        (is_kind kind other && is_released_in x.mode true) other
+    pub forwarded : new.forwarded ≡ old.forwarded
+
+  abbrev pub AfterGiven : Held G D → Kind → Option (Certificate C D) → Held G D → Type 0
+  AfterGiven old kind None new = new ≡ old
+  AfterGiven old kind (Some certificate) new =
+      Settles old kind (proposal_in (subject_certified certificate)) new
+
+  -- An attempt with the votes of a kind, and what its certificate changes.
+  pub record TriesHeld (old : Held G D) (kind : Kind) (before : Stream)
+      (batch : Batch (Certificate C D)) (new : Held G D) (after : Stream) : Type 0 where
+    pub left : Buffered G D
+    pub tries : TriesKind x.meaning x.number (quorum_in x) old.buffered kind before batch after left
+    pub given : AfterGiven (record old { buffered = left }) kind batch.certificate new
+
+  pub record AfterBatch (old : Held G D) (before : Stream) (batch : Batch (Certificate C D))
+      (new : Held G D) (after : Stream) : Type 0 where
+    pub kind : Kind
+    pub first : kind_tried old ≡ Some kind
+    pub tried : TriesHeld old kind before batch new after
+
+  pub record AfterNone (old : Held G D) (before : Stream) (new : Held G D) (after : Stream) : Type 0
+    where
+      pub none : kind_tried old ≡ None
+      pub held : new ≡ old
+      pub stream : after ≡ before
+
+  abbrev pub AfterConstruct : Held G D → Stream → Option (Batch (Certificate C D)) → Held G D
+      → Stream → Type 0
+  AfterConstruct old before None new after = AfterNone old before new after
+  AfterConstruct old before (Some batch) new after = AfterBatch old before batch new after

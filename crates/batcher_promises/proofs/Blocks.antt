@@ -1,0 +1,8 @@
+-- Whom votes block, what is reported, and what the honest can rely on.
+
+pub mod Refused
+pub mod Blocked
+pub mod Contrary
+pub mod Reported
+pub mod Honest
+pub mod Flood

@@ -1,0 +1,73 @@
+-- The examples of honest participants and of floods, computed.
+use Rattle.std.proofs.Common.{◌≡◌, ◌==◌, ℕ, Bool, true, false, cond, nat_lt, Some, None, [], ◌∷◌, map, refl, ap, sym, arith}
+use Rattle.std.specs.List.{list_all}
+use Rattle.std.proofs.lemmas.Bool.{and_parts, ltb-true, false≢true}
+use Rattle.std.proofs.lemmas.Option.{same_Some}
+use Rattle.std.proofs.lemmas.List.Sums.{list_all-from_AllPass}
+use Rattle.batcher_types.specs.Meaning.{IsLawful}
+use Rattle.batcher_types.specs.declared.messages.Kind.TheVariants.{Nullification}
+use Rattle.batcher_votes.specs.declared.votes.Mode.TheVariants.{Retaining}
+use Rattle.batcher_types.specs.Lists.{is_some_and}
+use Rattle.batcher_histories.specs.Standing.{ready_kind}
+use Rattle.batcher_promises.specs.Honest.{sent_bad_vote}
+use Rattle.batcher_promises.specs.Examples.Answers.{is_good, four}
+use Rattle.batcher_types.specs.Keys.{index_of, participant}
+use Rattle.batcher_promises.specs.Examples.Honest.{undiscerning, played_nullifies, HonestExamples}
+
+given_is_good : (b : Bool) (c : ℕ) → cond b (Some 0) None ≡ Some c → (c == 0) ≡ true
+given_is_good true c e = ap (λ (k : ℕ). k == 0) (sym (same_Some 0 c e))
+given_is_good false c e = absurd (cc)
+
+lawful : IsLawful undiscerning.meaning
+lawful =
+    record {
+      signers_in_range = λ subject a h. ltb-true a.signer.0 4 (and_parts (nat_lt a.signer.0 4) (is_good a) h).0;
+      optimistic_certifies = λ subject pending verified stream c may e. given_is_good (list_all is_good pending) c e;
+      optimistic_gives =
+          λ subject pending verified stream may all.
+          rw (list_all-from_AllPass is_good pending (λ k d below. (and_parts _ _ (all k d below)).1)) refl;
+      assembled_certifies = λ subject prior fresh some quorum pass. refl;
+    }
+
+pub honest_computed : HonestExamples
+unfolding index_of
+honest_computed =
+    record {
+      repeat_is_refused = refl;
+      repeat_gives_no_cause = refl;
+      other_is_blocked = refl;
+      other_gives_cause = refl;
+      foreign_is_blocked = refl;
+      foreign_gives_cause = refl;
+      naming_batches = refl;
+      named_once = refl;
+      named_for_two_kinds = refl;
+      not_named = refl;
+      honest_quorum = refl;
+      one_gave_cause = refl;
+      one_for_another = refl;
+      one_voted_badly = refl;
+      skipped_quorum = refl;
+      incomplete_after_two = refl;
+      complete_after_three = refl;
+      undiscerning_is_lawful = lawful;
+      good_vote_after_bad = refl;
+      incomplete_after_bad = refl;
+      left_out_is_refused = λ taken. false≢true (taken.0 refl refl);
+      good_one_is_not_named = λ named.
+          false≢true
+          (list_all-from_AllPass
+          (λ i. is_some_and (ready_kind (four Retaining) played_nullifies) (λ kind. sent_bad_vote (four Retaining) played_nullifies kind i.0))
+          (map participant (1 ∷ []))
+          named.0);
+      left_incomplete_is_refused = λ completes. false≢true (completes.0 refl refl Nullification (omega arith));
+      named_twice = refl;
+      added_thrice = refl;
+      given_thrice = refl;
+      processed_thrice = refl;
+      costs_of_one = refl;
+      costs_of_four = refl;
+      costs_again = refl;
+      costs_of_own = refl;
+      costs_against_law = refl;
+    }

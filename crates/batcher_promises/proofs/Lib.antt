@@ -1,0 +1,9 @@
+pub mod Runs
+pub mod Headline
+pub mod Throughout
+pub mod Quorums
+pub mod Certificates
+pub mod Blocks
+pub mod Order
+pub mod Pairs
+pub mod Examples

@@ -1,0 +1,8 @@
+-- Valid quorums complete in three constructions.
+
+pub mod ValidQuorums
+pub mod ValidVotes
+pub mod Held
+pub mod Left
+pub mod Done
+pub mod Completed

@@ -1,0 +1,233 @@
+-- What a construction leaves: no vote comes back, a kind that it doesn't try has no more fresh and
+-- proven votes than before, and
+-- one that it tries is certified, or has no fresh votes and too few proven ones.
+use Rattle.std.proofs.Common.{subst, inl, inr, ◌≡◌, ◌≤◌, ◌<◌, ◌+◌, ℕ, Bool, true, false, not, cond, ◌&&◌, ◌||◌, ◌⊎◌, nat_le, List, [], ◌∷◌, ◌++◌, length, Option, Some, None, is_some, refl, ap, sym, ◌∙◌, arith, ⊎_elim, length-append}
+use Rattle.std.specs.Prelude.{filter, option_and_then}
+use Rattle.std.specs.Option.{option_or}
+use Rattle.std.proofs.lemmas.Bool.{cond_both, false_from_ne_true, leb-false, true≢false}
+use Rattle.batcher_types.specs.declared.messages.Kind.{Kind}
+use Rattle.batcher_types.specs.declared.messages.Proposal.{Proposal}
+use Rattle.batcher_types.specs.declared.messages.Vote.{Vote}
+use Rattle.batcher_types.specs.declared.messages.Subject.{Subject}
+use Rattle.batcher_types.specs.declared.messages.Vote.TheVariants.{Finalize as FinalizeVote, Notarize as NotarizeVote, Nullify as NullifyVote}
+use Rattle.batcher_types.specs.declared.messages.Certificate.{Certificate}
+use Rattle.batcher_votes.specs.declared.verifier.Batch.{Batch}
+use Rattle.batcher_histories.specs.declared.calls.Call.TheVariants.{Construct as ConstructCall}
+use Rattle.batcher_histories.specs.declared.answers.Answer.TheVariants.{Construct as ConstructAnswer}
+use Rattle.batcher_histories.specs.Answers.{MayAnswer}
+use Rattle.batcher_votes.specs.Held.{of_kind, Held}
+use Rattle.batcher_histories.specs.History.{Event, History}
+use Rattle.batcher_types.specs.Lists.{count}
+use Rattle.batcher_histories.specs.Selection.{comes_back, fixing_evidence, is_certified, selected_proposal}
+use Rattle.batcher_histories.specs.Setting.{Setting, quorum_in}
+use Rattle.batcher_histories.specs.Standing.{fresh_votes, is_trusted, is_valid, proven_votes, standing_votes, stood_before, trials, waiting_votes, was_invalid}
+use Rattle.batcher_histories.specs.Stands.{tries_kind}
+use Rattle.batcher_votes.specs.Tracking.{is_skipped}
+use Rattle.batcher_histories.specs.Trying.{Attempt, AttemptAfter, left_verified, votes_checked}
+use Rattle.batcher_types.specs.Votes.{is_of_kind, proposal_in, subject_certified, subject_of, waits}
+use Rattle.batcher_histories.specs.FirstVotes.{first_votes}
+use Rattle.batcher_histories.proofs.History.Distinct.{count-filter, option_cases}
+use Rattle.batcher_histories.proofs.History.Attempts.{given_certified, witnessed}
+use Rattle.batcher_histories.proofs.Follow.Buffers.{open_trial, pending_follow, verified_follow}
+use Rattle.batcher_votes.proofs.Constructing.{subject_is}
+use Rattle.batcher_votes.proofs.Counts.{count-append, count-false, count-filter_le, count-true, count_same, keeps_all, length_same}
+use Rattle.batcher_histories.proofs.Follow.Evidence.{IsEvidence, none_comes_back}
+use Rattle.batcher_histories.proofs.Follow.Frame.{no_evidence, none_back}
+use Rattle.batcher_promises.proofs.Quorums.Held.{Holds}
+use Rattle.batcher_histories.proofs.History.Laws.{HasLaws}
+use Rattle.batcher_histories.proofs.Follow.Settled.{constructed}
+use Rattle.batcher_histories.proofs.Follow.Staying.{pending_left, verified_left}
+use Rattle.batcher_votes.proofs.Waits.{proposal_is}
+
+at_most : {a b c d : ℕ} → a ≡ b → b ≤ c → c ≡ d → a ≤ d
+at_most p q r = omega (arith, p, q, r)
+
+-- those of a list that pass are no more
+filter_shorter : {X : Type 0} (p : X → Bool) (xs : List X) → length (filter p xs) ≤ length xs
+filter_shorter p xs = omega (arith, count-true xs, count-true (filter p xs), count-filter_le (λ _. true) p xs)
+
+module _ {D K G C : Type 0} (x : Setting D K G C) where
+  -- WHAT COMES BACK
+  -- no standing vote fails to wait
+  unwaiting_none : (past : History D K G C) (kind : Kind)
+      → count (λ v. not (waits x.same_digest (selected_proposal x past) v))
+      (standing_votes x past kind) ≡ 0
+  unwaiting_none past kind =
+      cond_both (is_certified past kind || is_skipped x.mode) [] (filter w (filter (is_of_kind kind) (first_votes x past)))
+      (λ votes. count (λ v. not (w v)) votes ≡ 0)
+      (λ _. refl)
+      (λ _. count-filter (λ v. not (w v)) w (filter (is_of_kind kind) (first_votes x past))
+      ∙ (count_same _ (λ _. false) (filter (is_of_kind kind) (first_votes x past)) (λ v. never_both (w v))
+      ∙ count-false (filter (is_of_kind kind) (first_votes x past))))
+    where
+      w : Vote G D → Bool
+      w v = waits x.same_digest (selected_proposal x past) v
+
+      never_both : (b : Bool) → (b && not b) ≡ false
+      never_both true = refl
+      never_both false = refl
+
+  -- each vote that an attempt looks at waits
+  pub looked_wait : (past : History D K G C) (kind : Kind) (batch : Batch (Certificate C D))
+      (after : AttemptAfter x past kind batch) →
+      count (λ v. not (waits x.same_digest (selected_proposal x past) v))
+      (after.verified ++ votes_checked (quorum_in x) after.verified after.pending) ≡ 0
+  looked_wait past kind batch after =
+      none_more (count-append t after.verified (votes_checked (quorum_in x) after.verified after.pending))
+      (after.verified_are t) (count-filter_le t (λ v. (is_trusted x past v || stood_before (trials x past) v) && not (was_invalid (trials x past) v))
+      (standing_votes x past kind))
+      (cond_both (nat_le (quorum_in x) (length after.verified)) [] after.pending (λ votes. count t votes ≤ count t after.pending) (λ _. omega arith)
+      (λ _. omega arith))
+      (after.pending_are t) (count-filter_le t (λ v. not (is_trusted x past v || stood_before (trials x past) v)) (standing_votes x past kind))
+      (unwaiting_none past kind)
+    where
+      t : Vote G D → Bool
+      t v = not (waits x.same_digest (selected_proposal x past) v)
+
+      none_more : {all v c p n f s : ℕ} → all ≡ v + c → v ≡ n → n ≤ s → c ≤ p → p ≡ f → f ≤ s → s
+          ≡ 0 → all ≡ 0
+      none_more a b d e g h i = omega (arith, a, b, d, e, g, h, i)
+
+  -- what a waiting vote carries is the selected proposal, where one is selected
+  pub waiting_evidence : HasLaws x → (past : History D K G C) (v : Vote G D)
+      → waits x.same_digest (selected_proposal x past) v ≡ true
+      → IsEvidence x past (proposal_in (subject_of v))
+  waiting_evidence lawful past v = by_selected (selected_proposal x past) v
+    where
+      by_selected : (o : Option (Proposal D)) (u : Vote G D) → waits x.same_digest o u ≡ true →
+          (proposal_in (subject_of u) ≡ None)
+          ⊎ ((p : Proposal D) × ((proposal_in (subject_of u) ≡ Some p)
+          × ((o ≡ None) ⊎ (o ≡ Some p))))
+      by_selected o (NullifyVote u) h = inl refl
+      by_selected None (NotarizeVote u) h = inr (u.proposal, (refl, inl refl))
+      by_selected None (FinalizeVote u) h = inr (u.proposal, (refl, inl refl))
+      by_selected (Some p) (NotarizeVote u) h = inr (u.proposal, (refl, inr (ap Some (proposal_is x.same_digest lawful.digests_equal p u.proposal h))))
+      by_selected (Some p) (FinalizeVote u) h = inr (u.proposal, (refl, inr (ap Some (proposal_is x.same_digest lawful.digests_equal p u.proposal h))))
+
+  -- What a given certificate carries is the selected proposal, where one is selected,
+  pub given_evidence : HasLaws x → (past : History D K G C) (kind : Kind)
+      (batch : Batch (Certificate C D)) (c : Certificate C D)
+      → AttemptAfter x past kind batch → batch.certificate ≡ Some c
+      → IsEvidence x past (proposal_in (subject_certified c))
+  given_evidence lawful past kind batch c after given =
+      let w = witnessed x lawful past kind after.verified after.pending batch c after.attempt after.verified_are after.pending_are given in
+      let first_waits : waits x.same_digest (selected_proposal x past) w.vote ≡ true =
+      (keeps_all (waits x.same_digest (selected_proposal x past) w.vote) (count (λ u. not (waits x.same_digest (selected_proposal x past) u)) w.rest)
+      (sym (ap (count (λ u. not (waits x.same_digest (selected_proposal x past) u))) w.looked_at) ∙ looked_wait past kind batch after)).0 in
+      let same : subject_of w.vote ≡ subject_certified c =
+      sym (subject_is x.same_digest lawful.digests_equal w.subject (subject_of w.vote) w.of_vote)
+      ∙ subject_is x.same_digest lawful.digests_equal w.subject (subject_certified c) w.of_certificate in
+      subst (λ (s : Subject D). IsEvidence x past (proposal_in s)) same (waiting_evidence lawful past w.vote first_waits)
+
+  -- so it brings no vote back.
+  given_back : HasLaws x → (past : History D K G C) (kind : Kind)
+      (batch : Batch (Certificate C D)) (c : Certificate C D)
+      → AttemptAfter x past kind batch → batch.certificate ≡ Some c
+      → (v : Vote G D) → comes_back x past (constructed x past (Some batch)) v ≡ false
+  given_back lawful past kind batch c after given v =
+      let is : fixing_evidence (constructed x past (Some batch)) ≡ proposal_in (subject_certified c) =
+      ap (λ o. option_or None (option_and_then (λ d. proposal_in (subject_certified d)) (option_or None o))) given in
+      none_comes_back x lawful past (constructed x past (Some batch)) (proposal_in (subject_certified c)) is
+      (given_evidence lawful past kind batch c after given) v
+
+  -- No vote comes back at a construction.
+  none_returns : HasLaws x → (past : History D K G C) (answer : Option (Batch (Certificate C D)))
+      → MayAnswer x past ConstructCall (ConstructAnswer answer) →
+      (v : Vote G D) → comes_back x past (constructed x past answer) v ≡ false
+  none_returns lawful past None may v = none_back x past (constructed x past None) refl v
+  none_returns lawful past (Some batch) may v =
+      ⊎_elim
+      (λ none. none_back x past (constructed x past (Some batch)) (no_evidence x past (constructed x past (Some batch)) refl (ap (option_or None) none)) v)
+      (λ (some : (c : Certificate C D) × (batch.certificate ≡ Some c)). given_back lawful past may.0 batch some.0 may.1.1 some.1 v)
+      (option_cases batch.certificate)
+
+  -- WHAT IS LEFT
+  -- Without a certificate the votes that stay verified are no quorum.
+  left_short : (verified pending : List (Vote G D)) (batch : Batch (Certificate C D))
+      → Attempt x verified pending batch → is_some batch.certificate ≡ false
+      → length (left_verified x verified pending) < quorum_in x
+  left_short verified pending batch a none =
+      ⊎_elim
+      (λ given. absurd (true≢false (sym given.certificate ∙ none)))
+      (⊎_elim
+      (λ fell. leb-false (quorum_in x) (length (left_verified x verified pending)) (sym fell.certificate ∙ none))
+      (λ only. omega (
+        arith,
+        only.unreached,
+        length-append verified (filter (is_valid x) (votes_checked (quorum_in x) verified pending)),
+        filter_shorter
+            (is_valid x) (votes_checked (quorum_in x) verified pending),
+      )))
+      a.way
+
+  -- no more than those of a list wait
+  waiting_fewer : (now : History D K G C) (kind : Kind) (votes : List (Vote G D))
+      → length (waiting_votes x now kind votes) ≤ length votes
+  waiting_fewer now kind votes =
+      cond_both (is_certified now kind || is_skipped x.mode) [] (filter (waits x.same_digest (selected_proposal x now)) votes)
+      (λ left. length left ≤ length votes)
+      (λ _. omega arith) (λ _. filter_shorter (waits x.same_digest (selected_proposal x now)) votes)
+
+module _ {D K G C : Type 0} (x : Setting D K G C) (lawful : HasLaws x) (past : History D K G C)
+    (answer : Option (Batch (Certificate C D)))
+    (may : MayAnswer x past ConstructCall (ConstructAnswer answer)) (holds : Holds x past answer)
+  where
+    abbrev event : Event D K G C
+    event = constructed x past answer
+
+    abbrev then : History D K G C
+    then = event ∷ past
+
+    abbrev held : Held G D
+    held = holds.held
+
+    -- what is fresh and proven then is of what is left in the buffers
+    fresh_left : (kind : Kind) (b : Bool) → tries_kind x past event.1 kind ≡ b
+        → length (fresh_votes x then kind) ≤ length (cond b [] (of_kind held.buffered.pending kind))
+    fresh_left kind b tries =
+        at_most
+        (sym (length_same _ _ (pending_follow x lawful past held ConstructCall (ConstructAnswer answer) kind holds.stands may))
+        ∙ ap length (pending_left x past held answer (none_returns x lawful past answer may) kind))
+        (waiting_fewer x then kind (cond (tries_kind x past event.1 kind) [] (of_kind held.buffered.pending kind)))
+        (ap (λ t. length (cond t [] (of_kind held.buffered.pending kind))) tries)
+
+    proven_left : (kind : Kind) (b : Bool) → tries_kind x past event.1 kind ≡ b →
+        length (proven_votes x then kind)
+        ≤ length (cond b (left_verified x (of_kind held.buffered.verified kind)
+        (of_kind held.buffered.pending kind)) (of_kind held.buffered.verified kind))
+    proven_left kind b tries =
+        at_most
+        (sym (length_same _ _ (verified_follow x lawful past held ConstructCall (ConstructAnswer answer) kind holds.stands may holds.buffers))
+        ∙ ap length (verified_left x past held answer (none_returns x lawful past answer may) kind))
+        (waiting_fewer x then kind (cond (tries_kind x past event.1 kind)
+        (left_verified x (of_kind held.buffered.verified kind) (of_kind held.buffered.pending kind)) (of_kind held.buffered.verified kind)))
+        (ap (λ t. length (cond t (left_verified x (of_kind held.buffered.verified kind) (of_kind held.buffered.pending kind))
+        (of_kind held.buffered.verified kind))) tries)
+
+    -- A kind that isn't tried has no more fresh and proven votes than before.
+    pub untried_fresh : (kind : Kind) → tries_kind x past event.1 kind ≡ false
+        → length (fresh_votes x then kind) ≤ length (fresh_votes x past kind)
+    untried_fresh kind none = omega (arith, fresh_left kind false none, length_same _ _ (holds.stands.each_kind kind).pending_are)
+
+    pub untried_proven : (kind : Kind) → tries_kind x past event.1 kind ≡ false
+        → length (proven_votes x then kind) ≤ length (proven_votes x past kind)
+    untried_proven kind none = omega (arith, proven_left kind false none, length_same _ _ (holds.stands.each_kind kind).verified_are)
+
+    -- One that is tried, and isn't certified then, has no fresh votes and too few proven ones.
+    pub tried_fresh : (kind : Kind) → tries_kind x past event.1 kind ≡ true
+        → length (fresh_votes x then kind) ≤ 0
+    tried_fresh kind tries = fresh_left kind true tries
+
+    pub tried_proven : (kind : Kind) → tries_kind x past event.1 kind ≡ true
+        → is_certified then kind
+        ≡ false → length (proven_votes x then kind) < quorum_in x
+    tried_proven kind tries still =
+        let o = open_trial x lawful past held event kind holds.stands may holds.buffers tries still in
+        let none : is_some o.batch.certificate ≡ false = false_from_ne_true _ (λ some. true≢false
+        (sym (given_certified x lawful past ConstructCall (ConstructAnswer answer) kind (of_kind held.buffered.verified kind)
+        (of_kind held.buffered.pending kind)
+        o.batch may o.given o.tried (holds.stands.each_kind kind).verified_are (holds.stands.each_kind kind).pending_are some)
+        ∙ still)) in
+        let short : length (left_verified x (of_kind held.buffered.verified kind) (of_kind held.buffered.pending kind))
+        < quorum_in x = left_short x (of_kind held.buffered.verified kind) (of_kind held.buffered.pending kind) o.batch o.tried none in
+        omega (arith, proven_left kind true tries, short)

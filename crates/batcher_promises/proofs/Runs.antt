@@ -1,0 +1,6 @@
+-- Whole lists of calls, one call at a time.
+
+pub mod Histories
+pub mod Grown
+pub mod Going
+pub mod Finding

@@ -1,0 +1,53 @@
+-- Whole lists of calls: what stands after each, and that each is answered as the history before it
+-- says.
+use Rattle.std.proofs.Common.{◌≡◌, Bool, true, false, cond, List, [], ◌∷◌, ◌++◌, refl, sym, subst}
+use Rattle.std.specs.Prelude.{MatchBool}
+use Rattle.batcher_histories.specs.declared.calls.Call.{Call}
+use Rattle.batcher_histories.specs.declared.answers.Answer.{Answer}
+use Rattle.batcher_histories.specs.Setting.{Setting}
+use Rattle.batcher_votes.specs.Held.{Held}
+use Rattle.batcher_histories.specs.History.{History, is_made, history_after, history_from}
+use Rattle.batcher_histories.specs.Answers.{MayAnswer, IsAnswered, AreAnswered}
+use Rattle.batcher_histories.specs.Stands.{Stands, Follows, Meets}
+
+module _ {D K G C : Type 0} (x : Setting D K G C) where
+  -- a call that meets the model leaves what stands after the history with it
+  pub meets_stands : (past : History D K G C) (old : Held G D) (call : Call K G C D)
+      (answer : Answer G C D) (new : Held G D) → Stands x past old
+      → Meets x past old (call, answer) new →
+      Stands x (history_after past call answer) new
+  meets_stands past old call answer new stands meets = by_made (is_made answer) meets
+    where
+      by_made : (made : Bool) → MatchBool made (Follows x past old (call, answer) new) (new ≡ old)
+          → Stands x (cond made ((call, answer) ∷ past) past) new
+      by_made true follows = follows.stands
+      by_made false same = subst (Stands x past) (sym same) stands
+
+  -- one more call behind others, each with its answer
+  pub history-push : (past : History D K G C) (calls : List (Call K G C D))
+      (answers : List (Answer G C D)) (call : Call K G C D) (answer : Answer G C D)
+      → AreAnswered x past calls answers →
+      history_from past (calls ++ call ∷ []) (answers ++ answer ∷ [])
+      ≡ history_after (history_from past calls answers) call answer
+  history-push past [] [] call answer answered = refl
+  history-push past [] (a ∷ answers) call answer answered = absurd answered
+  history-push past (c ∷ calls) [] call answer answered = absurd answered
+  history-push past (c ∷ calls) (a ∷ answers) call answer answered = history-push (history_after past c a) calls answers call answer answered.1
+
+  pub answered-push : (past : History D K G C) (calls : List (Call K G C D))
+      (answers : List (Answer G C D)) (call : Call K G C D) (answer : Answer G C D)
+      → AreAnswered x past calls answers →
+      IsAnswered x (history_from past calls answers) call answer
+      → AreAnswered x past (calls ++ call ∷ []) (answers ++ answer ∷ [])
+  answered-push past [] [] call answer before now = (now, tt)
+  answered-push past [] (a ∷ answers) call answer before now = absurd before
+  answered-push past (c ∷ calls) [] call answer before now = absurd before
+  answered-push past (c ∷ calls) (a ∷ answers) call answer before now =
+      (before.0, answered-push (history_after past c a) calls answers call answer before.1 now)
+
+module _ {D K G C : Type 0} (x : Setting D K G C) where
+  -- A call that is followed is answered as the history names.
+  pub named : {past : History D K G C} {old : Held G D} {call : Call K G C D}
+      {answer : Answer G C D} {new : Held G D} → Follows x past old (call, answer) new →
+      Follows x past old (call, answer) new × MayAnswer x past call answer
+  named follows = (follows, follows.stands.possible.1.1.0)

@@ -1,0 +1,15 @@
+pub mod Work
+pub mod Promises
+pub mod Composed
+pub mod Consequences
+pub mod Ran
+pub mod Pairs
+pub mod Examples
+pub mod Reported
+pub mod Backed
+pub mod Prompt
+pub mod Blocked
+pub mod Honest
+pub mod Flood
+pub mod Converge
+pub mod Replay

@@ -1,0 +1,50 @@
+-- What a list of calls on a fresh round leaves.
+use Rattle.std.specs.Prelude.{◌≤◌, List, []}
+use Rattle.rand_core.specs.Stream.{Stream}
+use Rattle.batcher_histories.specs.declared.calls.Call.{Call}
+use Rattle.batcher_histories.specs.declared.answers.Answer.{Answer}
+use Rattle.batcher_histories.specs.Setting.{Setting, participants_in}
+use Rattle.batcher_votes.specs.Held.{Held}
+use Rattle.batcher_histories.specs.Steps.{nothing_held}
+use Rattle.batcher_histories.specs.Runs.{Runs}
+use Rattle.batcher_histories.specs.History.{History, history}
+use Rattle.batcher_histories.specs.Answers.{AreAnswered}
+use Rattle.batcher_histories.specs.Stands.{Stands}
+use Rattle.batcher_promises.specs.Promises.{Promises}
+use Rattle.batcher_promises.specs.Composed.{HoldsThroughout}
+use Rattle.batcher_promises.specs.Backed.{GivesSafely}
+use Rattle.batcher_promises.specs.Prompt.{GivesPromptly}
+use Rattle.batcher_promises.specs.Blocked.{BlocksJustly}
+use Rattle.batcher_promises.specs.Reported.{ReportsTruly}
+use Rattle.batcher_promises.specs.Honest.{TakesInHonest}
+use Rattle.batcher_promises.specs.Flood.{IsFloodBounded}
+use Rattle.batcher_promises.specs.Consequences.{FollowsByDefinition}
+
+-- What holds of the history of a list of calls on a fresh round, group by group.
+pub record IsPromised {D K G C : Type 0} (x : Setting D K G C) (past : History D K G C) : Type 0
+  where
+    -- the headline
+    pub promises : Promises x past
+    -- certificates: which are given, and how soon
+    pub gives_safely : GivesSafely x past
+    pub gives_promptly : GivesPromptly x past
+    -- senders: whom votes block, what is reported of them, and what the honest can rely on
+    pub blocks_justly : BlocksJustly x past
+    pub reports_truly : ReportsTruly x past
+    pub takes_in_honest : TakesInHonest x past
+    -- work: what a flood of messages can cost
+    pub flood_bounded : IsFloodBounded x past
+
+-- Each call is its step from what those before left, what is held stands after all of them, each is
+-- answered as those before it name, and what is promised holds, and what else holds throughout.
+pub record IsRun {D K G C : Type 0} (x : Setting D K G C) (before : Stream)
+    (calls : List (Call K G C D)) (answers : List (Answer G C D)) (held : Held G D) (after : Stream)
+    : Type 0 where
+  pub runs : Runs x (nothing_held x.mode) before calls answers held after
+  pub stands : Stands x (history calls answers) held
+  pub answered : AreAnswered x [] calls answers
+  pub promised : IsPromised x (history calls answers)
+  pub throughout : HoldsThroughout x calls answers
+  pub follows : FollowsByDefinition x (history calls answers)
+  -- Somebody takes part, so that a quorum is at least one vote.
+  pub some_participant : 1 ≤ participants_in x

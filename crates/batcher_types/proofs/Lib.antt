@@ -1,0 +1,6 @@
+pub mod Checking
+pub mod Feeding
+pub mod KeyOrder
+pub mod MapItems
+pub mod Orders
+pub mod Places

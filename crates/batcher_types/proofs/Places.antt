@@ -1,0 +1,215 @@
+-- Where an item stands in an ascending list, or where it would.
+use Rattle.std.proofs.Common.{◌≡◌, ◌∙◌, ◌≤◌, ◌<◌, ◌+◌, ◌++◌, ℕ, suc, zero, Bool, true, false, cond, ◌||◌, nat_eq, nat_lt, nat_le, List, [], ◌∷◌, length, get_or, take, drop, map, find, Option, Some, None, is_some, Result, Ok, Err, refl, ap}
+use Rattle.std.proofs.Common.{sym, arith}
+use Rattle.std.proofs.lemmas.Bool.Decides.{nat_tests}
+use Rattle.std.proofs.lemmas.Option.{slice_get-get_or}
+use Rattle.std.specs.Prelude.{◌==◌}
+use Rattle.std.specs.List.{AllByRecursion, list_any, slice_get}
+use Rattle.std.specs.List.Sorted.{IsSearchInRange, IsBinarySearchResult}
+use Rattle.std.specs.Ordering.{nat_cmp}
+use Rattle.batcher_types.specs.Ascending.{IsAscending, insert_by}
+use Rattle.batcher_types.specs.Lists.{count}
+use Rattle.batcher_types.specs.Items.{place_of}
+use Rattle.batcher_types.specs.Ordered.{rec_weaker, all_from_rec}
+use Rattle.batcher_types.proofs.Orders.{found_key, lower, higher, searched_found, searched_absent}
+
+found_of : (b : Bool) (n i : ℕ) → ◌≡◌ {A = Result ℕ ℕ} (cond b (Ok n) (Err n)) (Ok i) → (b ≡ true)
+    × (n ≡ i)
+found_of true n i h = (refl, cc)
+found_of false n i h = absurd (cc)
+
+absent_of : (b : Bool) (n i : ℕ) → ◌≡◌ {A = Result ℕ ℕ} (cond b (Ok n) (Err n)) (Err i)
+    → (b ≡ false) × (n ≡ i)
+absent_of true n i h = absurd (cc)
+absent_of false n i h = (refl, cc)
+
+one_more : (n : ℕ) → 1 + n ≡ suc n
+one_more n = omega arith
+
+none_of : {X : Type 0} (o : Option X) → is_some o ≡ false → o ≡ None
+none_of None h = refl
+none_of (Some x) h = absurd (cc)
+
+module _ {X : Type 0} (key : X → ℕ) where
+  -- how many elements have a lower number
+  abbrev pub lower_count : List X → ℕ → ℕ
+  lower_count xs k = count (λ s. nat_lt s k) (map key xs)
+
+  none_lower : (xs : List X) (k : ℕ) → AllByRecursion (λ x. k ≤ key x) xs → lower_count xs k ≡ 0
+  none_lower [] k up = refl
+  none_lower (x ∷ xs) k up = let no : nat_lt (key x) k ≡ false = grind (arith, nat_tests, up.0) in rw no (omega (arith, none_lower xs k up.1))
+
+  count_within : (xs : List X) (k : ℕ) → lower_count xs k ≤ length xs
+  count_within [] k = omega arith
+  count_within (x ∷ xs) k = at_most (nat_lt (key x) k) (lower_count xs k) (length xs) (count_within xs k) where
+    at_most : (b : Bool) (m n : ℕ) → m ≤ n → cond b 1 0 + m ≤ suc n
+    at_most true m n h = omega (arith, h)
+    at_most false m n h = omega (arith, h)
+
+  any_found : (xs : List X) (k : ℕ) → list_any (λ s. s == k) (map key xs)
+      ≡ is_some (find (λ x. nat_eq (key x) k) xs)
+  any_found [] k = refl
+  any_found (x ∷ xs) k = either (nat_eq (key x) k) (any_found xs k) where
+    either : (b : Bool) → list_any (λ s. s == k) (map key xs)
+        ≡ is_some (find (λ x. nat_eq (key x) k) xs) → (b || list_any (λ s. s == k) (map key xs))
+        ≡ is_some (cond b (Some x) (find (λ x. nat_eq (key x) k) xs))
+    either true e = refl
+    either false e = e
+
+  -- as many are lower as stand before an element
+  count_at : (xs : List X) (i k : ℕ) (d : X) → IsAscending key xs → i < length xs
+      → key (get_or xs i d) ≡ k → lower_count xs k ≡ i
+  unfolding IsAscending
+  count_at [] i k d up below e = absurd (omega arith)
+  count_at (y ∷ ys) zero k d up below e =
+      let no : nat_lt (key y) k ≡ false = grind (arith, nat_tests) in
+      let rest = none_lower ys k (rec_weaker (λ z. key y < key z) (λ z. k ≤ key z) (λ z lt. omega (arith, lt, e)) ys up.0) in
+      rw no (omega (arith, rest))
+  count_at (y ∷ ys) (suc i) k d up below e =
+      let higher : key y < key (get_or ys i d) = all_from_rec (λ z. key y < key z) ys up.0 i d (omega arith) in
+      let yes : nat_lt (key y) k ≡ true = grind (arith, nat_tests) in
+      let rest = count_at ys i k d up.1 (omega arith) e in
+      rw yes (omega (arith, rest))
+
+  -- and before the place of a new one
+  count_split : (xs : List X) (i k : ℕ) → i ≤ length xs
+      → ((j : ℕ) (d : X) → j < i → key (get_or xs j d) < k)
+      → ((j : ℕ) (d : X) → i ≤ j → j < length xs → k < key (get_or xs j d)) → lower_count xs k ≡ i
+  count_split [] i k within before after = omega arith
+  count_split (y ∷ ys) zero k within before after =
+      let above : k < key y = after 0 y (omega arith) (omega arith) in
+      let no : nat_lt (key y) k ≡ false = grind (arith, nat_tests) in
+      let rest = count_split ys zero k (omega arith) (λ j d lt. absurd (omega arith)) (λ j d le lt. after (suc j) d (omega arith) (omega arith)) in
+      rw no (omega (arith, rest))
+  count_split (y ∷ ys) (suc i) k within before after =
+      let below : key y < k = before 0 y (omega arith) in
+      let yes : nat_lt (key y) k ≡ true = grind (arith, nat_tests) in
+      let rest = count_split ys i k (omega arith) (λ j d lt. before (suc j) d (omega arith)) (λ j d le lt. after (suc j) d (omega arith) (omega arith)) in
+      rw yes (omega (arith, rest))
+
+  found_place : (xs : List X) (k i : ℕ) → IsAscending key xs → i < length xs
+      → ((d : X) → find (λ x. nat_eq (key x) k) xs ≡ Some (get_or xs i d)) → Ok i
+      ≡ place_of (map key xs) k
+  unfolding place_of
+  found_place [] k i up below found = absurd (omega arith)
+  found_place (y ∷ ys) k i up below found =
+      let some = any_found (y ∷ ys) k ∙ ap is_some (found y) in
+      let at = count_at (y ∷ ys) i k y up below (found_key key (y ∷ ys) k (get_or (y ∷ ys) i y) (found y)) in
+      rw (some, at)
+
+  absent_place : (xs : List X) (k i : ℕ) → lower_count xs k ≡ i → find (λ x. nat_eq (key x) k) xs
+      ≡ None → Err i ≡ place_of (map key xs) k
+  unfolding place_of
+  absent_place xs k i at absent = let none = any_found xs k ∙ ap is_some absent in rw (none, at)
+
+  -- what a search by halves answers is the place
+  pub search_place : (xs : List X) (k : ℕ) (r : Result ℕ ℕ) → IsAscending key xs
+      → IsSearchInRange r (length xs) → IsBinarySearchResult (λ y. nat_cmp (key y) k) xs r → r
+      ≡ place_of (map key xs) k
+  search_place xs k (Ok i) up within h = found_place xs k i up within (searched_found key xs k i up within h)
+  search_place xs k (Err i) up within h =
+      absent_place xs k i (count_split xs i k within (lower key xs k i within up h) (higher key xs k i within up h)) (searched_absent key xs k i within up h)
+
+  -- the place behind all elements, where they are lower
+  pub last_place : (xs : List X) (k : ℕ) → AllByRecursion (λ x. key x < k) xs
+      → find (λ x. nat_eq (key x) k) xs ≡ None → Err (length xs) ≡ place_of (map key xs) k
+  last_place xs k below absent = absent_place xs k (length xs) (all_lower xs below) absent where
+    all_lower : (xs : List X) → AllByRecursion (λ x. key x < k) xs → lower_count xs k ≡ length xs
+    all_lower [] below = refl
+    all_lower (x ∷ xs) below =
+        let yes : nat_lt (key x) k ≡ true = grind (arith, nat_tests, below.0) in
+        let rest = all_lower xs below.1 in
+        rw yes (omega (arith, rest))
+
+  none_found : (xs : List X) (k : ℕ) → AllByRecursion (λ x. k < key x) xs
+      → find (λ x. nat_eq (key x) k) xs ≡ None
+  none_found [] k h = refl
+  none_found (x ∷ xs) k h = let no : nat_eq (key x) k ≡ false = grind (arith, nat_tests, h.0) in rw no (none_found xs k h.1)
+
+  at_count : (xs : List X) (k : ℕ) → IsAscending key xs → is_some (find (λ x. nat_eq (key x) k) xs)
+      ≡ true → slice_get xs (lower_count xs k) ≡ find (λ x. nat_eq (key x) k) xs
+  unfolding IsAscending
+  at_count [] k up some = refl
+  at_count (y ∷ ys) k up some = at_cons (nat_lt (key y) k) (nat_eq (key y) k) refl refl (at_count ys k up.1) some where
+    at_cons : (lt eq : Bool) → nat_lt (key y) k ≡ lt → nat_eq (key y) k ≡ eq
+        → (is_some (find (λ x. nat_eq (key x) k) ys) ≡ true → slice_get ys (lower_count ys k)
+        ≡ find (λ x. nat_eq (key x) k) ys)
+        → is_some (cond eq (Some y) (find (λ x. nat_eq (key x) k) ys)) ≡ true
+        → slice_get (y ∷ ys) (cond lt 1 0 + lower_count ys k)
+        ≡ cond eq (Some y) (find (λ x. nat_eq (key x) k) ys)
+    at_cons true true elt eeq rest some = absurd (grind (arith, nat_tests))
+    at_cons true false elt eeq rest some = ap (λ n. slice_get (y ∷ ys) n) (one_more (lower_count ys k)) ∙ rest some
+    at_cons false true elt eeq rest some =
+        let from : k ≤ key y = grind (arith, nat_tests) in
+        rw (none_lower ys k (rec_weaker (λ z. key y < key z) (λ z. k ≤ key z) (λ z lt. omega (arith, lt, from)) ys up.0))
+    at_cons false false elt eeq rest some =
+        let above : k < key y = grind (arith, nat_tests) in
+        let none = rw (none_found ys k (rec_weaker (λ z. key y < key z) (λ z. k < key z) (λ z lt. omega (arith, lt, above)) ys up.0)) at some in
+        absurd (cc)
+
+  -- at the place of an element it is found
+  pub place_found : (xs : List X) (k i : ℕ) → IsAscending key xs → place_of (map key xs) k ≡ Ok i
+      → slice_get xs i ≡ find (λ x. nat_eq (key x) k) xs
+  unfolding place_of
+  place_found xs k i up is =
+      let both = found_of _ _ i is in
+      rw (← both.1) (at_count xs k up (sym (any_found xs k) ∙ both.0))
+
+  below_any : (xs : List X) (k : ℕ) → list_any (λ s. s == k) (map key xs) ≡ true → lower_count xs k
+      < length xs
+  below_any [] k some = absurd (cc)
+  below_any (x ∷ xs) k some = below_cons (nat_lt (key x) k) (nat_eq (key x) k) refl refl (below_any xs k) some where
+    below_cons : (lt eq : Bool) → nat_lt (key x) k ≡ lt → nat_eq (key x) k ≡ eq
+        → (list_any (λ s. s == k) (map key xs) ≡ true → lower_count xs k < length xs)
+        → (eq || list_any (λ s. s == k) (map key xs)) ≡ true → cond lt 1 0 + lower_count xs k
+        < suc (length xs)
+    below_cons true true elt eeq rest some = absurd (grind (arith, nat_tests))
+    below_cons true false elt eeq rest some = let fewer = rest some in omega (arith, fewer)
+    below_cons false eq elt eeq rest some = let within = count_within xs k in omega (arith, within)
+
+  pub place_below : (xs : List X) (k i : ℕ) → place_of (map key xs) k ≡ Ok i → i < length xs
+  unfolding place_of
+  place_below xs k i is =
+      let both = found_of _ _ i is in
+      let at = both.1 in
+      let below = below_any xs k both.0 in
+      omega (arith, at, below)
+
+  -- the same by an index that is in range
+  pub place_item : (xs : List X) (k i : ℕ) (d : X) → IsAscending key xs → place_of (map key xs) k
+      ≡ Ok i → find (λ x. nat_eq (key x) k) xs ≡ Some (get_or xs i d)
+  place_item xs k i d up is = sym (place_found xs k i up is) ∙ slice_get-get_or xs i d (place_below xs k i is)
+
+  -- a place where an element would stand tells that there is none
+  pub place_absent : (xs : List X) (k i : ℕ) → place_of (map key xs) k ≡ Err i
+      → find (λ x. nat_eq (key x) k) xs ≡ None
+  unfolding place_of
+  place_absent xs k i is = none_of _ (sym (any_found xs k) ∙ (absent_of _ _ i is).0)
+
+  pub place_within : (xs : List X) (k i : ℕ) → place_of (map key xs) k ≡ Err i → i ≤ length xs
+  unfolding place_of
+  place_within xs k i is = let at = (absent_of _ _ i is).1 in omega (arith, at, count_within xs k)
+
+  insert_at_count : (x : X) (xs : List X) → IsAscending key xs → take (lower_count xs (key x)) xs
+      ++ x ∷ drop (lower_count xs (key x)) xs ≡ insert_by key x xs
+  unfolding IsAscending
+  insert_at_count x [] up = refl
+  insert_at_count x (y ∷ ys) up = insert_cons (nat_lt (key y) (key x)) (nat_le (key x) (key y)) refl refl (insert_at_count x ys up.1) where
+    insert_cons : (lt le : Bool) → nat_lt (key y) (key x) ≡ lt → nat_le (key x) (key y) ≡ le
+        → take (lower_count ys (key x)) ys ++ x ∷ drop (lower_count ys (key x)) ys
+        ≡ insert_by key x ys
+        → take (cond lt 1 0 + lower_count ys (key x)) (y ∷ ys)
+        ++ x ∷ drop (cond lt 1 0 + lower_count ys (key x)) (y ∷ ys)
+        ≡ cond le (x ∷ y ∷ ys) (y ∷ insert_by key x ys)
+    insert_cons true true elt ele rest = absurd (grind (arith, nat_tests))
+    insert_cons true false elt ele rest = ap (λ n. take n (y ∷ ys) ++ x ∷ drop n (y ∷ ys)) (one_more (lower_count ys (key x))) ∙ ap (λ zs. y ∷ zs) rest
+    insert_cons false true elt ele rest =
+        let from : key x ≤ key y = grind (arith, nat_tests) in
+        rw (none_lower ys (key x) (rec_weaker (λ z. key y < key z) (λ z. key x ≤ key z) (λ z lt. omega (arith, lt, from)) ys up.0))
+    insert_cons false false elt ele rest = absurd (grind (arith, nat_tests))
+
+  -- an insert there keeps the order
+  pub place_insert : (x : X) (xs : List X) (i : ℕ) → IsAscending key xs
+      → place_of (map key xs) (key x) ≡ Err i → take i xs ++ x ∷ drop i xs ≡ insert_by key x xs
+  unfolding place_of
+  place_insert x xs i up is = rw (← (absent_of _ _ i is).1) (insert_at_count x xs up)

@@ -1,0 +1,19 @@
+use Rattle.std.proofs.Common.{◌≡◌, ◌∙◌, ap, sym, arith, slice_get}
+use Rattle.std.proofs.lemmas.Grind.{common_steps}
+use Rattle.std.proofs.lemmas.Option.{gets}
+use Rattle.std.specs.Option.{option_copied}
+use Rattle.batcher_types.proofs.Places.{place_found, place_absent}
+use Rattle.batcher_types.proofs.messages.map.AttributableMap.get_at.Goals as goal
+
+pub returns-in-Ok-clause-item : goal.returns-in-Ok-clause-item
+returns-in-Ok-clause-item g c = λ i is.
+    let now = ap (λ v. v.items) c.self.view_is in
+    let found = place_found (λ x. (g.T.Attributable.signed_by x).0) c.self.inside.items.items i c.in-Ok.index c.self.invariant.0
+    (rw (← now) at (sym is ∙ c.in-Ok.is)) in
+    let got : option_copied c.get.result ≡ slice_get c.self.inside.items.items c.in-Ok.index = grind
+    (arith, common_steps, gets, c.get.ensures.lookup, c.deref.ensures.value) in
+    rw (← now) (got ∙ found)
+
+pub returns-in-Err-clause-item : goal.returns-in-Err-clause-item
+returns-in-Err-clause-item g c =
+    λ i is. sym (place_absent (λ x. (g.T.Attributable.signed_by x).0) c.args.self.now.items i c.in-Err.field-0 (sym is ∙ c.in-Err.is))

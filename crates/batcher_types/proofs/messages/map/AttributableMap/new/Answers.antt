@@ -1,0 +1,6 @@
+use Rattle.std.proofs.Common.{arith}
+use Rattle.batcher_types.proofs.MapItems.{ascending-empty}
+use Rattle.batcher_types.proofs.messages.map.AttributableMap.new.Goals as goal
+
+pub invariant_of-result : goal.invariant_of-result
+invariant_of-result g c = rw c.new.ensures.items (ascending-empty (λ x. (g.T.Attributable.signed_by x).0), λ k d below. absurd (omega arith))

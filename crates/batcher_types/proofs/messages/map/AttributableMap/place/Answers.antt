@@ -1,0 +1,24 @@
+use Rattle.std.proofs.Common.{◌<◌, ap, arith, refl}
+use Rattle.batcher_types.proofs.Orders.{last_absent, last_insert}
+use Rattle.batcher_types.specs.Ordered.{rec_from_all}
+use Rattle.batcher_types.proofs.Places.{last_place}
+use Rattle.batcher_types.proofs.messages.map.AttributableMap.place.Goals as goal
+
+pub returns-then-is_below-clause-absent : goal.returns-then-is_below-clause-absent
+returns-then-is_below-clause-absent g c =
+    let now = ap (λ v. v.items) c.self.view_is in
+    let below = rw (← now) at (c.if-is_below.ensures.below refl) in
+    rw (← now, c.len.ensures, c.self.inside.items.ok.0) (
+      omega arith,
+      last_absent (λ x. (g.T.Attributable.signed_by x).0) c.self.inside.items.items c.args.signer.0 below,
+      λ x e. last_insert (λ x. (g.T.Attributable.signed_by x).0) c.self.inside.items.items c.args.signer.0 x below e,
+    )
+
+pub returns-then-is_below-clause-place : goal.returns-then-is_below-clause-place
+returns-then-is_below-clause-place g c =
+    let now = ap (λ v. v.items) c.self.view_is in
+    let below = rw (← now) at (c.if-is_below.ensures.below refl) in
+    rw (← now, c.len.ensures, c.self.inside.items.ok.0)
+    (last_place (λ x. (g.T.Attributable.signed_by x).0) c.self.inside.items.items c.args.signer.0
+    (rec_from_all (λ x. (g.T.Attributable.signed_by x).0 < c.args.signer.0) c.self.inside.items.items below)
+    (last_absent (λ x. (g.T.Attributable.signed_by x).0) c.self.inside.items.items c.args.signer.0 below))

@@ -1,0 +1,14 @@
+pub mod Quorum
+pub mod Lists
+pub mod Ascending
+pub mod Attestations
+pub mod Keys
+pub mod Items
+pub mod Votes
+pub mod Meaning
+pub mod Attempts
+pub mod Hashed
+pub mod Keyed
+pub mod Sealed
+pub mod Ordered
+pub mod Lawful

@@ -1,0 +1,7 @@
+//! What travels between validators and what they sign: round numbers and participants, proposals,
+//! votes and certificates, and the schemes that tell what attestations are worth.
+#![tactic(auto)]
+
+pub mod messages;
+pub mod positions;
+pub mod scheme;

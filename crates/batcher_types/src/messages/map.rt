@@ -1,0 +1,279 @@
+//! A map from signers to their items.
+
+ghost use Rattle.std.specs.Prelude.{ℕ, ◌≡◌, ◌+◌, ◌-◌, ◌<◌, ◌≤◌, ◌↔◌, List, [], Some, None, false, length, IsTrue, IsOk, IfOk, OnOk, OnErr, IfErr, vec_len, vec_capacity, slice_get, slice_index_or, slice_set, insert, map, Err, if◌then◌else◌};
+ghost use Rattle.std.specs.Prelude.{MatchResult};
+ghost use Rattle.std.specs.List.{All};
+ghost use Rattle.std.specs.Option.{option_copied};
+ghost use Rattle.std.specs.Iterator.{YieldsFirstRef, item_count};
+ghost use Rattle.batcher_types.specs.Ascending.{IsAscending, insert_by};
+ghost use Rattle.batcher_types.specs.Items.{Items, item_of, is_new, replace_by, place_of};
+
+use crate::messages::Attributable;
+use crate::positions::Participant;
+use std::alloc::{AllocError, Global};
+use std::marker::Model;
+use std::mem;
+
+/// `Ok` of where the item of a signer stands, else `Err` of where it would.
+pub type Place = Result<usize, usize>;
+
+/// The first item of each signer below a bound, in ascending order of the signers.
+///
+/// It is one list that is searched by halves, so a round with few votes stays small.
+#[derive(Drop)]
+pub struct AttributableMap<T: Attributable> {
+    participants: usize,
+    items: Vec<T>,
+}
+
+impl<T: Attributable> Model for AttributableMap<T> {
+    ghost Value = { Items T };
+
+    ghost view = { λ m. record {
+      participants = m.participants;
+      items = m.items.items;
+      room = vec_capacity
+          m.items - vec_len m.items;
+    } };
+
+    ghost invariant = { λ m. IsAscending (λ x. (T.signed_by x).0) m.items.items
+        × All (λ x. (T.signed_by x).0 < m.participants) m.items.items };
+}
+
+impl<T: Attributable> AttributableMap<T> {
+    /// An empty map for the signers below `participants`. It takes no memory.
+    pub fn new(alloc: Global, participants: usize) -> Self
+        ensures participants { result.participants ≡ participants }
+        ensures items { result.items ≡ [] }
+    {
+        AttributableMap {
+            participants,
+            items: Vec::new(alloc),
+        }
+    }
+
+    /// Keeps the item where its signer is below the bound and has none yet, and answers whether
+    /// it did. Where it answers false it takes no memory, nor after `make_room`.
+    pub fn insert(&mut self, item: T) -> Result<bool, AllocError>
+        ensures kept { IfOk result (λ kept. kept ≡ is_new (λ x. (T.signed_by x).0) self.old item) }
+        ensures items { MatchResult result
+            (λ kept. self.new.items ≡ (if kept then insert_by (λ x. (T.signed_by x).0) item
+            self.old.items else self.old.items)) (λ _. self.new.items ≡ self.old.items) }
+        ensures participants { self.new.participants ≡ self.old.participants }
+        ensures no_memory { is_new (λ x. (T.signed_by x).0) self.old item ≡ false → IsOk result }
+        ensures with_room { OnErr result (self.old.room ≡ 0) }
+        ensures room { self.old.room ≤ self.new.room + 1 }
+    {
+        if usize::from(item.signer()) >= self.participants {
+            return Ok(false);
+        }
+        match self.place(item.signer()) {
+            Ok(_) => Ok(false),
+            Err(place) => {
+                self.items.insert(place, item)?;
+                Ok(true)
+            }
+        }
+    }
+
+    /// The item of the signer.
+    pub fn get(&self, signer: Participant) -> Option<&T>
+        ensures item { option_copied result
+            ≡ item_of (λ x. (T.signed_by x).0) self.now.items signer.0 }
+        ensures ascending { IsAscending (λ x. (T.signed_by x).0) self.now.items }
+    {
+        self.get_at(self.place(signer))
+    }
+
+    /// The item at a place that `place` gave for its signer.
+    pub fn get_at(&self, place: Place) -> Option<&T>
+        ensures item { (i : ℕ) → place ≡ place_of (map (λ x. (T.signed_by x).0) self.now.items) i
+            → option_copied result ≡ item_of (λ x. (T.signed_by x).0) self.now.items i }
+        ensures ascending { IsAscending (λ x. (T.signed_by x).0) self.now.items }
+    {
+        match place {
+            Ok(index) => self.items.get(index),
+            Err(_) => None,
+        }
+    }
+
+    /// How many items there are.
+    pub fn len(&self) -> usize
+        ensures { result ≡ length self.now.items }
+    {
+        self.items.len()
+    }
+
+    /// Whether there is no item.
+    pub fn is_empty(&self) -> bool
+        ensures { IsTrue result ↔ (self.now.items ≡ []) }
+    {
+        self.items.is_empty()
+    }
+
+    /// The items in ascending order of their signers.
+    pub fn iter(&self) -> MapIter<'_, T>
+        ensures { result ≡ self.now.items }
+    {
+        MapIter {
+            rest: self.items.as_slice(),
+        }
+    }
+
+    /// Makes room for one insert, and changes nothing else. Where there is room it takes no memory.
+    pub fn make_room(&mut self) -> Result<(), AllocError>
+        ensures room { OnOk result (1 ≤ self.new.room) }
+        ensures items { self.new.items ≡ self.old.items }
+        ensures participants { self.new.participants ≡ self.old.participants }
+        ensures no_memory { 1 ≤ self.old.room → IsOk result }
+    {
+        self.items.reserve(1)
+    }
+
+    /// Puts the item in the place of its signer's, and answers that one. It takes no memory.
+    pub fn replace(&mut self, item: T) -> Option<T>
+        ensures before { result ≡ item_of (λ x. (T.signed_by x).0) self.old.items
+            (T.signed_by item).0 }
+        ensures items { self.new.items ≡ replace_by (λ x. (T.signed_by x).0) item self.old.items }
+        ensures participants { self.new.participants ≡ self.old.participants }
+        ensures room { self.new.room ≡ self.old.room }
+    {
+        match self.place(item.signer()) {
+            Ok(place) => Some(mem::replace(&mut self.items[place], item)),
+            Err(_) => None,
+        }
+    }
+
+    /// The bound on signers.
+    pub fn participants(&self) -> usize
+        ensures { result ≡ self.now.participants }
+    {
+        self.participants
+    }
+
+    /// The items in ascending order of their signers. It takes no memory.
+    pub fn as_slice(&self) -> &[T]
+        ensures items { result.now ≡ self.now.items }
+        ensures ascending { IsAscending (λ x. (T.signed_by x).0) self.now.items }
+    {
+        self.items.as_slice()
+    }
+
+    /// The item at a place where there is one. It takes no memory.
+    pub fn item_at(&self, place: usize) -> &T
+        requires { place < length self.now.items }
+        ensures item { (default : T) → result.now ≡ slice_index_or self.now.items place default }
+        ensures ascending { IsAscending (λ x. (T.signed_by x).0) self.now.items }
+    {
+        &self.items[place]
+    }
+
+    /// Puts the item in the place of one of the same signer. It takes no memory.
+    pub fn replace_at(&mut self, place: usize, item: T)
+        requires place { place < length self.old.items }
+        requires signer { T.signed_by (slice_index_or self.old.items place item)
+            ≡ T.signed_by item }
+        ensures items { self.new.items ≡ slice_set self.old.items place item }
+        ensures participants { self.new.participants ≡ self.old.participants }
+        ensures room { self.new.room ≡ self.old.room }
+    {
+        self.items[place] = item;
+    }
+
+    /// Puts the item of a signer that has none in its place, which `place` tells. After
+    /// `make_room` it takes no memory.
+    pub fn insert_at(&mut self, place: usize, item: T) -> Result<(), AllocError>
+        requires signer { (T.signed_by item).0 < self.old.participants }
+        requires place { place_of (map (λ x. (T.signed_by x).0) self.old.items) (T.signed_by item).0
+            ≡ Err place }
+        ensures items { MatchResult result
+            (λ _. self.new.items ≡ insert_by (λ x. (T.signed_by x).0) item self.old.items)
+            (λ _. self.new.items ≡ self.old.items) }
+        ensures ascending { IsAscending (λ x. (T.signed_by x).0) self.old.items }
+        ensures participants { self.new.participants ≡ self.old.participants }
+        ensures with_room { OnErr result (self.old.room ≡ 0) }
+        ensures room { self.old.room ≤ self.new.room + 1 }
+    {
+        self.items.insert(place, item)?;
+        Ok(())
+    }
+
+    /// The item at a place in the order of the signers. It takes no memory.
+    pub fn at(&self, i: usize) -> Option<&T>
+        ensures { option_copied result ≡ slice_get self.now.items i }
+    {
+        self.items.get(i)
+    }
+
+    /// Where the signer's item stands, else where it would. Items often come in the order of their
+    /// signers, so the last one is looked at first.
+    pub fn place(&self, signer: Participant) -> Place
+        ensures place { result ≡ place_of (map (λ x. (T.signed_by x).0) self.now.items) signer.0 }
+        ensures ascending { IsAscending (λ x. (T.signed_by x).0) self.now.items }
+        ensures found { IfOk result (λ i. (i < length self.now.items)
+            × ((d : T) → item_of (λ x. (T.signed_by x).0) self.now.items signer.0
+            ≡ Some (slice_index_or self.now.items i d))) }
+        ensures absent { IfErr result (λ i. (i ≤ length self.now.items)
+            × (item_of (λ x. (T.signed_by x).0) self.now.items signer.0 ≡ None)
+            × ((x : T) → (T.signed_by x).0 ≡ signer.0 → insert self.now.items i x
+            ≡ insert_by (λ x. (T.signed_by x).0) x self.now.items)) }
+    {
+        if self.is_below(signer) {
+            Err(self.items.len())
+        } else {
+            self.searched_place(signer)
+        }
+    }
+
+    // Whether all items are of lower signers.
+    fn is_below(&self, signer: Participant) -> bool
+        ensures ascending { IsAscending (λ x. (T.signed_by x).0) self.now.items }
+        ensures below { IsTrue result → All (λ x. (T.signed_by x).0 < signer.0) self.now.items }
+    {
+        match self.items.last() {
+            Some(last) => last.signer().0 < signer.0,
+            None => true,
+        }
+    }
+
+    // Where the signer's item stands, else where it would, by halves.
+    fn searched_place(&self, signer: Participant) -> Place
+        ensures place { result ≡ place_of (map (λ x. (T.signed_by x).0) self.now.items) signer.0 }
+        ensures found { IfOk result (λ i. (i < length self.now.items)
+            × ((d : T) → item_of (λ x. (T.signed_by x).0) self.now.items signer.0
+            ≡ Some (slice_index_or self.now.items i d))) }
+        ensures absent { IfErr result (λ i. (i ≤ length self.now.items)
+            × (item_of (λ x. (T.signed_by x).0) self.now.items signer.0 ≡ None)
+            × ((x : T) → (T.signed_by x).0 ≡ signer.0 → insert self.now.items i x
+            ≡ insert_by (λ x. (T.signed_by x).0) x self.now.items)) }
+    {
+        self.items
+            .binary_search_by_key(&signer.0, |item| item.signer().0)
+    }
+}
+
+/// The items of a map in ascending order of their signers.
+#[derive(Drop)]
+pub struct MapIter<'a, T> {
+    rest: &'a [T],
+}
+
+impl<'a, T> Model for MapIter<'a, T> {
+    ghost Value = { List T };
+
+    ghost view = { λ s. s.rest.now };
+}
+
+impl<'a, T> Iterator for MapIter<'a, T> {
+    type Item = &'a T;
+
+    ghost next_gives = { YieldsFirstRef (λ s. s) };
+
+    ghost remaining = { item_count (λ s. s) };
+
+    fn next(&mut self) -> Option<&'a T> {
+        let (first, others) = self.rest.split_first()?;
+        self.rest = others;
+        Some(first)
+    }
+}

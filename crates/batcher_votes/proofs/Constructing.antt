@@ -1,0 +1,531 @@
+-- What an attempt is about, and what it leaves.
+use Rattle.std.proofs.Common.{◌≡◌, ◌≤◌, ◌+◌, ◌==◌, ◌&&◌, ◌||◌, ℕ, Bool, true, false, not, cond, nat_le, List, [], ◌∷◌, ◌++◌, length, map, Option, Some, None, IfSome, is_some, is_none, append-nil, refl, sym, ap, subst, ◌∙◌, arith}
+use Rattle.std.specs.List.{All, AllPass, list_all}
+use Rattle.std.specs.Option.{option_map}
+use Rattle.std.proofs.lemmas.Bool.Decides.{nat_tests}
+use Rattle.std.proofs.lemmas.List.{map-append}
+use Rattle.std.proofs.lemmas.List.Elements.{All-cons, All-head, All-tail}
+use Rattle.rand_core.specs.Stream.{Stream}
+use Rattle.batcher_types.specs.declared.positions.Participant.{Participant}
+use Rattle.batcher_types.specs.declared.positions.Round.{Round}
+use Rattle.batcher_types.specs.declared.messages.Attestation.{Attestation}
+use Rattle.batcher_types.specs.declared.messages.Proposal.{Proposal}
+use Rattle.batcher_types.specs.declared.messages.Subject.{Subject}
+use Rattle.batcher_types.specs.declared.messages.Subject.TheVariants.{Notarize as NotarizeSubject, Nullify as NullifySubject, Finalize as FinalizeSubject}
+use Rattle.batcher_types.specs.declared.messages.Vote.{Vote}
+use Rattle.batcher_types.specs.declared.messages.Vote.TheVariants.{Notarize as NotarizeVote, Nullify as NullifyVote, Finalize as FinalizeVote}
+use Rattle.batcher_types.specs.declared.messages.Certificate.{Certificate}
+use Rattle.batcher_types.specs.declared.messages.Kind.{Kind}
+use Rattle.batcher_types.specs.declared.messages.Kind.TheVariants.{Notarization, Nullification, Finalization}
+use Rattle.batcher_votes.specs.declared.verifier.Batch.{Batch}
+use Rattle.batcher_types.specs.Quorum.{quorum_of}
+use Rattle.batcher_types.specs.Lists.{count, EachOnce}
+use Rattle.batcher_types.specs.Attestations.{index_of_signer}
+use Rattle.batcher_types.specs.Meaning.{Meaning, IsLawful}
+use Rattle.batcher_types.specs.Votes.{is_kind, is_of_kind, signer_of, subject_of, attestation_of, proposal_in, same_round, same_proposal, same_subject}
+use Rattle.batcher_votes.specs.Selected.{proposal_of}
+use Rattle.batcher_votes.specs.Held.{of_kind, Buffered}
+use Rattle.batcher_types.specs.Attempts.{Tried, attempt_of}
+use Rattle.batcher_votes.specs.Buffering.{attestations_of, vote_for, subject_from, first_proposal, is_enough, is_ready, CompletesKind, certificate_for, subject_tried, batch_of, TriesKind, SameBuffered}
+use Rattle.batcher_votes.specs.Sound.{IsSound, IsSoundKind, attests_itself, is_about, may_stand, Absorbs}
+use Rattle.batcher_votes.specs.Verifiers.{subject_ready, certifies_itself}
+use Rattle.batcher_votes.proofs.Counts.{count-map}
+use Rattle.batcher_votes.proofs.Pairing.{vote_again, attestation_again, subject_again}
+use Rattle.batcher_votes.proofs.Waits.{proposal_is, round_is, kind_is}
+use Rattle.batcher_votes.proofs.Trying.{IsFine, fine}
+
+none_at_all : {X : Type 0} (P : X → Type 0) → All P []
+none_at_all P = λ k d below. absurd (omega arith)
+
+pub given : {X : Type 0} (b : Bool) (o : Option X) (x : X) → cond b o None ≡ Some x → (b ≡ true)
+    × (o ≡ Some x)
+given true o x h = (refl, h)
+given false o x h = absurd (cc)
+
+some_is : {X : Type 0} (x y : X) → Some x ≡ Some y → x ≡ y
+some_is x y e = cc
+
+pub both : (a b : Bool) → (a && b) ≡ true → (a ≡ true) × (b ≡ true)
+both true b h = (refl, h)
+both false b h = absurd (cc)
+
+module _ {D : Type 0} (same : D → D → Bool) (identical : (a b : D) → same a b ≡ true → a ≡ b) where
+  pub subject_is : (s t : Subject D) → same_subject same s t ≡ true → s ≡ t
+  subject_is (NotarizeSubject p) (NotarizeSubject r) h = ap NotarizeSubject (proposal_is same identical p r h)
+  subject_is (NotarizeSubject p) (NullifySubject r) h = absurd (cc)
+  subject_is (NotarizeSubject p) (FinalizeSubject r) h = absurd (cc)
+  subject_is (NullifySubject p) (NotarizeSubject r) h = absurd (cc)
+  subject_is (NullifySubject p) (NullifySubject r) h = ap NullifySubject (round_is p r h)
+  subject_is (NullifySubject p) (FinalizeSubject r) h = absurd (cc)
+  subject_is (FinalizeSubject p) (NotarizeSubject r) h = absurd (cc)
+  subject_is (FinalizeSubject p) (NullifySubject r) h = absurd (cc)
+  subject_is (FinalizeSubject p) (FinalizeSubject r) h = ap FinalizeSubject (proposal_is same identical p r h)
+
+  module _ {G : Type 0} (number : Round) (subject : Subject D) where
+    about_of : (proposal : Option (Proposal D)) (kind : Kind) (v : Vote G D)
+        → may_stand same number proposal kind v ≡ true → subject_from kind number proposal
+        ≡ Some subject → subject_of v ≡ subject
+    about_of proposal kind v h e =
+        let about : is_about same (subject_from kind number proposal) (subject_of v)
+        ≡ true = (both (is_of_kind kind v) (is_about same (subject_from kind number proposal) (subject_of v)) h).1 in
+        let there : is_about same (Some subject) (subject_of v) ≡ true = subst (λ o. is_about same o (subject_of v) ≡ true) e about in
+        sym (subject_is subject (subject_of v) there)
+
+    -- the subject is known, so all that may stand are about it
+    pub known : (proposal : Option (Proposal D)) (kind : Kind) (xs : List (Vote G D))
+        → subject_from kind number proposal ≡ Some subject
+        → AllPass (may_stand same number proposal kind) xs → All (λ v. subject_of v ≡ subject) xs
+    known proposal kind xs e h = λ k d below. about_of proposal kind _ (h k d below) e
+
+    all_alike : (s : Subject D) (xs : List (Vote G D)) → s ≡ subject
+        → list_all (λ v. same_subject same s (subject_of v)) xs ≡ true
+        → All (λ v. subject_of v ≡ subject) xs
+    all_alike s [] e h = none_at_all (λ v. subject_of v ≡ subject)
+    all_alike s (x ∷ xs) e h =
+        let parts = both (same_subject same s (subject_of x)) (list_all (λ v. same_subject same s (subject_of v)) xs) h in
+        All-cons (λ v. subject_of v ≡ subject) x xs (sym (subject_is s (subject_of x) parts.0) ∙ e) (all_alike s xs e parts.1)
+
+    alike_notarizes : (x : Vote G D) (xs : List (Vote G D)) → is_of_kind Notarization x ≡ true
+        → option_map NotarizeSubject (proposal_in (subject_of x)) ≡ Some subject
+        → list_all (λ v. same_subject same (subject_of x) (subject_of v)) xs ≡ true
+        → All (λ v. subject_of v ≡ subject) (x ∷ xs)
+    alike_notarizes (NotarizeVote v) xs k e h =
+        let same_one = some_is (NotarizeSubject v.proposal) subject e in All-cons (λ w. subject_of w ≡ subject) (NotarizeVote v) xs same_one
+        (all_alike (NotarizeSubject v.proposal) xs same_one h)
+    alike_notarizes (NullifyVote v) xs k e h = absurd (cc)
+    alike_notarizes (FinalizeVote v) xs k e h = absurd (cc)
+
+    alike_finalizes : (x : Vote G D) (xs : List (Vote G D)) → is_of_kind Finalization x ≡ true
+        → option_map FinalizeSubject (proposal_in (subject_of x)) ≡ Some subject
+        → list_all (λ v. same_subject same (subject_of x) (subject_of v)) xs ≡ true
+        → All (λ v. subject_of v ≡ subject) (x ∷ xs)
+    alike_finalizes (FinalizeVote v) xs k e h =
+        let same_one = some_is (FinalizeSubject v.proposal) subject e in All-cons (λ w. subject_of w ≡ subject) (FinalizeVote v) xs same_one
+        (all_alike (FinalizeSubject v.proposal) xs same_one h)
+    alike_finalizes (NullifyVote v) xs k e h = absurd (cc)
+    alike_finalizes (NotarizeVote v) xs k e h = absurd (cc)
+
+    -- where a kind is ready, its verified votes are about what is tried
+    ready_about :
+        (batchable : Bool) (q : ℕ) (proposal : Option (Proposal D)) (kind : Kind)
+        (verified pending : List (Vote G D))
+        → is_enough same batchable q kind proposal verified pending ≡ true
+        → subject_from kind number (cond (is_none proposal) (first_proposal verified) proposal)
+        ≡ Some subject
+        → AllPass (may_stand same number proposal kind) verified
+        → All (λ v. subject_of v ≡ subject) verified
+    ready_about batchable q (Some p) kind verified pending h e stand = known (Some p) kind verified e stand
+    ready_about batchable q None Nullification verified pending h e stand = known None Nullification verified e stand
+    ready_about batchable q None Notarization [] pending h e stand = none_at_all (λ v. subject_of v ≡ subject)
+    ready_about batchable q None Finalization [] pending h e stand = none_at_all (λ v. subject_of v ≡ subject)
+    ready_about batchable q None Notarization (x ∷ xs) pending h e stand =
+        alike_notarizes x xs ((both _ _ (All-head (λ v. may_stand same number None Notarization v ≡ true) x xs stand)).0) e ((both _ _ h).1)
+    ready_about batchable q None Finalization (x ∷ xs) pending h e stand =
+        alike_finalizes x xs ((both _ _ (All-head (λ v. may_stand same number None Finalization v ≡ true) x xs stand)).0) e ((both _ _ h).1)
+
+    pub verified_about :
+        (batchable : Bool) (q : ℕ) (held : Buffered G D) (kind : Kind)
+        → subject_ready same batchable q held number kind ≡ Some subject
+        → AllPass (may_stand same number (proposal_of held.selection) kind)
+        (of_kind held.verified kind) → All (λ v. subject_of v ≡ subject)
+        (of_kind held.verified kind)
+    verified_about batchable q held kind ready stand =
+        let parts = given _ _ subject ready in
+        let is = both _ _ parts.0 in
+        ready_about batchable q (proposal_of held.selection) kind (of_kind held.verified kind) (of_kind held.pending kind) is.1 parts.1 stand
+
+module _ {D K G C : Type 0} (m : Meaning D K G C) (same : D → D → Bool) (number : Round)
+    (subject : Subject D) where
+  pub attested_about : (xs : List (Vote G D)) → All (λ v. subject_of v ≡ subject) xs
+      → AllPass (attests_itself m same number) xs → AllPass (m.attests subject) (attestations_of xs)
+  attested_about [] about h = none_at_all (λ a. m.attests subject a ≡ true)
+  attested_about (x ∷ xs) about h =
+      All-cons (λ a. m.attests subject a ≡ true) (attestation_of x) (attestations_of xs)
+      (subst (λ s. m.attests s (attestation_of x) ≡ true) (All-head (λ v. subject_of v ≡ subject) x xs about)
+      (All-head (λ v. attests_itself m same number v ≡ true) x xs h))
+      (attested_about xs (All-tail (λ v. subject_of v ≡ subject) x xs about) (All-tail (λ v. attests_itself m same number v ≡ true) x xs h))
+
+module _ {G D : Type 0} where
+  pub votes_again : (subject : Subject D) (xs : List (Vote G D))
+      → All (λ v. subject_of v ≡ subject) xs → map (vote_for subject) (attestations_of xs) ≡ xs
+  votes_again subject [] about = refl
+  votes_again subject (x ∷ xs) about =
+      let here : vote_for subject (attestation_of x) ≡ x = rw (← (All-head (λ v. subject_of v ≡ subject) x xs about)) (vote_again x) in
+      let others = votes_again subject xs (All-tail (λ v. subject_of v ≡ subject) x xs about) in
+      cc
+
+  attestations-append : (xs ys : List (Vote G D)) → attestations_of (xs ++ ys) ≡ attestations_of xs
+      ++ attestations_of ys
+  attestations-append [] ys = refl
+  attestations-append (x ∷ xs) ys = ap (λ zs. attestation_of x ∷ zs) (attestations-append xs ys)
+
+  -- the signers of votes are those of their attestations
+  pub once_attestations : (xs ys : List (Vote G D)) → EachOnce signer_of (xs ++ ys)
+      → EachOnce index_of_signer (attestations_of xs ++ attestations_of ys)
+  once_attestations xs ys once = λ i.
+      let counted : count (λ a. index_of_signer a == i) (attestations_of (xs ++ ys))
+      ≡ count (λ v. signer_of v == i) (xs ++ ys) = count-map (λ a. index_of_signer a == i) attestation_of (xs ++ ys) in
+      rw (← (attestations-append xs ys), counted) (once i)
+
+  count_votes : (subject : Subject D) (i : ℕ) (ones : List (Attestation G))
+      → count (λ v. signer_of v == i) (map (vote_for subject) ones)
+      ≡ count (λ a. index_of_signer a == i) ones
+  count_votes subject i [] = refl
+  count_votes (NotarizeSubject p) i (a ∷ ones) = ap (λ n. cond (a.signer.0 == i) 1 0 + n) (count_votes (NotarizeSubject p) i ones)
+  count_votes (NullifySubject r) i (a ∷ ones) = ap (λ n. cond (a.signer.0 == i) 1 0 + n) (count_votes (NullifySubject r) i ones)
+  count_votes (FinalizeSubject p) i (a ∷ ones) = ap (λ n. cond (a.signer.0 == i) 1 0 + n) (count_votes (FinalizeSubject p) i ones)
+
+  once_votes : (subject : Subject D) (ones : List (Attestation G)) → EachOnce index_of_signer ones
+      → EachOnce signer_of (map (vote_for subject) ones ++ [])
+  once_votes subject ones once = λ i. rw (append-nil, count_votes subject i ones) (once i)
+
+-- a kind's subject is of the kind
+of_its_kind : {G D : Type 0} (kind : Kind) (number : Round) (proposal : Option (Proposal D))
+    (subject : Subject D) (a : Attestation G) → subject_from kind number proposal ≡ Some subject
+    → is_of_kind kind (vote_for subject a) ≡ true
+of_its_kind Notarization number None subject a e = absurd (cc)
+of_its_kind Notarization number (Some p) subject a e =
+    let s : NotarizeSubject p ≡ subject = cc in subst (λ t. is_of_kind Notarization (vote_for t a) ≡ true) s refl
+of_its_kind Nullification number proposal subject a e =
+    let s : NullifySubject number ≡ subject = cc in subst (λ t. is_of_kind Nullification (vote_for t a) ≡ true) s refl
+of_its_kind Finalization number None subject a e = absurd (cc)
+of_its_kind Finalization number (Some p) subject a e =
+    let s : FinalizeSubject p ≡ subject = cc in subst (λ t. is_of_kind Finalization (vote_for t a) ≡ true) s refl
+
+number_is : (n : ℕ) → (n == n) ≡ true
+number_is n = grind (arith, nat_tests)
+
+all_true : (a b : Bool) → a ≡ true → b ≡ true → (a && b) ≡ true
+all_true a b e f = rw (e, f)
+
+module _ {D : Type 0} (same : D → D → Bool) (reflexive : (d : D) → same d d ≡ true) where
+  same_rounds : (r : Round) → same_round r r ≡ true
+  same_rounds r = all_true (r.epoch.0 == r.epoch.0) (r.view.0 == r.view.0) (number_is r.epoch.0) (number_is r.view.0)
+
+  pub same_proposals : (p : Proposal D) → same_proposal same p p ≡ true
+  same_proposals p = all_true _ _ (same_rounds p.round) (all_true _ _ (number_is p.parent.0) (reflexive p.payload))
+
+  pub same_subjects : (s : Subject D) → same_subject same s s ≡ true
+  same_subjects (NotarizeSubject p) = same_proposals p
+  same_subjects (NullifySubject r) = same_rounds r
+  same_subjects (FinalizeSubject p) = same_proposals p
+
+  -- what is tried of a kind is what its votes have to be about
+  about_tried : (number : Round) (proposal other : Option (Proposal D)) (kind : Kind)
+      (subject : Subject D) → subject_from kind number (cond (is_none proposal) other proposal)
+      ≡ Some subject → is_about same (subject_from kind number proposal) subject ≡ true
+  about_tried number (Some p) other kind subject e = subst (λ o. is_about same o subject ≡ true) (sym e) (same_subjects subject)
+  about_tried number None other Notarization subject e = refl
+  about_tried number None other Nullification subject e = subst (λ o. is_about same o subject ≡ true) (sym e) (same_subjects subject)
+  about_tried number None other Finalization subject e = refl
+
+  all_of_map : {X Y : Type 0} (p : Y → Bool) (f : X → Y) (xs : List X) → ((x : X) → p (f x) ≡ true)
+      → AllPass p (map f xs)
+  all_of_map p f [] h = none_at_all (λ y. p y ≡ true)
+  all_of_map p f (x ∷ xs) h = All-cons (λ y. p y ≡ true) (f x) (map f xs) (h x) (all_of_map p f xs h)
+
+  stand_tried :
+      {G : Type 0} (number : Round) (proposal other : Option (Proposal D)) (kind : Kind)
+      (subject : Subject D) → subject_from kind number (cond (is_none proposal) other proposal)
+      ≡ Some subject
+      → (ones : List (Attestation G)) → AllPass (may_stand same number proposal kind)
+      (map (vote_for subject) ones)
+  stand_tried number proposal other kind subject e ones =
+      all_of_map (may_stand same number proposal kind) (vote_for subject) ones
+      (λ a. all_true (is_of_kind kind (vote_for subject a)) (is_about same (subject_from kind number proposal) (subject_of (vote_for subject a)))
+      (of_its_kind kind number (cond (is_none proposal) other proposal) subject a e)
+      (subst (λ s. is_about same (subject_from kind number proposal) s ≡ true) (sym (subject_again subject a))
+      (about_tried number proposal other kind subject e)))
+
+module _ {D K G C : Type 0} (m : Meaning D K G C) (same : D → D → Bool)
+    (reflexive : (d : D) → same d d ≡ true) (number : Round) where
+  attest_tried : (subject : Subject D) (ones : List (Attestation G))
+      → AllPass (m.attests subject) ones
+      → AllPass (attests_itself m same number) (map (vote_for subject) ones)
+  attest_tried subject [] h = none_at_all (λ v. attests_itself m same number v ≡ true)
+  attest_tried subject (a ∷ ones) h =
+      let here : attests_itself m same number (vote_for subject a) ≡ true
+      =
+      ap (λ s. m.attests s (attestation_of (vote_for subject a))) (subject_again subject a)
+      ∙ (ap (λ x. m.attests subject x) (attestation_again subject a) ∙ All-head (λ x. m.attests subject x ≡ true) a ones h) in
+      All-cons (λ v. attests_itself m same number v ≡ true) (vote_for subject a) (map (vote_for subject) ones) here
+      (attest_tried subject ones (All-tail (λ x. m.attests subject x ≡ true) a ones h))
+
+  sound_tried :
+      (old new : Buffered G D) (kind : Kind) (subject : Subject D) (outcome : Tried G C)
+      → subject_tried old number kind ≡ Some subject → IsFine m subject outcome → new.selection
+      ≡ old.selection
+      → of_kind new.certified kind ≡ is_some outcome.certificate → of_kind new.pending kind ≡ []
+      → of_kind new.verified kind ≡ map (vote_for subject) outcome.verified
+      → IsSoundKind m same number new kind
+  sound_tried old new kind subject outcome e fine sel certified pending verified =
+      record {
+        pending = rw pending (none_at_all (λ v. may_stand same number (proposal_of new.selection) kind v ≡ true));
+        verified =
+            rw (verified, sel) (stand_tried same reflexive number (proposal_of old.selection) (first_proposal (of_kind old.verified kind)) kind subject e
+            outcome.verified);
+        attested = rw verified (attest_tried subject outcome.verified fine.attested);
+        once = rw (pending, verified) (once_votes subject outcome.verified fine.once);
+        none_pending = λ _. pending;
+        none_verified = λ done. verified ∙ ap (λ ones. map (vote_for subject) ones) (fine.emptied (sym certified ∙ done));
+      }
+
+  sound_same : (old new : Buffered G D) (kind : Kind) → new.selection ≡ old.selection
+      → SameBuffered old new kind → IsSoundKind m same number old kind
+      → IsSoundKind m same number new kind
+  sound_same old new kind sel b s =
+      record {
+        pending = rw (b.pending, sel) s.pending;
+        verified = rw (b.verified, sel) s.verified;
+        attested = rw b.verified s.attested;
+        once = rw (b.pending, b.verified) s.once;
+        none_pending = λ done. b.pending ∙ s.none_pending (sym b.certified ∙ done);
+        none_verified = λ done. b.verified ∙ s.none_verified (sym b.certified ∙ done);
+      }
+
+  this_or_other : (old new : Buffered G D) (tried kind : Kind) (b : Bool) → is_kind tried kind ≡ b
+      → (is_kind tried kind ≡ false → SameBuffered old new kind) → new.selection ≡ old.selection
+      → IsSoundKind m same number old kind → IsSoundKind m same number new tried
+      → IsSoundKind m same number new kind
+  this_or_other old new tried kind true e others sel s this = subst (λ k. IsSoundKind m same number new k) (kind_is tried kind e) this
+  this_or_other old new tried kind false e others sel s this = sound_same old new kind sel (others e) s
+
+  -- what an attempt leaves is sound
+  pub sound_tries :
+      (q : ℕ) (old new : Buffered G D) (tried : Kind) (before after : Stream)
+      (batch : Batch (Certificate C D)) → IsSound m same number q old
+      → (t : TriesKind m number q old tried before batch after new) → IsFine m t.subject t.outcome
+      → IsSound m same number q new
+  sound_tries q old new tried before after batch s t fine =
+      record {
+        some = s.some;
+        enough = s.enough;
+        kinds =
+            λ kind. this_or_other old new tried kind (is_kind tried kind) refl (t.others kind) t.selection (s.kinds kind)
+            (sound_tried old new tried t.subject t.outcome t.subject_is fine t.selection t.certified t.pending t.verified);
+      }
+
+certified_itself : {D K G C : Type 0} (m : Meaning D K G C) (subject : Subject D) (c : C)
+    → m.certifies subject c ≡ true → certifies_itself m (certificate_for subject c) ≡ true
+certified_itself m (NotarizeSubject p) c h = h
+certified_itself m (NullifySubject r) c h = h
+certified_itself m (FinalizeSubject p) c h = h
+
+-- a certificate certifies what it names
+pub batch_certifies : {D K G C : Type 0} (m : Meaning D K G C) (subject : Subject D) (o : Option C)
+    → IfSome o (λ c. m.certifies subject c ≡ true)
+    → IfSome (option_map (certificate_for subject) o) (λ c. certifies_itself m c ≡ true)
+batch_certifies m subject None h = tt
+batch_certifies m subject (Some c) h = certified_itself m subject c h
+
+some_of : {X : Type 0} (b : Bool) (x : X) → is_some (cond b (Some x) None) ≡ b
+some_of true x = refl
+some_of false x = refl
+
+none_reached : (certified rest : Bool) (b : Bool) → b ≡ false → (not certified && (b && rest))
+    ≡ false
+none_reached true rest b e = refl
+none_reached false rest b e = rw e
+
+quorum_some : (n q : ℕ) → 1 ≤ n → quorum_of n ≤ q → nat_le q 0 ≡ false
+quorum_some n q some enough = let more : 1 ≤ q = omega arith in grind (arith, nat_tests)
+
+module _ {G D : Type 0} (same : D → D → Bool) (number : Round) where
+  some_notarize : (x : Vote G D) (b : Bool) → is_of_kind Notarization x ≡ true
+      → is_some (cond b (option_map NotarizeSubject (proposal_in (subject_of x))) None) ≡ b
+  some_notarize (NotarizeVote v) b h = some_of b (NotarizeSubject v.proposal)
+  some_notarize (NullifyVote v) b h = absurd (cc)
+  some_notarize (FinalizeVote v) b h = absurd (cc)
+
+  some_finalize : (x : Vote G D) (b : Bool) → is_of_kind Finalization x ≡ true
+      → is_some (cond b (option_map FinalizeSubject (proposal_in (subject_of x))) None) ≡ b
+  some_finalize (FinalizeVote v) b h = some_of b (FinalizeSubject v.proposal)
+  some_finalize (NullifyVote v) b h = absurd (cc)
+  some_finalize (NotarizeVote v) b h = absurd (cc)
+
+  some_subject :
+      (batchable certified : Bool) (q : ℕ) (proposal : Option (Proposal D)) (kind : Kind)
+      (verified pending : List (Vote G D)) → nat_le q 0 ≡ false
+      → AllPass (may_stand same number proposal kind) verified
+      → is_some (cond (not certified && is_enough same batchable q kind proposal verified pending)
+      (subject_from kind number (cond (is_none proposal) (first_proposal verified) proposal))
+      None) ≡ (not certified && is_enough same batchable q kind proposal verified pending)
+  some_subject batchable certified q (Some p) Notarization verified pending more stand = some_of _ (NotarizeSubject p)
+  some_subject batchable certified q (Some p) Nullification verified pending more stand = some_of _ (NullifySubject number)
+  some_subject batchable certified q (Some p) Finalization verified pending more stand = some_of _ (FinalizeSubject p)
+  some_subject batchable certified q None Nullification verified pending more stand = some_of _ (NullifySubject number)
+  some_subject batchable certified q None Notarization [] pending more stand = rw (none_reached certified true (nat_le q 0) more)
+  some_subject batchable certified q None Finalization [] pending more stand = rw (none_reached certified true (nat_le q 0) more)
+  some_subject batchable certified q None Notarization (x ∷ xs) pending more stand =
+      some_notarize x _ ((both _ _ (All-head (λ v. may_stand same number None Notarization v ≡ true) x xs stand)).0)
+  some_subject batchable certified q None Finalization (x ∷ xs) pending more stand =
+      some_finalize x _ ((both _ _ (All-head (λ v. may_stand same number None Finalization v ≡ true) x xs stand)).0)
+
+  -- a kind that is ready has something to try
+  pub ready_some :
+      {K C : Type 0} (m : Meaning D K G C) (q : ℕ) (held : Buffered G D) (kind : Kind)
+      → IsSound m same number q held → is_some
+      (subject_ready same m.batchable q held number kind)
+      ≡ is_ready same m.batchable q held kind
+  ready_some m q held kind s =
+      some_subject m.batchable (of_kind held.certified kind) q (proposal_of held.selection) kind (of_kind held.verified kind) (of_kind held.pending kind)
+      (quorum_some (length m.participants) q s.some s.enough) (s.kinds kind).verified
+
+pub not_true : (b : Bool) → not b ≡ true → b ≡ false
+not_true true h = absurd (cc)
+not_true false h = refl
+
+pub self_kind : (kind : Kind) → is_kind kind kind ≡ true
+self_kind Notarization = refl
+self_kind Nullification = refl
+self_kind Finalization = refl
+
+pub untouched : {X : Type 0} (b : Bool) (x y z : X) → b ≡ false → z ≡ cond b x y → z ≡ y
+untouched true x y z e h = absurd (cc)
+untouched false x y z e h = h
+
+pub either_false : (a b c : Bool) → a ≡ false → c ≡ (a || b) → c ≡ b
+either_false true b c e h = absurd (cc)
+either_false false b c e h = h
+
+pub gone : {X : Type 0} (b : Bool) (x y z : X) → b ≡ true → z ≡ cond b x y → z ≡ x
+gone true x y z e h = h
+gone false x y z e h = absurd (cc)
+
+pub either_true : (a b c : Bool) → a ≡ true → c ≡ (a || b) → c ≡ true
+either_true true b c e h = h
+either_true false b c e h = absurd (cc)
+
+module _ {D K G C : Type 0} (m : Meaning D K G C) (same : D → D → Bool) (number : Round) (q : ℕ)
+    (old new : Buffered G D) (kind : Kind) (subject : Subject D)
+    (ready : subject_ready same m.batchable q old number kind ≡ Some subject)
+    (before after : Stream) (batch : Batch (Certificate C D)) (t : Tried G C)
+    (attempted : (t, after) ≡ attempt_of m subject q (attestations_of (of_kind old.verified kind))
+    (attestations_of (of_kind old.pending kind)) before) (batch_is : batch ≡ batch_of subject t)
+  where
+    -- a certificate was given
+    abbrev pub tries_given : is_some t.certificate ≡ true → t.verified ≡ []
+        → CompletesKind same old kind new → TriesKind m number q old kind before batch after new
+    tries_given there left c =
+        record {
+          subject = subject;
+          outcome = t;
+          subject_is = (given _ _ subject ready).1;
+          attempt = attempted;
+          batch_is = batch_is;
+          leader = c.leader;
+          selection = c.selection;
+          others = λ other e. record {
+            certified = either_false (is_kind kind other) (of_kind old.certified other) (of_kind new.certified other) e (c.certified other);
+            pending = untouched (is_kind kind other) [] (of_kind old.pending other) (of_kind new.pending other) e (c.pending other);
+            verified = untouched (is_kind kind other) [] (of_kind old.verified other) (of_kind new.verified other) e (c.verified other);
+          };
+          certified = either_true (is_kind kind kind) (of_kind old.certified kind) (of_kind new.certified kind) (self_kind kind) (c.certified kind) ∙ sym there;
+          pending = gone (is_kind kind kind) [] (of_kind old.pending kind) (of_kind new.pending kind) (self_kind kind) (c.pending kind);
+          verified = rw left (gone (is_kind kind kind) [] (of_kind old.verified kind) (of_kind new.verified kind) (self_kind kind) (c.verified kind));
+        }
+
+    -- none was given
+    abbrev pub tries_without :
+        (joining : List (Attestation G)) → t.certificate ≡ None → t.verified
+        ≡ attestations_of (of_kind old.verified kind) ++ joining
+        → All (λ v. subject_of v ≡ subject) (of_kind old.verified kind)
+        → Absorbs old kind subject joining new
+        → TriesKind m number q old kind before batch after new
+    tries_without joining none left about a =
+        let parts = given _ _ subject ready in
+        let open_kind = not_true (of_kind old.certified kind) ((both _ _ parts.0).0) in
+        record {
+          subject = subject;
+          outcome = t;
+          subject_is = parts.1;
+          attempt = attempted;
+          batch_is = batch_is;
+          leader = a.leader;
+          selection = a.selection;
+          others = a.others;
+          certified = a.certified ∙ (open_kind ∙ sym (ap is_some none));
+          pending = a.pending;
+          verified =
+              rw (
+                left,
+                map-append (vote_for subject) (attestations_of (of_kind old.verified kind)) joining,
+                votes_again subject (of_kind old.verified kind)
+                    about,
+              ) a.verified;
+        }
+
+-- what an attempt gives is fine, ones an equation of both
+pub fine_attempt :
+    {D K G C : Type 0} (m : Meaning D K G C) (lawful : IsLawful m) (same : D → D → Bool)
+    (number : Round) (q : ℕ) (old : Buffered G D) (kind : Kind) (subject : Subject D)
+    → IsSound m same number q old → All (λ v. subject_of v ≡ subject)
+    (of_kind old.verified kind)
+    → (before after : Stream) (t : Tried G C) → (t, after)
+    ≡ attempt_of m subject q (attestations_of (of_kind old.verified kind))
+    (attestations_of (of_kind old.pending kind)) before → IsFine m subject t
+fine_attempt m lawful same number q old kind subject s about before after t attempted =
+    let verified = of_kind old.verified kind in
+    let pending = of_kind old.pending kind in
+    let it = fine m lawful subject q (attestations_of verified) (attestations_of pending) s.some s.enough
+    (once_attestations verified pending (s.kinds kind).once) (attested_about m same number subject verified about (s.kinds kind).attested) before in
+    subst (λ x. IsFine m subject x) (sym (ap (λ r. r.0) attempted)) it
+
+-- a certificate that was given certifies what it names
+pub named_certifies : {D K G C : Type 0} (m : Meaning D K G C) (subject : Subject D) (t : Tried G C)
+    (content : C) (named : Certificate C D) → IsFine m subject t → t.certificate ≡ Some content
+    → named ≡ certificate_for subject content → certifies_itself m named ≡ true
+named_certifies m subject t content named fine e is =
+    let h : m.certifies subject content ≡ true = subst (λ o. IfSome o (λ c. m.certifies subject c ≡ true)) e fine.certifies in
+    rw is (certified_itself m subject content h)
+
+module _ {D K G C : Type 0} (m : Meaning D K G C) (same : D → D → Bool) (number : Round) (q : ℕ)
+    (old new : Buffered G D) (kind : Kind) (subject : Subject D)
+    (ready : subject_ready same m.batchable q old number kind ≡ Some subject)
+    (before after : Stream) (processed : ℕ) (invalid : List Participant) (certificate : Option C)
+    (fallback : Bool) (joining : List (Attestation G)) where
+  -- what an attempt gave, by its parts
+  abbrev pub gave : Tried G C
+  gave =
+      record {
+        processed = processed;
+        invalid = invalid;
+        certificate = certificate;
+        fallback = fallback;
+        verified = cond (is_some certificate) []
+            (attestations_of (of_kind old.verified kind) ++ joining);
+      }
+
+  -- that it is what the attempt gives
+  abbrev pub Gave : Type 0
+  Gave = (gave, after) ≡ attempt_of m subject q (attestations_of (of_kind old.verified kind)) (attestations_of (of_kind old.pending kind)) before
+
+  abbrev pub tries_with :
+      Gave → (content : C) (named : Certificate C D) → certificate ≡ Some content → named
+      ≡ certificate_for subject content → CompletesKind same old kind new
+      → TriesKind m number q old kind before
+      (record {
+        processed = processed;
+        invalid = invalid;
+        certificate = Some named;
+        fallback = fallback;
+      }) after new
+  tries_with attempted content named e is c =
+      tries_given m same number q old new kind subject ready before after
+      (record { processed = processed; invalid = invalid; certificate = Some named; fallback = fallback }) gave attempted
+      (rw (e, is) refl) (ap is_some e) (rw e refl) c
+
+  abbrev pub tries_without_one :
+      Gave → certificate ≡ None → All (λ v. subject_of v ≡ subject) (of_kind old.verified kind)
+      → Absorbs old kind subject joining new
+      → TriesKind m number q old kind before
+      (record {
+        processed = processed;
+        invalid = invalid;
+        certificate = None;
+        fallback = fallback;
+      }) after new
+  tries_without_one attempted e about a =
+      tries_without m same number q old new kind subject ready before after
+      (record { processed = processed; invalid = invalid; certificate = None; fallback = fallback }) gave attempted
+      (rw e refl) joining e (rw e refl) about a

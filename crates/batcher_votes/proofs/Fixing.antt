@@ -1,0 +1,86 @@
+-- A proposal that is fixed stays so, and no other takes its place.
+use Rattle.std.proofs.Common.{◌≡◌, ◌∙◌, Bool, true, false, Option, Some, None, is_some, refl, sym, ap}
+use Rattle.std.proofs.lemmas.Option.{none-some}
+use Rattle.std.specs.Option.{option_map}
+use Rattle.batcher_types.specs.declared.positions.Round.{Round}
+use Rattle.batcher_types.specs.declared.messages.Proposal.{Proposal}
+use Rattle.batcher_types.specs.declared.messages.Subject.{Subject}
+use Rattle.batcher_types.specs.declared.messages.Subject.TheVariants.{Notarize as NotarizeSubject, Nullify as NullifySubject, Finalize as FinalizeSubject}
+use Rattle.batcher_types.specs.declared.messages.Certificate.{Certificate}
+use Rattle.batcher_types.specs.declared.messages.Certificate.TheVariants.{Notarization as NotarizationCertificate, Nullification as NullificationCertificate, Finalization as FinalizationCertificate}
+use Rattle.batcher_types.specs.declared.messages.Kind.{Kind}
+use Rattle.batcher_types.specs.declared.messages.Kind.TheVariants.{Notarization, Nullification, Finalization}
+use Rattle.batcher_votes.specs.declared.verifier.ProposalState.{ProposalState}
+use Rattle.batcher_votes.specs.declared.verifier.ProposalState.TheVariants.{Unknown, Leader as LeadersProposal, Certificate as FixedProposal}
+use Rattle.batcher_types.specs.Votes.{is_kind, proposal_in, kind_certified, subject_certified}
+use Rattle.batcher_votes.specs.Selected.{is_fixed, selects, fixes, replaces}
+use Rattle.batcher_votes.specs.Buffering.{subject_from, certificate_for}
+
+module _ {D : Type 0} where
+  pub selects_fixed : (state : ProposalState D) (o : Option (Proposal D)) → is_fixed state ≡ true
+      → is_fixed (selects state o) ≡ true
+  selects_fixed Unknown o h = absurd (cc)
+  selects_fixed (LeadersProposal p) o h = absurd (cc)
+  selects_fixed (FixedProposal p) None h = refl
+  selects_fixed (FixedProposal p) (Some q) h = refl
+
+  pub fixes_fixed : (state : ProposalState D) (o : Option (Proposal D)) → is_fixed state ≡ true
+      → is_fixed (fixes state o) ≡ true
+  fixes_fixed Unknown o h = absurd (cc)
+  fixes_fixed (LeadersProposal p) o h = absurd (cc)
+  fixes_fixed (FixedProposal p) None h = refl
+  fixes_fixed (FixedProposal p) (Some q) h = refl
+
+  pub fixes_any : (state : ProposalState D) (o : Option (Proposal D)) → is_some o ≡ true
+      → is_fixed (fixes state o) ≡ true
+  fixes_any state None h = absurd (cc)
+  fixes_any Unknown (Some p) h = refl
+  fixes_any (LeadersProposal q) (Some p) h = refl
+  fixes_any (FixedProposal q) (Some p) h = refl
+
+  pub fixed_stays : (same : D → D → Bool) (state : ProposalState D) (p : Proposal D)
+      → is_fixed state ≡ true → replaces same state p ≡ false
+  fixed_stays same Unknown p h = refl
+  fixed_stays same (LeadersProposal q) p h = absurd (cc)
+  fixed_stays same (FixedProposal q) p h = refl
+
+  -- a finalization is for a proposal
+  pub finalization_for : {C : Type 0} (certificate : Certificate C D)
+      → is_kind (kind_certified certificate) Finalization ≡ true
+      → is_some (proposal_in (subject_certified certificate)) ≡ true
+  finalization_for (NotarizationCertificate it) h = refl
+  finalization_for (NullificationCertificate it) h = absurd (cc)
+  finalization_for (FinalizationCertificate it) h = refl
+
+  subject_for : (number : Round) (o : Option (Proposal D)) (subject : Subject D)
+      → subject_from Finalization number o ≡ Some subject → is_some (proposal_in subject) ≡ true
+  subject_for number None subject h = absurd (none-some subject h)
+  subject_for number (Some p) subject h =
+      let same : FinalizeSubject p ≡ subject = cc in
+      ap (λ s. is_some (proposal_in s)) (sym same)
+
+  module _ {C : Type 0} where
+    certified_subject : (subject : Subject D) (content : C)
+        → subject_certified (certificate_for subject content) ≡ subject
+    certified_subject (NotarizeSubject p) content = refl
+    certified_subject (NullifySubject r) content = refl
+    certified_subject (FinalizeSubject p) content = refl
+
+    made_of : (subject : Subject D) (o : Option C) (certificate : Certificate C D)
+        → option_map (certificate_for subject) o ≡ Some certificate → subject_certified certificate
+        ≡ subject
+    made_of subject None certificate h = absurd (none-some certificate h)
+    made_of subject (Some content) certificate h =
+        let same : certificate_for subject content ≡ certificate = cc in
+        ap subject_certified (sym same) ∙ certified_subject subject content
+
+    -- what is made of an attempt at a finalization is for a proposal
+    pub made_for : (tried : Kind) (number : Round) (o : Option (Proposal D)) (subject : Subject D)
+        (given : Option C) (certificate : Certificate C D) → subject_from tried number o
+        ≡ Some subject
+        → option_map (certificate_for subject) given ≡ Some certificate → is_kind tried Finalization
+        ≡ true → is_some (proposal_in (subject_certified certificate)) ≡ true
+    made_for Notarization number o subject given certificate about made h = absurd (cc)
+    made_for Nullification number o subject given certificate about made h = absurd (cc)
+    made_for Finalization number o subject given certificate about made h =
+        ap (λ s. is_some (proposal_in s)) (made_of subject given certificate made) ∙ subject_for number o subject about

@@ -1,0 +1,14 @@
+pub mod Certifications
+pub mod Constructing
+pub mod Counts
+pub mod Keeping
+pub mod Fixing
+pub mod Pairing
+pub mod Parts
+pub mod Quorums
+pub mod Recorded
+pub mod Released
+pub mod Restoring
+pub mod Soundness
+pub mod Trying
+pub mod Waits

@@ -1,0 +1,414 @@
+-- What is true of the votes that wait stays true.
+use Rattle.std.proofs.Common.{◌≡◌, ◌≤◌, ◌+◌, ℕ, Bool, true, false, not, cond, ◌&&◌, ◌||◌, ◌==◌, List, [], ◌∷◌, ◌++◌, length, filter, Option, Some, None, Result, Ok, Err, OnOk, OnErr, refl, sym, ap, subst, ◌∙◌, arith}
+use Rattle.std.specs.List.{AllPass, list_any}
+use Rattle.std.proofs.lemmas.List.Elements.{All-append, All-cons, All-filter, All-head, All-tail, filter_passes}
+use Rattle.std.proofs.lemmas.Bool.Decides.{nat_tests}
+use Rattle.batcher_types.specs.declared.positions.Participant.{Participant}
+use Rattle.batcher_types.specs.declared.positions.Round.{Round}
+use Rattle.batcher_types.specs.declared.messages.Proposal.{Proposal}
+use Rattle.batcher_types.specs.declared.messages.Vote.{Vote}
+use Rattle.batcher_types.specs.declared.messages.Vote.TheVariants.{Notarize as NotarizeVote, Nullify as NullifyVote, Finalize as FinalizeVote}
+use Rattle.batcher_types.specs.declared.messages.Kind.{Kind}
+use Rattle.batcher_types.specs.declared.messages.Kind.TheVariants.{Notarization, Nullification, Finalization}
+use Rattle.batcher_votes.specs.declared.verifier.ProposalState.{ProposalState}
+use Rattle.batcher_types.specs.Lists.{count, EachOnce}
+use Rattle.batcher_types.specs.Quorum.{quorum_of}
+use Rattle.batcher_types.specs.Meaning.{Meaning}
+use Rattle.batcher_types.specs.Votes.{is_kind, kind_of, is_of_kind, is_vote_of, signer_of, waits}
+use Rattle.batcher_votes.specs.Selected.{proposal_of}
+use Rattle.batcher_votes.specs.Held.{of_kind, Buffered}
+use Rattle.batcher_votes.specs.Buffering.{Buffers, is_buffered, nothing_buffered, AddsVote, CompletesKind, SetsProposal, SetsLeader}
+use Rattle.batcher_votes.specs.Sound.{IsSound, IsSoundKind, IsTidy, attests_itself, may_stand}
+use Rattle.batcher_votes.specs.Verifiers.{is_of_round}
+use Rattle.batcher_votes.proofs.Counts.{count-append, count-filter_le, once_fewer, once_none}
+use Rattle.batcher_votes.proofs.Waits.{kind_is, each_kind}
+
+pub all_more : {X : Type 0} (p q : X → Bool) → ((x : X) → p x ≡ true → q x ≡ true) → (xs : List X)
+    → AllPass p xs → AllPass q xs
+all_more p q f xs h = λ k d below. f _ (h k d below)
+
+none_at_all : {X : Type 0} (p : X → Bool) → AllPass p []
+none_at_all p = λ k d below. absurd (omega arith)
+
+all_left : {X : Type 0} (p : X → Bool) (b : Bool) (xs : List X) → AllPass p xs
+    → AllPass p (cond b [] xs)
+all_left p true xs h = none_at_all p
+all_left p false xs h = h
+
+pub fewer_left : {X : Type 0} (test p : X → Bool) (b : Bool) (xs : List X)
+    → count test (cond b [] (filter p xs)) ≤ count test xs
+fewer_left test p true xs = omega arith
+fewer_left test p false xs = count-filter_le test p xs
+
+first : (a b : Bool) → (a && b) ≡ true → a ≡ true
+first true b h = refl
+first false b h = h
+
+module _ {G D : Type 0} (same : D → D → Bool) (number : Round) where
+  -- a vote that may stand and waits with what is selected may stand then
+  pub stands_again : (before after : Option (Proposal D)) (kind : Kind) (v : Vote G D)
+      → may_stand same number before kind v ≡ true → waits same after v ≡ true
+      → may_stand same number after kind v ≡ true
+  stands_again before None Notarization (NotarizeVote v) h w = refl
+  stands_again before (Some p) Notarization (NotarizeVote v) h w = w
+  stands_again before after Notarization (NullifyVote v) h w = absurd (cc)
+  stands_again before after Notarization (FinalizeVote v) h w = absurd (cc)
+  stands_again before after Nullification (NotarizeVote v) h w = absurd (cc)
+  stands_again before after Nullification (NullifyVote v) h w = h
+  stands_again before after Nullification (FinalizeVote v) h w = absurd (cc)
+  stands_again before after Finalization (NotarizeVote v) h w = absurd (cc)
+  stands_again before after Finalization (NullifyVote v) h w = absurd (cc)
+  stands_again before None Finalization (FinalizeVote v) h w = refl
+  stands_again before (Some p) Finalization (FinalizeVote v) h w = w
+
+  pub stands_waits : (selected : Option (Proposal D)) (kind : Kind) (v : Vote G D)
+      → may_stand same number selected kind v ≡ true → waits same selected v ≡ true
+  stands_waits None kind v h = refl
+  stands_waits (Some p) Notarization (NotarizeVote v) h = h
+  stands_waits (Some p) Notarization (NullifyVote v) h = absurd (cc)
+  stands_waits (Some p) Notarization (FinalizeVote v) h = absurd (cc)
+  stands_waits (Some p) Nullification (NotarizeVote v) h = absurd (cc)
+  stands_waits (Some p) Nullification (NullifyVote v) h = refl
+  stands_waits (Some p) Nullification (FinalizeVote v) h = absurd (cc)
+  stands_waits (Some p) Finalization (NotarizeVote v) h = absurd (cc)
+  stands_waits (Some p) Finalization (NullifyVote v) h = absurd (cc)
+  stands_waits (Some p) Finalization (FinalizeVote v) h = h
+
+  -- a new vote of the round may stand while no proposal is selected
+  pub stands_first : (v : Vote G D) → is_of_round number v ≡ true
+      → may_stand same number None (kind_of v) v ≡ true
+  stands_first (NotarizeVote v) h = refl
+  stands_first (NullifyVote v) h = h
+  stands_first (FinalizeVote v) h = refl
+
+  still_stand : (before after : Option (Proposal D)) (kind : Kind) (certified : Bool)
+      (xs : List (Vote G D)) → AllPass (may_stand same number before kind) xs
+      → AllPass (may_stand same number after kind)
+      (cond certified [] (filter (waits same after) xs))
+  still_stand before after kind certified xs h =
+      all_left (may_stand same number after kind) certified (filter (waits same after) xs)
+      (λ k d below. stands_again before after kind _ (All-filter (waits same after) (λ v. may_stand same number before kind v ≡ true) xs h k d below)
+      (filter_passes (waits same after) xs k d below))
+
+  stand_loosely : (selected : Option (Proposal D)) (kind : Kind) (xs : List (Vote G D))
+      → AllPass (may_stand same number selected kind) xs
+      → AllPass (may_stand same number None kind) xs
+  stand_loosely selected kind xs h =
+      all_more (may_stand same number selected kind) (may_stand same number None kind) (λ v s. stands_again selected None kind v s refl) xs h
+
+  -- by the signer alone, as all are of the kind
+  pub any_of : (selected : Option (Proposal D)) (kind : Kind) (i : ℕ) (xs : List (Vote G D))
+      → AllPass (may_stand same number selected kind) xs → list_any (λ v. signer_of v == i) xs
+      ≡ list_any (is_vote_of kind i) xs
+  any_of selected kind i [] h = refl
+  any_of selected kind i (x ∷ xs) h =
+      let of_this : is_of_kind kind x ≡ true = first _ _ (All-head (λ v. may_stand same number selected kind v ≡ true) x xs h) in
+      let here : (signer_of x == i) ≡ is_vote_of kind i x = ap (λ b. b && (signer_of x == i)) (sym of_this) in
+      let others = any_of selected kind i xs (All-tail (λ v. may_stand same number selected kind v ≡ true) x xs h) in
+      ap (λ b. b || list_any (λ v. signer_of v == i) xs) here ∙ ap (λ b. is_vote_of kind i x || b) others
+
+none_counted : {X : Type 0} (p : X → Bool) (x : X) (xs : List X) (b : Bool) → p x ≡ b
+    → (b || list_any p xs) ≡ false → (list_any p xs ≡ false → count p xs ≡ 0)
+    → cond b 1 0 + count p xs ≡ 0
+none_counted p x xs true e h rest = absurd (cc)
+none_counted p x xs false e h rest = let others = rest h in omega arith
+
+pub count_none : {X : Type 0} (p : X → Bool) (xs : List X) → list_any p xs ≡ false → count p xs ≡ 0
+count_none p [] h = refl
+count_none p (x ∷ xs) h = none_counted p x xs (p x) refl h (count_none p xs)
+
+second : (a b : Bool) → (a && b) ≡ true → b ≡ true
+second true b h = h
+second false b h = absurd (cc)
+
+at_most : (n i a c : ℕ) (b : Bool) → (n == i) ≡ b → a + c ≤ 1 → (n ≡ i → (a ≡ 0) × (c ≡ 0))
+    → (a + cond b 1 0) + c ≤ 1
+at_most n i a c true e h none =
+    let same_number : n ≡ i = grind (arith, nat_tests) in
+    let z = none same_number in
+    omega (arith, z.0, z.1)
+at_most n i a c false e h none = omega arith
+
+neither : (a b : Bool) → (a || b) ≡ false → (a ≡ false) × (b ≡ false)
+neither true b h = absurd (cc)
+neither false b h = (refl, h)
+
+module _ {D K G C : Type 0} (m : Meaning D K G C) (same : D → D → Bool) (number : Round) where
+  pub tidy_from : (held : Buffered G D) (kind : Kind) → IsSoundKind m same number held kind
+      → IsTidy same held kind
+  tidy_from held kind s =
+      record {
+        pending =
+            all_more (may_stand same number (proposal_of held.selection) kind) (waits same (proposal_of held.selection))
+            (stands_waits same number (proposal_of held.selection) kind) (of_kind held.pending kind) s.pending;
+        verified =
+            all_more (may_stand same number (proposal_of held.selection) kind) (waits same (proposal_of held.selection))
+            (stands_waits same number (proposal_of held.selection) kind) (of_kind held.verified kind) s.verified;
+        none_pending = s.none_pending;
+        none_verified = s.none_verified;
+      }
+
+  -- a kind, where votes join the ends of its buffers and those that no longer wait go
+  pub sound_buffers :
+      (old new : Buffered G D) (kind : Kind) (to_pending to_verified : List (Vote G D))
+      → IsSoundKind m same number old kind → Buffers same old new kind to_pending to_verified
+      → AllPass (may_stand same number None kind) to_pending
+      → AllPass (may_stand same number None kind) to_verified
+      → AllPass (attests_itself m same number) to_verified
+      → EachOnce signer_of ((of_kind old.verified kind ++ to_verified)
+      ++ (of_kind old.pending kind ++ to_pending))
+      → IsSoundKind m same number new kind
+  sound_buffers old new kind to_pending to_verified s b p v a once =
+      let before = proposal_of old.selection in
+      let after = proposal_of new.selection in
+      let stand = may_stand same number None kind in
+      let pendings = of_kind old.pending kind ++ to_pending in
+      let verifieds = of_kind old.verified kind ++ to_verified in
+      let certified = of_kind new.certified kind in
+      record {
+        pending =
+            rw b.pending (still_stand same number None after kind certified pendings
+            (All-append (λ x. stand x ≡ true) (of_kind old.pending kind) to_pending (stand_loosely same number before kind (of_kind old.pending kind) s.pending)
+            p));
+        verified =
+            rw b.verified (still_stand same number None after kind certified verifieds
+            (All-append (λ x. stand x ≡ true) (of_kind old.verified kind) to_verified
+            (stand_loosely same number before kind (of_kind old.verified kind) s.verified) v));
+        attested =
+            rw b.verified (all_left (attests_itself m same number) certified (filter (waits same after) verifieds)
+            (All-filter (waits same after) (λ x. attests_itself m same number x ≡ true) verifieds
+            (All-append (λ x. attests_itself m same number x ≡ true) (of_kind old.verified kind) to_verified s.attested a)));
+        once =
+            rw (b.pending, b.verified) (once_fewer signer_of (verifieds ++ pendings)
+            (cond certified [] (filter (waits same after) verifieds) ++ cond certified [] (filter (waits same after) pendings))
+            (λ test. omega (
+              arith,
+              count-append test verifieds pendings,
+              count-append test (cond certified [] (filter (waits same after) verifieds))
+                  (cond certified [] (filter (waits same after) pendings)),
+              fewer_left test (waits same after) certified verifieds,
+              fewer_left test
+                  (waits same after) certified pendings,
+            ))
+            once);
+        none_pending = λ done. b.pending ∙ ap (λ c. cond c [] (filter (waits same after) pendings)) done;
+        none_verified = λ done. b.verified ∙ ap (λ c. cond c [] (filter (waits same after) verifieds)) done;
+      }
+
+  -- where no vote joins
+  pub sound_left : (old new : Buffered G D) (kind : Kind) → IsSoundKind m same number old kind
+      → Buffers same old new kind [] [] → IsSoundKind m same number new kind
+  sound_left old new kind s b =
+      sound_buffers old new kind [] [] s b (none_at_all _) (none_at_all _) (none_at_all _)
+      (once_fewer signer_of (of_kind old.verified kind ++ of_kind old.pending kind) ((of_kind old.verified kind ++ []) ++ (of_kind old.pending kind ++ []))
+      (λ test. omega (
+        arith,
+        count-append test (of_kind old.verified kind) (of_kind old.pending kind),
+        count-append test (of_kind old.verified kind ++ [])
+            (of_kind old.pending kind ++ []),
+        count-append test (of_kind old.verified kind) [],
+        count-append test (of_kind old.pending kind) [],
+      ))
+      s.once)
+
+  pub sound_nothing : (q : ℕ) → 1 ≤ length m.participants → quorum_of (length m.participants) ≤ q
+      → IsSound m same number q nothing_buffered
+  sound_nothing q some enough =
+      record {
+        some = some;
+        enough = enough;
+        kinds = each_kind (IsSoundKind m same number nothing_buffered)
+            (record {
+              pending = none_at_all _;
+              verified = none_at_all _;
+              attested = none_at_all _;
+              once = once_none (signer_of {G = G} {D = D});
+              none_pending = λ _. refl;
+              none_verified = λ _. refl;
+            })
+            (record {
+              pending = none_at_all _;
+              verified = none_at_all _;
+              attested = none_at_all _;
+              once = once_none (signer_of {G = G} {D = D});
+              none_pending = λ _. refl;
+              none_verified = λ _. refl;
+            })
+            (record {
+              pending = none_at_all _;
+              verified = none_at_all _;
+              attested = none_at_all _;
+              once = once_none (signer_of {G = G} {D = D});
+              none_pending = λ _. refl;
+              none_verified = λ _. refl;
+            });
+      }
+
+  -- a kind of which nothing changes, or of which a certificate is there
+  sound_completed :
+      (old new : Buffered G D) (kind : Kind) (b : Bool) → IsSoundKind m same number old kind
+      → new.selection ≡ old.selection → of_kind new.certified kind
+      ≡ (b || of_kind old.certified kind)
+      → of_kind new.pending kind ≡ cond b [] (of_kind old.pending kind) → of_kind new.verified kind
+      ≡ cond b [] (of_kind old.verified kind) → IsSoundKind m same number new kind
+  sound_completed old new kind true s sel c p v =
+      record {
+        pending = rw p (none_at_all _);
+        verified = rw v (none_at_all _);
+        attested = rw v
+            (none_at_all _);
+        once = rw (p, v) (once_none (signer_of {G = G} {D = D}));
+        none_pending = λ _. p;
+        none_verified = λ _. v;
+      }
+  sound_completed old new kind false s sel c p v =
+      record {
+        pending = rw (p, sel) s.pending;
+        verified = rw (v, sel) s.verified;
+        attested = rw v s.attested;
+        once = rw (p, v) s.once;
+        none_pending = λ done. p ∙ s.none_pending (sym c ∙ done);
+        none_verified = λ done. v ∙ s.none_verified (sym c ∙ done);
+      }
+
+  pub sound_completes : (q : ℕ) (old new : Buffered G D) (completed : Kind)
+      → IsSound m same number q old → CompletesKind same old completed new
+      → IsSound m same number q new
+  sound_completes q old new completed s c =
+      record {
+        some = s.some;
+        enough = s.enough;
+        kinds = λ kind. sound_completed old new kind (is_kind completed kind) (s.kinds kind) c.selection (c.certified kind) (c.pending kind) (c.verified kind);
+      }
+
+  joins_none : (b : Bool) (p : Vote G D → Bool) (v : Vote G D) → (b ≡ true → p v ≡ true)
+      → AllPass p (cond b (v ∷ []) [])
+  joins_none true p v h = All-cons (λ x. p x ≡ true) v [] (h refl) (none_at_all p)
+  joins_none false p v h = none_at_all p
+
+  once_more :
+      (fits is_verified : Bool) (verified pending : List (Vote G D)) (vote : Vote G D)
+      → EachOnce signer_of (verified ++ pending)
+      → (fits ≡ true → (count (λ v. signer_of v == signer_of vote) verified ≡ 0)
+      × (count (λ v. signer_of v == signer_of vote) pending ≡ 0))
+      → EachOnce signer_of ((verified ++ cond (fits && is_verified) (vote ∷ []) [])
+      ++ (pending ++ cond (fits && not is_verified) (vote ∷ []) []))
+  once_more false is_verified verified pending vote once none i =
+      let t : Vote G D → Bool = λ v. signer_of v == i in
+      omega (
+        arith,
+        once i,
+        count-append t verified pending,
+        count-append t (verified ++ []) (pending ++ []),
+        count-append t verified [],
+        count-append t pending
+            [],
+      )
+  once_more true true verified pending vote once none i =
+      let t : Vote G D → Bool = λ v. signer_of v == i in
+      let zero = λ (e : signer_of vote ≡ i). subst (λ j. (count (λ v. signer_of v == j) verified ≡ 0) × (count (λ v. signer_of v == j) pending ≡ 0)) e
+      (none refl) in
+      let both : count t verified + count t pending ≤ 1 = omega (arith, once i, count-append t verified pending) in
+      omega (
+        arith,
+        at_most (signer_of vote) i (count t verified) (count t pending) (signer_of vote == i) refl both zero,
+        count-append t (verified ++ vote ∷ [])
+            (pending ++ []),
+        count-append t verified (vote ∷ []),
+        count-append t pending [],
+      )
+  once_more true false verified pending vote once none i =
+      let t : Vote G D → Bool = λ v. signer_of v == i in
+      let zero = λ (e : signer_of vote ≡ i). subst (λ j. (count (λ v. signer_of v == j) verified ≡ 0) × (count (λ v. signer_of v == j) pending ≡ 0)) e
+      (none refl) in
+      let both : count t verified + count t pending ≤ 1 = omega (arith, once i, count-append t verified pending) in
+      omega (
+        arith,
+        at_most (signer_of vote) i (count t verified) (count t pending) (signer_of vote == i) refl both zero,
+        count-append t (verified ++ [])
+            (pending ++ vote ∷ []),
+        count-append t verified [],
+        count-append t pending (vote ∷ []),
+      )
+
+  none_by : (held : Buffered G D) (kind : Kind) (i : ℕ) → IsSoundKind m same number held kind
+      → is_buffered held kind i ≡ false
+      → (count (λ v. signer_of v == i) (of_kind held.verified kind) ≡ 0)
+      × (count (λ v. signer_of v == i) (of_kind held.pending kind) ≡ 0)
+  none_by held kind i s h =
+      let parts = neither (list_any (is_vote_of kind i) (of_kind held.verified kind)) (list_any (is_vote_of kind i) (of_kind held.pending kind)) h in
+      let sel = proposal_of held.selection in (
+        count_none (λ v. signer_of v == i) (of_kind held.verified kind) (any_of same number sel kind i (of_kind held.verified kind) s.verified ∙ parts.0),
+        count_none (λ v. signer_of v == i) (of_kind held.pending kind) (any_of same number sel kind i (of_kind held.pending kind) s.pending ∙ parts.1),
+      )
+
+  pub buffered_by : (held : Buffered G D) (kind : Kind) (i : ℕ)
+      → IsSoundKind m same number held kind
+      → (list_any (λ v. signer_of v == i) (of_kind held.verified kind)
+      || list_any (λ v. signer_of v == i) (of_kind held.pending kind)) ≡ is_buffered held kind i
+  buffered_by held kind i s =
+      let sel = proposal_of held.selection in
+      rw (any_of same number sel kind i (of_kind held.verified kind) s.verified, any_of same number sel kind i (of_kind held.pending kind) s.pending)
+
+  -- What `add` asks of a vote.
+  pub record MayJoin (held : Buffered G D) (vote : Vote G D) (is_verified : Bool) : Type 0 where
+    pub attests : is_verified ≡ true → attests_itself m same number vote ≡ true
+    pub of_round : is_of_round number vote ≡ true
+    pub fresh : is_buffered held (kind_of vote) (signer_of vote) ≡ false
+
+  pub sound_adds : (q : ℕ) (old new : Buffered G D) (vote : Vote G D) (is_verified : Bool)
+      → IsSound m same number q old → MayJoin old vote is_verified
+      → AddsVote same old vote is_verified new → IsSound m same number q new
+  sound_adds q old new vote is_verified s may adds =
+      record {
+        some = s.some;
+        enough = s.enough;
+        kinds = λ kind.
+            let fits = is_of_kind kind vote in
+            let stands : fits ≡ true → may_stand same number None kind vote ≡ true
+            = λ e. subst (λ k. may_stand same number None k vote ≡ true) (kind_is (kind_of vote) kind e) (stands_first same number vote may.of_round) in
+            sound_buffers old new kind (cond (fits && not is_verified) (vote ∷ []) []) (cond (fits && is_verified) (vote ∷ []) []) (s.kinds kind)
+            (adds.buffers kind)
+            (joins_none (fits && not is_verified) (may_stand same number None kind) vote (λ e. stands (first fits (not is_verified) e)))
+            (joins_none (fits && is_verified) (may_stand same number None kind) vote (λ e. stands (first fits is_verified e)))
+            (joins_none (fits && is_verified) (attests_itself m same number) vote (λ e. may.attests (second fits is_verified e)))
+            (once_more fits is_verified (of_kind old.verified kind) (of_kind old.pending kind) vote (s.kinds kind).once
+            (λ e. none_by old kind (signer_of vote) (s.kinds kind)
+            (subst (λ k. is_buffered old k (signer_of vote) ≡ false) (kind_is (kind_of vote) kind e) may.fresh)));
+      }
+
+  pub sound_added : {E : Type 0} (q : ℕ) (old new : Buffered G D) (vote : Vote G D)
+      (is_verified : Bool) (r : Result (Unit {0}) E) → IsSound m same number q old
+      → MayJoin old vote is_verified → OnOk r (AddsVote same old vote is_verified new)
+      → OnErr r (new ≡ old) → IsSound m same number q new
+  sound_added q old new vote is_verified (Ok u) s may adds same_held = sound_adds q old new vote is_verified s may adds
+  sound_added q old new vote is_verified (Err e) s may adds same_held = rw same_held s
+
+  pub sound_sets : (q : ℕ) (old new : Buffered G D) (selection : ProposalState D)
+      → IsSound m same number q old → SetsProposal same old selection new
+      → IsSound m same number q new
+  sound_sets q old new selection s sets =
+      record {
+        some = s.some;
+        enough = s.enough;
+        kinds = λ kind. sound_left old new kind
+            (s.kinds kind) (sets.buffers kind);
+      }
+
+  pub sound_leads :
+      {E : Type 0} (q : ℕ) (old new : Buffered G D) (leader : Participant)
+      (proposal : Option (Proposal D)) (b : Bool) (r : Result (Unit {0}) E)
+      → IsSound m same number q old
+      → (b ≡ true → new ≡ old) → OnErr r (new ≡ old)
+      → (b ≡ false → OnOk r (SetsLeader same old leader proposal new))
+      → IsSound m same number q new
+  sound_leads q old new leader proposal true r s again refused sets = rw (again refl) s
+  sound_leads q old new leader proposal false (Err e) s again refused sets = rw refused s
+  sound_leads q old new leader proposal false (Ok u) s again refused sets =
+      let led = sets refl in
+      record {
+        some = s.some;
+        enough = s.enough;
+        kinds = λ kind. sound_left old new kind
+            (s.kinds kind) (led.buffers kind);
+      }

@@ -1,0 +1,257 @@
+-- Which votes wait, before and after a change of the selected proposal.
+use Rattle.std.proofs.Common.{◌≡◌, ℕ, Bool, true, false, not, cond, ◌&&◌, ◌||◌, ◌==◌, List, [], ◌∷◌, ◌++◌, filter, Option, Some, None, is_some, append-nil, refl, ap, subst, ◌∙◌, arith}
+use Rattle.std.specs.List.{AllPass}
+use Rattle.std.proofs.lemmas.Bool.Decides.{nat_tests}
+use Rattle.std.proofs.lemmas.List.Elements.{filter-append}
+use Rattle.batcher_types.specs.Lawful.{filter_all}
+use Rattle.batcher_types.specs.declared.positions.Round.{Round}
+use Rattle.batcher_types.specs.declared.messages.Proposal.{Proposal}
+use Rattle.batcher_types.specs.declared.messages.Vote.{Vote}
+use Rattle.batcher_types.specs.declared.messages.Kind.{Kind}
+use Rattle.batcher_types.specs.declared.messages.Kind.TheVariants.{Notarization, Nullification, Finalization}
+use Rattle.batcher_votes.specs.declared.verifier.ProposalState.{ProposalState}
+use Rattle.batcher_votes.specs.declared.verifier.ProposalState.TheVariants.{Unknown, Leader as LeadersProposal, Certificate as FixedProposal}
+use Rattle.batcher_types.specs.Votes.{is_kind, kind_of, is_of_kind, same_round, same_proposal, waits}
+use Rattle.batcher_votes.specs.Selected.{proposal_of, updated, selects, same_selected}
+use Rattle.batcher_votes.specs.Held.{of_kind, Buffered}
+use Rattle.batcher_votes.specs.Buffering.{leaders_vote, is_dropped, AddsVote, SetsProposal}
+use Rattle.batcher_votes.specs.Sound.{IsTidy, Places, Retains}
+
+-- a fact for each kind
+pub each_kind : (P : Kind → Type 0) → P Notarization → P Nullification → P Finalization
+    → (kind : Kind) → P kind
+each_kind P a b c Notarization = a
+each_kind P a b c Nullification = b
+each_kind P a b c Finalization = c
+
+both : (a b : Bool) → (a && b) ≡ true → (a ≡ true) × (b ≡ true)
+both true b h = (refl, h)
+both false b h = absurd (cc)
+
+same_number : (a b : ℕ) → (a == b) ≡ true → a ≡ b
+same_number a b h = grind (arith, nat_tests)
+
+pub round_is : (a b : Round) → same_round a b ≡ true → a ≡ b
+round_is a b h =
+    let parts = both (a.epoch.0 == b.epoch.0) (a.view.0 == b.view.0) h in
+    let epoch = same_number a.epoch.0 b.epoch.0 parts.0 in
+    let view = same_number a.view.0 b.view.0 parts.1 in
+    let made : ℕ → ℕ → Round = λ e v. record { epoch = record { 0 = e }; view = record { 0 = v } } in
+    ap (λ e. made e a.view.0) epoch ∙ ap (λ v. made b.epoch.0 v) view
+
+module _ {D : Type 0} (same : D → D → Bool) (identical : (a b : D) → same a b ≡ true → a ≡ b) where
+  pub proposal_is : (a b : Proposal D) → same_proposal same a b ≡ true → a ≡ b
+  proposal_is a b h =
+      let parts = both (same_round a.round b.round) ((a.parent.0 == b.parent.0) && same a.payload b.payload) h in
+      let rest = both (a.parent.0 == b.parent.0) (same a.payload b.payload) parts.1 in
+      let round = round_is a.round b.round parts.0 in
+      let parent = same_number a.parent.0 b.parent.0 rest.0 in
+      let payload = identical a.payload b.payload rest.1 in
+      let made : Round → ℕ → D → Proposal D = λ r v d. record { round = r; parent = record { 0 = v }; payload = d } in
+      ap (λ r. made r a.parent.0 a.payload) round ∙ (ap (λ v. made b.round v a.payload) parent ∙ ap (λ d. made b.round b.parent.0 d) payload)
+
+  pub selected_is : (a b : Option (Proposal D)) → same_selected same a b ≡ true → a ≡ b
+  selected_is None None h = refl
+  selected_is None (Some q) h = absurd (cc)
+  selected_is (Some p) None h = absurd (cc)
+  selected_is (Some p) (Some q) h = ap Some (proposal_is p q h)
+
+  kept_as_it_was : (p q : Proposal D) (b : Bool) → same_proposal same p q ≡ b → cond b None (Some q)
+      ≡ None → p ≡ q
+  kept_as_it_was p q true e h = proposal_is p q e
+  kept_as_it_was p q false e h = absurd (cc)
+
+  -- no change was found, so the selected proposal is the same
+  pub no_change : (before after : Option (Proposal D))
+      → (is_some before ≡ true → is_some after ≡ true)
+      → cond (same_selected same before after) None after ≡ None → before ≡ after
+  no_change None None known h = refl
+  no_change None (Some q) known h = absurd (cc)
+  no_change (Some p) None known h = let wrong = known refl in absurd (cc)
+  no_change (Some p) (Some q) known h = ap Some (kept_as_it_was p q (same_proposal same p q) refl h)
+
+-- what `updated` gives where the vote of the leader is taken into account once more
+pub updated_selects : {D : Type 0} (state : ProposalState D) (vote : Option (Proposal D))
+    → updated state (selects state vote) ≡ selects state vote
+updated_selects Unknown None = refl
+updated_selects Unknown (Some p) = refl
+updated_selects (LeadersProposal q) None = refl
+updated_selects (LeadersProposal q) (Some p) = refl
+updated_selects (FixedProposal q) None = refl
+updated_selects (FixedProposal q) (Some p) = refl
+
+-- where a proposal is selected, one stays selected
+pub still_selected : {D : Type 0} (before next : ProposalState D) → is_some (proposal_of before)
+    ≡ true → is_some (proposal_of (updated before next)) ≡ true
+still_selected Unknown next h = absurd (cc)
+still_selected (LeadersProposal q) Unknown h = refl
+still_selected (LeadersProposal q) (LeadersProposal p) h = refl
+still_selected (LeadersProposal q) (FixedProposal p) h = refl
+still_selected (FixedProposal q) next h = refl
+
+module _ {X : Type 0} (test : X → Bool) where
+  -- what is left of a list that is empty where the kind is certified
+  pub left_after : (certified : Bool) (xs : List X) → (certified ≡ true → xs ≡ []) → filter test xs
+      ≡ cond certified [] (filter test (xs ++ []))
+  left_after true xs h = rw (h refl)
+  left_after false xs h = rw append-nil
+
+  -- where all pass, all are left
+  pub all_left : (certified : Bool) (xs : List X) → (certified ≡ true → xs ≡ []) → AllPass test xs
+      → xs ≡ cond certified [] (filter test (xs ++ []))
+  all_left true xs h pass = h refl
+  all_left false xs h pass = rw (append-nil, filter_all test xs pass)
+
+  kept_more : (certified fits : Bool) (xs ys : List X) (x : X) → ys
+      ≡ cond certified [] (filter test (xs ++ [])) → (fits ≡ true → certified ≡ false)
+      → (fits ≡ true → test x ≡ true) → ys ++ cond fits (x ∷ []) []
+      ≡ cond certified [] (filter test (xs ++ cond fits (x ∷ []) []))
+  kept_more true true xs ys x h none waits_too = let wrong = none refl in absurd (cc)
+  kept_more true false xs ys x h none waits_too = rw append-nil h
+  kept_more false true xs ys x h none waits_too =
+      let alone : filter test (x ∷ []) ≡ x ∷ [] = rw (waits_too refl) in
+      rw (filter-append test xs (x ∷ []), alone) (ap (λ zs. zs ++ x ∷ []) (rw append-nil at h))
+  kept_more false false xs ys x h none waits_too = rw append-nil h
+
+  -- an element that is kept joins those that were left
+  pub joins : (certified fits : Bool) (xs ys : List X) (x : X) → ys
+      ≡ cond certified [] (filter test (xs ++ [])) → (fits ≡ true → certified ≡ false)
+      → (fits ≡ true → test x ≡ true) → ys ++ cond fits (x ∷ []) []
+      ≡ cond certified [] (filter test (xs ++ cond fits (x ∷ []) []))
+  joins = kept_more
+
+  -- an element that is dropped makes no difference
+  pub leaves : (certified fits : Bool) (xs ys : List X) (x : X) → ys
+      ≡ cond certified [] (filter test (xs ++ []))
+      → (fits ≡ true → certified ≡ false → test x ≡ false) → ys
+      ≡ cond certified [] (filter test (xs ++ cond fits (x ∷ []) []))
+  leaves true fits xs ys x h none = h
+  leaves false true xs ys x h none =
+      let alone : filter test (x ∷ []) ≡ [] = rw (none refl refl) in
+      rw (filter-append test xs (x ∷ []), alone, append-nil) (rw append-nil at h)
+  leaves false false xs ys x h none = h
+
+module _ {G D : Type 0} (same : D → D → Bool) where
+  pub sets_same : (old : Buffered G D) (after : ProposalState D) → proposal_of old.selection
+      ≡ proposal_of after → ((kind : Kind) → IsTidy same old kind)
+      → SetsProposal same old after (record old { selection = after })
+  sets_same old after e tidy =
+      record {
+        leader = refl;
+        selection_is = refl;
+        buffers = λ kind.
+            record {
+              certified = refl;
+              pending =
+                  all_left (waits same (proposal_of after)) (of_kind old.certified kind) (of_kind old.pending kind) (tidy kind).none_pending
+                  (subst (λ s. AllPass (waits same s) (of_kind old.pending kind)) e (tidy kind).pending);
+              verified =
+                  all_left (waits same (proposal_of after)) (of_kind old.certified kind) (of_kind old.verified kind) (tidy kind).none_verified
+                  (subst (λ s. AllPass (waits same s) (of_kind old.verified kind)) e (tidy kind).verified);
+            };
+      }
+
+  pub sets_changed : (old new : Buffered G D) (after : ProposalState D) (p : Proposal D)
+      → proposal_of after ≡ Some p → ((kind : Kind) → IsTidy same old kind)
+      → Retains same (record old { selection = after }) p new → SetsProposal same old after new
+  sets_changed old new after p e tidy r =
+      record {
+        leader = r.leader;
+        selection_is = r.selection;
+        buffers = λ kind.
+            record {
+              certified = (r.kinds kind).certified;
+              pending =
+                  rw (r.selection, e, (r.kinds kind).certified)
+                  ((r.kinds kind).pending ∙ left_after (waits same (Some p)) (of_kind old.certified kind) (of_kind old.pending kind) (tidy kind).none_pending);
+              verified =
+                  rw (r.selection, e, (r.kinds kind).certified)
+                  ((r.kinds kind).verified ∙ left_after (waits same (Some p)) (of_kind old.certified kind) (of_kind old.verified kind)
+                  (tidy kind).none_verified);
+            };
+      }
+
+pub a_change : {X : Type 0} (b : Bool) (after : Option X) (p : X) → cond b None after ≡ Some p
+    → after ≡ Some p
+a_change true after p h = absurd (cc)
+a_change false after p h = h
+
+pub kind_is : (a b : Kind) → is_kind a b ≡ true → a ≡ b
+kind_is Notarization Notarization h = refl
+kind_is Notarization Nullification h = absurd (cc)
+kind_is Notarization Finalization h = absurd (cc)
+kind_is Nullification Notarization h = absurd (cc)
+kind_is Nullification Nullification h = refl
+kind_is Nullification Finalization h = absurd (cc)
+kind_is Finalization Notarization h = absurd (cc)
+kind_is Finalization Nullification h = absurd (cc)
+kind_is Finalization Finalization h = refl
+
+not_both : (a b : Bool) → (a || not b) ≡ false → (a ≡ false) × (b ≡ true)
+not_both true b h = absurd (cc)
+not_both false true h = (refl, refl)
+not_both false false h = absurd (cc)
+
+either_one : (a b : Bool) → (a || not b) ≡ true → a ≡ false → b ≡ false
+either_one true b h none = absurd (cc)
+either_one false true h none = absurd (cc)
+either_one false false h none = refl
+
+module _ {G D : Type 0} (same : D → D → Bool) (old new : Buffered G D) (vote : Vote G D)
+    (is_verified : Bool) where
+  -- the proposal is selected, and the vote dropped
+  pub adds_dropped : SetsProposal same old (selects old.selection (leaders_vote same old vote)) new
+      → is_dropped same old vote ≡ true → AddsVote same old vote is_verified new
+  adds_dropped sets dropped =
+      record {
+        leader = sets.leader;
+        selection = sets.selection_is;
+        buffers = λ kind.
+            let certified = (sets.buffers kind).certified in
+            let sel = selects old.selection (leaders_vote same old vote) in
+            let none : (rest : Bool) → (is_of_kind kind vote && rest) ≡ true → of_kind old.certified kind ≡ false → waits same (proposal_of sel) vote ≡ false
+            = λ rest fits open_kind.
+            let is = kind_is (kind_of vote) kind ((both (is_of_kind kind vote) rest fits).0) in
+            either_one (of_kind old.certified (kind_of vote)) (waits same (proposal_of sel) vote) dropped (rw is open_kind) in
+            record {
+              certified = certified;
+              pending =
+                  rw (sets.selection_is, certified) (leaves (waits same (proposal_of sel)) (of_kind old.certified kind)
+                  (is_of_kind kind vote && not is_verified) (of_kind old.pending kind) (of_kind new.pending kind) vote
+                  (rw (sets.selection_is, certified) at (sets.buffers kind).pending) (none (not is_verified)));
+              verified =
+                  rw (sets.selection_is, certified) (leaves (waits same (proposal_of sel)) (of_kind old.certified kind) (is_of_kind kind vote && is_verified)
+                  (of_kind old.verified kind) (of_kind new.verified kind) vote (rw (sets.selection_is, certified) at (sets.buffers kind).verified)
+                  (none is_verified));
+            };
+      }
+
+  -- the proposal is selected, and the vote joins those that wait
+  pub adds_placed : (mid : Buffered G D)
+      → SetsProposal same old (selects old.selection (leaders_vote same old vote)) mid
+      → Places mid vote is_verified new → is_dropped same old vote ≡ false
+      → AddsVote same old vote is_verified new
+  adds_placed mid sets places dropped =
+      record {
+        leader = places.leader ∙ sets.leader;
+        selection = places.selection ∙ sets.selection_is;
+        buffers = λ kind.
+            let p = places.kinds kind in
+            let certified = p.certified ∙ (sets.buffers kind).certified in
+            let selection = places.selection ∙ sets.selection_is in
+            let sel = selects old.selection (leaders_vote same old vote) in
+            let free = not_both (of_kind old.certified (kind_of vote)) (waits same (proposal_of sel) vote) dropped in
+            let open_kind : (rest : Bool) → (is_of_kind kind vote && rest) ≡ true → of_kind old.certified kind ≡ false
+            = λ rest fits. rw (← (kind_is (kind_of vote) kind ((both (is_of_kind kind vote) rest fits).0))) free.0 in
+            record {
+              certified = certified;
+              pending =
+                  rw (selection, certified, p.pending) (joins (waits same (proposal_of sel)) (of_kind old.certified kind)
+                  (is_of_kind kind vote && not is_verified) (of_kind old.pending kind) (of_kind mid.pending kind) vote
+                  (rw (sets.selection_is, (sets.buffers kind).certified) at (sets.buffers kind).pending) (open_kind (not is_verified)) (λ _. free.1));
+              verified =
+                  rw (selection, certified, p.verified) (joins (waits same (proposal_of sel)) (of_kind old.certified kind) (is_of_kind kind vote && is_verified)
+                  (of_kind old.verified kind) (of_kind mid.verified kind) vote
+                  (rw (sets.selection_is, (sets.buffers kind).certified) at (sets.buffers kind).verified) (open_kind is_verified) (λ _. free.1));
+            };
+      }

@@ -1,0 +1,10 @@
+use Rattle.std.proofs.Common.{sym, ap, ◌∙◌, ◌==◌}
+use Rattle.std.specs.List.{list_any}
+use Rattle.batcher_votes.proofs.Pairing.{any-from}
+use Rattle.batcher_votes.proofs.verifier.buffer.Buffer.contains.Goals as goal
+
+pub returns : goal.returns
+returns g c =
+    rw (← c.self.view_is)
+    (c.has_signer.ensures ∙ (ap (list_any (λ a. a.signer.0 == c.args.signer.0)) c.as_slice.ensures.value
+    ∙ sym (any-from c.args.signer.0 c.self.inside.subjects.items c.self.inside.attestations.items c.self.invariant)))

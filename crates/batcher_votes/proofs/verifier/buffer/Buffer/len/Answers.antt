@@ -1,0 +1,8 @@
+use Rattle.std.proofs.Common.{arith}
+use Rattle.batcher_votes.proofs.Pairing.{length-from}
+use Rattle.batcher_votes.proofs.verifier.buffer.Buffer.len.Goals as goal
+
+pub returns : goal.returns
+returns g c =
+    let same = length-from c.self.inside.subjects.items c.self.inside.attestations.items c.self.invariant in
+    rw (← c.self.view_is) (omega (arith, c.self.inside.attestations.ok.0))

@@ -1,0 +1,9 @@
+pub mod Selected
+pub mod Held
+pub mod Tracking
+pub mod Buffering
+pub mod Waiting
+pub mod Sound
+pub mod States
+pub mod Verifiers
+pub mod Entries

@@ -1,0 +1,6 @@
+//! Votes on their way to a certificate: a tracker keeps the first of each kind and signer, and a
+//! verifier those that wait.
+#![tactic(auto)]
+
+pub mod verifier;
+pub mod votes;

@@ -1,0 +1,527 @@
+//! Votes on their way to a certificate: the selected proposal, two buffers of votes a kind, and
+//! the attempts to make certificates out of them.
+
+ghost use Rattle.std.specs.Prelude.{◌≡◌, ◌≢◌, ◌+◌, ◌≤◌, ◌&&◌, not, cond, true, false, ◌++◌, [], if◌then◌else◌, length, filter, Some, is_some, IsOk, IfOk, IfSome, OnOk, OnErr};
+ghost use Rattle.std.specs.Option.{option_copied, option_map};
+ghost use Rattle.batcher_types.specs.declared.messages.Kind.{Kind as TheKind};
+ghost use Rattle.batcher_types.specs.declared.messages.Kind.TheVariants.{Notarization as TheNotarization, Nullification as TheNullification, Finalization as TheFinalization};
+ghost use Rattle.batcher_votes.specs.declared.verifier.ProposalState.TheVariants.{Certificate as FixedProposal};
+ghost use Rattle.batcher_types.specs.Quorum.{quorum_of};
+ghost use Rattle.std.specs.List.{AllPass};
+ghost use Rattle.batcher_types.specs.Lists.{EachOnce};
+ghost use Rattle.batcher_types.specs.Votes.{is_kind, kind_of, is_of_kind, has_proposals, signer_of, subject_of, attestation_of, waits};
+ghost use Rattle.batcher_votes.specs.Selected.{proposal_of, updated, same_selected, replaces};
+ghost use Rattle.batcher_votes.specs.Held.{of_kind, SameVerifier};
+ghost use Rattle.batcher_types.specs.Attempts.{attempt_of};
+ghost use Rattle.batcher_votes.specs.Buffering.{attestations_of, nothing_buffered, is_buffered, is_dropped, leader_answer, is_ready, certificate_for, Buffers, TriesKind, AddsVote, SetsLeader, SetsProposal, CompletesKind};
+ghost use Rattle.batcher_votes.specs.Sound.{IsSound, KeepsAllRoom, RestoresRoom};
+ghost use Rattle.batcher_votes.specs.Verifiers.{is_of_round, subject_ready, IfGiven, BatchCertifies, NamesSomebody};
+
+mod attempt;
+mod buffer;
+mod state;
+
+use crate::votes::KeptVotes;
+use attempt::{Attempted, attempt};
+use batcher_types::messages::{
+    Certificate, Digest, Finalization, Kind, Notarization, Notarize, Nullification, Proposal,
+    Subject, Vote,
+};
+use batcher_types::positions::{Participant, Participants, Round, Set};
+use batcher_types::scheme::Scheme;
+use rand_core::CryptoRng;
+pub use state::ProposalUpdate;
+use state::{State, selected};
+use std::alloc::{AllocError, Global};
+use std::marker::Model;
+use std::rc::Rc;
+use thiserror::Error;
+
+/// The selected proposal, with what it was learned from.
+#[derive(Clone, Copy, Debug, PartialEq, Eq)]
+pub enum ProposalState<D> {
+    /// None is selected, and votes for any wait.
+    Unknown,
+    /// From the leader's notarize. A certificate or an own finalize may put another in its place.
+    Leader(Proposal<D>),
+    /// From a certificate or an own finalize: fixed for good.
+    Certificate(Proposal<D>),
+}
+
+/// What one attempt at a certificate did.
+#[derive(Debug, Drop)]
+pub struct Batch<C> {
+    /// How many pending votes were looked at.
+    pub processed: usize,
+    /// The signers whose votes were found not to attest. Where a certificate was given at once no
+    /// vote was verified by itself, and the list is empty.
+    pub invalid: Participants,
+    pub certificate: Option<C>,
+    /// Whether the votes could have been a quorum, but the pending ones had to be verified one by
+    /// one.
+    pub fallback: bool,
+}
+
+/// Why a leader was refused.
+#[derive(Clone, Copy, Debug, PartialEq, Eq, Error)]
+pub enum LeaderFault {
+    #[error("leader changed within round")]
+    LeaderChanged,
+    #[error("notarize must be from leader")]
+    NotFromLeader,
+}
+
+/// The votes of a round on their way to certificates.
+///
+/// Votes wait as pending until enough are there to be worth a check, and as verified until they
+/// are a quorum. A kind whose certificate is there takes no more votes.
+#[derive(Drop)]
+pub struct Verifier<S: Scheme<D>, D: Digest> {
+    alloc: Global,
+    scheme: Rc<S>,
+    round: Round,
+    quorum: usize,
+    state: State<S::Signature, D>,
+}
+
+impl<S: Scheme<D>, D: Digest> Model for Verifier<S, D> {
+    ghost use Rattle.batcher_votes.specs.Held.{Verifying};
+
+    ghost Value = { Verifying S S.Signature D };
+
+    ghost use Rattle.batcher_votes.specs.States.{held_by, pending_room_of, verified_room_of};
+    ghost use Rattle.batcher_votes.specs.Sound.{IsSound};
+
+    ghost view = { λ v. record {
+      scheme = v.scheme.value;
+      number = v.round;
+      quorum = v.quorum;
+      holds = held_by v.state;
+      pending_room = pending_room_of v.state;
+      verified_room = verified_room_of
+          v.state;
+    } };
+
+    ghost invariant = { λ v.
+        IsSound (S.meaning v.scheme.value) D.eq v.round v.quorum (held_by v.state) };
+}
+
+impl<S: Scheme<D>, D: Digest> Verifier<S, D> {
+    /// A verifier that holds no vote. It takes no memory.
+    pub fn new(alloc: Global, round: Round, scheme: Rc<S>, quorum: u32) -> Self
+        requires some { 1 ≤ length (S.meaning scheme.value).participants }
+        requires enough { quorum_of (length (S.meaning scheme.value).participants) ≤ quorum }
+        ensures scheme { result.scheme ≡ scheme.value }
+        ensures number { result.number ≡ round }
+        ensures quorum { result.quorum ≡ quorum }
+        ensures holds { result.holds ≡ nothing_buffered }
+    {
+        Verifier {
+            alloc,
+            scheme,
+            round,
+            quorum: quorum as usize,
+            state: State::new(alloc),
+        }
+    }
+
+    /// The leader, once it is known.
+    pub fn leader(&self) -> Option<Participant>
+        ensures { result ≡ self.now.holds.leader }
+    {
+        self.state.leader
+    }
+
+    /// The selected proposal.
+    pub fn proposal(&self) -> Option<&Proposal<D>>
+        ensures { option_copied result ≡ proposal_of self.now.holds.selection }
+    {
+        selected(&self.state.proposal)
+    }
+
+    /// Whether a vote of the kind and signer is buffered.
+    pub fn buffered(&self, kind: Kind, signer: Participant) -> bool
+        ensures { result ≡ is_buffered self.now.holds kind signer.0 }
+    {
+        self.state.buffers(kind).contains(signer)
+    }
+
+    /// Takes a vote in, where it can still count. The leader's notarize selects its proposal.
+    pub fn add(&mut self, vote: Vote<S::Signature, D>, verified: bool) -> Result<(), AllocError>
+        requires attests { verified ≡ true
+            → (S.meaning self.old.scheme).attests (subject_of vote) (attestation_of vote) ≡ true }
+        requires of_round { is_of_round self.old.number vote ≡ true }
+        requires fresh { is_buffered self.old.holds (kind_of vote) (signer_of vote) ≡ false }
+        ensures adds { OnOk result (AddsVote D.eq self.old.holds vote verified self.new.holds) }
+        ensures unchanged { OnErr result (self.new.holds ≡ self.old.holds) }
+        ensures dropped { is_dropped D.eq self.old.holds vote ≡ true → IsOk result }
+        ensures no_memory { 1 ≤ cond verified (of_kind self.old.verified_room (kind_of vote))
+            (of_kind self.old.pending_room (kind_of vote)) → IsOk result }
+        ensures pending_room { (kind : TheKind) → of_kind self.old.pending_room kind
+            ≤ of_kind self.new.pending_room kind + cond (is_of_kind kind vote && not verified) 1 0 }
+        ensures verified_room { (kind : TheKind) → of_kind self.old.verified_room kind
+            ≤ of_kind self.new.verified_room kind + cond (is_of_kind kind vote && verified) 1 0 }
+        ensures same { SameVerifier self.old self.new }
+    {
+        self.state.add(vote, verified)
+    }
+
+    /// Sets the leader, whose notarize selects its proposal. It takes no memory.
+    pub fn set_leader(
+        &mut self,
+        leader: Participant,
+        notarize: Option<&Notarize<S::Signature, D>>,
+    ) -> Result<(), LeaderFault>
+        ensures answer { result ≡ leader_answer self.old.holds.leader leader
+            (option_copied notarize.entry) }
+        ensures again { is_some self.old.holds.leader ≡ true → self.new.holds ≡ self.old.holds }
+        ensures refused { OnErr result (self.new.holds ≡ self.old.holds) }
+        ensures sets { is_some self.old.holds.leader ≡ false
+            → OnOk result (SetsLeader D.eq self.old.holds leader
+            (option_map (λ vote. vote.proposal) (option_copied notarize.entry)) self.new.holds) }
+        ensures room { KeepsAllRoom self.old self.new }
+        ensures same { SameVerifier self.old self.new }
+    {
+        self.state.set_leader(leader, notarize)
+    }
+
+    /// Changes the selected proposal as the new source allows. It takes no memory.
+    pub fn set_proposal(&mut self, next: ProposalState<D>) -> ProposalUpdate
+        ensures sets { SetsProposal D.eq self.old.holds (updated self.old.holds.selection next)
+            self.new.holds }
+        ensures changed { result.changed
+            ≡ not (same_selected D.eq (proposal_of self.old.holds.selection)
+            (proposal_of self.new.holds.selection)) }
+        ensures replaced { result.replaced
+            ≡ (result.changed && is_some (proposal_of self.old.holds.selection)) }
+        ensures none_wait { result.replaced ≡ true → (kind : TheKind) → has_proposals kind ≡ true
+            → (of_kind self.new.holds.pending kind ≡ [])
+            × (of_kind self.new.holds.verified kind ≡ []) }
+        ensures room { KeepsAllRoom self.old self.new }
+        ensures same { SameVerifier self.old self.new }
+    {
+        self.state.set_proposal(next)
+    }
+
+    /// The selected proposal once this one is fixed, where none is.
+    pub fn selected_with(&self, proposal: Proposal<D>) -> Option<Proposal<D>>
+        ensures { result ≡ proposal_of (updated self.now.holds.selection (FixedProposal proposal)) }
+    {
+        match self.state.proposal {
+            ProposalState::Certificate(fixed) => Some(fixed),
+            _ => Some(proposal),
+        }
+    }
+
+    /// Whether the proposal, once it is fixed, takes another's place.
+    pub fn replaces(&self, proposal: &Proposal<D>) -> bool
+        ensures { result ≡ replaces D.eq self.now.holds.selection proposal.now }
+    {
+        match self.state.proposal {
+            ProposalState::Leader(earlier) => earlier != *proposal,
+            _ => false,
+        }
+    }
+
+    /// Kept votes of a kind, of which none waits, come back as pending, where they are for the
+    /// selected proposal and the kind isn't certified. With the room that it asks for it takes no
+    /// memory.
+    pub fn restore(&mut self, kind: Kind, votes: KeptVotes<'_, S::Signature, D>)
+        requires proposals { has_proposals kind ≡ true }
+        requires selected { is_some (proposal_of self.old.holds.selection) ≡ true }
+        requires kinds { AllPass (is_of_kind kind) votes }
+        requires once { EachOnce signer_of votes }
+        requires none_wait { (of_kind self.old.holds.pending kind ≡ [])
+            × (of_kind self.old.holds.verified kind ≡ []) }
+        requires room { of_kind self.old.holds.certified kind ≡ false
+            → length (filter (waits D.eq (proposal_of self.old.holds.selection)) votes)
+            ≤ of_kind self.old.pending_room kind }
+        ensures leader { self.new.holds.leader ≡ self.old.holds.leader }
+        ensures selection { self.new.holds.selection ≡ self.old.holds.selection }
+        ensures buffers { (other : TheKind)
+            → Buffers D.eq self.old.holds self.new.holds other
+            (cond (is_kind kind other) votes.entry []) [] }
+        ensures room { RestoresRoom kind self.old.pending_room self.old.verified_room
+            self.new.pending_room self.new.verified_room }
+        ensures same { SameVerifier self.old self.new }
+    {
+        if let Some(proposal) = selected(&self.state.proposal).copied() {
+            self.state.restore(kind, votes, &proposal);
+        }
+    }
+
+    /// A certificate of the kind is there, so its votes go. It takes no memory.
+    pub fn record_certificate(&mut self, kind: Kind)
+        ensures completes { CompletesKind D.eq self.old.holds kind self.new.holds }
+        ensures room { KeepsAllRoom self.old self.new }
+        ensures same { SameVerifier self.old self.new }
+    {
+        self.state.record_certificate(kind);
+    }
+
+    /// Whether a certificate of the kind is there.
+    pub fn has_certificate(&self, kind: Kind) -> bool
+        ensures { result ≡ of_kind self.now.holds.certified kind }
+    {
+        self.state.buffers(kind).complete
+    }
+
+    /// The round of which the votes are.
+    pub fn round(&self) -> Round
+        ensures { result ≡ self.now.number }
+    {
+        self.round
+    }
+
+    /// What its votes take their memory from.
+    pub fn alloc(&self) -> Global {
+        self.alloc
+    }
+
+    /// The keys of the participants.
+    pub fn participants(&self) -> &Set<S::PublicKey>
+        ensures { result.now ≡ (S.meaning self.now.scheme).participants }
+    {
+        self.scheme.participants()
+    }
+
+    /// How many votes of the kind are pending, and how many verified.
+    pub fn lengths(&self, kind: Kind) -> (usize, usize)
+        ensures pending { result.0 ≡ length (of_kind self.now.holds.pending kind) }
+        ensures verified { result.1 ≡ length (of_kind self.now.holds.verified kind) }
+    {
+        let buffers = self.state.buffers(kind);
+        (buffers.pending.len(), buffers.verified.len())
+    }
+
+    /// Makes room for so many more votes in one buffer of a kind, and changes nothing else.
+    pub fn make_room(
+        &mut self,
+        kind: Kind,
+        verified: bool,
+        additional: usize,
+    ) -> Result<(), AllocError>
+        ensures holds { self.new.holds ≡ self.old.holds }
+        ensures kept { KeepsAllRoom self.old self.new }
+        ensures room { OnOk result (additional
+            ≤ cond verified (of_kind self.new.verified_room kind)
+            (of_kind self.new.pending_room kind)) }
+        ensures no_memory { additional ≤ cond verified (of_kind self.old.verified_room kind)
+            (of_kind self.old.pending_room kind) → IsOk result }
+        ensures same { SameVerifier self.old self.new }
+    {
+        self.state.make_room(kind, verified, additional)
+    }
+
+    /// One attempt at a notarization, with the votes that are buffered, where the kind is ready.
+    pub fn try_construct_notarization<R: CryptoRng>(
+        &mut self,
+        rng: &mut R,
+    ) -> Result<Option<Batch<Certificate<S::Certificate, D>>>, AllocError>
+        ensures ready { IfOk result (λ given. is_some given
+            ≡ is_ready D.eq (S.meaning self.old.scheme).batchable self.old.quorum self.old.holds
+            TheNotarization) }
+        ensures tries { IfGiven result (λ batch.
+            TriesKind (S.meaning self.old.scheme) self.old.number self.old.quorum self.old.holds
+            TheNotarization (R.stream rng.old) batch (R.stream rng.new) self.new.holds) }
+        ensures certifies { IfGiven result (BatchCertifies (S.meaning self.old.scheme)) }
+        ensures names { IfGiven result NamesSomebody }
+        ensures not_ready { is_ready D.eq (S.meaning self.old.scheme).batchable self.old.quorum
+            self.old.holds TheNotarization ≡ false → (IsOk result) × (self.new ≡ self.old)
+            × (R.stream rng.new ≡ R.stream rng.old) }
+        ensures unchanged { OnErr result (self.new.holds ≡ self.old.holds) }
+        ensures same { SameVerifier self.old self.new }
+    {
+        self.try_construct(Kind::Notarization, rng)
+    }
+
+    /// One attempt at a nullification, with the votes that are buffered, where the kind is ready.
+    pub fn try_construct_nullification<R: CryptoRng>(
+        &mut self,
+        rng: &mut R,
+    ) -> Result<Option<Batch<Certificate<S::Certificate, D>>>, AllocError>
+        ensures ready { IfOk result (λ given. is_some given
+            ≡ is_ready D.eq (S.meaning self.old.scheme).batchable self.old.quorum self.old.holds
+            TheNullification) }
+        ensures tries { IfGiven result (λ batch.
+            TriesKind (S.meaning self.old.scheme) self.old.number self.old.quorum self.old.holds
+            TheNullification (R.stream rng.old) batch (R.stream rng.new) self.new.holds) }
+        ensures certifies { IfGiven result (BatchCertifies (S.meaning self.old.scheme)) }
+        ensures names { IfGiven result NamesSomebody }
+        ensures not_ready { is_ready D.eq (S.meaning self.old.scheme).batchable self.old.quorum
+            self.old.holds TheNullification ≡ false → (IsOk result) × (self.new ≡ self.old)
+            × (R.stream rng.new ≡ R.stream rng.old) }
+        ensures unchanged { OnErr result (self.new.holds ≡ self.old.holds) }
+        ensures same { SameVerifier self.old self.new }
+    {
+        self.try_construct(Kind::Nullification, rng)
+    }
+
+    /// One attempt at a finalization, with the votes that are buffered, where the kind is ready.
+    pub fn try_construct_finalization<R: CryptoRng>(
+        &mut self,
+        rng: &mut R,
+    ) -> Result<Option<Batch<Certificate<S::Certificate, D>>>, AllocError>
+        ensures ready { IfOk result (λ given. is_some given
+            ≡ is_ready D.eq (S.meaning self.old.scheme).batchable self.old.quorum self.old.holds
+            TheFinalization) }
+        ensures tries { IfGiven result (λ batch.
+            TriesKind (S.meaning self.old.scheme) self.old.number self.old.quorum self.old.holds
+            TheFinalization (R.stream rng.old) batch (R.stream rng.new) self.new.holds) }
+        ensures certifies { IfGiven result (BatchCertifies (S.meaning self.old.scheme)) }
+        ensures names { IfGiven result NamesSomebody }
+        ensures not_ready { is_ready D.eq (S.meaning self.old.scheme).batchable self.old.quorum
+            self.old.holds TheFinalization ≡ false → (IsOk result) × (self.new ≡ self.old)
+            × (R.stream rng.new ≡ R.stream rng.old) }
+        ensures unchanged { OnErr result (self.new.holds ≡ self.old.holds) }
+        ensures same { SameVerifier self.old self.new }
+    {
+        self.try_construct(Kind::Finalization, rng)
+    }
+
+    /// One attempt at a kind's certificate, where the kind is ready.
+    pub fn try_construct<R: CryptoRng>(
+        &mut self,
+        kind: Kind,
+        rng: &mut R,
+    ) -> Result<Option<Batch<Certificate<S::Certificate, D>>>, AllocError>
+        ensures ready { IfOk result (λ given. is_some given
+            ≡ is_ready D.eq (S.meaning self.old.scheme).batchable self.old.quorum self.old.holds
+            kind) }
+        ensures tries { IfGiven result (λ batch.
+            TriesKind (S.meaning self.old.scheme) self.old.number self.old.quorum self.old.holds
+            kind (R.stream rng.old) batch (R.stream rng.new) self.new.holds) }
+        ensures certifies { IfGiven result (BatchCertifies (S.meaning self.old.scheme)) }
+        ensures names { IfGiven result NamesSomebody }
+        ensures sound { IsSound (S.meaning self.old.scheme) D.eq self.old.number self.old.quorum
+            self.old.holds }
+        ensures not_ready { is_ready D.eq (S.meaning self.old.scheme).batchable self.old.quorum
+            self.old.holds kind ≡ false → (IsOk result) × (self.new ≡ self.old)
+            × (R.stream rng.new ≡ R.stream rng.old) }
+        ensures unchanged { OnErr result (self.new.holds ≡ self.old.holds) }
+        ensures same { SameVerifier self.old self.new }
+    {
+        match self.subject_ready(kind) {
+            None => Ok(None),
+            Some(subject) => Ok(Some(self.construct(kind, subject, rng)?)),
+        }
+    }
+
+    // What is to be tried of a kind, where it is ready.
+    fn subject_ready(&self, kind: Kind) -> Option<Subject<D>>
+        ensures subject { result ≡ subject_ready D.eq (S.meaning self.now.scheme).batchable
+            self.now.quorum self.now.holds self.now.number kind }
+        ensures ready { is_some result ≡ is_ready D.eq (S.meaning self.now.scheme).batchable
+            self.now.quorum self.now.holds kind }
+        ensures sound { IsSound (S.meaning self.now.scheme) D.eq self.now.number self.now.quorum
+            self.now.holds }
+    {
+        self.state
+            .subject_ready(S::is_batchable(), self.quorum, self.round, kind)
+    }
+
+    // An attempt with the votes of a kind, which it leaves as they are.
+    fn attempt_at<R: CryptoRng>(
+        &self,
+        kind: Kind,
+        subject: Subject<D>,
+        rng: &mut R,
+    ) -> Result<Attempted<S::Certificate, S::Signature>, AllocError>
+        requires { subject_ready D.eq (S.meaning self.now.scheme).batchable self.now.quorum
+            self.now.holds self.now.number kind ≡ Some subject }
+        ensures { IfOk result (λ a. (
+          record {
+            processed = a.batch.processed;
+            invalid = a.batch.invalid;
+            certificate = a.batch.certificate;
+            fallback = a.batch.fallback;
+            verified =
+                (if is_some a.batch.certificate then [] else attestations_of
+                (of_kind self.now.holds.verified kind) ++ a.joining.items);
+          },
+          R.stream rng.new,
+        )
+            ≡ attempt_of (S.meaning self.now.scheme) subject self.now.quorum
+            (attestations_of (of_kind self.now.holds.verified kind))
+            (attestations_of (of_kind self.now.holds.pending kind)) (R.stream rng.old)) }
+    {
+        let scheme: &S = &self.scheme;
+        let buffers = self.state.buffers(kind);
+        attempt(
+            self.alloc,
+            scheme,
+            rng,
+            subject,
+            self.quorum,
+            buffers.verified.attestations(),
+            buffers.pending.attestations(),
+        )
+    }
+
+    // One attempt at the certificate of a subject. The verified votes grow before they change.
+    fn construct<R: CryptoRng>(
+        &mut self,
+        kind: Kind,
+        subject: Subject<D>,
+        rng: &mut R,
+    ) -> Result<Batch<Certificate<S::Certificate, D>>, AllocError>
+        requires { subject_ready D.eq (S.meaning self.old.scheme).batchable self.old.quorum
+            self.old.holds self.old.number kind ≡ Some subject }
+        ensures tries { IfOk result (λ batch. TriesKind (S.meaning self.old.scheme) self.old.number
+            self.old.quorum self.old.holds kind (R.stream rng.old) batch (R.stream rng.new)
+            self.new.holds) }
+        ensures certifies { IfOk result (BatchCertifies (S.meaning self.old.scheme)) }
+        ensures names { IfOk result NamesSomebody }
+        ensures unchanged { OnErr result (self.new.holds ≡ self.old.holds) }
+        ensures same { SameVerifier self.old self.new }
+    {
+        let Attempted { batch, joining } = self.attempt_at(kind, subject, rng)?;
+        let Batch {
+            processed,
+            invalid,
+            certificate,
+            fallback,
+        } = batch;
+        match certificate {
+            Some(content) => {
+                self.state.record_certificate(kind);
+                Ok(Batch {
+                    processed,
+                    invalid,
+                    certificate: Some(certificate_of(subject, content)),
+                    fallback,
+                })
+            }
+            None => {
+                self.state.make_room(kind, true, joining.len())?;
+                self.state.absorb(kind, subject, joining.as_slice());
+                Ok(Batch {
+                    processed,
+                    invalid,
+                    certificate: None,
+                    fallback,
+                })
+            }
+        }
+    }
+}
+
+// The certificate of a subject.
+fn certificate_of<C: Drop, D: Digest>(subject: Subject<D>, content: C) -> Certificate<C, D>
+    ensures { result ≡ certificate_for subject content }
+{
+    match subject {
+        Subject::Notarize { proposal } => Certificate::Notarization(Notarization {
+            proposal,
+            certificate: content,
+        }),
+        Subject::Nullify { round } => Certificate::Nullification(Nullification {
+            round,
+            certificate: content,
+        }),
+        Subject::Finalize { proposal } => Certificate::Finalization(Finalization {
+            proposal,
+            certificate: content,
+        }),
+    }
+}

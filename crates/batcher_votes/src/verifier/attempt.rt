@@ -1,0 +1,122 @@
+//! One attempt at a certificate.
+
+ghost use Rattle.std.specs.Prelude.{◌≡◌, ◌≤◌, ◌++◌, [], length, if◌then◌else◌, is_some, IfOk};
+ghost use Rattle.std.specs.List.{AllPass};
+ghost use Rattle.batcher_types.specs.Quorum.{quorum_of};
+ghost use Rattle.batcher_types.specs.Lists.{EachOnce};
+ghost use Rattle.batcher_types.specs.Attestations.{index_of_signer};
+ghost use Rattle.batcher_types.specs.Attempts.{checked, attempt_of};
+
+use crate::verifier::Batch;
+use batcher_types::messages::{Attestation, Digest, Subject};
+use batcher_types::positions::Participants;
+use batcher_types::scheme::Scheme;
+use rand_core::CryptoRng;
+use std::alloc::{AllocError, Global};
+
+/// What an attempt did, and the attestations that it verified one by one. These join the verified
+/// ones where there is no certificate.
+#[derive(Drop)]
+pub(crate) struct Attempted<C, G> {
+    pub(crate) batch: Batch<C>,
+    pub(crate) joining: Vec<Attestation<G>>,
+}
+
+// The pending attestations that an attempt looks at: where the verified ones are a quorum by
+// themselves, to verify more of them would be work for nothing.
+fn looked_at<'a, G>(
+    quorum: usize,
+    verified: &[Attestation<G>],
+    pending: &'a [Attestation<G>],
+) -> &'a [Attestation<G>]
+    ensures { result.now ≡ checked quorum verified.now pending.now }
+{
+    if verified.len() >= quorum {
+        &[]
+    } else {
+        pending
+    }
+}
+
+/// Tries to make a certificate of the verified and the pending attestations of a subject.
+pub(crate) fn attempt<S: Scheme<D>, D: Digest, R: CryptoRng>(
+    alloc: Global,
+    scheme: &S,
+    rng: &mut R,
+    subject: Subject<D>,
+    quorum: usize,
+    verified: &[Attestation<S::Signature>],
+    pending: &[Attestation<S::Signature>],
+) -> Result<Attempted<S::Certificate, S::Signature>, AllocError>
+    requires some { 1 ≤ length (S.meaning scheme.now).participants }
+    requires enough { quorum_of (length (S.meaning scheme.now).participants) ≤ quorum }
+    requires once { EachOnce index_of_signer (verified.now ++ pending.now) }
+    requires attested { AllPass ((S.meaning scheme.now).attests subject) verified.now }
+    ensures attempt { IfOk result (λ a. (
+      record {
+        processed = a.batch.processed;
+        invalid = a.batch.invalid;
+        certificate = a.batch.certificate;
+        fallback = a.batch.fallback;
+        verified = (if is_some a.batch.certificate then [] else verified.now ++ a.joining.items);
+      },
+      R.stream
+          rng.new,
+    ) ≡ attempt_of (S.meaning scheme.now) subject quorum verified.now pending.now
+        (R.stream rng.old)) }
+{
+    let pending = looked_at(quorum, verified, pending);
+    if verified.len().saturating_add(pending.len()) >= quorum {
+        match scheme.optimistic_assemble(alloc, rng, subject, pending, verified)? {
+            Ok(certificate) => Ok(Attempted {
+                batch: Batch {
+                    processed: pending.len(),
+                    invalid: Participants::from(Vec::new(alloc)),
+                    certificate: Some(certificate),
+                    fallback: false,
+                },
+                joining: Vec::new(alloc),
+            }),
+            Err(found) => {
+                if verified.len().saturating_add(found.verified.len()) >= quorum {
+                    let certificate = scheme.assemble(
+                        alloc,
+                        subject,
+                        verified,
+                        found.verified.as_slice(),
+                    )?;
+                    Ok(Attempted {
+                        batch: Batch {
+                            processed: pending.len(),
+                            invalid: Participants::from(found.invalid),
+                            certificate: Some(certificate),
+                            fallback: true,
+                        },
+                        joining: Vec::new(alloc),
+                    })
+                } else {
+                    Ok(Attempted {
+                        batch: Batch {
+                            processed: pending.len(),
+                            invalid: Participants::from(found.invalid),
+                            certificate: None,
+                            fallback: true,
+                        },
+                        joining: found.verified,
+                    })
+                }
+            }
+        }
+    } else {
+        let found = scheme.verify_attestations(alloc, rng, subject, pending)?;
+        Ok(Attempted {
+            batch: Batch {
+                processed: pending.len(),
+                invalid: Participants::from(found.invalid),
+                certificate: None,
+                fallback: false,
+            },
+            joining: found.verified,
+        })
+    }
+}
