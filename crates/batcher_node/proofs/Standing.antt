@@ -36,7 +36,7 @@ module _ {D K G C : Type 0} (x : NodeSetting D K G C) where
       ap (λ b. cond b (mode_now x.retains (window_in (event ∷ past)) view) (mode_of x past view))
       some
 
-  setting_stays : (past : NodeHistory D K G C) (event : NodeEvent D K G C) (view : ℕ)
+  pub setting_stays : (past : NodeHistory D K G C) (event : NodeEvent D K G C) (view : ℕ)
       → is_empty (told view (event ∷ past)) ≡ false
       → setting_of x (event ∷ past) view ≡ setting_of x past view
   setting_stays past event view some =

@@ -2,3 +2,4 @@ pub mod Windows
 pub mod Events
 pub mod Nodes
 pub mod Stands
+pub mod Promised

@@ -1,5 +1,5 @@
 -- A node, as contracts see it, and what one call of a view's round changes.
-use Rattle.std.specs.Prelude.{◌≡◌, ◌≢◌, ◌≤◌, ◌⊎◌, ℕ, Bool, true, cond, List, [], Option, Some, None, IfSome, MatchOption}
+use Rattle.std.specs.Prelude.{◌≡◌, ◌≢◌, ◌≤◌, ◌⊎◌, ℕ, Bool, true, false, cond, List, [], Option, Some, None, IfSome, MatchOption}
 use Rattle.std.specs.Ordering.{nat_cmp}
 use Rattle.std.specs.Map.{lookup}
 use Rattle.std.specs.BTreeMap.{is_at}
@@ -28,14 +28,24 @@ pub record NodeView (S K G D : Type 0) : Type 0 where
   pub rounds : List (ℕ × Slot (RoundView S G D))
   pub blocked : List (Blocked K)
 
+-- what stands at a view
+abbrev pub slot_at : {X : Type 0} → List (ℕ × X) → ℕ → Option X
+slot_at rounds view = lookup (is_at (nat_cmp view)) rounds
+
+-- There is a slot, and it changed since it was found to rest.
+pub record HasChanged {R : Type 0} (at : Option (Slot R)) : Type 0 where
+  pub slot : Slot R
+  pub there : at ≡ Some slot
+  pub changed : slot.changed ≡ true
+
+-- No view changed since it was found to rest.
+abbrev pub IsAtRest : {S K G D : Type 0} → NodeView S K G D → Type 0
+IsAtRest node = (view : ℕ) → IfSome (slot_at node.rounds view) (λ slot. slot.changed ≡ false)
+
 -- What a call doesn't change.
 abbrev pub SameNode : {S K G D : Type 0} → NodeView S K G D → NodeView S K G D → Type 0
 SameNode old new =
     (new.scheme ≡ old.scheme) × (new.epoch ≡ old.epoch) × (new.retains ≡ old.retains)
-
--- what stands at a view
-abbrev pub slot_at : {X : Type 0} → List (ℕ × X) → ℕ → Option X
-slot_at rounds view = lookup (is_at (nat_cmp view)) rounds
 
 module _ {S G D : Type 0} where
   -- the round that is made where something is first said in a view

@@ -9,5 +9,5 @@ mod slot;
 mod window;
 
 pub use answers::{Blocked, Cause, EnterFault, Receipt, Verdict};
-pub use node::{Node, NodeJudge};
+pub use node::{Construction, Node, NodeJudge};
 pub use window::Window;
