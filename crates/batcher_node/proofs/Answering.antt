@@ -56,7 +56,8 @@ own_round {S = S} {G = G} {D = D} participants scheme epoch window rounds tended
       by_case : (o : Option (Slot (RoundView S G D)))
           → IfSome o (λ slot. (slot.round.scheme ≡ scheme)
           × ((slot.round.number ≡ numbered epoch view) × (contains window view ≡ true)))
-          → IfSome o (λ slot. (slot.round.scheme ≡ scheme) × (slot.round.number ≡ numbered epoch view))
+          → IfSome o (λ slot. (slot.round.scheme ≡ scheme)
+          × (slot.round.number ≡ numbered epoch view))
       by_case None h = tt
       by_case (Some slot) h = (h.0, h.1.0)
 
@@ -129,7 +130,8 @@ module _ {S D K G C : Type 0} (meaning : S → Meaning D K G C) (compare_keys : 
       ∙ ap (λ a. receipt x past peer number a) may)
       h
 
-  pub certificate_told : (peer : K) (certificate : Certificate C D) (changed : Bool) (participants : ℕ)
+  pub certificate_told : (peer : K) (certificate : Certificate C D) (changed : Bool)
+      (participants : ℕ)
       → let number = round_in (subject_certified certificate) in let view = number.view.0 in
       IsTended participants old.scheme old.epoch old.window old.rounds
       → is_blocked same_key old.blocked peer ≡ false → is_of old.epoch old.window number ≡ true
@@ -162,7 +164,8 @@ module _ {S D K G C : Type 0} (meaning : S → Meaning D K G C) (compare_keys : 
       → certifies_itself (meaning old.scheme) certificate ≡ false
       → new.window ≡ old.window → new.rounds ≡ old.rounds
       → new.blocked ≡ old.blocked ++ record { peer = peer; cause = ForCertificate } ∷ []
-      → NodeStands x past old → NodeStands x (certificate_came peer certificate (Answered Forged) ∷ past) new
+      → NodeStands x past old
+      → NodeStands x (certificate_came peer certificate (Answered Forged) ∷ past) new
   certificate_forged peer certificate free within bad window rounds blocked h =
       let number = round_in (subject_certified certificate) in
       let view = number.view.0 in
@@ -270,7 +273,8 @@ module _ {S D K G C : Type 0} (meaning : S → Meaning D K G C) (compare_keys : 
 
   pub finalized_told : (view : ℕ)
       → new.window ≡ finalized old.window view → new.blocked ≡ old.blocked
-      → ((other : ℕ) → new.window.finalized ≤ other → slot_at new.rounds other ≡ slot_at old.rounds other)
+      → ((other : ℕ) → new.window.finalized ≤ other
+      → slot_at new.rounds other ≡ slot_at old.rounds other)
       → NodeStands x past old → NodeStands x (view_finalized view ∷ past) new
   finalized_told view window blocked rounds h =
       told_none x past (view_finalized view) old new (λ view. refl) window

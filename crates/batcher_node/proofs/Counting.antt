@@ -49,7 +49,8 @@ count_bound (k ∷ ks) lo hi sorted within bound =
     grind (arith, rest)
 
 module _ {X : Type 0} where
-  tail_if : (Q : Type 0) (t : Bool) (first : X) (o : Option X) → IfSome (cond t (Some first) o) (λ _. Q)
+  tail_if : (Q : Type 0) (t : Bool) (first : X) (o : Option X)
+      → IfSome (cond t (Some first) o) (λ _. Q)
       → IfSome o (λ _. Q)
   tail_if Q t first None h = tt
   tail_if Q true first (Some x) h = h

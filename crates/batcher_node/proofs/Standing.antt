@@ -140,7 +140,8 @@ module _ {S D K G C : Type 0} (meaning : S → Meaning D K G C) (compare_keys : 
   module _ (h : NodeStands x past old) (within : old.window.finalized ≤ view)
       (tended : IfSome (slot_at old.rounds view) (λ slot. (slot.round.scheme ≡ old.scheme)
       × (slot.round.number ≡ numbered old.epoch view))) where
-    told_there : TellsThere by (slot_at old.rounds) (slot_at new.rounds) view call answer changed → Told
+    told_there : TellsThere by (slot_at old.rounds) (slot_at new.rounds) view call answer changed
+        → Told
     told_there t =
         let stands = subst (λ o. MatchOption o (told view past ≡ []) (ViewStands x past view)) t.there
         (h.views view within) in
@@ -209,7 +210,8 @@ module _ {S D K G C : Type 0} (meaning : S → Meaning D K G C) (compare_keys : 
           stands = stands_now t;
         }
 
-    possible_at : (t : Told) (h : NodeStands x past old) (other : ℕ) → (other ≡ view) ⊎ (other ≢ view)
+    possible_at : (t : Told) (h : NodeStands x past old) (other : ℕ)
+        → (other ≡ view) ⊎ (other ≢ view)
         → IsPossible (setting_of x (event ∷ past) other) (told other (event ∷ past))
     possible_at t h other (inl is) =
         subst (λ v. IsPossible (setting_of x (event ∷ past) v) (told v (event ∷ past))) (sym is)
@@ -217,9 +219,11 @@ module _ {S D K G C : Type 0} (meaning : S → Meaning D K G C) (compare_keys : 
     possible_at t h other (inr apart) =
         possible_still x past event other (elsewhere other apart) (h.possible other)
 
-    views_at : (t : Told) (h : NodeStands x past old) (due : is_due ((call, answer) ∷ told view past) ≡ changed)
+    views_at : (t : Told) (h : NodeStands x past old)
+        (due : is_due ((call, answer) ∷ told view past) ≡ changed)
         (other : ℕ) → old.window.finalized ≤ other → (other ≡ view) ⊎ (other ≢ view)
-        → MatchOption (slot_at new.rounds other) (told other (event ∷ past) ≡ []) (ViewStands x (event ∷ past) other)
+        → MatchOption (slot_at new.rounds other) (told other (event ∷ past) ≡ [])
+        (ViewStands x (event ∷ past) other)
     views_at t h due other within (inl is) =
         subst
         (λ v. MatchOption (slot_at new.rounds v) (told v (event ∷ past) ≡ []) (ViewStands x (event ∷ past) v))

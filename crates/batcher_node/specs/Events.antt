@@ -59,7 +59,8 @@ module _ {D K G C : Type 0} where
       at_view view (round_in (subject_of vote)).view.0 (OwnCall vote, OwnAnswer outcome report)
   told_by view (view_entered number leader) =
       at_view view number (LeaderCall leader, LeaderAnswer (Ok tt))
-  told_by view (constructed number given) = at_view view number (ConstructCall, ConstructAnswer given)
+  told_by view (constructed number given) =
+      at_view view number (ConstructCall, ConstructAnswer given)
   told_by view event = []
 
   -- All that the round of a view was told: its history.

@@ -59,7 +59,8 @@ module _ {S G D : Type 0} where
         holds = nothing_held mode;
       }
 
-  -- What a node keeps true: somebody takes part, and each view's round is its own, and in the window.
+  -- What a node keeps true: somebody takes part, and each view with a round has its own, and is in
+  -- the window.
   pub record IsTended (participants : ℕ) (scheme : S) (epoch : Epoch) (window : Window)
       (rounds : List (ℕ × Slot (RoundView S G D))) : Type 0 where
     pub some : 1 ≤ participants

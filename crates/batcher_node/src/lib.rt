@@ -6,8 +6,10 @@ mod answers;
 mod node;
 mod rounds;
 mod slot;
+mod theorems;
 mod window;
 
 pub use answers::{Blocked, Cause, EnterFault, Receipt, Verdict};
 pub use node::{Construction, Node, NodeJudge};
+pub use theorems::nodes_keep_their_promises;
 pub use window::Window;

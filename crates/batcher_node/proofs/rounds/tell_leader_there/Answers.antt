@@ -3,14 +3,16 @@ use Rattle.std.proofs.lemmas.Map.Steps.{set_value_same}
 use Rattle.batcher_node.proofs.Telling.{not_at, on_err}
 use Rattle.batcher_node.proofs.rounds.tell_leader_there.Goals as goal
 
-pub returns-in_err-set_leader-in-Some-clause-refused : goal.returns-in_err-set_leader-in-Some-clause-refused
+pub returns-in_err-set_leader-in-Some-clause-refused :
+    goal.returns-in_err-set_leader-in-Some-clause-refused
 returns-in_err-set_leader-in-Some-clause-refused g c =
     let slot = c.in-Some.slot.now in
     let same = ap (λ r. Some (record slot { round = r })) (sym c.in_err-set_leader-in-Some.ensures.refused) in
     on_err _ ((c.get_mut.follows.holds (record slot { round = c.set_leader.new.self })).0
     ∙ set_value_same _ _ _ (sym c.in-Some.ensures.value ∙ same))
 
-pub returns-in_ok-set_leader-in-Some-clause-tells : goal.returns-in_ok-set_leader-in-Some-clause-tells
+pub returns-in_ok-set_leader-in-Some-clause-tells :
+    goal.returns-in_ok-set_leader-in-Some-clause-tells
 returns-in_ok-set_leader-in-Some-clause-tells g c =
     let left = record c.in-Some.slot.now { round = c.set_leader.new.self; changed = true } in
     let updates = (c.get_mut.follows.holds left).3 (search rules) in

@@ -12,6 +12,7 @@ returns-in_ok-keep-in-None-clause-tells g c =
     c.add_network.new.self c.add_network.ensures.same c.in_ok-admission-in-None.ensures.meets
     c.in_ok-keep-in-None.ensures.here c.in_ok-keep-in-None.ensures.others
 
-pub returns-in_err-admission-in-None-clause-refused : goal.returns-in_err-admission-in-None-clause-refused
+pub returns-in_err-admission-in-None-clause-refused :
+    goal.returns-in_err-admission-in-None-clause-refused
 returns-in_err-admission-in-None-clause-refused g c =
     on_err _ (if_none _ c.in-None.is c.in_ok-answer.ensures.untold)

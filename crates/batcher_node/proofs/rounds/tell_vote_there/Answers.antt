@@ -3,7 +3,8 @@ use Rattle.std.proofs.lemmas.Map.Steps.{set_value_same}
 use Rattle.batcher_node.proofs.Telling.{not_at, on_err}
 use Rattle.batcher_node.proofs.rounds.tell_vote_there.Goals as goal
 
-pub returns-in_err-admission-in-Some-clause-refused : goal.returns-in_err-admission-in-Some-clause-refused
+pub returns-in_err-admission-in-Some-clause-refused :
+    goal.returns-in_err-admission-in-Some-clause-refused
 returns-in_err-admission-in-Some-clause-refused g c =
     let slot = c.in-Some.slot.now in
     let same = ap (λ r. Some (record slot { round = r })) (sym c.in_err-admission-in-Some.ensures.refused) in
