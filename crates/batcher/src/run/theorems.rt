@@ -1,5 +1,6 @@
 //! What holds of all rounds, as the contracts of functions that do nothing.
 
+ghost use Rattle.std.specs.Prelude.{◌≤◌, length};
 ghost use Rattle.batcher_types.specs.declared.positions.Round.{Round as TheNumber};
 ghost use Rattle.batcher_votes.specs.declared.votes.Mode.{Mode as TheMode};
 ghost use Rattle.batcher_histories.specs.Setting.{setting, Setting as TheSetting};
@@ -10,6 +11,9 @@ ghost use Rattle.batcher_promises.specs.Examples.Blocks.{BlockExamples};
 ghost use Rattle.batcher_promises.specs.Examples.Honest.{HonestExamples};
 ghost use Rattle.batcher_promises.specs.Examples.Replays.{ReplayExamples};
 ghost use Rattle.batcher_promises.specs.Replay.{EqualRunsGoAlike};
+ghost use Rattle.batcher_promises.specs.Ran.{IsPromised};
+ghost use Rattle.batcher_histories.specs.History.{History as TheHistory};
+ghost use Rattle.batcher_histories.specs.Answers.{IsPossible};
 
 use crate::messages::Digest;
 use crate::scheme::Scheme;
@@ -30,6 +34,19 @@ pub fn order_is_free<S: Scheme<D>, D: Digest>()
     ensures { (scheme : S) (number : TheNumber) (mode : TheMode)
         → OrderIsFree
         (setting (S.meaning scheme) S.PublicKey.cmp S.Signature.eq D.eq number mode) }
+{}
+
+/// Does nothing. Its contract says, for every scheme, that what `run` promises of its calls is so
+/// of every possible history: one in which each call was answered as those before it name, whoever
+/// made the calls. The clauses of a round's methods keep its history possible.
+pub fn possible_histories_are_promised<S: Scheme<D>, D: Digest>()
+    ensures { (scheme : S) (number : TheNumber) (mode : TheMode)
+        → 1 ≤ length (S.meaning scheme).participants
+        → (past : TheHistory D S.PublicKey S.Signature S.Certificate)
+        → IsPossible
+        (setting (S.meaning scheme) S.PublicKey.cmp S.Signature.eq D.eq number mode) past
+        → IsPromised
+        (setting (S.meaning scheme) S.PublicKey.cmp S.Signature.eq D.eq number mode) past }
 {}
 
 /// Does nothing. Its contract says that runs of equal calls on equal rounds, with equal generators,

@@ -53,7 +53,8 @@ module _ {D K G C : Type 0} (x : Setting D K G C) where
         answered = answered-push x [] calls answers call answer goes.answered answered;
       }
 
-  is_promised : HasLaws x → (past : History D K G C) → IsPossible x past → IsPromised x past
+  -- What is promised of the history of a list of calls holds of every possible history.
+  pub is_promised : HasLaws x → (past : History D K G C) → IsPossible x past → IsPromised x past
   is_promised laws past possible =
       record {
         promises = promised x laws past possible;

@@ -1,0 +1,7 @@
+pub mod Telling
+pub mod Finding
+pub mod Dropping
+pub mod Counting
+pub mod Standing
+pub mod Answering
+pub mod Promising

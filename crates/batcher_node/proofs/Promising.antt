@@ -1,0 +1,114 @@
+-- From a node that stands to what is promised of it.
+use Rattle.std.proofs.Common.{◌≡◌, ℕ, Bool, true, false, cond, List, [], ◌∷◌, ◌++◌, refl, sym, ap, ◌∙◌, subst, ⊎_elim}
+use Rattle.std.specs.Prelude.{is_some, Option, Some, None}
+use Rattle.std.proofs.lemmas.Bool.{cases_Bool, false≢true}
+use Rattle.batcher.specs.messages.Vote.{Vote}
+use Rattle.batcher.specs.messages.Certificate.{Certificate}
+use Rattle.batcher.specs.answers.Admission.{Admission}
+use Rattle.batcher.specs.calls.Call.TheVariants.{Network as NetworkCall}
+use Rattle.batcher.specs.answers.Answer.TheVariants.{Network as NetworkAnswer}
+use Rattle.batcher.specs.positions.Participant.{Participant}
+use Rattle.batcher.specs.Setting.{Setting, sender_in}
+use Rattle.batcher.specs.Lists.{is_empty}
+use Rattle.batcher.specs.Votes.{subject_of, subject_certified, round_in}
+use Rattle.batcher.specs.Verifiers.{certifies_itself}
+use Rattle.batcher.specs.History.{Event, History}
+use Rattle.batcher.specs.Answers.{IsPossible, certificate_answer}
+use Rattle.batcher.specs.Promises.{AtEachVote, IsBlockedForCause, gave_cause}
+use Rattle.batcher.specs.Ran.{IsPromised}
+use Rattle.batcher_node.specs.declared.answers.Receipt.{Receipt}
+use Rattle.batcher_node.specs.declared.answers.Receipt.TheVariants.{Answered, Outside, Dropped}
+use Rattle.batcher_node.specs.declared.answers.Verdict.{Verdict}
+use Rattle.batcher_node.specs.declared.answers.Verdict.TheVariants.{Recorded, Forged}
+use Rattle.batcher_node.specs.Events.{NodeEvent, started, vote_came, certificate_came, vote_cast, view_entered, view_finalized, constructed, NodeHistory, told, told_by, is_blocked, blocked_in}
+use Rattle.batcher_node.specs.Stands.{NodeSetting, setting_of, receipt, is_within, IsNamed, AreNamed}
+use Rattle.batcher_node.specs.Promised.{IsForCause, AreForCause, IsNodePromised}
+use Rattle.batcher_node.proofs.Standing.{setting_stays}
+use Rattle.batcher_node.proofs.Answering.{at_here}
+
+-- what was possible before
+possible_rest : {D K G C : Type 0} (y : Setting D K G C) (more past : History D K G C)
+    → IsPossible y (more ++ past) → IsPossible y past
+possible_rest y [] past h = h
+possible_rest y (e ∷ more) past h = possible_rest y more past h.1.1.1
+
+abbrev is_forged : Receipt Verdict → Bool
+is_forged (Answered Forged) = true
+is_forged (Answered (Recorded changed)) = false
+is_forged Outside = false
+is_forged Dropped = false
+
+module _ {D K G C : Type 0} (x : NodeSetting D K G C)
+    (promised : (past : NodeHistory D K G C) (view : ℕ)
+    → IsPossible (setting_of x past view) (told view past)
+    → IsPromised (setting_of x past view) (told view past)) where
+  possible_by : (past : NodeHistory D K G C) (event : NodeEvent D K G C) (view : ℕ)
+      → (t : History D K G C) → told view past ≡ t
+      → IsPossible (setting_of x (event ∷ past) view) (told view (event ∷ past))
+      → IsPossible (setting_of x past view) (told view past)
+  possible_by past event view [] is h = subst (IsPossible (setting_of x past view)) (sym is) tt
+  possible_by past event view (e ∷ t) is h =
+      subst (λ y. IsPossible y (told view past))
+      (setting_stays x past event view (still_begun (told_by view event) (ap is_empty is)))
+      (possible_rest (setting_of x (event ∷ past) view) (told_by view event) (told view past) h) where
+        still_begun : (more : History D K G C) → is_empty (told view past) ≡ false
+            → is_empty (more ++ told view past) ≡ false
+        still_begun [] some = some
+        still_begun (e ∷ more) some = refl
+
+  -- A certificate that is answered as forged doesn't certify.
+  forged_is : (past : NodeHistory D K G C) (peer : K) (certificate : Certificate C D)
+      (a b : Bool) (recorded : Verdict) (c : Bool)
+      → is_forged (Answered recorded) ≡ false
+      → Answered Forged
+      ≡ cond a Dropped (cond b (Answered (cond c recorded Forged)) Outside)
+      → c ≡ false
+  forged_is past peer certificate a b recorded false good is = refl
+  forged_is past peer certificate true b recorded true good is =
+      absurd (false≢true (sym (ap is_forged is)))
+  forged_is past peer certificate false true recorded true good is =
+      absurd (false≢true (sym (ap is_forged is ∙ good)))
+  forged_is past peer certificate false false recorded true good is =
+      absurd (false≢true (sym (ap is_forged is)))
+
+  for_cause : (past : NodeHistory D K G C) (event : NodeEvent D K G C) → IsNamed x past event
+      → ((view : ℕ) → IsPossible (setting_of x (event ∷ past) view) (told view (event ∷ past)))
+      → IsForCause x past event
+  for_cause past (vote_came peer vote (Answered admission)) named possible =
+      let view = (round_in (subject_of vote)).view.0 in
+      let event : NodeEvent D K G C = vote_came peer vote (Answered admission) in
+      let one : Event D K G C = (NetworkCall peer vote, NetworkAnswer admission) in
+      let y = setting_of x (event ∷ past) view in
+      let more = ap (λ t. t ++ told view past) (at_here view one) in
+      let each = subst (AtEachVote (IsBlockedForCause y)) more
+      (promised (event ∷ past) view (possible view)).promises.honest_are_never_blocked in
+      λ block i sender. ap (λ t. gave_cause y t i.0) more ∙ each.0 block i sender
+  for_cause past (certificate_came peer certificate (Answered Forged)) named possible =
+      forged_is past peer certificate _ _ _ _ refl named
+  for_cause past (started window) named possible = tt
+  for_cause past (vote_came peer vote Outside) named possible = tt
+  for_cause past (vote_came peer vote Dropped) named possible = tt
+  for_cause past (certificate_came peer certificate (Answered (Recorded changed))) named possible = tt
+  for_cause past (certificate_came peer certificate Outside) named possible = tt
+  for_cause past (certificate_came peer certificate Dropped) named possible = tt
+  for_cause past (vote_cast vote outcome report) named possible = tt
+  for_cause past (view_entered view leader) named possible = tt
+  for_cause past (view_finalized view) named possible = tt
+  for_cause past (constructed view given) named possible = tt
+
+  each_for_cause : (past : NodeHistory D K G C) → AreNamed x past
+      → ((view : ℕ) → IsPossible (setting_of x past view) (told view past)) → AreForCause x past
+  each_for_cause [] named possible = tt
+  each_for_cause (event ∷ past) named possible = (
+    for_cause past event named.0 possible,
+    each_for_cause past named.1 (λ view. possible_by past event view (told view past) refl (possible view)),
+  )
+
+  pub node_promised : (past : NodeHistory D K G C) → AreNamed x past
+      → ((view : ℕ) → IsPossible (setting_of x past view) (told view past))
+      → IsNodePromised x past
+  node_promised past named possible =
+      record {
+        each_view = λ view. promised past view (possible view);
+        blocked_for_cause = each_for_cause past named possible;
+      }

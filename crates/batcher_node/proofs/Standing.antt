@@ -1,0 +1,263 @@
+-- How a node goes on standing: one view was told something, or none was.
+use Rattle.std.proofs.Common.{◌≡◌, ◌≢◌, ◌≤◌, ◌⊎◌, inl, inr, ℕ, Bool, true, false, cond, List, [], ◌∷◌, ◌++◌, Option, Some, None, refl, sym, ap, ◌∙◌, subst, arith, ⊎_elim}
+use Rattle.std.specs.Prelude.{MatchOption, IfSome}
+use Rattle.std.specs.declared.cmp.Ordering.{Ordering}
+use Rattle.std.proofs.lemmas.Bool.{cases_eq, false≢true}
+use Rattle.batcher.specs.calls.Call.{Call}
+use Rattle.batcher.specs.answers.Answer.{Answer}
+use Rattle.batcher.specs.Meaning.{Meaning}
+use Rattle.batcher.specs.Setting.{Setting, setting}
+use Rattle.batcher.specs.Lists.{is_empty}
+use Rattle.batcher.specs.Held.{RoundView}
+use Rattle.batcher.specs.History.{History}
+use Rattle.batcher.specs.Answers.{IsPossible, MayAnswer}
+use Rattle.batcher.specs.Judged.{judge}
+use Rattle.batcher.specs.Stands.{Stands}
+use Rattle.batcher_node.specs.declared.slot.Slot.{Slot}
+use Rattle.batcher_node.specs.Windows.{mode_now, numbered}
+use Rattle.batcher_node.specs.Events.{NodeEvent, NodeHistory, told, told_by, blocked_by, window_in, window_after}
+use Rattle.batcher_node.specs.Nodes.{NodeView, slot_at, fresh_round, Tells, TellsThere, TellsFresh, GoesOn}
+use Rattle.batcher_node.specs.Stands.{NodeSetting, mode_of, setting_of, is_due, IsNamed, ViewStands, NodeStands, judge_node}
+
+module _ {D K G C : Type 0} (x : NodeSetting D K G C) where
+  -- where nothing was said in a view, its round would be made now
+  mode_unsaid : (past : NodeHistory D K G C) (view : ℕ) → told view past ≡ []
+      → mode_of x past view ≡ mode_now x.retains (window_in past) view
+  mode_unsaid [] view none = refl
+  mode_unsaid (event ∷ past) view none =
+      ap (λ t. cond (is_empty t) (mode_now x.retains (window_in (event ∷ past)) view)
+      (mode_of x past view)) none
+
+  -- A view whose round was told something keeps its mode.
+  mode_stays : (past : NodeHistory D K G C) (event : NodeEvent D K G C) (view : ℕ)
+      → is_empty (told view (event ∷ past)) ≡ false
+      → mode_of x (event ∷ past) view ≡ mode_of x past view
+  mode_stays past event view some =
+      ap (λ b. cond b (mode_now x.retains (window_in (event ∷ past)) view) (mode_of x past view))
+      some
+
+  pub setting_stays : (past : NodeHistory D K G C) (event : NodeEvent D K G C) (view : ℕ)
+      → is_empty (told view (event ∷ past)) ≡ false
+      → setting_of x (event ∷ past) view ≡ setting_of x past view
+  setting_stays past event view some =
+      ap (λ mode. setting x.meaning x.compare_keys x.same_signature x.same_digest
+      (numbered x.epoch view) mode) (mode_stays past event view some)
+
+  -- A VIEW THAT WAS TOLD NOTHING BY THE LAST EVENT
+  module _ (past : NodeHistory D K G C) (event : NodeEvent D K G C) (view : ℕ)
+      (none : told_by view event ≡ []) where
+    told_same : told view (event ∷ past) ≡ told view past
+    told_same = ap (λ t. t ++ told view past) none
+
+    begun_same : (b : Bool) → is_empty (told view past) ≡ b
+        → is_empty (told view (event ∷ past)) ≡ b
+    begun_same b h = ap is_empty told_same ∙ h
+
+    possible_by : (t : History D K G C) → told view past ≡ t
+        → IsPossible (setting_of x past view) (told view past)
+        → IsPossible (setting_of x (event ∷ past) view) (told view (event ∷ past))
+    possible_by [] is h =
+        subst (IsPossible (setting_of x (event ∷ past) view)) (sym (told_same ∙ is)) tt
+    possible_by (e ∷ t) is h =
+        subst (λ y. IsPossible y (told view (event ∷ past)))
+        (sym (setting_stays past event view (begun_same false (ap is_empty is))))
+        (subst (IsPossible (setting_of x past view)) (sym told_same) h)
+
+    possible_still : IsPossible (setting_of x past view) (told view past)
+        → IsPossible (setting_of x (event ∷ past) view) (told view (event ∷ past))
+    possible_still h = possible_by (told view past) refl h
+
+    view_still : {S : Type 0} (slot : Slot (RoundView S G D)) → ViewStands x past view slot
+        → ViewStands x (event ∷ past) view slot
+    view_still slot h =
+        let some = begun_same false h.begun in
+        record {
+          begun = some;
+          mode_is = h.mode_is ∙ sym (mode_stays past event view some);
+          changed_is = h.changed_is ∙ ap is_due (sym told_same);
+          stands =
+              subst (λ y. Stands y (told view (event ∷ past)) slot.round.holds)
+              (sym (setting_stays past event view some))
+              (subst (λ t. Stands (setting_of x past view) t slot.round.holds) (sym told_same) h.stands);
+        }
+
+    match_still : {S : Type 0} (o : Option (Slot (RoundView S G D)))
+        → MatchOption o (told view past ≡ []) (ViewStands x past view)
+        → MatchOption o (told view (event ∷ past) ≡ []) (ViewStands x (event ∷ past) view)
+    match_still None h = told_same ∙ h
+    match_still (Some slot) h = view_still slot h
+
+  -- NO VIEW WAS TOLD ANYTHING
+  module _ {S : Type 0} (past : NodeHistory D K G C) (event : NodeEvent D K G C)
+      (old new : NodeView S K G D) (none : (view : ℕ) → told_by view event ≡ [])
+      (window : new.window ≡ window_after old.window event)
+      (later : old.window.finalized ≤ new.window.finalized)
+      (blocked : new.blocked ≡ old.blocked ++ blocked_by event)
+      (slots : (view : ℕ) → new.window.finalized ≤ view → slot_at new.rounds view ≡ slot_at old.rounds view) where
+    pub told_none : IsNamed x past event → NodeStands x past old → NodeStands x (event ∷ past) new
+    told_none named h =
+        record {
+          window_is = window ∙ ap (λ w. window_after w event) h.window_is;
+          blocked_are = blocked ∙ ap (λ b. b ++ blocked_by event) h.blocked_are;
+          answered = (named, h.answered);
+          possible = λ view. possible_still past event view (none view) (h.possible view);
+          views = λ view within.
+              subst
+              (λ o. MatchOption o (told view (event ∷ past) ≡ []) (ViewStands x (event ∷ past) view))
+              (sym (slots view within))
+              (match_still past event view (none view) (slot_at old.rounds view)
+              (h.views view (omega (arith, later, within))));
+        }
+
+-- ONE VIEW WAS TOLD SOMETHING
+module _ {S D K G C : Type 0} (meaning : S → Meaning D K G C) (compare_keys : K → K → Ordering)
+    (same_key : K → K → Bool) (same_signature : G → G → Bool) (same_digest : D → D → Bool)
+    (past : NodeHistory D K G C) (event : NodeEvent D K G C) (view : ℕ)
+    (call : Call K G C D) (answer : Answer G C D) (changed : Bool)
+    (old new : NodeView S K G D) where
+  abbrev by : RoundView S G D → Setting D K G C
+  by = judge meaning compare_keys same_signature same_digest
+
+  abbrev x : NodeSetting D K G C
+  x = judge_node meaning compare_keys same_key same_signature same_digest old
+
+  judged : (r : RoundView S G D) → r.scheme ≡ old.scheme → r.number ≡ numbered old.epoch view
+      → r.mode ≡ mode_of x past view → by r ≡ setting_of x past view
+  judged r scheme number mode =
+      ap (λ s. setting (meaning s) compare_keys same_signature same_digest r.number r.mode) scheme
+      ∙ ap (λ n. setting (meaning old.scheme) compare_keys same_signature same_digest n r.mode) number
+      ∙ ap (λ m. setting (meaning old.scheme) compare_keys same_signature same_digest
+      (numbered old.epoch view) m) mode
+
+  -- the round that is told it, which stands
+  record Told : Type 0 where
+    round : RoundView S G D
+    is_by : by round ≡ setting_of x past view
+    mode_is : round.mode ≡ mode_of x past view
+    stands : Stands (setting_of x past view) (told view past) round.holds
+    goes_on : GoesOn by (slot_at old.rounds) (slot_at new.rounds) view round call answer changed
+
+  module _ (h : NodeStands x past old) (within : old.window.finalized ≤ view)
+      (tended : IfSome (slot_at old.rounds view) (λ slot. (slot.round.scheme ≡ old.scheme)
+      × (slot.round.number ≡ numbered old.epoch view))) where
+    told_there : TellsThere by (slot_at old.rounds) (slot_at new.rounds) view call answer changed
+        → Told
+    told_there t =
+        let stands = subst (λ o. MatchOption o (told view past ≡ []) (ViewStands x past view)) t.there
+        (h.views view within) in
+        let own = subst (λ o. IfSome o (λ slot. (slot.round.scheme ≡ old.scheme)
+        × (slot.round.number ≡ numbered old.epoch view))) t.there tended in
+        record {
+          round = t.slot.round;
+          is_by = judged t.slot.round own.0 own.1 stands.mode_is;
+          mode_is = stands.mode_is;
+          stands = stands.stands;
+          goes_on = t.goes_on;
+        }
+
+    told_anew : TellsFresh by (slot_at old.rounds) (slot_at new.rounds) view
+        (fresh_round old.scheme old.epoch old.retains old.window view) call answer changed → Told
+    told_anew t =
+        let fresh = fresh_round {G = G} {D = D} old.scheme old.epoch old.retains old.window view in
+        let none = subst (λ o. MatchOption o (told view past ≡ []) (ViewStands x past view)) t.absent
+        (h.views view within) in
+        let mode = ap (λ w. mode_now old.retains w view) h.window_is ∙ sym (mode_unsaid x past view none) in
+        let is = judged fresh refl refl mode in
+        record {
+          round = fresh;
+          is_by = is;
+          mode_is = mode;
+          stands = subst (λ t. Stands (setting_of x past view) t fresh.holds) (sym none)
+              (subst (λ y. Stands y [] fresh.holds) is t.fresh_stands);
+          goes_on = t.goes_on;
+        }
+
+    told_either : Tells by (slot_at old.rounds) (slot_at new.rounds) view
+        (fresh_round old.scheme old.epoch old.retains old.window view) call answer changed → Told
+    told_either t = ⊎_elim told_there told_anew t
+
+  module _ (here : told_by view event ≡ (call, answer) ∷ [])
+      (elsewhere : (other : ℕ) → other ≢ view → told_by other event ≡ []) where
+    told_more : told view (event ∷ past) ≡ (call, answer) ∷ told view past
+    told_more = ap (λ t. t ++ told view past) here
+
+    begun_now : is_empty (told view (event ∷ past)) ≡ false
+    begun_now = ap is_empty told_more
+
+    -- what the round holds stands after the call too
+    stands_after : (t : Told) → Stands (setting_of x past view) ((call, answer) ∷ told view past)
+        t.goes_on.after.holds
+    stands_after t =
+        subst (λ y. Stands y ((call, answer) ∷ told view past) t.goes_on.after.holds) t.is_by
+        (t.goes_on.follows (told view past)
+        (subst (λ y. Stands y (told view past) t.round.holds) (sym t.is_by) t.stands)).stands
+
+    stands_now : (t : Told) → Stands (setting_of x (event ∷ past) view) (told view (event ∷ past))
+        t.goes_on.after.holds
+    stands_now t =
+        subst (λ y. Stands y (told view (event ∷ past)) t.goes_on.after.holds)
+        (sym (setting_stays x past event view begun_now))
+        (subst (λ h. Stands (setting_of x past view) h t.goes_on.after.holds) (sym told_more)
+        (stands_after t))
+
+    view_now : is_due ((call, answer) ∷ told view past) ≡ changed → (t : Told)
+        → ViewStands x (event ∷ past) view (record { round = t.goes_on.after; changed = changed })
+    view_now due t =
+        record {
+          begun = begun_now;
+          mode_is = t.goes_on.same.2 ∙ t.mode_is ∙ sym (mode_stays x past event view begun_now);
+          changed_is = sym due ∙ ap is_due (sym told_more);
+          stands = stands_now t;
+        }
+
+    possible_at : (t : Told) (h : NodeStands x past old) (other : ℕ)
+        → (other ≡ view) ⊎ (other ≢ view)
+        → IsPossible (setting_of x (event ∷ past) other) (told other (event ∷ past))
+    possible_at t h other (inl is) =
+        subst (λ v. IsPossible (setting_of x (event ∷ past) v) (told v (event ∷ past))) (sym is)
+        (stands_now t).possible
+    possible_at t h other (inr apart) =
+        possible_still x past event other (elsewhere other apart) (h.possible other)
+
+    views_at : (t : Told) (h : NodeStands x past old)
+        (due : is_due ((call, answer) ∷ told view past) ≡ changed)
+        (other : ℕ) → old.window.finalized ≤ other → (other ≡ view) ⊎ (other ≢ view)
+        → MatchOption (slot_at new.rounds other) (told other (event ∷ past) ≡ [])
+        (ViewStands x (event ∷ past) other)
+    views_at t h due other within (inl is) =
+        subst
+        (λ v. MatchOption (slot_at new.rounds v) (told v (event ∷ past) ≡ []) (ViewStands x (event ∷ past) v))
+        (sym is)
+        (subst
+        (λ o. MatchOption o (told view (event ∷ past) ≡ []) (ViewStands x (event ∷ past) view))
+        (sym t.goes_on.here) (view_now due t))
+    views_at t h due other within (inr apart) =
+        subst
+        (λ o. MatchOption o (told other (event ∷ past) ≡ []) (ViewStands x (event ∷ past) other))
+        (sym (t.goes_on.others other apart))
+        (match_still x past event other (elsewhere other apart) (slot_at old.rounds other)
+        (h.views other within))
+
+    pub told_one :
+        Tells by (slot_at old.rounds) (slot_at new.rounds) view
+        (fresh_round old.scheme old.epoch old.retains old.window view) call answer changed
+        → IfSome (slot_at old.rounds view) (λ slot. (slot.round.scheme ≡ old.scheme)
+        × (slot.round.number ≡ numbered old.epoch view))
+        → old.window.finalized ≤ view
+        → new.window ≡ window_after old.window event
+        → new.window.finalized ≡ old.window.finalized
+        → new.blocked ≡ old.blocked ++ blocked_by event
+        → is_due ((call, answer) ∷ told view past) ≡ changed
+        → (NodeStands x past old → MayAnswer (setting_of x past view) (told view past) call answer
+        → IsNamed x past event)
+        → NodeStands x past old → NodeStands x (event ∷ past) new
+    told_one tells tended within window same blocked due named h =
+        let t = told_either h within tended tells in
+        record {
+          window_is = window ∙ ap (λ w. window_after w event) h.window_is;
+          blocked_are = blocked ∙ ap (λ b. b ++ blocked_by event) h.blocked_are;
+          answered = (named h (stands_after t).possible.1.1.0, h.answered);
+          possible = λ other. possible_at t h other (cases_eq other view);
+          views = λ other in_old.
+              views_at t h due other (subst (λ n. n ≤ other) same in_old) (cases_eq other view);
+        }

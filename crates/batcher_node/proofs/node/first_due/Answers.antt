@@ -1,0 +1,26 @@
+use Rattle.std.proofs.Common.{◌≡◌, ◌∙◌, ℕ, Option, Some, None, sym, refl}
+use Rattle.std.specs.Prelude.{IfSome, IfNone, List}
+use Rattle.std.specs.Option.{option_map}
+use Rattle.batcher_node.specs.Nodes.{HasChanged, slot_at}
+use Rattle.batcher_node.specs.declared.slot.Slot.{Slot}
+use Rattle.batcher_node.proofs.Finding.{view_found, view_none}
+use Rattle.batcher_node.proofs.node.first_due.Goals as goal
+
+some_case : {P : ℕ → Type 0} (o : Option ℕ) → ((view : ℕ) → o ≡ Some view → P view) → IfSome o P
+some_case None h = tt
+some_case (Some view) h = h view refl
+
+none_case : {P : Type 0} (o : Option ℕ) → (o ≡ None → P) → IfNone o P
+none_case None h = h refl
+none_case (Some view) h = tt
+
+pub returns-clause-found : goal.returns-clause-found
+returns-clause-found g c =
+    some_case _ (λ view is.
+    view_found c.args.slots.now.entries view _ c.len.ensures.ordered refl
+    (sym c.first_changed-first.ensures ∙ is))
+
+pub returns-clause-none : goal.returns-clause-none
+returns-clause-none g c =
+    none_case _ (λ is.
+    view_none c.args.slots.now.entries _ refl (sym c.first_changed-first.ensures ∙ is))

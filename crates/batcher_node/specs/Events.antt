@@ -1,0 +1,98 @@
+-- What happened to a node: its calls that were answered, the newest first.
+use Rattle.std.specs.Prelude.{ℕ, Bool, true, false, cond, ◌==◌, List, [], ◌∷◌, ◌++◌, Option, Some, None, max}
+use Rattle.std.specs.List.{list_any}
+use Rattle.std.specs.Option.{option_map_or}
+use Rattle.batcher.specs.positions.Participant.{Participant}
+use Rattle.batcher.specs.positions.Round.{Round}
+use Rattle.batcher.specs.messages.Vote.{Vote}
+use Rattle.batcher.specs.messages.Certificate.{Certificate}
+use Rattle.batcher.specs.messages.Activity.{Activity}
+use Rattle.batcher.specs.verifier.Batch.{Batch}
+use Rattle.batcher.specs.votes.Outcome.{Outcome}
+use Rattle.batcher.specs.answers.Admission.{Admission}
+use Rattle.batcher.specs.calls.Call.TheVariants.{Network as NetworkCall, Own as OwnCall, Certificate as CertificateCall, Leader as LeaderCall, Construct as ConstructCall}
+use Rattle.batcher.specs.answers.Answer.TheVariants.{Network as NetworkAnswer, Own as OwnAnswer, Certificate as CertificateAnswer, Leader as LeaderAnswer, Construct as ConstructAnswer}
+use Rattle.batcher.specs.Votes.{subject_of, subject_certified, round_in}
+use Rattle.batcher.specs.History.{Event, History}
+use Rattle.std.specs.Prelude.{Ok}
+use Rattle.batcher_node.specs.declared.window.Window.{Window}
+use Rattle.batcher_node.specs.declared.answers.Receipt.{Receipt}
+use Rattle.batcher_node.specs.declared.answers.Receipt.TheVariants.{Answered}
+use Rattle.batcher_node.specs.declared.answers.Verdict.{Verdict}
+use Rattle.batcher_node.specs.declared.answers.Verdict.TheVariants.{Recorded, Forged}
+use Rattle.batcher_node.specs.declared.answers.Blocked.{Blocked}
+use Rattle.batcher_node.specs.declared.answers.Cause.TheVariants.{Vote as ForVote, Certificate as ForCertificate}
+use Rattle.batcher_node.specs.Windows as windows
+
+-- A call with its answer. One that was refused isn't among them, since it changes nothing.
+pub data NodeEvent (D K G C : Type 0) : Type 0 where
+  -- the node began with this window
+  started : Window → NodeEvent D K G C
+  -- a peer sent a vote, or a certificate
+  vote_came : K → Vote G D → Receipt (Admission G D) → NodeEvent D K G C
+  certificate_came : K → Certificate C D → Receipt Verdict → NodeEvent D K G C
+  -- the node cast a vote, where its view was in the window
+  vote_cast : Vote G D → Outcome → Option (Activity G D) → NodeEvent D K G C
+  -- it entered a view with its leader, and a view was finalized
+  view_entered : ℕ → Participant → NodeEvent D K G C
+  view_finalized : ℕ → NodeEvent D K G C
+  -- a construction in a view
+  constructed : ℕ → Option (Batch (Certificate C D)) → NodeEvent D K G C
+
+abbrev pub NodeHistory : Type 0 → Type 0 → Type 0 → Type 0 → Type 0
+NodeHistory D K G C = List (NodeEvent D K G C)
+
+module _ {D K G C : Type 0} where
+  -- an event of the view's round, where it is of the round of that number
+  abbrev pub at_view : ℕ → ℕ → Event D K G C → History D K G C
+  at_view view number event = cond (number == view) (event ∷ []) []
+
+  -- what an event told the round of a view
+  abbrev pub told_by : ℕ → NodeEvent D K G C → History D K G C
+  told_by view (vote_came peer vote (Answered admission)) =
+      at_view view (round_in (subject_of vote)).view.0
+      (NetworkCall peer vote, NetworkAnswer admission)
+  told_by view (certificate_came peer certificate (Answered (Recorded changed))) =
+      at_view view (round_in (subject_certified certificate)).view.0
+      (CertificateCall certificate, CertificateAnswer changed)
+  told_by view (vote_cast vote outcome report) =
+      at_view view (round_in (subject_of vote)).view.0 (OwnCall vote, OwnAnswer outcome report)
+  told_by view (view_entered number leader) =
+      at_view view number (LeaderCall leader, LeaderAnswer (Ok tt))
+  told_by view (constructed number given) =
+      at_view view number (ConstructCall, ConstructAnswer given)
+  told_by view event = []
+
+  -- All that the round of a view was told: its history.
+  abbrev pub told : ℕ → NodeHistory D K G C → History D K G C
+  told view [] = []
+  told view (event ∷ past) = told_by view event ++ told view past
+
+  -- whom an event blocks
+  abbrev pub blocked_by : NodeEvent D K G C → List (Blocked K)
+  blocked_by (vote_came peer vote (Answered admission)) =
+      option_map_or (λ reason. record { peer = peer; cause = ForVote reason } ∷ [])
+      admission.block []
+  blocked_by (certificate_came peer certificate (Answered Forged)) =
+      record { peer = peer; cause = ForCertificate } ∷ []
+  blocked_by event = []
+
+  -- who is blocked, in the order in which that came about
+  abbrev pub blocked_in : NodeHistory D K G C → List (Blocked K)
+  blocked_in [] = []
+  blocked_in (event ∷ past) = blocked_in past ++ blocked_by event
+
+  abbrev pub window_after : Window → NodeEvent D K G C → Window
+  window_after window (started first) = first
+  window_after window (view_entered view leader) = windows.entered window view
+  window_after window (view_finalized view) = windows.finalized window view
+  window_after window event = window
+
+  -- the window, by the views that were entered and finalized
+  abbrev pub window_in : NodeHistory D K G C → Window
+  window_in [] = record { finalized = 0; current = 0; ahead = 0 }
+  window_in (event ∷ past) = window_after (window_in past) event
+
+-- whether a peer is among those that are blocked
+abbrev pub is_blocked : {K : Type 0} → (K → K → Bool) → List (Blocked K) → K → Bool
+is_blocked same_key blocked peer = list_any (λ b. same_key b.peer peer) blocked

@@ -1,0 +1,5 @@
+pub mod Windows
+pub mod Events
+pub mod Nodes
+pub mod Stands
+pub mod Promised

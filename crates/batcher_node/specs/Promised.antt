@@ -1,0 +1,37 @@
+-- What is promised of a node after any history of its calls.
+use Rattle.std.specs.Prelude.{◌≡◌, ⊤, ℕ, true, false, List, [], ◌∷◌, Some, is_some}
+use Rattle.batcher.specs.positions.Participant.{Participant}
+use Rattle.batcher.specs.Setting.{sender_in}
+use Rattle.batcher.specs.Votes.{subject_of, round_in}
+use Rattle.batcher.specs.Verifiers.{certifies_itself}
+use Rattle.batcher.specs.Promises.{gave_cause}
+use Rattle.batcher.specs.Ran.{IsPromised}
+use Rattle.batcher_node.specs.declared.answers.Receipt.TheVariants.{Answered}
+use Rattle.batcher_node.specs.declared.answers.Verdict.TheVariants.{Forged}
+use Rattle.batcher_node.specs.Events.{NodeEvent, vote_came, certificate_came, NodeHistory, told}
+use Rattle.batcher_node.specs.Stands.{NodeSetting, setting_of}
+
+module _ {D K G C : Type 0} (x : NodeSetting D K G C) where
+  -- Whom an event blocks gave cause: by what it did itself in the view of its vote, with this vote
+  -- at the latest, or by sending a certificate that doesn't certify what it names.
+  abbrev pub IsForCause : NodeHistory D K G C → NodeEvent D K G C → Type 0
+  IsForCause past (vote_came peer vote (Answered admission)) =
+      let view = (round_in (subject_of vote)).view.0 in
+      let event : NodeEvent D K G C = vote_came peer vote (Answered admission) in
+      is_some admission.block ≡ true → (i : Participant)
+      → sender_in (setting_of x (event ∷ past) view) peer ≡ Some i
+      → gave_cause (setting_of x (event ∷ past) view) (told view (event ∷ past)) i.0 ≡ true
+  IsForCause past (certificate_came peer certificate (Answered Forged)) =
+      certifies_itself x.meaning certificate ≡ false
+  IsForCause past event = ⊤
+
+  -- each event, by those before it
+  abbrev pub AreForCause : NodeHistory D K G C → Type 0
+  AreForCause [] = ⊤
+  AreForCause (event ∷ past) = IsForCause past event × AreForCause past
+
+  -- What holds of the history of a node: in each view all that is promised of a round, and who is
+  -- blocked gave cause, in some view.
+  pub record IsNodePromised (past : NodeHistory D K G C) : Type 0 where
+    pub each_view : (view : ℕ) → IsPromised (setting_of x past view) (told view past)
+    pub blocked_for_cause : AreForCause past

@@ -1,0 +1,15 @@
+//! A validator's rounds over many views: each view has a round of its own, and no more are kept
+//! than the window of views is wide, whatever peers send.
+#![tactic(auto)]
+
+mod answers;
+mod node;
+mod rounds;
+mod slot;
+mod theorems;
+mod window;
+
+pub use answers::{Blocked, Cause, EnterFault, Receipt, Verdict};
+pub use node::{Construction, Node, NodeJudge};
+pub use theorems::nodes_keep_their_promises;
+pub use window::Window;

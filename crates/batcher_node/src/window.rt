@@ -1,0 +1,40 @@
+//! Which views a node keeps rounds of.
+
+ghost use Rattle.std.specs.Prelude.{◌≡◌};
+
+/// Views by their numbers: those from the finalized one to some beyond the current one are in it.
+#[derive(Clone, Copy, Debug, PartialEq, Eq)]
+pub struct Window {
+    /// The highest view that is known to be finalized.
+    pub finalized: u64,
+    /// The highest view that was entered or finalized.
+    pub current: u64,
+    /// How many views beyond the current one are in the window.
+    pub ahead: u64,
+}
+
+impl Window {
+    ghost use Rattle.batcher_node.specs.Windows.{contains, entered, finalized};
+
+    /// Whether the view of this number is in the window.
+    pub fn contains(&self, view: u64) -> bool
+        ensures { result ≡ contains self.now view }
+    {
+        self.finalized <= view && (view <= self.current || view - self.current <= self.ahead)
+    }
+
+    // The window once a view was entered.
+    pub(crate) fn enter(&mut self, view: u64)
+        ensures { self.new ≡ entered self.old view }
+    {
+        self.current = self.current.max(view);
+    }
+
+    // The window once a view was finalized.
+    pub(crate) fn finalize(&mut self, view: u64)
+        ensures { self.new ≡ finalized self.old view }
+    {
+        self.finalized = self.finalized.max(view);
+        self.current = self.current.max(view);
+    }
+}
