@@ -134,6 +134,8 @@ impl<S: Scheme<D>, D: Digest> Node<S, D> {
     ) -> Result<Receipt<Admission<S::Signature, D>>, AllocError>
         ensures meets { IfOk result (λ receipt. Meets (⟦<S as NodeJudge<D>>⟧.of self.old) self.old
             (vote_came peer vote receipt) self.new) }
+        ensures outside_stays { result ≡ Ok Receipt.Outside → self.new ≡ self.old }
+        ensures dropped_stays { result ≡ Ok Receipt.Dropped → self.new ≡ self.old }
         ensures refused { OnErr result (self.new ≡ self.old) }
         ensures same { SameNode self.old self.new }
     {
@@ -163,6 +165,8 @@ impl<S: Scheme<D>, D: Digest> Node<S, D> {
     ) -> Result<Receipt<Verdict>, AllocError>
         ensures meets { IfOk result (λ receipt. Meets (⟦<S as NodeJudge<D>>⟧.of self.old) self.old
             (certificate_came peer certificate.now receipt) self.new) }
+        ensures outside_stays { result ≡ Ok Receipt.Outside → self.new ≡ self.old }
+        ensures dropped_stays { result ≡ Ok Receipt.Dropped → self.new ≡ self.old }
         ensures refused { OnErr result (self.new ≡ self.old) }
         ensures same { SameNode self.old self.new }
     {
@@ -286,8 +290,7 @@ impl<S: Scheme<D>, D: Digest> Node<S, D> {
         self.slots.len()
     }
 
-    /// Who is blocked, and why, in the order in which that came about. Each peer is once at most
-    /// among them.
+    /// Who is blocked, and why, in the order in which that came about.
     pub fn blocked(&self) -> &[Blocked<S::PublicKey>]
         ensures { result.now ≡ self.now.blocked }
     {
