@@ -40,7 +40,7 @@ may_fix-changed-requires-clause-room g c =
     let made = c.in_ok-make_room_to_fix.ensures in
     let completes : CompletesKind same b.verifier.holds kind c.record_certificate.new.self.holds = subst
     (λ h. CompletesKind same h kind c.record_certificate.new.self.holds) made.holds c.record_certificate.ensures.completes in
-    room_left same b.verifier.holds c.record_certificate.new.self.holds kind b.votes.holds.kept c.proposal_certified-proposal.result _ _ _ _ completes
+    room_left same b.verifier.holds c.record_certificate.new.self.holds kind b.votes.holds.kept c.proposal-proposal.result _ _ _ _ completes
     c.record_certificate.ensures.room made.room
 
 pub returns-clause-step : goal.returns-clause-step
