@@ -261,7 +261,7 @@ fn lists_of_participants_are_compared_and_walked(rt: HostRuntime) -> Result<(), 
     assert!(rt; list == list.clone()?);
     assert!(rt; list != Participants::from(vec![in alloc; one]?));
     let mut last = None;
-    for participant in &list {
+    for participant in list.iter() {
         last = Some(*participant);
     }
     assert_eq!(rt; last, Some(two));
