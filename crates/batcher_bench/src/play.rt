@@ -1,16 +1,17 @@
 //! Plays a row on a fresh round, and takes the time that it needs.
 
 ghost use Rattle.std.specs.Prelude.{◌≡◌, ◌≤◌, All, IfOk, length};
+ghost use Rattle.batcher.specs.Votes.{round_in, subject_of, subject_certified};
 ghost use Rattle.batcher_bench.specs.Steps.{IsOfRound};
 
 use crate::plain::{Padded, Plain, Tally, mixed};
 use crate::plan::{NUMBER, Step, names, steps_of};
 use crate::rows::{Mode, Row, Size};
 use anyhow::{Result, ensure};
-use batcher::messages::{Activity, Certificate, Nullification, Sha256Digest};
+use batcher::messages::{Activity, Certificate, Nullification, Sha256Digest, Vote};
 use batcher::positions::Participant;
 use batcher::round::{Admission, Round};
-use batcher::scheme::Counter;
+use batcher::scheme::{Counter, Name};
 use batcher::verifier::Batch;
 use std::alloc::{AllocError, Global};
 use std::fmt;
@@ -197,6 +198,43 @@ fn round_of<P: Copy + Eq>(
     }
 }
 
+// The calls of a round stand in functions that promise little, since what a call promises is carried
+// to its caller's end. Here participant 0 becomes the leader.
+fn lead<P: Copy + Eq>(round: &mut Round<Plain<P>, Sha256Digest>) -> bool
+    ensures { round.new.number ≡ round.old.number }
+{
+    round.set_leader(Participant::new(0)).is_ok()
+}
+
+fn send<P: Copy + Eq>(
+    round: &mut Round<Plain<P>, Sha256Digest>,
+    sender: Name,
+    vote: Vote<Padded<P>, Sha256Digest>,
+) -> Result<Admission<Padded<P>, Sha256Digest>, AllocError>
+    requires { round_in (subject_of vote) ≡ round.old.number }
+    ensures { round.new.number ≡ round.old.number }
+{
+    round.add_network(sender, vote)
+}
+
+fn construct<P: Copy + Eq>(
+    round: &mut Round<Plain<P>, Sha256Digest>,
+    rng: &mut Counter,
+) -> Result<Option<Batch<Certificate<Tally, Sha256Digest>>>, AllocError>
+    ensures { round.new.number ≡ round.old.number }
+{
+    round.try_construct(rng)
+}
+
+fn record<P: Copy + Eq>(
+    round: &mut Round<Plain<P>, Sha256Digest>,
+    certificate: &Certificate<Tally, Sha256Digest>,
+) -> Result<bool, AllocError>
+    requires { round_in (subject_certified certificate.now) ≡ round.old.number }
+{
+    round.record_certificate(certificate)
+}
+
 // Takes the steps in their order, once the leader is set. The answers are mixed into the checksum
 // where it is asked for.
 fn play<P: Copy + Eq>(
@@ -207,21 +245,21 @@ fn play<P: Copy + Eq>(
     requires { All (IsOfRound round.old.number) steps.now }
 {
     let mut rng = Counter::new(0);
-    let leader = round.set_leader(Participant::new(0));
+    let is_led = lead(round);
     let mut played = Played {
         votes: 0,
         added: 0,
         certificates: 0,
-        checksum: u64::from(mixes && leader.is_ok()),
+        checksum: u64::from(mixes && is_led),
     };
     for step in steps {
         match *step {
             Step::Send(sender, vote) => {
-                let admission = round.add_network(sender, vote)?;
+                let admission = send(round, sender, vote)?;
                 played.count_vote(&admission, mixes);
             }
             Step::Construct => {
-                let batch = round.try_construct(&mut rng)?;
+                let batch = construct(round, &mut rng)?;
                 played.count_batch(&batch, mixes);
             }
         }
@@ -238,16 +276,16 @@ fn tell_places_of<P: Copy + Eq>(
     let scheme = scheme_of(rt.alloc(), row, padding)?;
     let mut round = round_of(rt.alloc(), row, scheme);
     let mut rng = Counter::new(0);
-    let _ = round.set_leader(Participant::new(0));
+    let _ = lead(&mut round);
     eprintln!(rt; "made")?;
     for step in steps.as_slice() {
         match *step {
             Step::Send(sender, vote) => {
-                let _ = round.add_network(sender, vote)?;
+                let _ = send(&mut round, sender, vote)?;
             }
             Step::Construct => {
                 eprintln!(rt; "before a construction")?;
-                let _ = round.try_construct(&mut rng)?;
+                let _ = construct(&mut round, &mut rng)?;
                 eprintln!(rt; "after it")?;
             }
         }
@@ -256,7 +294,7 @@ fn tell_places_of<P: Copy + Eq>(
         round: NUMBER,
         certificate: Tally { count: 0, sum: 0 },
     });
-    let _ = round.record_certificate(&nullification)?;
+    let _ = record(&mut round, &nullification)?;
     eprintln!(rt; "after a nullification")?;
     Ok(())
 }
