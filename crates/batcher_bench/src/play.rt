@@ -198,8 +198,8 @@ fn round_of<P: Copy + Eq>(
     }
 }
 
-// The calls of a round stand in functions that promise little, since what a call promises is carried
-// to its caller's end. Here participant 0 becomes the leader.
+// The calls of a round stand in functions that promise little, since what a call promises is
+// carried to its caller's end. Here participant 0 becomes the leader.
 fn lead<P: Copy + Eq>(round: &mut Round<Plain<P>, Sha256Digest>) -> bool
     ensures { round.new.number ≡ round.old.number }
 {
