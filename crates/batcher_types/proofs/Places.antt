@@ -12,7 +12,7 @@ use Rattle.batcher_types.specs.Ascending.{IsAscending, insert_by}
 use Rattle.batcher_types.specs.Lists.{count}
 use Rattle.batcher_types.specs.Items.{place_of, replace_by}
 use Rattle.batcher_types.specs.Ordered.{rec_weaker, rec_from_all, all_from_rec}
-use Rattle.batcher_types.proofs.Orders.{replace_at, found_key, lower, higher, searched_found, searched_absent}
+use Rattle.batcher_types.proofs.Orders.{replace_at, find_at, found_key, lower, higher, searched_found, searched_absent}
 
 found_of : (b : Bool) (n i : ℕ) → ◌≡◌ {A = Result ℕ ℕ} (cond b (Ok n) (Err n)) (Ok i) → (b ≡ true)
     × (n ≡ i)
@@ -97,6 +97,12 @@ module _ {X : Type 0} (key : X → ℕ) where
       let some = any_found (y ∷ ys) k ∙ ap is_some (found y) in
       let at = count_at (y ∷ ys) i k y up below (found_key key (y ∷ ys) k (get_or (y ∷ ys) i y) (found y)) in
       rw (some, at)
+
+  -- an element with the number is the one that is found, and stands at its place
+  pub item_place : (xs : List X) (k i : ℕ) → IsAscending key xs → i < length xs
+      → ((d : X) → key (get_or xs i d) ≡ k) → Ok i ≡ place_of (map key xs) k
+  item_place xs k i up below at =
+      found_place xs k i up below (λ d. find_at key xs i k d up below (at d))
 
   absent_place : (xs : List X) (k i : ℕ) → lower_count xs k ≡ i → find (λ x. nat_eq (key x) k) xs
       ≡ None → Err i ≡ place_of (map key xs) k

@@ -1,4 +1,4 @@
--- Kept votes that come back once a proposal takes another's place.
+-- Kept votes that are restored once a proposal takes another's place.
 use Rattle.std.proofs.Common.{◌≡◌, ◌∙◌, ◌≤◌, ◌==◌, ◌+◌, ◌&&◌, ◌++◌, ◌∷◌, [], ℕ, Bool, true, false, not, cond, List, filter, length, Option, Some, None, is_some, append-nil, rules, refl, sym, ap, subst, arith}
 use Rattle.std.specs.List.{AllPass}
 use Rattle.std.proofs.lemmas.List.{append_assoc}
@@ -103,7 +103,7 @@ module _ {G D : Type 0} (same : D → D → Bool) (old new : Buffered G D) (rest
     by_kind kind true e = subst (λ k. Joins k votes) (kind_is restored kind e) own
     by_kind kind false e = other kind e
 
-    -- the votes that come back, as ones that join the buffers
+    -- the restored votes, as ones that join the buffers
     pub restores_buffers : (kind : Kind) → Joins kind (cond (is_kind restored kind) votes [])
     restores_buffers kind = by_kind kind (is_kind restored kind) refl
 
@@ -253,7 +253,7 @@ module _ {D : Type 0} (same : D → D → Bool) where
       → length (filter (waits same selected) votes) ≤ m
   room_after p before after selected votes kept n m e f h le room none = rw (f, h) (omega (arith, le, room (sym e ∙ none)))
 
--- By the steps of the code: the proposal is set, and the votes of both kinds come back.
+-- By the steps of the code: the proposal is set, and the votes of both kinds are restored.
 module _ {G D : Type 0} (same : D → D → Bool) where
   thru : (certified : Bool) (test : Vote G D → Bool) (xs ys zs : List (Vote G D))
       → cond certified [] (filter test (cond certified [] (filter test (xs ++ ys)) ++ zs))

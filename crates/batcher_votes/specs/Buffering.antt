@@ -152,7 +152,7 @@ module _ {G D : Type 0} (same : D → D → Bool) where
     pub selection_is : new.selection ≡ selection
     pub buffers : (kind : Kind) → Buffers old new kind [] []
 
-  -- the kept votes of a kind that come back once the proposal is fixed, where it takes another's
+  -- the kept votes of a kind that are restored once the proposal is fixed, where it takes another's
   -- place
   abbrev pub coming_back : Buffered G D → PerKind (List (Vote G D)) → Proposal D → Kind
       → List (Vote G D)

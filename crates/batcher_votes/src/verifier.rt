@@ -240,7 +240,7 @@ impl<S: Scheme<D>, D: Digest> Verifier<S, D> {
         }
     }
 
-    /// Kept votes of a kind, of which none waits, come back as pending, where they are for the
+    /// Kept votes of a kind, of which none waits, are restored as pending, where they are for the
     /// selected proposal and the kind isn't certified. With the room that it asks for it takes no
     /// memory.
     pub fn restore(&mut self, kind: Kind, votes: KeptVotes<'_, S::Signature, D>)

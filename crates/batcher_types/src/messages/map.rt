@@ -194,7 +194,8 @@ impl<T: Attributable> AttributableMap<T> {
     }
 
     /// Where the signer's item stands, else where it would. Items often come in the order of their
-    /// signers, so the last one is looked at first.
+    /// signers, so the last one is looked at first; and once each signer has one, its item stands
+    /// at the signer's own number, so that is looked at next.
     pub fn place(&self, signer: Participant) -> Place
         ensures place { result ≡ place_of (map (λ x. (T.signed_by x).0) self.now.items) signer.0 }
         ensures ascending { IsAscending (λ x. (T.signed_by x).0) self.now.items }
@@ -206,8 +207,11 @@ impl<T: Attributable> AttributableMap<T> {
             × ((x : T) → (T.signed_by x).0 ≡ signer.0 → insert self.now.items i x
             ≡ insert_by (λ x. (T.signed_by x).0) x self.now.items)) }
     {
+        let index = usize::from(signer);
         if self.is_below(signer) {
             Err(self.items.len())
+        } else if self.is_at(index, signer) {
+            Ok(index)
         } else {
             self.searched_place(signer)
         }
@@ -221,6 +225,17 @@ impl<T: Attributable> AttributableMap<T> {
         match self.items.last() {
             Some(last) => last.signer().0 < signer.0,
             None => true,
+        }
+    }
+
+    // Whether the signer's item stands at the index.
+    fn is_at(&self, index: usize, signer: Participant) -> bool
+        ensures { IsTrue result → (index < length self.now.items)
+            × ((d : T) → (T.signed_by (slice_index_or self.now.items index d)).0 ≡ signer.0) }
+    {
+        match self.items.get(index) {
+            Some(item) => item.signer().0 == signer.0,
+            None => false,
         }
     }
 
@@ -256,7 +271,8 @@ pub fn make_room_below<T>(items: &mut Vec<T>, most: usize) -> Result<(), AllocEr
     items.reserve_exact(len.max(FIRST_ROOM).min(most.saturating_sub(len)).max(1))
 }
 
-// Inserts an item at a place. It takes no memory.
+// Inserts an item at a place. It takes no memory. The test is never true; the compiler concludes
+// from it that no sum wraps, and so moves the later items as one block.
 fn insert_reserved<T: Drop>(items: &mut Vec<T>, place: usize, item: T)
     requires place { place ≤ vec_len items.old }
     requires room { 1 ≤ vec_capacity items.old - vec_len items.old }
@@ -264,6 +280,9 @@ fn insert_reserved<T: Drop>(items: &mut Vec<T>, place: usize, item: T)
     ensures room { vec_capacity items.old - vec_len items.old
         ≤ vec_capacity items.new - vec_len items.new + 1 }
 {
+    if items.len() >= items.capacity() || place > items.len() {
+        unreachable!()
+    }
     if items.insert(place, item).is_err() {
         unreachable!()
     }

@@ -125,7 +125,7 @@ impl<G: Copy, D: Digest> Certification<G, D> {
         self.verified.retain(proposal);
     }
 
-    // Votes that were kept come back as pending, where they wait with the proposal.
+    // Votes that were kept are restored as pending, where they wait with the proposal.
     fn restore(&mut self, votes: KeptVotes<'_, G, D>, proposal: &Proposal<D>)
         requires { length (filter (waits D.eq (Some proposal.now)) votes) ≤ self.old.pending.room }
         ensures complete { self.new.complete ≡ self.old.complete }
@@ -284,8 +284,8 @@ impl<G: Copy, D: Digest> State<G, D> {
         self.finalizes.retain(proposal);
     }
 
-    /// Votes of a kind that were kept come back as pending, where they wait with the proposal and
-    /// the kind isn't certified.
+    /// Votes of a kind that were kept are restored as pending, where they wait with the proposal
+    /// and the kind isn't certified.
     pub(crate) fn restore(&mut self, kind: Kind, votes: KeptVotes<'_, G, D>, proposal: &Proposal<D>)
         requires { of_kind (held_by self.old).certified kind ≡ false
             → length (filter (waits D.eq (Some proposal.now)) votes)

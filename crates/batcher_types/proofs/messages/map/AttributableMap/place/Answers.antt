@@ -1,7 +1,7 @@
 use Rattle.std.proofs.Common.{◌<◌, ap, arith, refl}
-use Rattle.batcher_types.proofs.Orders.{last_absent, last_insert}
+use Rattle.batcher_types.proofs.Orders.{find_at, last_absent, last_insert}
 use Rattle.batcher_types.specs.Ordered.{rec_from_all}
-use Rattle.batcher_types.proofs.Places.{last_place}
+use Rattle.batcher_types.proofs.Places.{item_place, last_place}
 use Rattle.batcher_types.proofs.messages.map.AttributableMap.place.Goals as goal
 
 pub returns-then-is_below-clause-absent : goal.returns-then-is_below-clause-absent
@@ -22,3 +22,20 @@ returns-then-is_below-clause-place g c =
     (last_place (λ x. (g.T.Attributable.signed_by x).0) c.self.inside.items.items c.args.signer.0
     (rec_from_all (λ x. (g.T.Attributable.signed_by x).0 < c.args.signer.0) c.self.inside.items.items below)
     (last_absent (λ x. (g.T.Attributable.signed_by x).0) c.self.inside.items.items c.args.signer.0 below))
+
+pub returns-then-is_at-clause-place : goal.returns-then-is_at-clause-place
+returns-then-is_at-clause-place g c =
+    let now = ap (λ v. v.items) c.self.view_is in
+    let at = rw (← now) at (c.if-is_at.ensures refl) in
+    rw (← now)
+    (item_place (λ x. (g.T.Attributable.signed_by x).0) c.self.inside.items.items c.args.signer.0 c.from-index.result c.self.invariant.0 at.0 at.1)
+
+pub returns-then-is_at-clause-found : goal.returns-then-is_at-clause-found
+returns-then-is_at-clause-found g c =
+    let now = ap (λ v. v.items) c.self.view_is in
+    let at = rw (← now) at (c.if-is_at.ensures refl) in
+    rw (← now) (
+      at.0,
+      λ d. find_at (λ x. (g.T.Attributable.signed_by x).0) c.self.inside.items.items c.from-index.result c.args.signer.0 d c.self.invariant.0
+          at.0 (at.1 d),
+    )
