@@ -141,7 +141,7 @@ module _ {D K G C : Type 0} (x : Setting D K G C) where
       || (is_some (first_vote x past Nullification i) || is_some (first_vote x past Finalization i))
 
   -- Whether a call may need memory: a network vote that is added, unless its signer has voted and
-  -- its kind is released; an own vote that is added; a certificate with which votes come back; a
+  -- its kind is released; an own vote that is added; a certificate with which votes are restored; a
   -- batch; and a list of participants.
   abbrev pub needs_memory : History D K G C → Call K G C D → Bool
   needs_memory past (NetworkCall sender vote) =

@@ -94,14 +94,14 @@ module _ {D K G C : Type 0} (x : Setting D K G C) where
       option_and_then (λ p. cond (replaces x.same_digest (selection past) p) (Some p) None)
       (fixing_evidence event)
 
-  -- The first votes for it come back, of the kinds that aren't certified by then.
-  abbrev pub comes_back : History D K G C → Event D K G C → Vote G D → Bool
-  comes_back past event vote =
+  -- The first votes for it are restored, of the kinds that aren't certified by then.
+  abbrev pub is_restored : History D K G C → Event D K G C → Vote G D → Bool
+  is_restored past event vote =
       is_some_and (replacement past event) (λ p. is_for x.same_digest p vote)
       && not (is_certified (event ∷ past) (kind_of vote))
 
   abbrev pub votes_restored_by : History D K G C → Event D K G C → List (Vote G D)
-  votes_restored_by past event = filter (comes_back past event) (first_votes x past)
+  votes_restored_by past event = filter (is_restored past event) (first_votes x past)
 
   -- the votes that a replacement has restored
   abbrev pub restored_votes : History D K G C → List (Vote G D)

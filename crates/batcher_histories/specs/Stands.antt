@@ -10,7 +10,7 @@ use Rattle.batcher_types.specs.Votes.{is_kind, signer_of, is_of_kind}
 use Rattle.batcher_votes.specs.Held.{of_kind, Facts, Held}
 use Rattle.batcher_histories.specs.History.{Event, History, is_made, own_votes, sent_votes, batch_given}
 use Rattle.batcher_histories.specs.FirstVotes.{first_votes, is_free}
-use Rattle.batcher_histories.specs.Selection.{leader_of, selection, was_forwarded, is_certified, is_released, comes_back}
+use Rattle.batcher_histories.specs.Selection.{leader_of, selection, was_forwarded, is_certified, is_released, is_restored}
 use Rattle.batcher_histories.specs.Comparison.{compared_votes_of, is_matched}
 use Rattle.batcher_histories.specs.Standing.{proven_votes, fresh_votes, waiting_votes, ready_kind}
 use Rattle.batcher_histories.specs.Trying.{Attempt, left_verified}
@@ -65,7 +65,7 @@ module _ {D K G C : Type 0} (x : Setting D K G C) where
   abbrev pub pending_after : History D K G C → Held G D → Event D K G C → Kind → List (Vote G D)
   pending_after past old event kind =
       let left = cond (tries_kind past event.1 kind) [] (of_kind old.buffered.pending kind) in
-      let restored = filter (comes_back x past event) (of_kind old.tracked.kept kind) in
+      let restored = filter (is_restored x past event) (of_kind old.tracked.kept kind) in
       waiting_votes x (event ∷ past) kind
       (left ++ restored ++ arrivals past kind (sent_votes x event.0))
 

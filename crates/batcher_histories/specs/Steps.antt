@@ -263,7 +263,7 @@ module _ {D K G C : Type 0} (x : Setting D K G C) where
         && not (same_selected x.same_digest (proposal_of old.buffered.selection)
         (proposal_of new.buffered.selection)))
     pub forwarded : new.forwarded ≡ old.forwarded
-    -- Its kind is complete, so no vote of the kind comes back where its proposal is fixed.
+    -- Its kind is complete, so no vote of the kind is restored where its proposal is fixed.
     pub completed : Buffered G D
     pub completes : CompletesKind x.same_digest old.buffered (kind_certified certificate) completed
     pub fixes : MayFix x.same_digest completed old.tracked.kept

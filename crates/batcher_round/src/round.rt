@@ -1,6 +1,6 @@
 //! One round: what it answers to votes, and the certificates that it makes of them.
 
-ghost use Rattle.std.specs.Prelude.{◌≡◌, ◌≤◌, ◌<◌, MatchBool, ◌&&◌, ◌||◌, ◌↔◌, not, Some, None, true, false, [], length, is_some, if◌then◌else◌, Ok, Err, IfOk, IfErr, OnOk, OnErr, IsTrue, IsOk, IfSome, cond};
+ghost use Rattle.std.specs.Prelude.{◌≡◌, ◌≤◌, ◌<◌, ◌||◌, ◌↔◌, not, None, true, false, [], length, is_some, if◌then◌else◌, Ok, Err, IfOk, IfErr, OnOk, OnErr, IsTrue, IsOk};
 ghost use Rattle.batcher_types.specs.declared.messages.Kind.TheVariants.{Nullification as NullifyKind};
 ghost use Rattle.batcher_types.specs.declared.messages.Kind.{Kind as TheKind};
 ghost use Rattle.batcher_types.specs.declared.positions.Round.{Round as TheNumber};
@@ -8,20 +8,14 @@ ghost use Rattle.batcher_votes.specs.declared.votes.Mode.{Mode as TheMode};
 ghost use Rattle.batcher_types.specs.Items.{place_of};
 ghost use Rattle.batcher_types.specs.Meaning.{Meaning};
 ghost use Rattle.batcher_histories.specs.Setting.{setting};
-ghost use Rattle.batcher_types.specs.Lists.{is_some_and};
-ghost use Rattle.batcher_types.specs.Votes.{is_kind, has_proposals, kind_of, signer_of, attestation_of, subject_of, round_in, proposal_in, subject_certified};
-ghost use Rattle.batcher_votes.specs.Selected.{proposal_of, replaces, fixes, same_selected};
-ghost use Rattle.batcher_votes.specs.Held.{of_kind, round_of, SameRound, SameVerifier, SameTracker};
-ghost use Rattle.batcher_votes.specs.Tracking.{nothing_tracked, shown, is_known, is_seen, HasRoomToRecord, outcome_of, outcome_by, observed, observed_opposite, RecordsKind, kept_vote};
-ghost use Rattle.batcher_votes.specs.Buffering.{selected_in, MayAddVote, FixesProposal, MayFix};
+ghost use Rattle.batcher_types.specs.Votes.{kind_of, signer_of, attestation_of, subject_of, round_in, subject_certified};
+ghost use Rattle.batcher_votes.specs.Held.{of_kind, SameRound};
+ghost use Rattle.batcher_votes.specs.Tracking.{nothing_tracked, observed, observed_opposite, kept_vote};
+ghost use Rattle.batcher_votes.specs.Buffering.{selected_in};
 ghost use Rattle.batcher_types.specs.Quorum.{quorum_of};
-ghost use Rattle.batcher_votes.specs.Sound.{IsSound, WaitsWhereKept, HasRoomFor, KeepsAllRoom, WhereItReplaces};
-ghost use Rattle.batcher_histories.specs.Admissions.{refusal, mismatch_reason, admission_of};
-ghost use Rattle.batcher_histories.specs.Steps.{nothing_held, has_block as has_block_held, missing_in, leader_set_answer, forward_answer, AfterLeader, AfterNetwork, admission, objection_by, own_result_by, admission_by, kind_tried};
-ghost use Rattle.batcher_histories.specs.Steps.{restored_with};
-ghost use Rattle.batcher_histories.specs.Steps.{AfterConstruct, TriesHeld, Fixes, is_ready_in, IsRight, AfterOwn, own_result, fault_or_memory, fixed_by, opposite_fault, unopposed_result, report_by, is_added, is_kept};
-ghost use Rattle.batcher_histories.specs.Steps.{AfterCertificate};
-ghost use Rattle.batcher_histories.specs.History.{History};
+ghost use Rattle.batcher_votes.specs.Sound.{IsSound};
+ghost use Rattle.batcher_histories.specs.Steps.{nothing_held, has_block as has_block_held, missing_in, leader_set_answer, forward_answer, AfterLeader, AfterNetwork, admission, objection_by, kind_tried, restored_with, AfterConstruct};
+ghost use Rattle.batcher_histories.specs.Steps.{TriesHeld, is_ready_in, IsRight, AfterOwn, own_result, fault_or_memory, is_added, AfterCertificate};
 ghost use Rattle.batcher_histories.specs.Selection.{is_certified, leader_of, selected_proposal};
 ghost use Rattle.batcher_histories.specs.Comparison.{has_block};
 ghost use Rattle.batcher_histories.specs.Answers.{keeps_nullify, own_answer, needs_memory};
@@ -32,25 +26,25 @@ ghost use Rattle.batcher_histories.specs.declared.answers.Answer.TheVariants.{Ce
 ghost use Rattle.batcher_histories.specs.Runs.{MayCall};
 ghost use Rattle.batcher_histories.specs.Judged.{WhereverItStands, FollowsAlways, MeetsAlways, FollowsOnOk, IsRefusedForNeed};
 ghost use Rattle.batcher_histories.specs.Stands.{Stands};
-ghost use Rattle.batcher_types.specs.declared.messages.Proposal.{Proposal as TheProposal};
 ghost use Rattle.batcher_histories.specs.declared.answers.OwnFault.TheVariants.{OutOfMemory as OutOfMemoryFault};
-ghost use Rattle.batcher_votes.specs.declared.votes.Outcome.TheVariants.{Added as AddedOutcome};
 ghost use Rattle.batcher_votes.specs.Verifiers.{IfGiven, BatchCertifies};
 
 mod answers;
+mod both;
 
 use answers::{
-    admission_of, after_facts, after_opposite, beside, blocked, is_added, is_kept,
-    is_selected_anew, mismatch_reason, opposite_fault, report_by, unopposed_result,
+    after_facts, after_opposite, beside, blocked, is_selected_anew, mismatch_reason, report_by,
 };
 pub use batcher_histories::answers::{Admission, BlockReason, OwnFault};
-use batcher_types::messages::{
-    Activity, Certificate, Digest, Finalize, Kind, Notarize, Nullify, Place, Proposal, Vote,
-};
+use batcher_types::messages::{Activity, Certificate, Digest, Kind, Place, Proposal, Vote};
 use batcher_types::positions::{self, Participant, Participants, quorum};
 use batcher_types::scheme::Scheme;
-use batcher_votes::verifier::{Batch, LeaderFault, ProposalState, Verifier};
+use batcher_votes::verifier::{Batch, LeaderFault, Verifier};
 use batcher_votes::votes::{Mode, ObservedVote, Outcome, VoteTracker};
+use both::{
+    admit, fixed_by, make_room_to_accept, make_room_to_fix, may_fix, own_result, saw_opposite,
+    settle, take_in,
+};
 use rand_core::CryptoRng;
 use std::alloc::{AllocError, Global};
 use std::marker::Model;
@@ -78,7 +72,7 @@ pub struct Round<S: Scheme<D>, D: Digest> {
     /// Votes that wait for a certificate, for one proposal once one is selected.
     verifier: Verifier<S, D>,
     /// The first vote of each kind and signer, or facts of it. Some votes wait no longer, and are
-    /// here alone: those for another proposal, which a replacement brings back.
+    /// here alone: those for another proposal, which a replacement restores.
     votes: VoteTracker<S::Signature, D>,
     /// Whether the selected proposal was handed on.
     forwarded: bool,
@@ -157,6 +151,29 @@ impl<S: Scheme<D>, D: Digest> Round<S, D> {
         }
     }
 
+    // A round over a tracker in which nothing was recorded.
+    fn with_votes(
+        alloc: Global,
+        round: positions::Round,
+        scheme: Rc<S>,
+        votes: VoteTracker<S::Signature, D>,
+    ) -> Self
+        requires some { 1 ≤ votes.participants }
+        requires bound { votes.participants ≡ length (S.meaning scheme.value).participants }
+        requires fresh { votes.holds ≡ nothing_tracked votes.mode }
+        ensures scheme { result.scheme ≡ scheme.value }
+        ensures number { result.number ≡ round }
+        ensures mode { result.mode ≡ votes.mode }
+        ensures holds { result.holds ≡ nothing_held votes.mode }
+    {
+        let quorum = quorum(scheme.participants().len() as u32);
+        Round {
+            verifier: Verifier::new(alloc, round, scheme, quorum),
+            votes,
+            forwarded: false,
+        }
+    }
+
     /// The number of the round.
     pub fn number(&self) -> positions::Round
         ensures number { result ≡ self.now.number }
@@ -190,29 +207,6 @@ impl<S: Scheme<D>, D: Digest> Round<S, D> {
         self.verifier.proposal().copied()
     }
 
-    // A round over a tracker in which nothing was recorded.
-    fn with_votes(
-        alloc: Global,
-        round: positions::Round,
-        scheme: Rc<S>,
-        votes: VoteTracker<S::Signature, D>,
-    ) -> Self
-        requires some { 1 ≤ length (S.meaning scheme.value).participants }
-        requires bound { votes.participants ≡ length (S.meaning scheme.value).participants }
-        requires fresh { votes.holds ≡ nothing_tracked votes.mode }
-        ensures scheme { result.scheme ≡ scheme.value }
-        ensures number { result.number ≡ round }
-        ensures mode { result.mode ≡ votes.mode }
-        ensures holds { result.holds ≡ nothing_held votes.mode }
-    {
-        let quorum = quorum(scheme.participants().len() as u32);
-        Round {
-            verifier: Verifier::new(alloc, round, scheme, quorum),
-            votes,
-            forwarded: false,
-        }
-    }
-
     /// Whether the vote is of this round. Its parent view isn't looked at.
     pub fn belongs(&self, vote: &Vote<S::Signature, D>) -> bool
         ensures number { IsTrue result ↔ (round_in (subject_of vote.now) ≡ self.now.number) }
@@ -242,94 +236,38 @@ impl<S: Scheme<D>, D: Digest> Round<S, D> {
         self.verifier.has_certificate(kind)
     }
 
-    /// Whether a nullify of the signer is kept in full.
-    pub fn has_nullify(&self, signer: Participant) -> bool
-        ensures held { result ≡ is_some (kept_vote self.now.holds.tracked NullifyKind signer.0) }
-        ensures meets { WhereverItStands ⟦<S as Judge<D>>⟧.of self.now
-            (λ x past. result ≡ keeps_nullify x past signer.0) }
-    {
-        self.votes.has_nullify(signer)
-    }
-
-    /// Whether the participant isn't known to have the proposal's block, which its notarize or
-    /// finalize for it shows. Who voted for another proposal alone is missing too, since it has
-    /// another block and still needs this one. An index out of range is of no one who has it.
+    /// Records a certificate that the caller has verified. It completes its kind, fixes its
+    /// proposal where none is fixed, and releases the votes of its kind.
     ///
-    /// Of votes that aren't kept a round knows only which were for the selected proposal. Such a
-    /// one counts for whichever proposal is asked about.
-    pub fn is_missing_voter(&self, proposal: &Proposal<D>, participant: Participant) -> bool
-        ensures held { result ≡ not (has_block_held D.eq self.now.holds participant.0
-            proposal.now) }
-        ensures meets { WhereverItStands ⟦<S as Judge<D>>⟧.of self.now
-            (λ x past. result ≡ not (has_block x past participant.0 proposal.now)) }
-    {
-        !self.has_block(proposal, participant)
-    }
-
-    // Whether its notarize or its finalize shows that the participant has the proposal's block.
-    fn has_block(&self, proposal: &Proposal<D>, participant: Participant) -> bool
-        ensures { result ≡ has_block_held D.eq self.now.holds participant.0 proposal.now }
-    {
-        self.votes.has_notarize_for(participant, proposal)
-            || self.votes.has_finalize_for(participant, proposal)
-    }
-
-    /// The participants that aren't known to have the proposal's block, in ascending order.
-    pub fn missing_voters(&self, proposal: &Proposal<D>) -> Result<Participants, AllocError>
-        ensures held { IfOk result (λ list. list
-            ≡ missing_in D.eq self.now.holds proposal.now
-            (length (S.meaning self.now.scheme).participants)) }
-        ensures meets { FollowsOnOk ⟦<S as Judge<D>>⟧.of self.now
-            (MissingCall proposal.now) MissingAnswer result self.now.holds }
-    {
-        let participants = self.verifier.participants().len();
-        let mut missing = Vec::with_capacity(self.verifier.alloc(), participants)?;
-        for index in 0..participants {
-            let participant = Participant::from_usize(index);
-            if self.is_missing_voter(proposal, participant) {
-                missing.push_reserved(participant);
-            }
-        }
-        Ok(Participants::from(missing))
-    }
-
-    /// Sets the leader. If its notarize is kept, that selects its proposal where none is
-    /// selected. It takes no memory.
-    ///
-    /// The same leader again changes nothing; another one is refused.
-    pub fn set_leader(&mut self, leader: Participant) -> Result<(), LeaderFault>
-        ensures answer { result ≡ leader_set_answer self.old.holds.buffered.leader leader }
-        ensures named { WhereverItStands ⟦<S as Judge<D>>⟧.of self.old
-            (λ _ past. result ≡ leader_set_answer (leader_of past) leader) }
-        ensures meets { MeetsAlways ⟦<S as Judge<D>>⟧.of self.old
-            (LeaderCall leader, LeaderAnswer result) self.new.holds }
-        ensures step { OnOk result (AfterLeader (⟦<S as Judge<D>>⟧.of self.old) self.old.holds
-            leader self.new.holds) }
+    /// Where its proposal takes another's place, the kept votes for it are restored as pending. A
+    /// notarization answers whether another proposal is selected than before, other certificates
+    /// answer false. True tells the caller to construct: finalizes that wait may be for the
+    /// proposal that is selected now, and so be ready. A refusal for memory leaves the round as it
+    /// was; where no vote is restored it takes none.
+    pub fn record_certificate(
+        &mut self,
+        certificate: &Certificate<S::Certificate, D>,
+    ) -> Result<bool, AllocError>
+        requires { round_in (subject_certified certificate.now) ≡ self.old.number }
+        ensures step { IfOk result (λ answer. AfterCertificate (⟦<S as Judge<D>>⟧.of self.old)
+            self.old.holds certificate.now answer self.new.holds) }
+        ensures meets { FollowsOnOk ⟦<S as Judge<D>>⟧.of self.old
+            (CertificateCall certificate.now) CertificateAnswer result self.new.holds }
+        ensures needed { IsRefusedForNeed ⟦<S as Judge<D>>⟧.of self.old
+            (CertificateCall certificate.now) result }
+        ensures no_memory { ((kind : TheKind)
+            → restored_with (⟦<S as Judge<D>>⟧.of self.old) self.old.holds certificate.now kind
+            ≡ []) → IsOk result }
         ensures refused { OnErr result (self.new ≡ self.old) }
         ensures same { SameRound self.old self.new }
     {
-        // Its notarize may have come before the leader was known. The tracker finds it by its
-        // signer, and tells it also where no buffer has it, as once notarizes are certified.
-        let notarize = self.votes.notarize(leader);
-        self.verifier.set_leader(leader, notarize.as_ref())
-    }
-
-    /// The selected proposal, to hand on: once at most, and not where the known leader is `me`.
-    /// It takes no memory.
-    pub fn try_forward_proposal(&mut self, me: Participant) -> Option<Proposal<D>>
-        ensures answer { result ≡ forward_answer self.old.holds me }
-        ensures meets { FollowsAlways ⟦<S as Judge<D>>⟧.of self.old
-            (ForwardCall me, ForwardAnswer result) self.new.holds }
-        ensures holds { self.new.holds ≡ record self.old.holds
-            { forwarded = is_some result || self.old.holds.forwarded } }
-        ensures same { SameRound self.old self.new }
-    {
-        if self.forwarded || self.verifier.leader() == Some(me) {
-            return None;
-        }
-        let proposal = self.verifier.proposal().copied()?;
-        self.forwarded = true;
-        Some(proposal)
+        let kind = certificate.kind();
+        let proposal = certificate.proposal();
+        make_room_to_fix(&mut self.verifier, &self.votes, proposal, Some(kind))?;
+        self.verifier.record_certificate(kind);
+        let changed = may_fix(&mut self.verifier, &self.votes, proposal);
+        self.votes.release(kind, self.verifier.proposal().copied());
+        Ok(is_selected_anew(kind, changed))
     }
 
     /// Takes in a vote that the network brought from a sender.
@@ -367,6 +305,30 @@ impl<S: Scheme<D>, D: Digest> Round<S, D> {
                     None => admit(&mut self.verifier, &mut self.votes, place, vote),
                 }
             }
+        }
+    }
+
+    // What is answered to a vote that is not to be recorded.
+    fn objection(
+        votes: &VoteTracker<S::Signature, D>,
+        place: Place,
+        vote: &Vote<S::Signature, D>,
+    ) -> Option<Admission<S::Signature, D>>
+        requires { place ≡ place_of votes.now.signers (signer_of vote.now) }
+        ensures { (m : Meaning D S.PublicKey S.Signature S.Certificate) (number : TheNumber)
+            (mode : TheMode) → result ≡ objection_by
+            (setting m S.PublicKey.cmp S.Signature.eq D.eq number mode)
+            (observed_opposite votes.now.holds vote.now)
+            (observed votes.now.holds (kind_of vote.now) (signer_of vote.now)) vote.now }
+    {
+        match saw_opposite(votes, place, vote) {
+            Some(ObservedVote::Retained(earlier)) => Some(after_opposite(earlier, *vote)),
+            Some(ObservedVote::Compacted) => Some(after_facts(vote)),
+            None => match votes.saw_at(place, vote.kind()) {
+                Some(ObservedVote::Retained(kept)) => Some(beside(kept, *vote)),
+                Some(ObservedVote::Compacted) => None,
+                None => None,
+            },
         }
     }
 
@@ -410,38 +372,43 @@ impl<S: Scheme<D>, D: Digest> Round<S, D> {
         Ok((outcome, report_by(outcome, vote)))
     }
 
-    /// Records a certificate that the caller has verified. It completes its kind, fixes its
-    /// proposal where none is fixed, and releases the votes of its kind.
+    /// Sets the leader. If its notarize is kept, that selects its proposal where none is
+    /// selected. It takes no memory.
     ///
-    /// Where its proposal takes another's place, the kept votes for it come back as pending. A
-    /// notarization answers whether another proposal is selected than before, other certificates
-    /// answer false. True tells the caller to construct: finalizes that wait may be for the
-    /// proposal that is selected now, and so be ready. A refusal for memory leaves the round as it
-    /// was; where no vote comes back it takes none.
-    pub fn record_certificate(
-        &mut self,
-        certificate: &Certificate<S::Certificate, D>,
-    ) -> Result<bool, AllocError>
-        requires { round_in (subject_certified certificate.now) ≡ self.old.number }
-        ensures step { IfOk result (λ answer. AfterCertificate (⟦<S as Judge<D>>⟧.of self.old)
-            self.old.holds certificate.now answer self.new.holds) }
-        ensures meets { FollowsOnOk ⟦<S as Judge<D>>⟧.of self.old
-            (CertificateCall certificate.now) CertificateAnswer result self.new.holds }
-        ensures needed { IsRefusedForNeed ⟦<S as Judge<D>>⟧.of self.old
-            (CertificateCall certificate.now) result }
-        ensures no_memory { ((kind : TheKind)
-            → restored_with (⟦<S as Judge<D>>⟧.of self.old) self.old.holds certificate.now kind
-            ≡ []) → IsOk result }
+    /// The same leader again changes nothing; another one is refused.
+    pub fn set_leader(&mut self, leader: Participant) -> Result<(), LeaderFault>
+        ensures answer { result ≡ leader_set_answer self.old.holds.buffered.leader leader }
+        ensures named { WhereverItStands ⟦<S as Judge<D>>⟧.of self.old
+            (λ _ past. result ≡ leader_set_answer (leader_of past) leader) }
+        ensures meets { MeetsAlways ⟦<S as Judge<D>>⟧.of self.old
+            (LeaderCall leader, LeaderAnswer result) self.new.holds }
+        ensures step { OnOk result (AfterLeader (⟦<S as Judge<D>>⟧.of self.old) self.old.holds
+            leader self.new.holds) }
         ensures refused { OnErr result (self.new ≡ self.old) }
         ensures same { SameRound self.old self.new }
     {
-        let kind = certificate.kind();
-        let proposal = certificate.proposal();
-        make_room_to_fix(&mut self.verifier, &self.votes, proposal, Some(kind))?;
-        self.verifier.record_certificate(kind);
-        let changed = may_fix(&mut self.verifier, &self.votes, proposal);
-        self.votes.release(kind, self.verifier.proposal().copied());
-        Ok(is_selected_anew(kind, changed))
+        // Its notarize may have come before the leader was known. The tracker finds it by its
+        // signer, and tells it also where no buffer has it, as once notarizes are certified.
+        let notarize = self.votes.notarize(leader);
+        self.verifier.set_leader(leader, notarize.as_ref())
+    }
+
+    /// The selected proposal, to hand on: once at most, and not where the known leader is `me`.
+    /// It takes no memory.
+    pub fn try_forward_proposal(&mut self, me: Participant) -> Option<Proposal<D>>
+        ensures answer { result ≡ forward_answer self.old.holds me }
+        ensures meets { FollowsAlways ⟦<S as Judge<D>>⟧.of self.old
+            (ForwardCall me, ForwardAnswer result) self.new.holds }
+        ensures holds { self.new.holds ≡ record self.old.holds
+            { forwarded = is_some result || self.old.holds.forwarded } }
+        ensures same { SameRound self.old self.new }
+    {
+        if self.forwarded || self.verifier.leader() == Some(me) {
+            return None;
+        }
+        let proposal = self.verifier.proposal().copied()?;
+        self.forwarded = true;
+        Some(proposal)
     }
 
     /// Tries to make a certificate of the first kind that is ready, of notarize, nullify and
@@ -502,332 +469,54 @@ impl<S: Scheme<D>, D: Digest> Round<S, D> {
         Ok(Some(batch))
     }
 
-    // What is answered to a vote that is not to be recorded.
-    fn objection(
-        votes: &VoteTracker<S::Signature, D>,
-        place: Place,
-        vote: &Vote<S::Signature, D>,
-    ) -> Option<Admission<S::Signature, D>>
-        requires { place ≡ place_of votes.now.signers (signer_of vote.now) }
-        ensures { (m : Meaning D S.PublicKey S.Signature S.Certificate) (number : TheNumber)
-            (mode : TheMode) → result ≡ objection_by
-            (setting m S.PublicKey.cmp S.Signature.eq D.eq number mode)
-            (observed_opposite votes.now.holds vote.now)
-            (observed votes.now.holds (kind_of vote.now) (signer_of vote.now)) vote.now }
+    /// Whether a nullify of the signer is kept in full.
+    pub fn has_nullify(&self, signer: Participant) -> bool
+        ensures held { result ≡ is_some (kept_vote self.now.holds.tracked NullifyKind signer.0) }
+        ensures meets { WhereverItStands ⟦<S as Judge<D>>⟧.of self.now
+            (λ x past. result ≡ keeps_nullify x past signer.0) }
     {
-        match saw_opposite(votes, place, vote) {
-            Some(ObservedVote::Retained(earlier)) => Some(after_opposite(earlier, *vote)),
-            Some(ObservedVote::Compacted) => Some(after_facts(vote)),
-            None => match votes.saw_at(place, vote.kind()) {
-                Some(ObservedVote::Retained(kept)) => Some(beside(kept, *vote)),
-                Some(ObservedVote::Compacted) => None,
-                None => None,
-            },
+        self.votes.has_nullify(signer)
+    }
+
+    /// Whether the participant isn't known to have the proposal's block, which its notarize or
+    /// finalize for it shows. Who voted for another proposal alone is missing too, since it has
+    /// another block and still needs this one. An index out of range is of no one who has it.
+    ///
+    /// Of votes that aren't kept a round knows only which were for the selected proposal. Such a
+    /// one counts for whichever proposal is asked about.
+    pub fn is_missing_voter(&self, proposal: &Proposal<D>, participant: Participant) -> bool
+        ensures held { result ≡ not (has_block_held D.eq self.now.holds participant.0
+            proposal.now) }
+        ensures meets { WhereverItStands ⟦<S as Judge<D>>⟧.of self.now
+            (λ x past. result ≡ not (has_block x past participant.0 proposal.now)) }
+    {
+        !self.has_block(proposal, participant)
+    }
+
+    // Whether its notarize or its finalize shows that the participant has the proposal's block.
+    fn has_block(&self, proposal: &Proposal<D>, participant: Participant) -> bool
+        ensures { result ≡ has_block_held D.eq self.now.holds participant.0 proposal.now }
+    {
+        self.votes.has_notarize_for(participant, proposal)
+            || self.votes.has_finalize_for(participant, proposal)
+    }
+
+    /// The participants that aren't known to have the proposal's block, in ascending order.
+    pub fn missing_voters(&self, proposal: &Proposal<D>) -> Result<Participants, AllocError>
+        ensures held { IfOk result (λ list. list
+            ≡ missing_in D.eq self.now.holds proposal.now
+            (length (S.meaning self.now.scheme).participants)) }
+        ensures meets { FollowsOnOk ⟦<S as Judge<D>>⟧.of self.now
+            (MissingCall proposal.now) MissingAnswer result self.now.holds }
+    {
+        let participants = self.verifier.participants().len();
+        let mut missing = Vec::with_capacity(self.verifier.alloc(), participants)?;
+        for index in 0..participants {
+            let participant = Participant::from_usize(index);
+            if self.is_missing_voter(proposal, participant) {
+                missing.push_reserved(participant);
+            }
         }
-    }
-}
-
-// What was seen of the other of nullify and finalize.
-fn saw_opposite<G: Copy, D: Digest>(
-    votes: &VoteTracker<G, D>,
-    place: Place,
-    vote: &Vote<G, D>,
-) -> Option<ObservedVote<Vote<G, D>>>
-    requires { place ≡ place_of votes.now.signers (signer_of vote.now) }
-    ensures { result ≡ shown (observed_opposite votes.now.holds vote.now) }
-{
-    match vote {
-        Vote::Notarize(_) => None,
-        Vote::Nullify(_) => votes.saw_at(place, Kind::Finalization),
-        Vote::Finalize(_) => votes.saw_at(place, Kind::Nullification),
-    }
-}
-
-// Records a vote that stands against no other. Where votes of its kind are kept, it waits for a
-// certificate too.
-fn admit<S: Scheme<D>, D: Digest>(
-    verifier: &mut Verifier<S, D>,
-    votes: &mut VoteTracker<S::Signature, D>,
-    place: Place,
-    vote: Vote<S::Signature, D>,
-) -> Result<Admission<S::Signature, D>, AllocError>
-    requires right { IsRight (S.meaning verifier.old.scheme) votes.old verifier.old.holds
-        verifier.old.quorum }
-    requires place { place ≡ place_of votes.old.signers (signer_of vote) }
-    requires unopposed { objection_by (⟦<S as Judge<D>>⟧.of (round_of verifier.old votes.old))
-        (observed_opposite votes.old.holds vote)
-        (observed votes.old.holds (kind_of vote) (signer_of vote)) vote ≡ None }
-    requires range { signer_of vote < length (S.meaning verifier.old.scheme).participants }
-    requires belongs { round_in (subject_of vote) ≡ verifier.old.number }
-    ensures answer { IfOk result (λ answer. answer
-        ≡ admission_by (⟦<S as Judge<D>>⟧.of (round_of verifier.old votes.old))
-        (selected_in verifier.old.holds)
-        (observed votes.old.holds (kind_of vote) (signer_of vote)) vote) }
-    ensures spared { is_known votes.old.holds (signer_of vote) ≡ true
-        → of_kind votes.old.holds.compacted (kind_of vote) ≡ true → IsOk result }
-    ensures no_memory { (admission_by (⟦<S as Judge<D>>⟧.of (round_of verifier.old votes.old))
-        (selected_in verifier.old.holds)
-        (observed votes.old.holds (kind_of vote) (signer_of vote)) vote).added ≡ false
-        → IsOk result }
-    ensures tracked { OnOk result ((kind : TheKind)
-        → RecordsKind D.eq votes.old.holds votes.new.holds
-        (selected_in verifier.old.holds) true vote kind) }
-    ensures buffered { IfOk result (λ answer. MayAddVote D.eq
-        (answer.added && not (of_kind votes.old.holds.compacted (kind_of vote)))
-        verifier.old.holds vote false verifier.new.holds) }
-    ensures refused { OnErr result ((verifier.new.holds ≡ verifier.old.holds)
-        × (votes.new.holds ≡ votes.old.holds)) }
-    ensures right { IsRight (S.meaning verifier.old.scheme) votes.new verifier.new.holds
-        verifier.old.quorum }
-    ensures same { SameVerifier verifier.old verifier.new }
-    ensures mode { SameTracker votes.old votes.new }
-{
-    let kind = vote.kind();
-    let additional = usize::from(!votes.is_compacted(kind) && !verifier.has_certificate(kind));
-    verifier.make_room(kind, false, additional)?;
-    let outcome = take_in(verifier, votes, place, vote, false)?;
-    Ok(admission_of(outcome, vote))
-}
-
-// What comes of an own vote, or why it is refused.
-fn own_result<S: Scheme<D>, D: Digest>(
-    verifier: &Verifier<S, D>,
-    votes: &VoteTracker<S::Signature, D>,
-    place: Place,
-    vote: Vote<S::Signature, D>,
-) -> Result<Outcome, OwnFault>
-    requires { place ≡ place_of votes.now.signers (signer_of vote) }
-    ensures { result ≡ own_result_by (observed_opposite votes.now.holds vote) (kind_of vote)
-        (outcome_by D.eq (proposal_of (fixes verifier.now.holds.selection (fixed_by vote)))
-        (of_kind votes.now.holds.compacted (kind_of vote))
-        (observed votes.now.holds (kind_of vote) (signer_of vote)) vote) }
-{
-    if saw_opposite(votes, place, &vote).is_some() {
-        return Err(opposite_fault(vote.kind()));
-    }
-    let selected = match fixed_by(&vote) {
-        Some(proposal) => verifier.selected_with(proposal),
-        None => verifier.proposal().copied(),
-    };
-    unopposed_result(vote.kind(), votes.outcome_at(place, &vote, selected))
-}
-
-// The proposal that an own vote fixes. A finalize does, since the node finalizes a proposal only
-// once it knows it to be notarized: a quorum stands behind it, as where a certificate is recorded.
-// A notarize is for what the node has seen of the leader, who may have sent two.
-fn fixed_by<G, D: Copy>(vote: &Vote<G, D>) -> Option<Proposal<D>>
-    ensures { result ≡ fixed_by vote.now }
-{
-    match vote {
-        Vote::Notarize(_) => None,
-        Vote::Nullify(_) => None,
-        Vote::Finalize(finalize) => Some(finalize.proposal),
-    }
-}
-
-// Records a vote. Where it is the first and kept in full, it waits for a certificate too.
-fn take_in<S: Scheme<D>, D: Digest>(
-    verifier: &mut Verifier<S, D>,
-    votes: &mut VoteTracker<S::Signature, D>,
-    place: Place,
-    vote: Vote<S::Signature, D>,
-    verified: bool,
-) -> Result<Outcome, AllocError>
-    requires place { place ≡ place_of votes.old.signers (signer_of vote) }
-    requires right { IsRight (S.meaning verifier.old.scheme) votes.old verifier.old.holds
-        verifier.old.quorum }
-    requires range { signer_of vote < length (S.meaning verifier.old.scheme).participants }
-    requires belongs { round_in (subject_of vote) ≡ verifier.old.number }
-    requires attests { verified ≡ true
-        → (S.meaning verifier.old.scheme).attests (subject_of vote) (attestation_of vote) ≡ true }
-    requires room { of_kind votes.old.holds.compacted (kind_of vote) ≡ false
-        → of_kind verifier.old.holds.certified (kind_of vote) ≡ false
-        → outcome_of D.eq votes.old.participants votes.old.holds
-        (selected_in verifier.old.holds) vote ≡ AddedOutcome true → 1
-        ≤ cond verified (of_kind verifier.old.verified_room (kind_of vote))
-        (of_kind verifier.old.pending_room (kind_of vote)) }
-    ensures outcome { IfOk result (λ outcome. outcome
-        ≡ outcome_of D.eq votes.old.participants votes.old.holds
-        (selected_in verifier.old.holds) vote) }
-    ensures tracked { OnOk result ((kind : TheKind)
-        → RecordsKind D.eq votes.old.holds votes.new.holds
-        (selected_in verifier.old.holds) true vote kind) }
-    ensures buffered { IfOk result (λ outcome. MayAddVote D.eq (is_kept outcome)
-        verifier.old.holds vote verified verifier.new.holds) }
-    ensures refused { OnErr result ((verifier.new.holds ≡ verifier.old.holds)
-        × (votes.new.holds ≡ votes.old.holds)) }
-    ensures right { IsRight (S.meaning verifier.old.scheme) votes.new verifier.new.holds
-        verifier.old.quorum }
-    ensures known { is_known votes.old.holds (signer_of vote) ≡ true
-        → of_kind votes.old.holds.compacted (kind_of vote) ≡ true → IsOk result }
-    ensures repeated { is_seen (observed votes.old.holds (kind_of vote) (signer_of vote)) ≡ true
-        → IsOk result }
-    ensures with_room { HasRoomToRecord votes.old place (kind_of vote) → IsOk result }
-    ensures same { SameVerifier verifier.old verifier.new }
-    ensures mode { SameTracker votes.old votes.new }
-{
-    let outcome = votes.record_at(place, &vote, verifier.proposal())?;
-    if is_kept(outcome) {
-        verifier.take(vote, verified);
-    }
-    Ok(outcome)
-}
-
-// Makes room for the kept votes of a kind that come back where the proposal is fixed. Of a kind
-// that is completed, or certified before, none does.
-fn make_room_for<S: Scheme<D>, D: Digest>(
-    verifier: &mut Verifier<S, D>,
-    votes: &VoteTracker<S::Signature, D>,
-    proposal: &Proposal<D>,
-    completed: Option<Kind>,
-    kind: Kind,
-) -> Result<(), AllocError>
-    ensures room { OnOk result (is_some_and completed (is_kind kind) ≡ false
-        → HasRoomFor D.eq verifier.old.holds.certified votes.now.holds.kept proposal.now
-        verifier.new.pending_room kind) }
-    ensures no_memory { (is_some_and completed (is_kind kind) ≡ false
-        → of_kind votes.now.holds.compacted kind ≡ false
-        → HasRoomFor D.eq verifier.old.holds.certified votes.now.holds.kept proposal.now
-        verifier.old.pending_room kind) → IsOk result }
-    ensures holds { verifier.new.holds ≡ verifier.old.holds }
-    ensures kept { KeepsAllRoom verifier.old verifier.new }
-    ensures same { SameVerifier verifier.old verifier.new }
-{
-    if completed == Some(kind) || verifier.has_certificate(kind) {
-        return Ok(());
-    }
-    verifier.make_room(kind, false, votes.count_for(kind, proposal))
-}
-
-// Makes room for all kept votes that come back where the proposal is fixed.
-fn make_room_to_fix<S: Scheme<D>, D: Digest>(
-    verifier: &mut Verifier<S, D>,
-    votes: &VoteTracker<S::Signature, D>,
-    proposal: Option<Proposal<D>>,
-    completed: Option<Kind>,
-) -> Result<(), AllocError>
-    ensures room { OnOk result (WhereItReplaces D.eq verifier.old.holds.selection (proposal)
-        (λ fixed kind.
-        is_some_and completed (is_kind kind) ≡ false
-        → HasRoomFor D.eq verifier.old.holds.certified votes.now.holds.kept fixed
-        verifier.new.pending_room kind)) }
-    ensures no_memory { (WhereItReplaces D.eq verifier.old.holds.selection (proposal) (λ fixed kind.
-        is_some_and completed (is_kind kind) ≡ false → of_kind votes.now.holds.compacted kind
-        ≡ false → HasRoomFor D.eq verifier.old.holds.certified votes.now.holds.kept fixed
-        verifier.old.pending_room kind)) → IsOk result }
-    ensures holds { verifier.new.holds ≡ verifier.old.holds }
-    ensures kept { KeepsAllRoom verifier.old verifier.new }
-    ensures same { SameVerifier verifier.old verifier.new }
-{
-    let Some(proposal) = proposal else {
-        return Ok(());
-    };
-    if !verifier.replaces(&proposal) {
-        return Ok(());
-    }
-    make_room_for(verifier, votes, &proposal, completed, Kind::Notarization)?;
-    make_room_for(verifier, votes, &proposal, completed, Kind::Finalization)
-}
-
-// Makes all the room that an own vote needs, of which this outcome comes.
-fn make_room_to_accept<S: Scheme<D>, D: Digest>(
-    verifier: &mut Verifier<S, D>,
-    votes: &mut VoteTracker<S::Signature, D>,
-    place: Place,
-    vote: &Vote<S::Signature, D>,
-    outcome: Outcome,
-) -> Result<(), AllocError>
-    ensures to_fix { OnOk result (WhereItReplaces D.eq verifier.old.holds.selection
-        (fixed_by vote.now) (λ proposal kind.
-        HasRoomFor D.eq verifier.old.holds.certified votes.old.holds.kept proposal
-        verifier.new.pending_room kind)) }
-    ensures to_record { OnOk result (is_added outcome ≡ true
-        → HasRoomToRecord votes.new place (kind_of vote.now)) }
-    ensures to_wait { OnOk result (is_kept outcome ≡ true → 1
-        ≤ of_kind verifier.new.verified_room (kind_of vote.now)) }
-    ensures no_memory { is_added outcome ≡ false
-        → (WhereItReplaces D.eq verifier.old.holds.selection (fixed_by vote.now) (λ proposal kind.
-        of_kind votes.old.holds.compacted kind ≡ false
-        → HasRoomFor D.eq verifier.old.holds.certified votes.old.holds.kept proposal
-        verifier.old.pending_room kind)) → IsOk result }
-    ensures holds { verifier.new.holds ≡ verifier.old.holds }
-    ensures votes { votes.new.holds ≡ votes.old.holds }
-    ensures signers { votes.new.signers ≡ votes.old.signers }
-    ensures same { SameVerifier verifier.old verifier.new }
-    ensures mode { SameTracker votes.old votes.new }
-{
-    let kind = vote.kind();
-    make_room_to_fix(verifier, votes, fixed_by(vote), None)?;
-    if is_added(outcome) {
-        votes.make_room(place, kind)?;
-    }
-    if is_kept(outcome) {
-        verifier.make_room(kind, true, 1)?;
-    }
-    Ok(())
-}
-
-// Fixes the proposal, where none is fixed, and answers whether another is selected than before.
-// Where it takes another's place, the kept votes for it come back as pending.
-fn fix<S: Scheme<D>, D: Digest>(
-    verifier: &mut Verifier<S, D>,
-    votes: &VoteTracker<S::Signature, D>,
-    proposal: Proposal<D>,
-) -> bool
-    requires within { WaitsWhereKept votes.now.holds verifier.old.holds }
-    requires room { replaces D.eq verifier.old.holds.selection proposal ≡ true → (kind : TheKind)
-        → has_proposals kind ≡ true → HasRoomFor D.eq verifier.old.holds.certified
-        votes.now.holds.kept proposal verifier.old.pending_room kind }
-    ensures fixes { FixesProposal D.eq verifier.old.holds votes.now.holds.kept proposal
-        verifier.new.holds }
-    ensures changed { result ≡ not (same_selected D.eq (selected_in verifier.old.holds)
-        (selected_in verifier.new.holds)) }
-    ensures within { WaitsWhereKept votes.now.holds verifier.new.holds }
-    ensures room { (kind : TheKind) → of_kind verifier.old.verified_room kind
-        ≤ of_kind verifier.new.verified_room kind }
-    ensures same { SameVerifier verifier.old verifier.new }
-{
-    let update = verifier.set_proposal(ProposalState::Certificate(proposal));
-    if update.replaced {
-        verifier.restore(Kind::Notarization, votes.iter_notarizes());
-        verifier.restore(Kind::Finalization, votes.iter_finalizes());
-    }
-    update.changed
-}
-
-// The same, where there is a proposal to fix.
-fn may_fix<S: Scheme<D>, D: Digest>(
-    verifier: &mut Verifier<S, D>,
-    votes: &VoteTracker<S::Signature, D>,
-    proposal: Option<Proposal<D>>,
-) -> bool
-    requires within { WaitsWhereKept votes.now.holds verifier.old.holds }
-    requires room { WhereItReplaces D.eq verifier.old.holds.selection (proposal) (λ fixed kind.
-        HasRoomFor D.eq verifier.old.holds.certified votes.now.holds.kept fixed
-        verifier.old.pending_room kind) }
-    ensures fixes { MayFix D.eq verifier.old.holds votes.now.holds.kept proposal
-        verifier.new.holds }
-    ensures changed { result ≡ not (same_selected D.eq (selected_in verifier.old.holds)
-        (selected_in verifier.new.holds)) }
-    ensures within { WaitsWhereKept votes.now.holds verifier.new.holds }
-    ensures room { (kind : TheKind) → of_kind verifier.old.verified_room kind
-        ≤ of_kind verifier.new.verified_room kind }
-    ensures same { SameVerifier verifier.old verifier.new }
-{
-    match proposal {
-        Some(proposal) => fix(verifier, votes, proposal),
-        None => false,
-    }
-}
-
-// A certificate of the round's own making fixes its proposal, where none is fixed. It never takes
-// another's place, so no vote comes back.
-fn settle<S: Scheme<D>, D: Digest>(verifier: &mut Verifier<S, D>, proposal: Option<Proposal<D>>)
-    ensures fixes { Fixes (setting (S.meaning verifier.old.scheme) S.PublicKey.cmp S.Signature.eq
-        D.eq verifier.old.number Mode.Retaining) verifier.old.holds proposal verifier.new.holds }
-    ensures same { SameVerifier verifier.old verifier.new }
-{
-    if let Some(proposal) = proposal {
-        verifier.set_proposal(ProposalState::Certificate(proposal));
+        Ok(Participants::from(missing))
     }
 }

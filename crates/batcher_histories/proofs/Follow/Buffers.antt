@@ -12,7 +12,7 @@ use Rattle.batcher_histories.specs.FirstVotes.{first_vote, first_votes, is_free,
 use Rattle.batcher_votes.specs.Held.{Held, of_kind}
 use Rattle.batcher_histories.specs.History.{Event, History, batch_given, cast_votes, own_votes, sent_votes}
 use Rattle.batcher_types.specs.Lists.{SameElements, count, is_some_and}
-use Rattle.batcher_histories.specs.Selection.{comes_back, is_certified, is_released, restored_votes, selected_proposal, votes_restored_by}
+use Rattle.batcher_histories.specs.Selection.{is_restored, is_certified, is_released, restored_votes, selected_proposal, votes_restored_by}
 use Rattle.batcher_histories.specs.Setting.{Setting, quorum_in}
 use Rattle.batcher_histories.specs.Standing.{fresh_votes, holds_vote, is_among, is_trusted, is_valid, proven_votes, ready_kind, standing_votes, stood_before, trials, waiting_votes, was_invalid}
 use Rattle.batcher_histories.specs.Stands.{TriesBuffers, Stands, arrivals, first_by_signer, pending_after, tries_kind, verified_after}
@@ -153,8 +153,8 @@ module _ {D K G C : Type 0} (x : Setting D K G C) where
   not_restored past event v free =
       list_any-append (is_vote_of (kind_of v) (signer_of v)) (votes_restored_by x past event) (restored_votes x past)
       ∙ (ap (λ b. b || holds_vote (restored_votes x past) v)
-      (any_filtered (comes_back x past event) (first_votes x past) (kind_of v) (signer_of v) (firsts_apart x past)
-      ∙ ap (λ o. is_some_and o (comes_back x past event)) free)
+      (any_filtered (is_restored x past event) (first_votes x past) (kind_of v) (signer_of v) (firsts_apart x past)
+      ∙ ap (λ o. is_some_and o (is_restored x past event)) free)
       ∙ false_from_ne_true _ (λ h. let no : false ≡ true = sym (ap is_some free) ∙ restored_filled x past v h in cc))
 
   -- no batch where the call isn't a construction
@@ -318,7 +318,7 @@ module _ {D K G C : Type 0} (x : Setting D K G C) (lawful : HasLaws x) where
   pub trusted_after : (past : History D K G C) (event : Event D K G C) (v : Vote G D)
       → IsAt (first_votes x past) v →
       is_trusted x (event ∷ past) v ≡ (holds_vote (own_first_votes x past) v
-      && not (comes_back x past event v || holds_vote (restored_votes x past) v))
+      && not (is_restored x past event v || holds_vote (restored_votes x past) v))
   trusted_after past event v found =
       ap (λ o. o && not (holds_vote (restored_votes x (event ∷ past)) v)) (own_stays x past event v found)
       ∙ ap (λ r. holds_vote (own_first_votes x past) v && not r) (restored_after x past event v found)
@@ -397,7 +397,7 @@ module _ {D K G C : Type 0} (x : Setting D K G C) (lawful : HasLaws x) where
   abbrev FreshAt : History D K G C → Event D K G C → (Vote G D → Bool) → Vote G D → Kind → Type 0
   FreshAt past event test v k =
       cond (not (tries_kind x past event.1 k) && is_fresh x past k (passes_after x past event test) v) 1 0 + cond
-      (is_of_kind k v && (comes_back x past event v && passes_after x past event test v)) 1 0
+      (is_of_kind k v && (is_restored x past event v && passes_after x past event test v)) 1 0
       ≡ cond (is_fresh x (event ∷ past) k test v) 1 0
 
   other_kind_fresh : (t k a b c : Bool) → k ≡ false
@@ -412,14 +412,14 @@ module _ {D K G C : Type 0} (x : Setting D K G C) (lawful : HasLaws x) where
   fresh_at past event test v possible found still =
       fresh_table (tries_kind x past event.1 (kind_of v)) (is_of_kind (kind_of v) v) (waits x.same_digest (selected_proposal x past) v)
       (waits x.same_digest (selected_proposal x (event ∷ past)) v)
-      (holds_vote (own_first_votes x past) v) (holds_vote (restored_votes x past) v) (stood_before (trials x past) v) (comes_back x past event v) (test v)
+      (holds_vote (own_first_votes x past) v) (holds_vote (restored_votes x past) v) (stood_before (trials x past) v) (is_restored x past event v) (test v)
       (waited_before x lawful past event v (or_parts _ _ still).0) (back_waits_after x lawful past event v) (back_waits_before x lawful past event v)
       (back_not_tried x lawful past event possible v found)
       ∙ sym (ap (λ r. cond (is_of_kind (kind_of v) v &&
       (waits x.same_digest (selected_proposal x (event ∷ past)) v && (not (r || stood_before (trials x (event ∷ past)) v) && test v))) 1 0)
       (trusted_after past event v found)
       ∙ ap (λ d. cond (is_of_kind (kind_of v) v && (waits x.same_digest (selected_proposal x (event ∷ past)) v
-      && (not ((holds_vote (own_first_votes x past) v && not (comes_back x past event v || holds_vote (restored_votes x past) v)) || d) && test v))) 1 0)
+      && (not ((holds_vote (own_first_votes x past) v && not (is_restored x past event v || holds_vote (restored_votes x past) v)) || d) && test v))) 1 0)
       (tried_of past event v found (open_before x past event (kind_of v) still)))
 
   old_fresh : (past : History D K G C) (event : Event D K G C) (kind : Kind)
@@ -428,7 +428,7 @@ module _ {D K G C : Type 0} (x : Setting D K G C) (lawful : HasLaws x) where
       count (λ v. not (tries_kind x past event.1 kind)
       && is_fresh x past kind (passes_after x past event test) v) (first_votes x past)
       + count (λ v. is_of_kind kind v &&
-      (comes_back x past event v && passes_after x past event test v)) (first_votes x past)
+      (is_restored x past event v && passes_after x past event test v)) (first_votes x past)
       ≡ count (is_fresh x (event ∷ past) kind test) (first_votes x past)
   old_fresh past event kind test possible still =
       count_sum _ _ _ (first_votes x past) (firsts_apart x past) (λ v found.
@@ -473,29 +473,29 @@ module _ {D K G C : Type 0} (x : Setting D K G C) (lawful : HasLaws x) where
   restored_count : (past : History D K G C) (old : Held G D) (event : Event D K G C) (kind : Kind)
       (test : Vote G D → Bool) → Stands x past old → (is_certified past kind || is_skipped x.mode)
       ≡ false →
-      count test (filter (comes_back x past event) (of_kind old.tracked.kept kind))
-      ≡ count (λ v. is_of_kind kind v && (comes_back x past event v && test v))
+      count test (filter (is_restored x past event) (of_kind old.tracked.kept kind))
+      ≡ count (λ v. is_of_kind kind v && (is_restored x past event v && test v))
       (first_votes x past)
   restored_count past old event kind test stands still =
-      count-filter test (comes_back x past event) (of_kind old.tracked.kept kind)
-      ∙ (ap (count (λ v. comes_back x past event v && test v)) (kept_in_full past old kind stands still)
-      ∙ (count_ordered (λ v. comes_back x past event v && test v) signer_of (filter (is_of_kind kind) (first_votes x past))
-      ∙ count-filter (λ v. comes_back x past event v && test v) (is_of_kind kind) (first_votes x past)))
+      count-filter test (is_restored x past event) (of_kind old.tracked.kept kind)
+      ∙ (ap (count (λ v. is_restored x past event v && test v)) (kept_in_full past old kind stands still)
+      ∙ (count_ordered (λ v. is_restored x past event v && test v) signer_of (filter (is_of_kind kind) (first_votes x past))
+      ∙ count-filter (λ v. is_restored x past event v && test v) (is_of_kind kind) (first_votes x past)))
 
-  -- what is left, what comes back and what is new
+  -- what is left, what is restored and what is new
   pending_counted : (past : History D K G C) (old : Held G D) (event : Event D K G C) (kind : Kind)
       (test : Vote G D → Bool) → (is_certified (event ∷ past) kind || is_skipped x.mode) ≡ false →
       count test (pending_after x past old event kind)
       ≡ (count (passes_after x past event test)
       (cond (tries_kind x past event.1 kind) [] (of_kind old.buffered.pending kind))
       + count (passes_after x past event test)
-      (filter (comes_back x past event) (of_kind old.tracked.kept kind)))
+      (filter (is_restored x past event) (of_kind old.tracked.kept kind)))
       + count (passes_after x past event test) (arrivals x past kind (sent_votes x event.0))
   pending_counted past old event kind test still =
       count_waiting past event kind (cond (tries_kind x past event.1 kind) [] (of_kind old.buffered.pending kind)
-      ++ filter (comes_back x past event) (of_kind old.tracked.kept kind) ++ arrivals x past kind (sent_votes x event.0)) test still
+      ++ filter (is_restored x past event) (of_kind old.tracked.kept kind) ++ arrivals x past kind (sent_votes x event.0)) test still
       ∙ count-three (passes_after x past event test) (cond (tries_kind x past event.1 kind) [] (of_kind old.buffered.pending kind))
-      (filter (comes_back x past event) (of_kind old.tracked.kept kind)) (arrivals x past kind (sent_votes x event.0))
+      (filter (is_restored x past event) (of_kind old.tracked.kept kind)) (arrivals x past kind (sent_votes x event.0))
 
   fresh_counted : (past : History D K G C) (event : Event D K G C) (kind : Kind)
       (test : Vote G D → Bool) → (is_certified (event ∷ past) kind || is_skipped x.mode) ≡ false →
@@ -530,7 +530,7 @@ module _ {D K G C : Type 0} (x : Setting D K G C) (lawful : HasLaws x) where
       ≡ count test (fresh_votes x (event ∷ past) kind)
   pending_closed past old event kind test closed =
       ap (count test) (nothing_waits x (event ∷ past) kind
-      (cond (tries_kind x past event.1 kind) [] (of_kind old.buffered.pending kind) ++ filter (comes_back x past event) (of_kind old.tracked.kept kind)
+      (cond (tries_kind x past event.1 kind) [] (of_kind old.buffered.pending kind) ++ filter (is_restored x past event) (of_kind old.tracked.kept kind)
       ++ arrivals x past kind (sent_votes x event.0)) closed
       ∙ sym (closed_is_empty x (event ∷ past) kind closed).0)
 
@@ -565,7 +565,7 @@ module _ {D K G C : Type 0} (x : Setting D K G C) (lawful : HasLaws x) where
       proven_table (tries_kind x past event.1 (kind_of v)) (is_of_kind (kind_of v) v) (waits x.same_digest (selected_proposal x past) v)
       (waits x.same_digest (selected_proposal x (event ∷ past)) v)
       (holds_vote (own_first_votes x past) v) (holds_vote (restored_votes x past) v) (stood_before (trials x past) v) (was_invalid (trials x past) v)
-      (is_valid x v) (comes_back x past event v) (test v)
+      (is_valid x v) (is_restored x past event v) (test v)
       (waited_before x lawful past event v (or_parts _ _ still).0) (back_waits_before x lawful past event v)
       (back_not_tried x lawful past event stands.possible v found) (invalid_tried x past stands.possible v)
       ∙ sym (ap (λ r. cond (k && (w' && (((r || stood_before (trials x (event ∷ past)) v) && not (was_invalid (trials x (event ∷ past)) v)) && test v))) 1 0)
@@ -584,7 +584,7 @@ module _ {D K G C : Type 0} (x : Setting D K G C) (lawful : HasLaws x) where
       w' = waits x.same_digest (selected_proposal x (event ∷ past)) v
 
       r' : Bool
-      r' = holds_vote (own_first_votes x past) v && not (comes_back x past event v || holds_vote (restored_votes x past) v)
+      r' = holds_vote (own_first_votes x past) v && not (is_restored x past event v || holds_vote (restored_votes x past) v)
 
   old_proven : (past : History D K G C) (old : Held G D) (event : Event D K G C) (kind : Kind)
       (test : Vote G D → Bool) → Stands x past old → MayAnswer x past event.0 event.1

@@ -23,7 +23,7 @@ use Rattle.batcher_votes.specs.Sound.{IsSound}
 use Rattle.batcher_votes.specs.Verifiers.{certifies_itself}
 use Rattle.batcher_histories.specs.Steps.{is_ready_in, Settles, AfterGiven, AfterBatch, AfterConstruct}
 use Rattle.batcher_histories.specs.History.{Event, History}
-use Rattle.batcher_histories.specs.Selection.{leader_of, selection, selected_proposal, fixing_evidence, is_certified, certificate_of, comes_back}
+use Rattle.batcher_histories.specs.Selection.{leader_of, selection, selected_proposal, fixing_evidence, is_certified, certificate_of, is_restored}
 use Rattle.batcher_histories.specs.Standing.{waiting_votes, ready_kind}
 use Rattle.batcher_histories.specs.Trying.{Attempt, AttemptAfter, left_verified}
 use Rattle.batcher_histories.specs.Stands.{Stands, Follows, tries_kind, pending_after, verified_after}
@@ -32,7 +32,7 @@ use Rattle.batcher_histories.proofs.History.Attempts.{witnessed}
 use Rattle.batcher_histories.proofs.History.Laws.{HasLaws}
 use Rattle.batcher_votes.proofs.Constructing.{verified_about}
 use Rattle.batcher_histories.proofs.Follow.Frame.{MovesKind, Moves, followed, certified_same, no_evidence, leader_same, none_back, pending_wait, verified_wait, closed_pending, closed_verified, still_waits}
-use Rattle.batcher_histories.proofs.Follow.Evidence.{evidence_tried, tried_selected, IsEvidence, none_comes_back}
+use Rattle.batcher_histories.proofs.Follow.Evidence.{evidence_tried, tried_selected, IsEvidence, none_is_restored}
 use Rattle.batcher_histories.proofs.Follow.Settled.{constructed, selection_then, evidence_selects, fixes_leader, fixes_selection, fixes_certified, fixes_no_pending, fixes_no_verified, fixes_pending, fixes_verified}
 use Rattle.batcher_histories.proofs.Follow.Outcomes.{checked_about, certified_subject, some_mapped, goes_so, attempt_is, left_is}
 use Rattle.batcher_histories.proofs.Shown.Ready.{tried_is_ready, tried_ready}
@@ -131,7 +131,7 @@ module _ {D K G C : Type 0} (x : Setting D K G C) (lawful : HasLaws x) (past : H
       }
 
   abbrev NoneBack : Type 0
-  NoneBack = (v : Vote G D) → comes_back x past event v ≡ false
+  NoneBack = (v : Vote G D) → is_restored x past event v ≡ false
 
   pending_of : NoneBack → (k : Kind) → pending_after x past old event k
       ≡ waiting_votes x then k (cond (is_kind kind k) [] (of_kind old.buffered.pending k))
@@ -182,7 +182,7 @@ module _ {D K G C : Type 0} (x : Setting D K G C) (lawful : HasLaws x) (past : H
     is_evidence = ⊎_elim (λ none. inl none.0) (λ some. inr some) evidence_cases
 
     back : NoneBack
-    back v = none_comes_back x lawful past event evidence evidence_is is_evidence v
+    back v = none_is_restored x lawful past event evidence evidence_is is_evidence v
 
     -- a kind with proposals is certified with one, and it is the selected one
     selects : has_proposals kind ≡ true → (is_some (selected_proposal x then) ≡ true)
@@ -393,7 +393,7 @@ module _ {D K G C : Type 0} (x : Setting D K G C) (past : History D K G C) (old 
   abbrev idle : Event D K G C
   idle = constructed x past None
 
-  idle_back : (v : Vote G D) → comes_back x past idle v ≡ false
+  idle_back : (v : Vote G D) → is_restored x past idle v ≡ false
   idle_back v = none_back x past idle refl v
 
   idle_selection : selection x (idle ∷ past) ≡ selection x past

@@ -16,7 +16,7 @@ use Rattle.batcher_types.specs.Votes.{has_proposals, proposal_in, same_proposal}
 use Rattle.batcher_votes.specs.Selected.{proposal_of, updated, replaces}
 use Rattle.batcher_votes.specs.Buffering.{subject_from}
 use Rattle.batcher_histories.specs.History.{Event, History}
-use Rattle.batcher_histories.specs.Selection.{selection, selected_proposal, fixing_evidence, replacement, comes_back}
+use Rattle.batcher_histories.specs.Selection.{selection, selected_proposal, fixing_evidence, replacement, is_restored}
 use Rattle.batcher_histories.proofs.History.Laws.{HasLaws}
 use Rattle.batcher_votes.proofs.Constructing.{same_proposals}
 use Rattle.batcher_histories.proofs.History.Selection.{unreplaced}
@@ -68,8 +68,8 @@ module _ {D K G C : Type 0} (x : Setting D K G C) (lawful : HasLaws x) where
       ap (option_and_then (λ p. cond (replaces x.same_digest (selection x past) p) (Some p) None)) (is ∙ some.1.0)
       ∙ ap (λ b. cond b (Some some.0) None) (not_replaced (selection x past) some.0 some.1.1)
 
-  -- Then no vote comes back.
-  pub none_comes_back : (past : History D K G C) (event : Event D K G C) (e : Option (Proposal D))
-      → fixing_evidence event ≡ e → IsEvidence x past e → (v : Vote G D) → comes_back x past event v
-      ≡ false
-  none_comes_back past event e is evidence v = unreplaced x past event v (no_replacement past event e is evidence)
+  -- Then no vote is restored.
+  pub none_is_restored : (past : History D K G C) (event : Event D K G C) (e : Option (Proposal D))
+      → fixing_evidence event ≡ e → IsEvidence x past e → (v : Vote G D)
+      → is_restored x past event v ≡ false
+  none_is_restored past event e is evidence v = unreplaced x past event v (no_replacement past event e is evidence)

@@ -21,7 +21,7 @@ use Rattle.batcher_votes.specs.Tracking.{is_skipped, is_released_in}
 use Rattle.batcher_histories.specs.Runs.{MayCall}
 use Rattle.batcher_histories.specs.History.{Event, History, is_made, cast_votes}
 use Rattle.batcher_histories.specs.FirstVotes.{is_free, first_votes, first_vote}
-use Rattle.batcher_histories.specs.Selection.{selection_by, selection, selected_proposal, leader_of, leader_named, is_certified, certificate_of, finalized_by, fixed_proposal, fixing_evidence, leaders_proposal, was_forwarded, comes_back}
+use Rattle.batcher_histories.specs.Selection.{selection_by, selection, selected_proposal, leader_of, leader_named, is_certified, certificate_of, finalized_by, fixed_proposal, fixing_evidence, leaders_proposal, was_forwarded, is_restored}
 use Rattle.batcher_histories.specs.Selection.{is_released}
 use Rattle.batcher_histories.specs.Comparison.{compared_votes, compared_votes_of, is_compared, is_compared_at_release, is_matched}
 use Rattle.batcher_histories.specs.Standing.{waiting_votes, is_trusted, stood_before, was_invalid, trials, fresh_votes, proven_votes}
@@ -173,7 +173,7 @@ module _ {D K G C : Type 0} (x : Setting D K G C) where
     pub leader_same : leader_named event.0 ≡ None → leader_of (event ∷ past) ≡ leader_of past
     leader_same none = ap (option_or (leader_of past)) none ∙ or_nothing (leader_of past)
 
-    pub none_back : fixing_evidence event ≡ None → (v : Vote G D) → comes_back x past event v
+    pub none_back : fixing_evidence event ≡ None → (v : Vote G D) → is_restored x past event v
         ≡ false
     none_back none v = rw none refl
 

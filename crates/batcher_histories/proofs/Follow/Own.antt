@@ -25,7 +25,7 @@ use Rattle.batcher_histories.specs.Steps.{fixed_by, selected_with, unopposed_res
 use Rattle.batcher_histories.specs.Runs.{MayCall}
 use Rattle.batcher_histories.specs.History.{Event, History}
 use Rattle.batcher_histories.specs.FirstVotes.{is_free, first_votes, first_like, opposite_vote}
-use Rattle.batcher_histories.specs.Selection.{selection, fixing_evidence, comes_back, is_certified, is_released}
+use Rattle.batcher_histories.specs.Selection.{selection, fixing_evidence, is_restored, is_certified, is_released}
 use Rattle.batcher_histories.specs.Comparison.{conflicts}
 use Rattle.batcher_histories.specs.Standing.{waiting_votes}
 use Rattle.batcher_histories.specs.Answers.{own_answer, own_answer_against, outcome_by_first}
@@ -115,7 +115,7 @@ module _ {D K G C : Type 0} (x : Setting D K G C) where
               (nothing_comes x past old kind p old.buffered stands)
               (λ by_new still.
               filter_behind (waits x.same_digest (proposal_of (fixes (selection x past) (Some p)))) (of_kind old.buffered.pending kind)
-              (coming_back x.same_digest old.buffered old.tracked.kept p kind) (filter (comes_back x past event) (of_kind old.tracked.kept kind))
+              (coming_back x.same_digest old.buffered old.tracked.kept p kind) (filter (is_restored x past event) (of_kind old.tracked.kept kind))
               (returned_fixed x past event old kind p old.buffered stands refl fixing still))
               ∙ ap (λ e. waiting_by x.same_digest (is_closed x past event kind) (proposal_of (fixes (selection x past) e))
               (with_restored x past event old kind)) (sym fixing))));

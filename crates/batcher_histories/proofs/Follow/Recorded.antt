@@ -24,7 +24,7 @@ use Rattle.batcher_votes.specs.Buffering.{still_waiting, coming_back, FixesPropo
 use Rattle.batcher_histories.specs.Steps.{AfterCertificate}
 use Rattle.batcher_histories.specs.Runs.{MayCall}
 use Rattle.batcher_histories.specs.History.{Event, History}
-use Rattle.batcher_histories.specs.Selection.{selection_by, selection, selected_proposal, leader_of, is_certified, fixed_proposal, leaders_proposal, comes_back}
+use Rattle.batcher_histories.specs.Selection.{selection_by, selection, selected_proposal, leader_of, is_certified, fixed_proposal, leaders_proposal, is_restored}
 use Rattle.batcher_histories.specs.Standing.{waiting_votes}
 use Rattle.batcher_histories.specs.Answers.{certificate_answer}
 use Rattle.batcher_histories.specs.Stands.{Stands, Follows, pending_after, verified_after}
@@ -111,9 +111,9 @@ module _ {D K G C : Type 0} (x : Setting D K G C) (lawful : HasLaws x) where
           same : selection x (event ∷ past) ≡ selection x past
           same = selection_fixes x past event None leaders_stay none
 
-          none_of : (kind : Kind) → filter (comes_back x past event) (of_kind old.tracked.kept kind)
-              ≡ []
-          none_of kind = filter_none (comes_back x past event) (of_kind old.tracked.kept kind) (none_back x past event none)
+          none_of : (kind : Kind)
+              → filter (is_restored x past event) (of_kind old.tracked.kept kind) ≡ []
+          none_of kind = filter_none (is_restored x past event) (of_kind old.tracked.kept kind) (none_back x past event none)
 
       with_proposal : (p : Proposal D) → proposal_in (subject_certified c) ≡ Some p
           → FixesProposal x.same_digest step.completed old.tracked.kept p new.buffered → Fixed
@@ -159,10 +159,10 @@ module _ {D K G C : Type 0} (x : Setting D K G C) (lawful : HasLaws x) where
               (ap proposal_of selected)
               (nothing_comes x past old kind p step.completed stands)
               ∙ (waiting_behind x (event ∷ past) kind (of_kind old.buffered.pending kind) (coming_back x.same_digest step.completed old.tracked.kept p kind)
-              (filter (comes_back x past event) (of_kind old.tracked.kept kind))
+              (filter (is_restored x past event) (of_kind old.tracked.kept kind))
               (returned x past event old kind p step.completed stands step.completes.selection some leaders_stay e)
               ∙ ap (waiting_votes x (event ∷ past) kind) (sym
-              (append-nil (of_kind old.buffered.pending kind ++ filter (comes_back x past event) (of_kind old.tracked.kept kind))))))
+              (append-nil (of_kind old.buffered.pending kind ++ filter (is_restored x past event) (of_kind old.tracked.kept kind))))))
 
           by_mark_verified : (kind : Kind) (b : Bool) → is_certified (event ∷ past) kind ≡ b →
               still_waiting x.same_digest new.buffered kind

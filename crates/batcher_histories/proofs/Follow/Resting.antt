@@ -30,7 +30,7 @@ use Rattle.batcher_histories.specs.Steps.{option_proposal, forward_answer, leade
 use Rattle.batcher_histories.specs.Runs.{MayCall}
 use Rattle.batcher_histories.specs.History.{Event, History, is_made, own_votes, sent_votes, cast_votes, batch_given}
 use Rattle.batcher_histories.specs.FirstVotes.{first_vote}
-use Rattle.batcher_histories.specs.Selection.{selection_by, selection, leader_of, is_certified, certificate_of, finalized_by, fixed_proposal, leaders_proposal, was_forwarded, comes_back}
+use Rattle.batcher_histories.specs.Selection.{selection_by, selection, leader_of, is_certified, certificate_of, finalized_by, fixed_proposal, leaders_proposal, was_forwarded, is_restored}
 use Rattle.batcher_histories.specs.Standing.{waiting_votes, ready_kind}
 use Rattle.batcher_histories.specs.Trying.{Attempt, left_verified}
 use Rattle.batcher_histories.specs.Answers.{MayAnswer}
@@ -60,12 +60,12 @@ module _ {D K G C : Type 0} (x : Setting D K G C) where
     quiet_pending old kind =
         ap (waiting_votes x (event ∷ past) kind)
         (ap (λ (b : Option (Batch (Certificate C D))). cond (is_some b && is_some_and (ready_kind x past) (λ k. is_kind k kind)) []
-        (of_kind old.buffered.pending kind) ++ filter (comes_back x past event) (of_kind old.tracked.kept kind)
+        (of_kind old.buffered.pending kind) ++ filter (is_restored x past event) (of_kind old.tracked.kept kind)
         ++ arrivals x past kind (sent_votes x event.0)) q.batch
-        ∙ (ap (λ votes. of_kind old.buffered.pending kind ++ filter (comes_back x past event) (of_kind old.tracked.kept kind) ++ arrivals x past kind votes)
+        ∙ (ap (λ votes. of_kind old.buffered.pending kind ++ filter (is_restored x past event) (of_kind old.tracked.kept kind) ++ arrivals x past kind votes)
         q.sends
         ∙ first_only (of_kind old.buffered.pending kind) _
-        (filter_none (comes_back x past event) (of_kind old.tracked.kept kind)
+        (filter_none (is_restored x past event) (of_kind old.tracked.kept kind)
         (none_back x past event (no_evidence x past event q.finalized q.certificate)))))
 
     pub quiet_verified : (old : Held G D) (kind : Kind) → verified_after x past old event kind

@@ -17,7 +17,7 @@ use Rattle.batcher_votes.specs.Held.{of_kind, Buffered, Held}
 use Rattle.batcher_votes.specs.Buffering.{coming_back}
 use Rattle.batcher_histories.specs.History.{Event, History}
 use Rattle.batcher_histories.specs.FirstVotes.{first_votes}
-use Rattle.batcher_histories.specs.Selection.{selection, selected_proposal, is_certified, fixing_evidence, leaders_proposal, comes_back, is_released}
+use Rattle.batcher_histories.specs.Selection.{selection, selected_proposal, is_certified, fixing_evidence, leaders_proposal, is_restored, is_released}
 use Rattle.batcher_histories.specs.Stands.{Stands, first_by_signer}
 use Rattle.batcher_votes.specs.Tracking.{is_skipped}
 use Rattle.batcher_votes.proofs.Counts.{keeps_all, count-false, count_same, filter_twice, filter_none, either_same}
@@ -77,7 +77,7 @@ module _ {D K G C : Type 0} (x : Setting D K G C) where
   replaced_is (LeadersProposal e) p h = refl
   replaced_is (FixedProposal e) p h = absurd (cc)
 
-  -- of a kind that stays open, those that wait again are those that come back
+  -- of a kind that stays open, those that wait again are those that are restored
   returned_by : (kind : Kind) (s : ProposalState D) (p : Proposal D) (votes : List (Vote G D))
       (back : Vote G D → Bool) → count (λ v. not (is_of_kind kind v)) votes ≡ 0 →
       ((v : Vote G D) → is_of_kind kind v ≡ true → back v
@@ -141,11 +141,11 @@ module _ {D K G C : Type 0} (x : Setting D K G C) where
       → filter (waits x.same_digest (proposal_of (fixes (selection x past) (Some p))))
       (coming_back x.same_digest b held.tracked.kept p kind)
       ≡ filter (waits x.same_digest (proposal_of (fixes (selection x past) (Some p))))
-      (filter (comes_back x past event) (of_kind held.tracked.kept kind))
+      (filter (is_restored x past event) (of_kind held.tracked.kept kind))
   returned_fixed past event held kind p b stands same evidence still =
       ap (λ s. filter (waits x.same_digest (proposal_of (fixes (selection x past) (Some p))))
       (cond (replaces x.same_digest s p && has_proposals kind) (of_kind held.tracked.kept kind) [])) (same ∙ stands.selection_is)
-      ∙ returned_by kind (selection x past) p (of_kind held.tracked.kept kind) (comes_back x past event) (kept_of_kind past held kind stands)
+      ∙ returned_by kind (selection x past) p (of_kind held.tracked.kept kind) (is_restored x past event) (kept_of_kind past held kind stands)
       (λ v of.
       ap (λ o. is_some_and (option_and_then (λ q. cond (replaces x.same_digest (selection x past) q) (Some q) None) o) (λ q. is_for x.same_digest q v)
       && not (is_certified (event ∷ past) (kind_of v))) evidence
@@ -161,14 +161,14 @@ module _ {D K G C : Type 0} (x : Setting D K G C) where
       → filter (waits x.same_digest (selected_proposal x (event ∷ past)))
       (coming_back x.same_digest b held.tracked.kept p kind)
       ≡ filter (waits x.same_digest (selected_proposal x (event ∷ past)))
-      (filter (comes_back x past event) (of_kind held.tracked.kept kind))
+      (filter (is_restored x past event) (of_kind held.tracked.kept kind))
   returned past event held kind p b stands same evidence leaders still =
       let selected = selection_fixes x past event (Some p) leaders evidence in
       ap (λ s. filter (waits x.same_digest (proposal_of s)) (coming_back x.same_digest b held.tracked.kept p kind)) selected
       ∙ (returned_fixed past event held kind p b stands same evidence still
-      ∙ ap (λ s. filter (waits x.same_digest (proposal_of s)) (filter (comes_back x past event) (of_kind held.tracked.kept kind))) (sym selected))
+      ∙ ap (λ s. filter (waits x.same_digest (proposal_of s)) (filter (is_restored x past event) (of_kind held.tracked.kept kind))) (sym selected))
 
-  -- in a skipped round nothing waits or comes back
+  -- in a skipped round nothing waits or is restored
   pub nothing_comes : (past : History D K G C) (held : Held G D) (kind : Kind) (p : Proposal D)
       (b : Buffered G D) → Stands x past held → is_skipped x.mode ≡ true →
       of_kind held.buffered.pending kind ++ coming_back x.same_digest b held.tracked.kept p kind

@@ -16,7 +16,7 @@ use Rattle.batcher_types.specs.Votes.{waits}
 use Rattle.batcher_votes.specs.Held.{of_kind, Held}
 use Rattle.batcher_votes.specs.Tracking.{is_skipped}
 use Rattle.batcher_histories.specs.History.{History}
-use Rattle.batcher_histories.specs.Selection.{selected_proposal, is_certified, comes_back}
+use Rattle.batcher_histories.specs.Selection.{selected_proposal, is_certified, is_restored}
 use Rattle.batcher_histories.specs.Standing.{is_valid, waiting_votes}
 use Rattle.batcher_histories.specs.Trying.{left_verified}
 use Rattle.batcher_histories.specs.Stands.{tries_kind, pending_after, verified_after}
@@ -75,9 +75,9 @@ module _ {D K G C : Type 0} (x : Setting D K G C) where
       staying_left (is_certified past kind || is_skipped x.mode) (waits x.same_digest (selected_proposal x past)) (is_valid x)
       (nat_le (quorum_in x) (length verified)) verified pending h k
 
-  -- THE BUFFERS AFTER A CONSTRUCTION at which no vote comes back
+  -- THE BUFFERS AFTER A CONSTRUCTION at which no vote is restored
   module _ (past : History D K G C) (old : Held G D) (answer : Option (Batch (Certificate C D)))
-      (none_back : (v : Vote G D) → comes_back x past (ConstructCall, ConstructAnswer answer) v
+      (none_back : (v : Vote G D) → is_restored x past (ConstructCall, ConstructAnswer answer) v
       ≡ false) (kind : Kind) where
     pub pending_left : pending_after x past old (ConstructCall, ConstructAnswer answer) kind
         ≡ waiting_votes x ((ConstructCall, ConstructAnswer answer) ∷ past) kind
@@ -86,7 +86,7 @@ module _ {D K G C : Type 0} (x : Setting D K G C) where
     pending_left =
         ap (waiting_votes x ((ConstructCall, ConstructAnswer answer) ∷ past) kind)
         (first_only (cond (tries_kind x past (ConstructAnswer answer) kind) [] (of_kind old.buffered.pending kind)) _
-        (filter_none (comes_back x past (ConstructCall, ConstructAnswer answer)) (of_kind old.tracked.kept kind) none_back))
+        (filter_none (is_restored x past (ConstructCall, ConstructAnswer answer)) (of_kind old.tracked.kept kind) none_back))
 
     pub verified_left : verified_after x past old (ConstructCall, ConstructAnswer answer) kind
         ≡ waiting_votes x ((ConstructCall, ConstructAnswer answer) ∷ past) kind

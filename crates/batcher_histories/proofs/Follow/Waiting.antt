@@ -24,7 +24,7 @@ use Rattle.batcher_votes.specs.Tracking.{is_skipped, is_released_in, RecordsKind
 use Rattle.batcher_votes.specs.Buffering.{leaders_vote, AddsVote}
 use Rattle.batcher_histories.specs.History.{Event, History}
 use Rattle.batcher_histories.specs.FirstVotes.{first_votes, first_vote}
-use Rattle.batcher_histories.specs.Selection.{leader_of, leader_named, selection_by, selection, selected_proposal, fixed_proposal, fixing_evidence, leaders_proposal, certificate_of, is_certified, is_released, comes_back}
+use Rattle.batcher_histories.specs.Selection.{leader_of, leader_named, selection_by, selection, selected_proposal, fixed_proposal, fixing_evidence, leaders_proposal, certificate_of, is_certified, is_released, is_restored}
 use Rattle.batcher_histories.specs.Standing.{waiting_votes}
 use Rattle.batcher_histories.specs.Stands.{Stands}
 use Rattle.batcher_histories.proofs.History.Distinct.{free_is_new, is_kind-true}
@@ -149,15 +149,15 @@ module _ {D K G C : Type 0} (x : Setting D K G C) (past : History D K G C) where
       pub verified_are : (kind : Kind) → of_kind fixed.verified kind
           ≡ waiting_by x.same_digest (is_closed kind) (proposal_of state_fixed) (verified kind)
 
-    -- the pending votes with those that come back
+    -- the pending votes with those that are restored
     abbrev pub with_restored : Held G D → Kind → List (Vote G D)
-    with_restored old kind = of_kind old.buffered.pending kind ++ filter (comes_back x past event) (of_kind old.tracked.kept kind)
+    with_restored old kind = of_kind old.buffered.pending kind ++ filter (is_restored x past event) (of_kind old.tracked.kept kind)
 
     none_restored : (old : Held G D) → fixing_evidence event ≡ None → (kind : Kind)
         → with_restored old kind ≡ of_kind old.buffered.pending kind
     none_restored old unfixing kind =
         ap (λ vs. of_kind old.buffered.pending kind ++ vs)
-        (filter_none (comes_back x past event) (of_kind old.tracked.kept kind) (none_back x past event unfixing))
+        (filter_none (is_restored x past event) (of_kind old.tracked.kept kind) (none_back x past event unfixing))
         ∙ append-nil (of_kind old.buffered.pending kind)
 
     unfixed_waits : (kind : Kind) (votes : List (Vote G D)) → certificate_of event ≡ None

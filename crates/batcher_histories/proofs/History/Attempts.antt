@@ -9,7 +9,7 @@ use Rattle.batcher_histories.specs.FirstVotes.{first_vote, first_votes}
 use Rattle.batcher_histories.specs.History.{Event, History, batch_given}
 use Rattle.batcher_types.specs.Lists.{SameElements, count, is_some_and}
 use Rattle.batcher_votes.specs.Selected.{proposal_of}
-use Rattle.batcher_histories.specs.Selection.{certificate_of, comes_back, fixed_proposal, fixing_evidence, is_certified, leaders_proposal, selected_proposal, selection_by}
+use Rattle.batcher_histories.specs.Selection.{certificate_of, is_restored, fixed_proposal, fixing_evidence, is_certified, leaders_proposal, selected_proposal, selection_by}
 use Rattle.batcher_histories.specs.Setting.{Setting, quorum_in}
 use Rattle.batcher_histories.specs.Standing.{fresh_votes, is_among, is_counted, is_ready_by, is_trusted, is_valid, proven_votes, ready_kind, standing_votes, stood_before, trials, was_invalid}
 use Rattle.batcher_histories.specs.Stands.{tries_kind}
@@ -37,7 +37,7 @@ use Rattle.batcher_votes.proofs.Counts.{count-append, count-false, count-map, co
 use Rattle.batcher_histories.proofs.History.Laws.{HasLaws}
 use Rattle.batcher_histories.proofs.Shown.Named.{or_none}
 use Rattle.batcher_histories.proofs.History.Past.{among_standing, closed_is_empty, count_fresh, count_proven, invalid_after, invalid_in, tried_after, tried_filled}
-use Rattle.batcher_histories.proofs.History.Selection.{back_not_counted, certified_before, comes_back_by, leaders_stays}
+use Rattle.batcher_histories.proofs.History.Selection.{back_not_counted, certified_before, is_restored_by, leaders_stays}
 use Rattle.batcher_votes.proofs.Constructing.{subject_is}
 
 module _ {D K G C : Type 0} (x : Setting D K G C) where
@@ -506,13 +506,13 @@ module _ {D K G C : Type 0} (x : Setting D K G C) where
           ap (λ o. is_counted x o v) some.1 ∙ (ap (λ o. waits x.same_digest o v) (sym (selected_is ∙ some.1)) ∙ waited))
           (option_cases (leaders_proposal x past))
 
-  -- what comes back wasn't tried
+  -- what is restored wasn't tried
   pub back_not_tried : HasLaws x → (past : History D K G C) (event : Event D K G C)
-      → IsPossible x past → (v : Vote G D) → IsAt (first_votes x past) v → comes_back x past event v
-      ≡ true → stood_before (trials x past) v ≡ false
+      → IsPossible x past → (v : Vote G D) → IsAt (first_votes x past) v
+      → is_restored x past event v ≡ true → stood_before (trials x past) v ≡ false
   back_not_tried lawful past event possible v found back =
       false_from_ne_true _ (λ tried.
-      let c = comes_back_by x lawful past event v back in
+      let c = is_restored_by x lawful past event v back in
       let counted : is_counted x (leaders_proposal x past) v
       ≡ true = tried_counts lawful past possible v found c.replaced.unfixed tried (certified_before past event (kind_of v) c.still) in
       let no : false ≡ true = sym (back_not_counted x lawful past event v back) ∙ counted in cc)

@@ -7,7 +7,7 @@ use Rattle.std.proofs.lemmas.List.Folds.{list_any-append}
 use Rattle.batcher_histories.specs.FirstVotes.{first_vote, first_votes, is_free, own_first_votes}
 use Rattle.batcher_histories.specs.History.{Event, History, batch_given, own_votes}
 use Rattle.batcher_types.specs.Lists.{count, is_some_and}
-use Rattle.batcher_histories.specs.Selection.{comes_back, is_certified, restored_votes, selected_proposal, votes_restored_by}
+use Rattle.batcher_histories.specs.Selection.{is_restored, is_certified, restored_votes, selected_proposal, votes_restored_by}
 use Rattle.batcher_histories.specs.Setting.{Setting}
 use Rattle.batcher_histories.specs.Standing.{fresh_votes, holds_vote, is_among, is_trusted, proven_votes, ready_kind, standing_votes, stood_before, trials, was_invalid, with_batch, waiting_votes}
 use Rattle.batcher_histories.specs.Stands.{tries_kind}
@@ -143,8 +143,8 @@ module _ {D K G C : Type 0} (x : Setting D K G C) where
   restored_filled (event ∷ past) v h =
       filled_stays x past event (kind_of v) (signer_of v)
       (⊎_elim
-      (λ now. some_where (comes_back x past event) _ (sym
-      (any_filtered (comes_back x past event) (first_votes x past) (kind_of v) (signer_of v) (firsts_apart x past)) ∙ now))
+      (λ now. some_where (is_restored x past event) _ (sym
+      (any_filtered (is_restored x past event) (first_votes x past) (kind_of v) (signer_of v) (firsts_apart x past)) ∙ now))
       (λ before. restored_filled past v before)
       (or_cases _ _ (sym (list_any-append (is_vote_of (kind_of v) (signer_of v)) (votes_restored_by x past event) (restored_votes x past)) ∙ h)))
 
@@ -176,12 +176,12 @@ module _ {D K G C : Type 0} (x : Setting D K G C) where
   pub restored_after : (past : History D K G C) (event : Event D K G C) (v : Vote G D)
       → IsAt (first_votes x past) v →
       holds_vote (restored_votes x (event ∷ past)) v
-      ≡ (comes_back x past event v || holds_vote (restored_votes x past) v)
+      ≡ (is_restored x past event v || holds_vote (restored_votes x past) v)
   restored_after past event v found =
       list_any-append (is_vote_of (kind_of v) (signer_of v)) (votes_restored_by x past event) (restored_votes x past)
       ∙ ap (λ b. b || holds_vote (restored_votes x past) v)
-      (any_filtered (comes_back x past event) (first_votes x past) (kind_of v) (signer_of v) (firsts_apart x past)
-      ∙ ap (λ o. is_some_and o (comes_back x past event)) found)
+      (any_filtered (is_restored x past event) (first_votes x past) (kind_of v) (signer_of v) (firsts_apart x past)
+      ∙ ap (λ o. is_some_and o (is_restored x past event)) found)
 
   -- of a kind that is closed nothing waits
   pub nothing_waits : (past : History D K G C) (kind : Kind) (votes : List (Vote G D))

@@ -8,7 +8,7 @@ use Rattle.batcher_histories.specs.FirstVotes.{first_vote}
 use Rattle.batcher_histories.specs.History.{Event, History}
 use Rattle.batcher_types.specs.Lists.{is_some_and}
 use Rattle.batcher_votes.specs.Selected.{proposal_of, replaces, fixes}
-use Rattle.batcher_histories.specs.Selection.{comes_back, fixed_proposal, fixing_evidence, is_certified, leader_of, leaders_proposal, replacement, selected_proposal, selection_by, selection}
+use Rattle.batcher_histories.specs.Selection.{is_restored, fixed_proposal, fixing_evidence, is_certified, leader_of, leaders_proposal, replacement, selected_proposal, selection_by, selection}
 use Rattle.batcher_histories.specs.Setting.{Setting}
 use Rattle.batcher_histories.specs.Standing.{is_counted}
 use Rattle.batcher_votes.specs.Tracking.{is_skipped}
@@ -34,10 +34,10 @@ pub certified_before : {D K G C : Type 0} (past : History D K G C) (event : Even
     (kind : Kind) → is_certified (event ∷ past) kind ≡ false → is_certified past kind ≡ false
 certified_before past event kind h = (or_parts _ _ h).1
 
--- where nothing is replaced nothing comes back
+-- where nothing is replaced nothing is restored
 pub unreplaced : {D K G C : Type 0} (x : Setting D K G C) (past : History D K G C)
     (event : Event D K G C) (v : Vote G D) → replacement x past event ≡ None
-    → comes_back x past event v ≡ false
+    → is_restored x past event v ≡ false
 unreplaced x past event v h = rw h refl
 
 -- evidence goes before what is selected
@@ -137,16 +137,16 @@ module _ {D K G C : Type 0} (x : Setting D K G C) (lawful : HasLaws x) where
       (leaders_proposal x (event ∷ past))
   goes_on past event = goes_on_by _ _ _ _ (leaders_stays past event)
 
-  -- What comes back is for the new proposal, and was for no other before.
-  pub record ComesBack (past : History D K G C) (event : Event D K G C) (v : Vote G D) : Type 0
+  -- What is restored is for the new proposal, and was for no other before.
+  pub record IsRestored (past : History D K G C) (event : Event D K G C) (v : Vote G D) : Type 0
     where
       pub replaced : Replaced past event
       pub is_new : is_for x.same_digest replaced.later v ≡ true
       pub still : is_certified (event ∷ past) (kind_of v) ≡ false
 
-  pub comes_back_by : (past : History D K G C) (event : Event D K G C) (v : Vote G D)
-      → comes_back x past event v ≡ true → ComesBack past event v
-  comes_back_by past event v h =
+  pub is_restored_by : (past : History D K G C) (event : Event D K G C) (v : Vote G D)
+      → is_restored x past event v ≡ true → IsRestored past event v
+  is_restored_by past event v h =
       ⊎_elim
       (λ unknown. let no : false ≡ true = sym (unreplaced x past event v unknown.1) ∙ h in cc)
       (⊎_elim
@@ -165,10 +165,10 @@ module _ {D K G C : Type 0} (x : Setting D K G C) (lawful : HasLaws x) where
       (goes_on past event)
 
   pub back_waits_after : (past : History D K G C) (event : Event D K G C) (v : Vote G D)
-      → comes_back x past event v ≡ true
+      → is_restored x past event v ≡ true
       → waits x.same_digest (selected_proposal x (event ∷ past)) v ≡ true
   back_waits_after past event v h =
-      let c = comes_back_by past event v h in
+      let c = is_restored_by past event v h in
       ap (λ o. waits x.same_digest o v) c.replaced.becomes ∙ or_right (not (has_proposals (kind_of v))) (is_for x.same_digest c.replaced.later v) c.is_new
 
   not_for_both : (p q : Proposal D) (v : Vote G D) → same_proposal x.same_digest p q ≡ false
@@ -182,17 +182,17 @@ module _ {D K G C : Type 0} (x : Setting D K G C) (lawful : HasLaws x) where
 
   -- nor is it counted for the earlier proposal
   pub back_not_counted : (past : History D K G C) (event : Event D K G C) (v : Vote G D)
-      → comes_back x past event v ≡ true → is_counted x (leaders_proposal x past) v ≡ false
+      → is_restored x past event v ≡ true → is_counted x (leaders_proposal x past) v ≡ false
   back_not_counted past event v h =
-      let c = comes_back_by past event v h in
+      let c = is_restored_by past event v h in
       let has : has_proposals (kind_of v) ≡ true = for_has_proposals x.same_digest c.replaced.later v c.is_new in
       let other : is_for x.same_digest c.replaced.earlier v ≡ false = not_for_both c.replaced.earlier c.replaced.later v c.replaced.differs c.is_new in
       ap (λ o. is_counted x o v) c.replaced.was ∙ rw (has, other) refl
 
   pub back_waits_before : (past : History D K G C) (event : Event D K G C) (v : Vote G D)
-      → comes_back x past event v ≡ true → waits x.same_digest (selected_proposal x past) v ≡ false
+      → is_restored x past event v ≡ true → waits x.same_digest (selected_proposal x past) v ≡ false
   back_waits_before past event v h =
-      let c = comes_back_by past event v h in
+      let c = is_restored_by past event v h in
       ap (λ f. waits x.same_digest (proposal_of (selection_by f (leaders_proposal x past))) v) c.replaced.unfixed
       ∙ (ap (λ l. waits x.same_digest (proposal_of (selection_by None l)) v) c.replaced.was
       ∙ (ap (λ o. is_counted x o v) (sym c.replaced.was) ∙ back_not_counted past event v h))
@@ -201,9 +201,9 @@ module _ {D K G C : Type 0} (x : Setting D K G C) (lawful : HasLaws x) where
   forced true f g h k = refl
   forced false f g h k = let no : true ≡ false = sym h ∙ k in cc
 
-  -- what waits after an event did before it, or comes back
+  -- what waits after an event did before it, or is restored
   pub waited_before : (past : History D K G C) (event : Event D K G C) (v : Vote G D)
-      → is_certified (event ∷ past) (kind_of v) ≡ false → comes_back x past event v ≡ false →
+      → is_certified (event ∷ past) (kind_of v) ≡ false → is_restored x past event v ≡ false →
       waits x.same_digest (selected_proposal x (event ∷ past)) v ≡ true
       → waits x.same_digest (selected_proposal x past) v ≡ true
   waited_before past event v still not_back h =

@@ -17,7 +17,7 @@ use Rattle.batcher_votes.specs.Buffering.{coming_back}
 use Rattle.batcher_histories.specs.Steps.{restored_by, restored_with}
 use Rattle.batcher_histories.specs.History.{Event, History}
 use Rattle.batcher_histories.specs.FirstVotes.{first_votes}
-use Rattle.batcher_histories.specs.Selection.{selected_proposal, leader_of, is_certified, leaders_proposal, comes_back, votes_restored_by, is_released}
+use Rattle.batcher_histories.specs.Selection.{selected_proposal, leader_of, is_certified, leaders_proposal, is_restored, votes_restored_by, is_released}
 use Rattle.batcher_histories.specs.Stands.{Stands, first_by_signer}
 use Rattle.batcher_votes.proofs.Counts.{count-filter_le, count_same, count-true}
 use Rattle.batcher_histories.proofs.History.Distinct.{is_kind-refl, is_kind-true, count-filter}
@@ -45,24 +45,24 @@ kind_swapped a b h = by (is_kind b a) refl
     by false e = refl
 
 module _ {D K G C : Type 0} (x : Setting D K G C) where
-  -- where no first vote comes back, no kept one does
+  -- where no first vote is restored, no kept one does
   none_kept_back : (past : History D K G C) (event : Event D K G C) (held : Held G D) (kind : Kind)
       → Stands x past held → is_empty (votes_restored_by x past event) ≡ true →
-      filter (comes_back x past event) (of_kind held.tracked.kept kind) ≡ []
+      filter (is_restored x past event) (of_kind held.tracked.kept kind) ≡ []
   none_kept_back past event held kind stands none =
-      nil_from_length (filter (comes_back x past event) (of_kind held.tracked.kept kind))
-      (sym (counted (comes_back x past event) (of_kind held.tracked.kept kind)) ∙ ap (count (comes_back x past event)) (stands.each_kind kind).kept_are
+      nil_from_length (filter (is_restored x past event) (of_kind held.tracked.kept kind))
+      (sym (counted (is_restored x past event) (of_kind held.tracked.kept kind)) ∙ ap (count (is_restored x past event)) (stands.each_kind kind).kept_are
       ∙ by_released (is_released x past kind))
     where
-      none_first : count (comes_back x past event) (first_votes x past) ≡ 0
-      none_first = counted (comes_back x past event) (first_votes x past) ∙ ap length (empty_is (votes_restored_by x past event) none)
+      none_first : count (is_restored x past event) (first_votes x past) ≡ 0
+      none_first = counted (is_restored x past event) (first_votes x past) ∙ ap length (empty_is (votes_restored_by x past event) none)
 
-      by_released : (r : Bool) → count (comes_back x past event)
+      by_released : (r : Bool) → count (is_restored x past event)
           (cond r [] (first_by_signer x past kind)) ≡ 0
       by_released true = refl
       by_released false =
-          count_ordered (comes_back x past event) signer_of (filter (is_of_kind kind) (first_votes x past))
-          ∙ omega (arith, none_first, count-filter_le (comes_back x past event) (is_of_kind kind) (first_votes x past))
+          count_ordered (is_restored x past event) signer_of (filter (is_of_kind kind) (first_votes x past))
+          ∙ omega (arith, none_first, count-filter_le (is_restored x past event) (is_of_kind kind) (first_votes x past))
 
   -- With a certificate that brings no vote back, nothing waits again.
   pub nothing_restored : (past : History D K G C) (held : Held G D) (c : Certificate C D)

@@ -1,4 +1,4 @@
--- Where no vote comes back, no room is needed.
+-- Where no vote is restored, no room is needed.
 use Rattle.std.proofs.Common.{◌≡◌, ◌∙◌, ◌||◌, [], List, ℕ, Bool, true, false, cond, subst, Option, Some, None, Ok, refl, sym, ap, arith}
 use Rattle.std.proofs.lemmas.Option.{none-some}
 use Rattle.batcher_types.specs.declared.messages.Proposal.{Proposal}
@@ -60,7 +60,7 @@ module _ {G D : Type 0} (held : Tracked G D) (kind : Kind) (i : ℕ) where
   facts_compacted f h = facts_by (of_kind held.compacted kind) (known_facts held kind i) (kept_vote held kind i) f h
 
 -- A finalize of one's own that isn't added is of a kind that is compacted. So its proposal is
--- fixed, or nothing is kept, and no vote comes back.
+-- fixed, or nothing is kept, and no vote is restored.
 module _ {D K G C : Type 0} (m : Meaning D K G C) (same : D → D → Bool) (tracker : Tracker G D)
     (held : Buffered G D) (q : ℕ) (right : IsRight m tracker held q) (fixed : Proposal D)
     (kind : Kind) (takes : replaces same held.selection fixed ≡ true)

@@ -20,7 +20,7 @@ use Rattle.batcher_types.specs.Votes.{is_kind, kind_of, signer_of, is_of_kind, i
 use Rattle.batcher_votes.specs.Tracking.{is_skipped}
 use Rattle.batcher_histories.specs.History.{Event, History, batch_given, cast_votes}
 use Rattle.batcher_histories.specs.FirstVotes.{first_vote, first_votes, is_free}
-use Rattle.batcher_histories.specs.Selection.{selected_proposal, comes_back, is_certified}
+use Rattle.batcher_histories.specs.Selection.{selected_proposal, is_restored, is_certified}
 use Rattle.batcher_histories.specs.Standing.{is_trusted, stood_before, was_invalid, trials, fresh_votes, proven_votes, ready_kind}
 use Rattle.batcher_histories.specs.Stands.{tries_kind}
 use Rattle.batcher_histories.specs.Answers.{MayAnswer, IsPossible}
@@ -199,7 +199,7 @@ module _ {D K G C : Type 0} (x : Setting D K G C) (laws : HasLaws x) where
         let tried = and_parts (stood then v) (not (was_bad then v)) left.1 in
         let before : stood past v ≡ true = stood_already v of_kind.0 tried.0 in
         let its : is_certified then (kind_of v) ≡ false = ap (is_certified then) (is_kind-true (kind_of v) kind of_kind.0) ∙ still in
-        let stayed : comes_back x past event v ≡ false =
+        let stayed : is_restored x past event v ≡ false =
         false_from_ne_true _ (λ back. true≢false (sym before ∙ back_not_tried x laws past event possible.1.1.1 v found back)) in
         let good = or_parts _ (was_bad past v) (sym (invalid_after x past event v) ∙ not-true (was_bad then v) tried.1) in
         and_from _ _ of_kind.0 (and_from _ _ (waited_before x laws past event v its stayed left.0) (and_from _ _ before (ap not good.1)))

@@ -25,7 +25,7 @@ use Rattle.batcher_types.specs.Votes.{has_proposals, is_kind, kind_of, signer_of
 use Rattle.batcher_votes.specs.Tracking.{is_skipped}
 use Rattle.batcher_histories.specs.History.{Event, History, batch_given, own_votes, sent_votes, cast_votes}
 use Rattle.batcher_histories.specs.FirstVotes.{first_vote, first_votes, own_first_votes, is_free}
-use Rattle.batcher_histories.specs.Selection.{comes_back, fixed_proposal, fixing_evidence, is_certified, restored_votes, selected_proposal, votes_restored_by}
+use Rattle.batcher_histories.specs.Selection.{is_restored, fixed_proposal, fixing_evidence, is_certified, restored_votes, selected_proposal, votes_restored_by}
 use Rattle.batcher_histories.specs.Standing.{fresh_votes, holds_vote, is_among, is_ready_by, is_trusted, ready_kind, standing_votes, stood_before, trials}
 use Rattle.batcher_histories.specs.Stands.{tries_kind}
 use Rattle.batcher_histories.specs.Trying.{votes_checked}
@@ -40,7 +40,7 @@ use Rattle.batcher_histories.proofs.History.Laws.{HasLaws}
 use Rattle.batcher_histories.proofs.Memory.Spared.{counted}
 use Rattle.batcher_histories.proofs.History.Past.{among_standing, closed_is_empty, count_fresh, own_stays, restored_after, tried_after}
 use Rattle.batcher_promises.proofs.Runs.Finding.{any_filter}
-use Rattle.batcher_histories.proofs.History.Selection.{certified_before, comes_back_by}
+use Rattle.batcher_histories.proofs.History.Selection.{certified_before, is_restored_by}
 
 -- Counts over votes apart compare as they do at each vote that is found.
 pub counts_within : {G D : Type 0} (p q r s : Vote G D → Bool) (vs : List (Vote G D)) → AreApart vs
@@ -78,7 +78,7 @@ count_implied p q (v ∷ vs) weaker =
     omega (arith, here, rest)
 
 -- What was worked on and what is worked on now, by whether a vote is tried now, stood before, is
--- own, was restored and comes back.
+-- own, was restored, and is so again.
 worked_table : (t s o r b : Bool) → cond (s && not (o && not r)) 1 0 + cond
     (t && not ((o && not r) || s)) 1 0 ≤ cond ((t || s) && not (o && not (b || r))) 1 0 + 0
 worked_table t s o r b = grind arith
@@ -188,7 +188,7 @@ module _ {D K G C : Type 0} (x : Setting D K G C) where
       ≤ cond (is_worked (event ∷ past) v) 1 0 + 0
   worked_after past event v found =
       let now : is_worked (event ∷ past) v ≡ ((is_tried past event v || stood_before (trials x past) v)
-      && not (holds_vote (own_first_votes x past) v && not (comes_back x past event v || holds_vote (restored_votes x past) v))) =
+      && not (holds_vote (own_first_votes x past) v && not (is_restored x past event v || holds_vote (restored_votes x past) v))) =
       ap (λ b. b && not (is_trusted x (event ∷ past) v)) (tried_after x past event v)
       ∙ (ap (λ b. (is_tried past event v || stood_before (trials x past) v) && not (b && not (holds_vote (restored_votes x (event ∷ past)) v)))
       (own_stays x past event v found)
@@ -196,7 +196,7 @@ module _ {D K G C : Type 0} (x : Setting D K G C) where
       (restored_after x past event v found)) in
       subst (λ (b : Bool). cond (is_worked past v) 1 0 + cond (is_worked_at past event v) 1 0 ≤ cond b 1 0 + 0) (sym now)
       (worked_table (is_tried past event v) (stood_before (trials x past) v) (holds_vote (own_first_votes x past) v) (holds_vote (restored_votes x past) v)
-      (comes_back x past event v))
+      (is_restored x past event v))
 
   -- So the batches have processed no more than was worked on.
   pub processed_within : (past : History D K G C) → IsPossible x past → processed_total past
@@ -343,14 +343,14 @@ module _ {D K G C : Type 0} (x : Setting D K G C) where
       (or_cases _ _ (sym (list_any-append (is_vote_of Finalization i) (filter (is_free (first_votes x past)) (own_votes event.0)) (own_first_votes x past))
       ∙ own))
 
-  -- so that an own vote that comes back is a notarize.
+  -- so that an own vote that is restored is a notarize.
   own_back_notarizes : HasLaws x → (past : History D K G C) (event : Event D K G C) (v : Vote G D)
-      → holds_vote (own_first_votes x past) v ≡ true → comes_back x past event v ≡ true
+      → holds_vote (own_first_votes x past) v ≡ true → is_restored x past event v ≡ true
       → is_of_kind Notarization v ≡ true
   own_back_notarizes laws past event (NotarizeVote vote) own back = refl
-  own_back_notarizes laws past event (NullifyVote vote) own back = absurd (false≢true (comes_back_by x laws past event (NullifyVote vote) back).is_new)
+  own_back_notarizes laws past event (NullifyVote vote) own back = absurd (false≢true (is_restored_by x laws past event (NullifyVote vote) back).is_new)
   own_back_notarizes laws past event (FinalizeVote vote) own back =
-      absurd (false≢true (sym (ap is_some (comes_back_by x laws past event (FinalizeVote vote) back).replaced.unfixed)
+      absurd (false≢true (sym (ap is_some (is_restored_by x laws past event (FinalizeVote vote) back).replaced.unfixed)
       ∙ own_finalize_fixes past (signer_of (FinalizeVote vote)) own))
 
   -- whether a vote is an own one that was restored
@@ -380,11 +380,11 @@ module _ {D K G C : Type 0} (x : Setting D K G C) where
       (list_any-append (is_vote_of (kind_of v) (signer_of v)) (filter (is_free (first_votes x past)) (own_votes event.0)) (own_first_votes x past)
       ∙ or_right _ (holds_vote (own_first_votes x past) v) parts.1)
 
-  -- and what is own and restored then was so before, or comes back.
+  -- and what is own and restored then was so before, or is restored now.
   own_restored_by : HasLaws x → (past : History D K G C) (event : Event D K G C) (v : Vote G D)
       → IsAt (first_votes x past) v →
       cond (is_own_restored (event ∷ past) v) 1 0 + 0
-      ≤ cond (comes_back x past event v && is_own_notarize (event ∷ past) v) 1 0 + cond
+      ≤ cond (is_restored x past event v && is_own_notarize (event ∷ past) v) 1 0 + cond
       (is_own_restored past v) 1 0
   own_restored_by laws past event v found =
       either_within _ _ _ (λ both.
@@ -393,7 +393,7 @@ module _ {D K G C : Type 0} (x : Setting D K G C) where
       ⊎_elim
       (λ back. inl (and_from _ _ back (and_from _ _ (own_back_notarizes laws past event v own back) parts.0)))
       (λ before. inr (and_from _ _ own before))
-      (or_cases (comes_back x past event v) (holds_vote (restored_votes x past) v) (sym (restored_after x past event v found) ∙ parts.1)))
+      (or_cases (is_restored x past event v) (holds_vote (restored_votes x past) v) (sym (restored_after x past event v found) ∙ parts.1)))
 
   -- Own votes that were restored are own notarizes that were.
   restored_within : HasLaws x → (past : History D K G C)
@@ -405,10 +405,10 @@ module _ {D K G C : Type 0} (x : Setting D K G C) where
       let stay : count (is_own_notarize past) (restored_votes x past) ≤ count (is_own_notarize (event ∷ past)) (restored_votes x past) =
       count_implied _ _ (restored_votes x past) (own_grows past event) in
       let split : count (is_own_restored (event ∷ past)) (first_votes x past) + count (λ _. false) (first_votes x past)
-      ≤ count (λ v. comes_back x past event v && is_own_notarize (event ∷ past) v) (first_votes x past) + count (is_own_restored past)
+      ≤ count (λ v. is_restored x past event v && is_own_notarize (event ∷ past) v) (first_votes x past) + count (is_own_restored past)
       (first_votes x past) =
       counts_within _ (λ _. false) _ _ (first_votes x past) (firsts_apart x past) (own_restored_by laws past event) in
-      let back = count-filter (is_own_notarize (event ∷ past)) (comes_back x past event) (first_votes x past) in
+      let back = count-filter (is_own_notarize (event ∷ past)) (is_restored x past event) (first_votes x past) in
       let new = new_unrestored past event in
       let firsts = count-append (is_own_restored (event ∷ past)) (new_votes x past event) (first_votes x past) in
       let restored = count-append (is_own_notarize (event ∷ past)) (votes_restored_by x past event) (restored_votes x past) in

@@ -22,7 +22,7 @@ use Rattle.batcher_histories.specs.History.{Event, History, is_made, recorded_ce
 use Rattle.batcher_histories.specs.FirstVotes.{is_free, first_votes, own_first_votes}
 use Rattle.batcher_histories.specs.Selection.{selection_by, forwards, leader_named, leader_of, certificate_of, is_certified, finalized_by, fixing_evidence, fixed_proposal, was_forwarded, leaders_proposal, selection, selected_proposal}
 use Rattle.batcher_histories.specs.Selection.{replacement}
-use Rattle.batcher_histories.specs.Selection.{comes_back, votes_restored_by, restored_votes}
+use Rattle.batcher_histories.specs.Selection.{is_restored, votes_restored_by, restored_votes}
 use Rattle.batcher_histories.specs.Standing.{Trial, stood_before, was_invalid, holds_vote, is_valid, is_counted, counted_votes, valid_votes, waiting_votes, standing_votes, is_trusted, proven_by, fresh_by, is_ready_by, ready_kind_by}
 use Rattle.batcher_histories.specs.Standing.{with_batch}
 use Rattle.batcher_histories.specs.Standing.{trial_of, trials, proven_votes, fresh_votes, ready_kind}
@@ -201,8 +201,8 @@ module _ {D K G C : Type 0} (x : Setting D K G C) where
         ∙ ap (option_and_then (λ p. cond (replaces x.same_digest (selection (in_mode x Releasing) released) p) (Some p) None))
         (evidence_alike a b retained released alike)
 
-    pub back_alike : (vote : Vote G D) → comes_back (in_mode x Retaining) retained a vote
-        ≡ comes_back (in_mode x Releasing) released b vote
+    pub back_alike : (vote : Vote G D) → is_restored (in_mode x Retaining) retained a vote
+        ≡ is_restored (in_mode x Releasing) released b vote
     back_alike vote =
         ap (λ o. is_some_and o (λ p. is_for x.same_digest p vote) && not (is_certified (a ∷ retained) (kind_of vote))) replacement_alike
         ∙ ap (λ c. is_some_and (replacement (in_mode x Releasing) released b) (λ p. is_for x.same_digest p vote) && not c)
@@ -211,8 +211,8 @@ module _ {D K G C : Type 0} (x : Setting D K G C) where
     pub all_back_alike : votes_restored_by (in_mode x Retaining) retained a
         ≡ votes_restored_by (in_mode x Releasing) released b
     all_back_alike =
-        filter_agree _ (comes_back (in_mode x Releasing) released b) back_alike (first_votes (in_mode x Retaining) retained)
-        ∙ ap (filter (comes_back (in_mode x Releasing) released b)) (firsts_alike retained released alike.1.1)
+        filter_agree _ (is_restored (in_mode x Releasing) released b) back_alike (first_votes (in_mode x Retaining) retained)
+        ∙ ap (filter (is_restored (in_mode x Releasing) released b)) (firsts_alike retained released alike.1.1)
 
   pub restored_alike : (retained released : History D K G C) → AreAlike retained released
       → restored_votes (in_mode x Retaining) retained

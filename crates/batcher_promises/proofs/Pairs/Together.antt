@@ -33,7 +33,7 @@ use Rattle.batcher_histories.specs.Steps.{AfterConstruct, kind_tried, forward_an
 use Rattle.batcher_histories.specs.Runs.{Steps}
 use Rattle.batcher_histories.specs.History.{History, is_made, history_after, names_sender, sent_votes, own_votes, batch_given}
 use Rattle.batcher_histories.specs.FirstVotes.{is_free, opposite_vote}
-use Rattle.batcher_histories.specs.Selection.{selection, selected_proposal, is_certified, comes_back}
+use Rattle.batcher_histories.specs.Selection.{selection, selected_proposal, is_certified, is_restored}
 use Rattle.batcher_histories.specs.Standing.{ready_kind, waiting_votes}
 use Rattle.batcher_histories.specs.Trying.{left_verified}
 use Rattle.batcher_histories.specs.Answers.{certificate_answer, network_answer, own_answer}
@@ -268,16 +268,16 @@ module _ {D K G C : Type 0} (x : Setting D K G C) where
           ≡ arrivals (in_mode x Releasing) released kind votes
       arrivals_alike kind votes = ap (λ vs. filter (λ v. is_of_kind kind v && is_free vs v) votes) (firsts_alike x retained released beside.alike)
 
-      -- None of a certified kind comes back.
+      -- None of a certified kind is restored.
       returns_alike : (kind : Kind) → is_certified ((call, b) ∷ released) kind ≡ false →
-          filter (comes_back (in_mode x Retaining) retained (call, a))
+          filter (is_restored (in_mode x Retaining) retained (call, a))
           (of_kind old.tracked.kept kind)
-          ≡ filter (comes_back (in_mode x Releasing) released (call, b))
+          ≡ filter (is_restored (in_mode x Releasing) released (call, b))
           (of_kind other.tracked.kept kind)
       returns_alike kind still =
-          filter_agree _ (comes_back (in_mode x Releasing) released (call, b)) (back_alike x (call, a) (call, b) retained released longer)
+          filter_agree _ (is_restored (in_mode x Releasing) released (call, b)) (back_alike x (call, a) (call, b) retained released longer)
           (of_kind old.tracked.kept kind)
-          ∙ ap (filter (comes_back (in_mode x Releasing) released (call, b))) (kept_alike kind (not_before _ (is_certified released kind) still))
+          ∙ ap (filter (is_restored (in_mode x Releasing) released (call, b))) (kept_alike kind (not_before _ (is_certified released kind) still))
 
       -- No vote of a certified kind waits, so that votes need to be the same of the others alone.
       waits_alike : (kind : Kind) (vs ws : List (Vote G D))
@@ -304,11 +304,11 @@ module _ {D K G C : Type 0} (x : Setting D K G C) where
           ap (λ t. cond t [] (of_kind old.buffered.pending kind) ++ returned ++ arrived) (tries_alike kind)
           ∙ (ap (λ h. cond (tries_kind (in_mode x Releasing) released b kind) [] (of_kind h.pending kind) ++ returned ++ arrived) beside.buffered
           ∙ (ap (λ vs. left ++ vs ++ arrived) (returns_alike kind still)
-          ∙ ap (λ vs. left ++ filter (comes_back (in_mode x Releasing) released (call, b)) (of_kind other.tracked.kept kind) ++ vs)
+          ∙ ap (λ vs. left ++ filter (is_restored (in_mode x Releasing) released (call, b)) (of_kind other.tracked.kept kind) ++ vs)
           (arrivals_alike kind (sent_votes x call)))))
         where
           returned : List (Vote G D)
-          returned = filter (comes_back (in_mode x Retaining) retained (call, a)) (of_kind old.tracked.kept kind)
+          returned = filter (is_restored (in_mode x Retaining) retained (call, a)) (of_kind old.tracked.kept kind)
 
           arrived : List (Vote G D)
           arrived = arrivals (in_mode x Retaining) retained kind (sent_votes x call)

@@ -1,4 +1,4 @@
--- What a construction leaves: no vote comes back, a kind that it doesn't try has no more fresh and
+-- What a construction leaves: no vote is restored, a kind that it doesn't try has no more fresh and
 -- proven votes than before, and
 -- one that it tries is certified, or has no fresh votes and too few proven ones.
 use Rattle.std.proofs.Common.{subst, inl, inr, ◌≡◌, ◌≤◌, ◌<◌, ◌+◌, ℕ, Bool, true, false, not, cond, ◌&&◌, ◌||◌, ◌⊎◌, nat_le, List, [], ◌∷◌, ◌++◌, length, Option, Some, None, is_some, refl, ap, sym, ◌∙◌, arith, ⊎_elim, length-append}
@@ -18,7 +18,7 @@ use Rattle.batcher_histories.specs.Answers.{MayAnswer}
 use Rattle.batcher_votes.specs.Held.{of_kind, Held}
 use Rattle.batcher_histories.specs.History.{Event, History}
 use Rattle.batcher_types.specs.Lists.{count}
-use Rattle.batcher_histories.specs.Selection.{comes_back, fixing_evidence, is_certified, selected_proposal}
+use Rattle.batcher_histories.specs.Selection.{is_restored, fixing_evidence, is_certified, selected_proposal}
 use Rattle.batcher_histories.specs.Setting.{Setting, quorum_in}
 use Rattle.batcher_histories.specs.Standing.{fresh_votes, is_trusted, is_valid, proven_votes, standing_votes, stood_before, trials, waiting_votes, was_invalid}
 use Rattle.batcher_histories.specs.Stands.{tries_kind}
@@ -31,7 +31,7 @@ use Rattle.batcher_histories.proofs.History.Attempts.{given_certified, witnessed
 use Rattle.batcher_histories.proofs.Follow.Buffers.{open_trial, pending_follow, verified_follow}
 use Rattle.batcher_votes.proofs.Constructing.{subject_is}
 use Rattle.batcher_votes.proofs.Counts.{count-append, count-false, count-filter_le, count-true, count_same, keeps_all, length_same}
-use Rattle.batcher_histories.proofs.Follow.Evidence.{IsEvidence, none_comes_back}
+use Rattle.batcher_histories.proofs.Follow.Evidence.{IsEvidence, none_is_restored}
 use Rattle.batcher_histories.proofs.Follow.Frame.{no_evidence, none_back}
 use Rattle.batcher_promises.proofs.Quorums.Held.{Holds}
 use Rattle.batcher_histories.proofs.History.Laws.{HasLaws}
@@ -47,7 +47,7 @@ filter_shorter : {X : Type 0} (p : X → Bool) (xs : List X) → length (filter 
 filter_shorter p xs = omega (arith, count-true xs, count-true (filter p xs), count-filter_le (λ _. true) p xs)
 
 module _ {D K G C : Type 0} (x : Setting D K G C) where
-  -- WHAT COMES BACK
+  -- WHAT IS RESTORED
   -- no standing vote fails to wait
   unwaiting_none : (past : History D K G C) (kind : Kind)
       → count (λ v. not (waits x.same_digest (selected_proposal x past) v))
@@ -123,17 +123,17 @@ module _ {D K G C : Type 0} (x : Setting D K G C) where
   given_back : HasLaws x → (past : History D K G C) (kind : Kind)
       (batch : Batch (Certificate C D)) (c : Certificate C D)
       → AttemptAfter x past kind batch → batch.certificate ≡ Some c
-      → (v : Vote G D) → comes_back x past (constructed x past (Some batch)) v ≡ false
+      → (v : Vote G D) → is_restored x past (constructed x past (Some batch)) v ≡ false
   given_back lawful past kind batch c after given v =
       let is : fixing_evidence (constructed x past (Some batch)) ≡ proposal_in (subject_certified c) =
       ap (λ o. option_or None (option_and_then (λ d. proposal_in (subject_certified d)) (option_or None o))) given in
-      none_comes_back x lawful past (constructed x past (Some batch)) (proposal_in (subject_certified c)) is
+      none_is_restored x lawful past (constructed x past (Some batch)) (proposal_in (subject_certified c)) is
       (given_evidence lawful past kind batch c after given) v
 
-  -- No vote comes back at a construction.
+  -- No vote is restored at a construction.
   none_returns : HasLaws x → (past : History D K G C) (answer : Option (Batch (Certificate C D)))
       → MayAnswer x past ConstructCall (ConstructAnswer answer) →
-      (v : Vote G D) → comes_back x past (constructed x past answer) v ≡ false
+      (v : Vote G D) → is_restored x past (constructed x past answer) v ≡ false
   none_returns lawful past None may v = none_back x past (constructed x past None) refl v
   none_returns lawful past (Some batch) may v =
       ⊎_elim

@@ -372,7 +372,7 @@ pub record WorkedExamples : Type 0 where
       ∷ [])
       ≡ added (notarize 1 1) ∷ CertificateAnswer true ∷ blocked ConflictingNotarize ∷ []
   -- A notarization for another proposal than the leader's brings the finalizes for it back.
-  pub finalizes_come_back :
+  pub finalizes_are_restored :
       answers (four Retaining) (lead 0 ∷ net 0 (notarize 0 1) ∷ net 1 (finalize 1 2) ∷ net 2
       (finalize 2 2) ∷ net 3 (finalize 3 2) ∷ cert (notarization 2) ∷ construct ∷ [])
       ≡ leads ∷ added (notarize 0 1) ∷ added (finalize 1 2) ∷ added (finalize 2 2) ∷ added
@@ -423,7 +423,7 @@ pub record WorkedExamples : Type 0 where
       construct ∷ lead 1 ∷ construct ∷ net 0 (notarize 0 1) ∷ [])
       ≡ added (notarize 1 1) ∷ added (notarize 2 1) ∷ added (notarize 3 1) ∷ no_batch ∷ leads ∷
       batch 3 [] (Some (notarization 1)) false ∷ added (notarize 0 1) ∷ []
-  -- An own finalize fixes its proposal: its own vote is verified, and those that come back are
+  -- An own finalize fixes its proposal: its own vote is verified, and those that are restored are
   -- pending.
   pub own_finalize :
       answers (four Retaining) (lead 0 ∷ net 0 (notarize 0 1) ∷ net 1 (finalize 1 2) ∷ net 2
@@ -452,8 +452,8 @@ pub record WorkedExamples : Type 0 where
       (nullify 1) ∷ added (nullify 2) ∷ added (nullify 3) ∷ added (finalize 0 1)
       ∷ batch 3 (2 ∷ []) None true ∷ batch 3 [] (Some nullification) false ∷ no_batch ∷ no_batch ∷
       added (notarize 3 1) ∷ batch 1 [] (Some (notarization 1)) false ∷ []
-  -- Own notarizes that come back are pending, and are tried like others.
-  pub own_notarizes_come_back :
+  -- Own notarizes that are restored are pending, and are tried like others.
+  pub own_notarizes_are_restored :
       answers (four Retaining) own_round
       ≡ leads ∷ own_added (notarize 0 1) ∷ own_added (notarize 1 2) ∷ own_added (notarize 2 2) ∷
       own_added (notarize 3 2) ∷ own_added (finalize 1 2) ∷ batch 3 [] (Some (notarization 2))
@@ -467,14 +467,14 @@ pub record WorkedExamples : Type 0 where
   -- Another leader than the first is refused.
   pub second_leader : answers (four Retaining) (lead 0 ∷ lead 0 ∷ lead 1 ∷ [])
       ≡ leads ∷ leads ∷ LeaderAnswer (Err LeaderChanged) ∷ []
-  -- A vote that is added, a certificate with which votes come back, a batch and a list of
+  -- A vote that is added, a certificate with which votes are restored, a batch and a list of
   -- participants may need memory; nothing else does.
   pub memory :
       needs (four Retaining) (net 1 (notarize 1 1) ∷ [])
       (net 1 (notarize 1 1) ∷ net 2 (notarize 2 1) ∷ cert (notarization 1) ∷ lead 0 ∷ construct
       ∷ forward 3 ∷ missing 1 ∷ [])
       ≡ false ∷ true ∷ false ∷ false ∷ false ∷ false ∷ true ∷ []
-  pub memory_for_votes_that_come_back :
+  pub memory_for_restored_votes :
       needs (four Retaining) (lead 0 ∷ net 0 (notarize 0 1) ∷ net 1 (finalize 1 2) ∷ [])
       (cert (notarization 1) ∷ cert (notarization 2) ∷ own (finalize 1 1) ∷ own (finalize 2 1) ∷
       [])
@@ -486,8 +486,8 @@ pub record WorkedExamples : Type 0 where
       ≡ false ∷ true ∷ false ∷ []
   pub memory_for_a_batch : needs (round_of 1 Retaining) (own (notarize 0 1) ∷ []) (construct ∷ [])
       ≡ true ∷ []
-  -- Votes that come back stand in the order of their signers, and an own one among the verified.
-  pub votes_come_back_in_order :
+  -- Votes that are restored stand in the order of their signers, and an own one among the verified.
+  pub votes_are_restored_in_order :
       buffers_after (four Retaining) (lead 0 ∷ net 0 (notarize 0 1) ∷ net 2 (finalize 2 2) ∷ net 1
       (finalize 1 2) ∷ []) (holding Finalization (finalize 1 2 ∷ finalize 2 2 ∷ []) [] [])
       (own (finalize 3 2)) Finalization

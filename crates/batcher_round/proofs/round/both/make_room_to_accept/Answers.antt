@@ -7,8 +7,8 @@ use Rattle.batcher_histories.specs.Steps.{is_added}
 use Rattle.std.proofs.lemmas.Bool.{false≢true}
 use Rattle.batcher_histories.proofs.Right.Failed.{no_value}
 use Rattle.batcher_histories.proofs.Right.Own.{kept_outcome}
-use Rattle.batcher_round.proofs.round.make_room_to_accept.Goals as goal
-use Rattle.batcher_round.proofs.round.make_room_to_accept.Goals.{then-is_added+in_ok-make_room, else-is_added}
+use Rattle.batcher_round.proofs.round.both.make_room_to_accept.Goals as goal
+use Rattle.batcher_round.proofs.round.both.make_room_to_accept.Goals.{then-is_added+in_ok-make_room, else-is_added}
 
 pub returns-in_err-make_room_to_fix-clause-to_fix :
     goal.returns-in_err-make_room_to_fix-clause-to_fix

@@ -10,7 +10,7 @@ use Rattle.batcher_histories.specs.Admissions.{admission_of}
 use Rattle.batcher_votes.specs.Buffering.{AddsVote}
 use Rattle.batcher_histories.specs.Steps.{is_kept}
 use Rattle.batcher_histories.proofs.Right.Own.{in_range, admitted, kept_so}
-use Rattle.batcher_round.proofs.round.admit.Goals as goal
+use Rattle.batcher_round.proofs.round.both.admit.Goals as goal
 
 pub returns-clause-answer : goal.returns-clause-answer
 returns-clause-answer g c =

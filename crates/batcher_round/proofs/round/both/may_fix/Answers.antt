@@ -4,7 +4,7 @@ use Rattle.batcher_votes.specs.declared.verifier.ProposalState.{ProposalState}
 use Rattle.batcher_votes.specs.declared.verifier.ProposalState.TheVariants.{Unknown, Leader as LeadersProposal, Certificate as FixedProposal}
 use Rattle.batcher_types.specs.Votes.{same_proposal}
 use Rattle.batcher_votes.specs.Selected.{proposal_of, same_selected}
-use Rattle.batcher_round.proofs.round.may_fix.Goals as goal
+use Rattle.batcher_round.proofs.round.both.may_fix.Goals as goal
 
 module _ {D : Type 0} (same : D → D → Bool) (reflexive : (a : D) → same a a ≡ true) where
   same_self : (p : Proposal D) → same_proposal same p p ≡ true

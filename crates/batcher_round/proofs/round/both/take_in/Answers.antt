@@ -13,7 +13,7 @@ use Rattle.std.proofs.lemmas.Bool.{false≢true}
 use Rattle.batcher_histories.proofs.Right.Failed.{no_value, whichever}
 use Rattle.batcher_histories.proofs.Right.Own.{kept_outcome}
 use Rattle.batcher_votes.proofs.Waits.{not_both}
-use Rattle.batcher_round.proofs.round.take_in.Goals as goal
+use Rattle.batcher_round.proofs.round.both.take_in.Goals as goal
 
 -- a vote that is kept has the room that one of its kind needs
 room_for :

@@ -6,7 +6,7 @@ use Rattle.batcher_votes.specs.declared.verifier.ProposalState.TheVariants.{Unkn
 use Rattle.batcher_votes.specs.Selected.{proposal_of, updated, same_selected, replaces}
 use Rattle.batcher_votes.specs.Held.{of_kind}
 use Rattle.batcher_votes.proofs.Restoring.{replaced_by, fixed_now, room_after, none_came, fixes_alone, within_alone, fixes_both, within_both, once_kept, kinds_kept}
-use Rattle.batcher_round.proofs.round.fix.Goals as goal
+use Rattle.batcher_round.proofs.round.both.fix.Goals as goal
 
 some_fixed : {D : Type 0} (s : ProposalState D) (p : Proposal D)
     → is_some (proposal_of (updated s (FixedProposal p))) ≡ true

@@ -1,7 +1,7 @@
 use Rattle.std.proofs.Common.{◌∙◌, ap, sym, refl, arith}
 use Rattle.batcher_types.specs.declared.messages.Kind.TheVariants.{Notarization, Finalization}
 use Rattle.batcher_votes.specs.Held.{of_kind}
-use Rattle.batcher_round.proofs.round.make_room_to_fix.Goals as goal
+use Rattle.batcher_round.proofs.round.both.make_room_to_fix.Goals as goal
 
 pub returns-in_err-make_room_for-clause-no_memory :
     goal.returns-in_err-make_room_for-clause-no_memory

@@ -3,8 +3,8 @@ use Rattle.batcher_votes.specs.Selected.{proposal_of, fixes}
 use Rattle.batcher_votes.specs.Tracking.{shown, observed_opposite}
 use Rattle.batcher_histories.specs.Steps.{fixed_by}
 use Rattle.batcher_histories.proofs.Right.Own.{fixed_some, fixed_none, own_result_of}
-use Rattle.batcher_round.proofs.round.own_result.Goals as goal
-use Rattle.batcher_round.proofs.round.own_result.Goals.{in-Some, in-None}
+use Rattle.batcher_round.proofs.round.both.own_result.Goals as goal
+use Rattle.batcher_round.proofs.round.both.own_result.Goals.{in-Some, in-None}
 
 -- a test that failed on what was shown
 nothing_shown : {A : Type 0} (o seen : Option A) (test : Bool) → seen ≡ o → test ≡ is_some seen
