@@ -6,14 +6,11 @@
 //! is named by the words in its line, as `100 8 retaining shuffled once`.
 #![tactic(auto)]
 
-mod plain;
-mod plan;
 mod play;
-mod rows;
 
 use crate::play::{Measured, tell_places};
-use crate::rows::{Row, row_named, rows};
 use anyhow::{Result, bail};
+use batcher_rows::rows::{Row, row_named, rows};
 use std::alloc::Global;
 use std::env;
 use std::rt::{Clock, Env};

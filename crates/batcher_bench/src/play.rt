@@ -2,17 +2,18 @@
 
 ghost use Rattle.std.specs.Prelude.{◌≡◌, ◌≤◌, All, IfOk, length};
 ghost use Rattle.batcher.specs.Votes.{round_in, subject_of, subject_certified};
-ghost use Rattle.batcher_bench.specs.Steps.{IsOfRound};
+ghost use Rattle.batcher_rows.specs.Steps.{IsOfRound};
+ghost use Rattle.batcher_rows.specs.declared.plan.TheConstants.{NUMBER};
 
-use crate::plain::{Padded, Plain, Tally, mixed};
-use crate::plan::{NUMBER, Step, names, steps_of};
-use crate::rows::{Mode, Row, Size};
 use anyhow::{Result, ensure};
 use batcher::messages::{Activity, Certificate, Nullification, Sha256Digest, Vote};
 use batcher::positions::Participant;
 use batcher::round::{Admission, Round};
 use batcher::scheme::{Counter, Name};
 use batcher::verifier::Batch;
+use batcher_rows::plain::{Padded, Plain, Tally, mixed};
+use batcher_rows::plan::{NUMBER, Step, names, steps_of};
+use batcher_rows::rows::{Mode, Row, Size};
 use std::alloc::{AllocError, Global};
 use std::fmt;
 use std::rc::Rc;
@@ -129,15 +130,13 @@ pub(crate) fn tell_places(rt: &(impl AllocGlobal + Eprint), row: &Row) -> Result
 fn play_rounds<P: Copy + Eq>(alloc: Global, row: &Row, rounds: u32, padding: P) -> Result<Played> {
     let steps = steps_of(alloc, row, padding)?;
     let scheme = scheme_of(alloc, row, padding)?;
-    let mut round = round_of(alloc, row, scheme.clone()?);
-    let played = play(&mut round, steps.as_slice(), true)?;
+    let played = play_fresh(alloc, row, scheme.clone()?, steps.as_slice(), true)?;
     let counted = Played {
         checksum: 0,
         ..played
     };
     for _ in 0..rounds {
-        let mut round = round_of(alloc, row, scheme.clone()?);
-        let again = play(&mut round, steps.as_slice(), false)?;
+        let again = play_fresh(alloc, row, scheme.clone()?, steps.as_slice(), false)?;
         ensure!(again == counted, "a repetition gave other answers");
     }
     Ok(played)
@@ -154,9 +153,9 @@ fn best_time<P: Copy + Eq>(
     let scheme = scheme_of(rt.alloc(), row, padding)?;
     let mut best = u64::MAX;
     for _ in 0..repetitions(row) {
-        let mut round = round_of(rt.alloc(), row, scheme.clone()?);
+        let scheme = scheme.clone()?;
         let start = Instant::now(rt)?;
-        let again = play(&mut round, steps.as_slice(), true)?;
+        let again = play_fresh(rt.alloc(), row, scheme, steps.as_slice(), true)?;
         let time = start.elapsed(rt)?.as_nanos();
         best = best.min(u64::try_from(time).unwrap_or(u64::MAX));
         ensure!(again == played, "a repetition gave other answers");
@@ -267,6 +266,22 @@ fn play<P: Copy + Eq>(
     Ok(played)
 }
 
+// Plays the steps on a fresh round, and drops it. Nothing else happens where the round stands, so
+// that the prover need not follow it through a caller's returns.
+fn play_fresh<P: Copy + Eq>(
+    alloc: Global,
+    row: &Row,
+    scheme: Rc<Plain<P>>,
+    steps: &[Step<P>],
+    mixes: bool,
+) -> Result<Played, AllocError>
+    requires participants { 1 ≤ length scheme.value.participants }
+    requires steps { All (IsOfRound NUMBER) steps.now }
+{
+    let mut round = round_of(alloc, row, scheme);
+    play(&mut round, steps, mixes)
+}
+
 fn tell_places_of<P: Copy + Eq>(
     rt: &(impl AllocGlobal + Eprint),
     row: &Row,
@@ -274,18 +289,42 @@ fn tell_places_of<P: Copy + Eq>(
 ) -> Result<()> {
     let steps = steps_of(rt.alloc(), row, padding)?;
     let scheme = scheme_of(rt.alloc(), row, padding)?;
+    tell_fresh(rt, row, scheme, steps.as_slice())
+}
+
+// Takes the steps on a fresh round, and drops it, as `play_fresh` does.
+fn tell_fresh<P: Copy + Eq>(
+    rt: &(impl AllocGlobal + Eprint),
+    row: &Row,
+    scheme: Rc<Plain<P>>,
+    steps: &[Step<P>],
+) -> Result<()>
+    requires participants { 1 ≤ length scheme.value.participants }
+    requires steps { All (IsOfRound NUMBER) steps.now }
+{
     let mut round = round_of(rt.alloc(), row, scheme);
+    tell_steps(rt, &mut round, steps)
+}
+
+fn tell_steps<P: Copy + Eq>(
+    rt: &impl Eprint,
+    round: &mut Round<Plain<P>, Sha256Digest>,
+    steps: &[Step<P>],
+) -> Result<()>
+    requires number { round.old.number ≡ NUMBER }
+    requires steps { All (IsOfRound NUMBER) steps.now }
+{
     let mut rng = Counter::new(0);
-    let _ = lead(&mut round);
+    let _ = lead(round);
     eprintln!(rt; "made")?;
-    for step in steps.as_slice() {
+    for step in steps {
         match *step {
             Step::Send(sender, vote) => {
-                let _ = send(&mut round, sender, vote)?;
+                let _ = send(round, sender, vote)?;
             }
             Step::Construct => {
                 eprintln!(rt; "before a construction")?;
-                let _ = construct(&mut round, &mut rng)?;
+                let _ = construct(round, &mut rng)?;
                 eprintln!(rt; "after it")?;
             }
         }
@@ -294,7 +333,7 @@ fn tell_places_of<P: Copy + Eq>(
         round: NUMBER,
         certificate: Tally { count: 0, sum: 0 },
     });
-    let _ = record(&mut round, &nullification)?;
+    let _ = record(round, &nullification)?;
     eprintln!(rt; "after a nullification")?;
     Ok(())
 }

@@ -1,5 +1,0 @@
-use Rattle.std.proofs.lemmas.List.Sorted.{IsPermutation-trans}
-use Rattle.batcher_bench.proofs.plan.shuffle.Goals as goal
-
-pub loop-last-preserved : goal.loop-last-preserved
-loop-last-preserved c = IsPermutation-trans c.args.numbers.now c.loop-last.numbers c.swap.new.self c.loop-last.invariant c.swap.ensures.permutation

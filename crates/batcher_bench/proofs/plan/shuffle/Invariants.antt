@@ -1,5 +1,0 @@
-use Rattle.std.specs.List.Sorted.{IsPermutation}
-use Rattle.batcher_bench.proofs.plan.shuffle.Given as goal
-
-abbrev pub invariant-loop-last : goal.invariant-loop-last
-invariant-loop-last l = IsPermutation l.initial.numbers l.numbers

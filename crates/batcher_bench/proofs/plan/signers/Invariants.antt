@@ -1,6 +1,0 @@
-use Rattle.std.proofs.Common.{◌≡◌}
-use Rattle.std.specs.List.{range_with_len}
-use Rattle.batcher_bench.proofs.plan.signers.Given as goal
-
-abbrev pub invariant-loop-signer : goal.invariant-loop-signer
-invariant-loop-signer l = l.signers.items ≡ range_with_len 0 l.signer

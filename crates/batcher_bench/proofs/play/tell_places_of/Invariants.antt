@@ -1,6 +1,0 @@
-use Rattle.std.proofs.Common.{◌≡◌}
-use Rattle.batcher_bench.specs.declared.plan.TheConstants.{NUMBER}
-use Rattle.batcher_bench.proofs.play.tell_places_of.Given as goal
-
-abbrev pub invariant-loop-step : goal.invariant-loop-step
-invariant-loop-step g l = l.round.number ≡ NUMBER

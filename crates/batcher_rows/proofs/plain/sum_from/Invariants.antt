@@ -1,0 +1,6 @@
+use Rattle.std.proofs.Common.{◌≡◌, take}
+use Rattle.batcher_rows.specs.Plain.{sum_from}
+use Rattle.batcher_rows.proofs.plain.sum_from.Given as goal
+
+abbrev pub invariant-loop-attestation : goal.invariant-loop-attestation
+invariant-loop-attestation g l = l.sum ≡ sum_from l.initial.sum (take l.attestation-index l.attestations)
