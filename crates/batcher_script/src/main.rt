@@ -2,8 +2,6 @@
 #![tactic(auto)]
 
 mod play;
-#[cfg(test)]
-mod tests;
 
 use std::process::ExitCode;
 

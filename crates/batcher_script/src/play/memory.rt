@@ -11,7 +11,7 @@ use std::test::Fail;
 
 /// Scripts in which later calls show what earlier ones have changed.
 const SCRIPTS: [&str; 3] = [
-    // A proposal takes another's place, and finalizes come back.
+    // A proposal takes another's place, and finalizes are restored.
     "round 0 1 4 retaining keyed
 leader 0
 net 0 0 notarize 1 ok

@@ -69,19 +69,36 @@ fn inserts(rt: HostRuntime) -> Result<(), Fail> {
     Ok(())
 }
 
+// Makes room in a map that has none, and once more where memory was refused.
+fn makes_room(
+    rt: &impl Abort,
+    map: &mut AttributableMap<Nullify<[u8; 32]>>,
+) -> Result<(), AllocError> {
+    match map.make_room() {
+        Ok(()) => Ok(()),
+        Err(_) => {
+            assert!(rt; map.is_empty());
+            map.make_room()
+        }
+    }
+}
+
+// Inserts an item that is new, for which there is room.
+fn inserts_at_once(
+    rt: &impl Abort,
+    map: &mut AttributableMap<Nullify<[u8; 32]>>,
+    item: Nullify<[u8; 32]>,
+) {
+    assert_eq!(rt; map.insert(item).ok(), Some(true));
+}
+
 #[test]
 fn room(rt: HostRuntime) -> Result<(), Fail> {
     let alloc = rt.alloc();
     let scheme = keyed_twice(alloc, 2)?;
     let mut map = AttributableMap::new(alloc, 2);
-    match map.make_room() {
-        Ok(()) => {}
-        Err(_) => {
-            assert!(rt; map.is_empty());
-            map.make_room()?;
-        }
-    }
-    assert!(rt; map.insert(nullify(&scheme, 1, true))?);
+    makes_room(&rt, &mut map)?;
+    inserts_at_once(&rt, &mut map, nullify(&scheme, 1, true));
     Ok(())
 }
 
@@ -300,7 +317,7 @@ fn record(
     round.record_certificate(certificate)
 }
 
-// The leader's notarize is for payload 1, and those of the others for payload 2. They come back
+// The leader's notarize is for payload 1, and those of the others for payload 2. They are restored
 // where a certificate fixes it.
 fn replaces_a_proposal(
     rt: &impl Abort,
@@ -318,7 +335,7 @@ fn replaces_a_proposal(
 }
 
 #[test]
-fn votes_come_back(rt: HostRuntime) -> Result<(), Fail> {
+fn votes_are_restored(rt: HostRuntime) -> Result<(), Fail> {
     let alloc = rt.alloc();
     let scheme = keyed_twice(alloc, 4)?;
     let mut round = round_twice(&rt, alloc, 4, true)?;

@@ -1,6 +1,6 @@
 use Rattle.std.proofs.Common.{◌≡◌, ◌&&◌, nat_lt, length, filter, take}
 use Rattle.batcher.specs.Attestations.{failing, signers}
-use Rattle.batcher_script.proofs.tests.schemes.TrustingSchemeDigest.verify_attestations.Given as goal
+use Rattle.batcher_tests.proofs.tests.schemes.TrustingSchemeDigest.verify_attestations.Given as goal
 
 abbrev pub invariant-loop-attestation : goal.invariant-loop-attestation
 invariant-loop-attestation g l = record {

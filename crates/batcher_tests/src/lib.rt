@@ -1,0 +1,5 @@
+//! The tests of the library, apart from the programs, so that they are proved beside them.
+#![tactic(auto)]
+
+#[cfg(test)]
+mod tests;
