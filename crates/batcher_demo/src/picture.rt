@@ -1,0 +1,219 @@
+//! The picture of a network that was played: a row for each validator, a column for each view, and
+//! below it who was blocked, and what became of the votes.
+
+use crate::network::{Checks, Network, Role, SLOWEST, role_of};
+use crate::validator::{
+    AHEAD, BEHIND, Counts, NOTHING, Reason, Seen, VALIDATORS, VIEWS, Validator, leader_of,
+    letter_of,
+};
+use anyhow::Result;
+use batcher::messages::Kind;
+use batcher::positions::quorum;
+use batcher::round::BlockReason;
+use batcher_node::Cause;
+
+fn word_of(role: Role) -> &'static str {
+    match role {
+        Role::Honest => "honest",
+        Role::Equivocates => "equivocates",
+        Role::SignsBadly => "signs badly",
+        Role::Silent => "silent",
+        Role::Floods => "floods",
+    }
+}
+
+/// Draws the network and says what came of it.
+pub(crate) fn draw(rt: &impl Print, seed: u64, network: &Network) -> Result<()> {
+    let steps = network.steps;
+    let needed = quorum(VALIDATORS);
+    print!(rt; "seed {seed}: {VALIDATORS} validators, quorum {needed}, {VIEWS} views, ")?;
+    println!(rt; "{steps} steps; a message takes 1 to {SLOWEST} of them")?;
+    println!(rt; "")?;
+    draw_heading(rt)?;
+    for validator in network.validators.as_slice() {
+        draw_row(rt, validator)?;
+    }
+    draw_total(rt, network, Kind::Notarization, "notarized at")?;
+    draw_total(rt, network, Kind::Nullification, "nullified at")?;
+    draw_total(rt, network, Kind::Finalization, "finalized at")?;
+    println!(rt; "")?;
+    draw_legend(rt)?;
+    println!(rt; "")?;
+    for peer in 0..VALIDATORS {
+        draw_blocks(rt, network, peer)?;
+    }
+    draw_votes(rt, network)?;
+    println!(rt; "")?;
+    draw_checks(rt, &network.checks())
+}
+
+fn draw_heading(rt: &impl Print) -> Result<()> {
+    print!(rt; "              view")?;
+    for view in 1..=VIEWS {
+        print!(rt; "{view:>4} ")?;
+    }
+    println!(rt; "")?;
+    Ok(())
+}
+
+fn draw_row(rt: &impl Print, validator: &Validator) -> Result<()> {
+    let me = validator.me;
+    let role = word_of(role_of(me));
+    print!(rt; "{me:>2} {role:<16}")?;
+    for view in 1..=VIEWS {
+        draw_cell(rt, validator, view)?;
+    }
+    println!(rt; "")?;
+    Ok(())
+}
+
+fn draw_cell(rt: &impl Print, validator: &Validator, view: u64) -> Result<()> {
+    let seen = validator.seen(view);
+    let leads = if leader_of(view) == validator.me {
+        '>'
+    } else {
+        ' '
+    };
+    let own = own_mark(&seen);
+    let made = certified_mark(&seen);
+    let block = if validator.has_blocked_in(view) {
+        '!'
+    } else {
+        ' '
+    };
+    print!(rt; "{leads}{own}{made}{block} ")?;
+    Ok(())
+}
+
+// What it voted for.
+fn own_mark(seen: &Seen) -> char {
+    match (&seen.voted, seen.gave_up) {
+        (Some(proposal), false) => {
+            if letter_of(proposal) == b'a' {
+                'a'
+            } else {
+                'b'
+            }
+        }
+        (Some(proposal), true) => {
+            if letter_of(proposal) == b'a' {
+                'A'
+            } else {
+                'B'
+            }
+        }
+        (None, true) => 'z',
+        (None, false) => '.',
+    }
+}
+
+// What is certified.
+fn certified_mark(seen: &Seen) -> char {
+    if seen.finalized.is_some() {
+        'F'
+    } else if seen.notarized.is_some() && seen.nullified {
+        '*'
+    } else if seen.notarized.is_some() {
+        'N'
+    } else if seen.nullified {
+        '0'
+    } else {
+        '.'
+    }
+}
+
+// At how many validators each view has the certificate.
+fn draw_total(rt: &impl Print, network: &Network, kind: Kind, title: &str) -> Result<()> {
+    print!(rt; "   {title:<15}")?;
+    for view in 1..=VIEWS {
+        let mut count = 0u32;
+        for validator in network.validators.as_slice() {
+            let has = validator.seen(view).has(kind);
+            count = count.saturating_add(u32::from(has));
+        }
+        print!(rt; "{count:>4} ")?;
+    }
+    println!(rt; "")?;
+    Ok(())
+}
+
+fn draw_legend(rt: &impl Print) -> Result<()> {
+    print!(rt; "> leads   a, b notarized that proposal   A, B gave the view up after that")?;
+    println!(rt; "   z gave it up")?;
+    print!(rt; "F finalized   N notarized   0 nullified   * notarized and nullified")?;
+    println!(rt; "   ! blocked somebody")?;
+    Ok(())
+}
+
+// By whom a faulty one is blocked, and anybody who is.
+fn draw_blocks(rt: &impl Print, network: &Network, peer: u32) -> Result<()> {
+    let mut reason = None;
+    for validator in network.validators.as_slice() {
+        reason = reason.or(validator.reason_against(peer));
+    }
+    let role = role_of(peer);
+    if role == Role::Honest && reason.is_none() {
+        return Ok(());
+    }
+    let word = word_of(role);
+    print!(rt; "{peer:>2} {word:<12} blocked by")?;
+    match reason {
+        None => print!(rt; " nobody")?,
+        Some(reason) => {
+            for validator in network.validators.as_slice() {
+                if validator.has_blocked(peer) {
+                    let me = validator.me;
+                    print!(rt; " {me}")?;
+                }
+            }
+            let why = reason_word(&reason);
+            print!(rt; ": {why}")?;
+        }
+    }
+    println!(rt; "")?;
+    Ok(())
+}
+
+fn reason_word(reason: &Reason) -> &'static str {
+    match reason {
+        Reason::Signature => "a construction named its vote as bad",
+        Reason::Node(Cause::Certificate) => "forged certificate",
+        Reason::Node(Cause::Vote(BlockReason::ConflictingNotarize)) => "conflicting notarizes",
+        Reason::Node(Cause::Vote(_)) => "another vote",
+    }
+}
+
+fn draw_votes(rt: &impl Print, network: &Network) -> Result<()> {
+    let mut all = NOTHING;
+    for validator in network.validators.as_slice() {
+        all = all.with(&validator.counts);
+    }
+    let Counts {
+        votes,
+        added,
+        processed,
+        outside,
+        dropped,
+        rounds,
+    } = all;
+    print!(rt; "votes heard {votes}, added {added}, processed {processed}, ")?;
+    println!(rt; "outside of windows {outside}; messages of blocked peers {dropped}")?;
+    print!(rt; "rounds kept at once: {rounds} at most, from {BEHIND} views before the last ")?;
+    println!(rt; "finalized to {AHEAD} beyond the current")?;
+    Ok(())
+}
+
+fn draw_checks(rt: &impl Print, checks: &Checks) -> Result<()> {
+    let finalized = checks.finalized;
+    let agreed = yes_or_no(checks.agreed);
+    let caught = yes_or_no(checks.caught);
+    let spared = yes_or_no(checks.spared);
+    println!(rt; "all honest validators finalized the same {finalized} views: {agreed}")?;
+    println!(rt; "the faulty are blocked by the honest who saw why, and by no others: {caught}")?;
+    println!(rt; "no honest one is blocked by anybody: {spared}")?;
+    Ok(())
+}
+
+fn yes_or_no(holds: bool) -> &'static str {
+    if holds { "yes" } else { "NO" }
+}

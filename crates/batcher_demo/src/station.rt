@@ -1,0 +1,129 @@
+//! A node, with what its validator signs by. Each call stands in a function that promises little,
+//! since what a call promises is carried to its caller's end.
+
+ghost use Rattle.std.specs.Prelude.{◌≡◌};
+
+use anyhow::Result;
+use batcher::messages::{Certificate, Sha256Digest, Subject, Vote};
+use batcher::positions::{Epoch, Participant, Round, View};
+use batcher::round::Admission;
+use batcher::scheme::{AttestationList, Counter, Keyed, Name};
+use batcher::votes::Mode;
+use batcher_node::{Construction, EnterFault, Node, Receipt, Verdict};
+use std::alloc::{AllocError, Global};
+use std::marker::Model;
+use std::rc::Rc;
+
+pub(crate) type AnyVote = Vote<[u8; 32], Sha256Digest>;
+
+pub(crate) type AnyCertificate = Certificate<AttestationList, Sha256Digest>;
+
+const EPOCH: Epoch = Epoch(16);
+
+// The number of a view's round.
+pub(crate) fn numbered(view: u64) -> Round {
+    Round {
+        epoch: EPOCH,
+        view: View(view),
+    }
+}
+
+// The node of a participant. Contracts see it as the index.
+#[derive(Drop)]
+pub(crate) struct Station {
+    node: Node<Keyed<true>, Sha256Digest>,
+    scheme: Rc<Keyed<true>>,
+    me: Participant,
+    rng: Counter,
+}
+
+impl Model for Station {
+    ghost use Rattle.std.specs.Prelude.{◌≡◌, ◌<◌, ℕ, length};
+
+    ghost Value = { ℕ };
+
+    ghost view = { λ s. s.me.0 };
+
+    ghost invariant = { λ s. (s.node.scheme ≡ s.scheme.value)
+        × (s.me.0 < length s.scheme.value.participants) };
+}
+
+impl Station {
+    // There is none for an index that is nobody's.
+    pub(crate) fn new(
+        alloc: Global,
+        scheme: Rc<Keyed<true>>,
+        again: Rc<Keyed<true>>,
+        me: u32,
+        ahead: u64,
+    ) -> Option<Self>
+        requires { again.value ≡ scheme.value }
+    {
+        if me as usize >= scheme.participants.len() {
+            return None;
+        }
+        Some(Station {
+            node: Node::new(alloc, EPOCH, again, View(0), ahead, true),
+            scheme,
+            me: Participant::new(me),
+            rng: Counter::new(0),
+        })
+    }
+
+    pub(crate) fn hear_vote(
+        &mut self,
+        peer: Name,
+        vote: AnyVote,
+    ) -> Result<Receipt<Admission<[u8; 32], Sha256Digest>>, AllocError> {
+        self.node.receive_vote(peer, vote)
+    }
+
+    pub(crate) fn hear_certificate(
+        &mut self,
+        peer: Name,
+        certificate: &AnyCertificate,
+    ) -> Result<Receipt<Verdict>, AllocError> {
+        self.node.receive_certificate(peer, certificate)
+    }
+
+    // Signs a vote and casts it. There is none where its view is outside of the window.
+    pub(crate) fn cast(&mut self, subject: Subject<Sha256Digest>) -> Result<Option<AnyVote>> {
+        let vote = Vote::new(subject, self.scheme.sign(self.me, subject));
+        match self.node.cast_vote(vote) {
+            Ok(Some(_)) => Ok(Some(vote)),
+            Ok(None) => Ok(None),
+            Err(fault) => Err(fault.into()),
+        }
+    }
+
+    pub(crate) fn enter(&mut self, view: u64, leader: u32) -> Result<(), EnterFault> {
+        self.node.enter(View(view), Participant::new(leader))
+    }
+
+    pub(crate) fn finalize(&mut self, view: u64) {
+        self.node.finalize(View(view));
+    }
+
+    pub(crate) fn construct(
+        &mut self,
+    ) -> Result<Option<Construction<AttestationList, Sha256Digest>>, AllocError> {
+        self.node.try_construct(&mut self.rng)
+    }
+
+    pub(crate) fn rounds_kept(&self) -> usize {
+        self.node.rounds_kept()
+    }
+
+    // How many peers the node has blocked by itself.
+    pub(crate) fn blocked(&self) -> usize {
+        self.node.blocked().len()
+    }
+
+    // Whether votes of the view are kept as evidence.
+    pub(crate) fn keeps_evidence(&self, view: u64) -> bool {
+        match self.node.round(View(view)) {
+            Some(round) => round.mode() == Mode::Retaining,
+            None => false,
+        }
+    }
+}
