@@ -1,5 +1,6 @@
 # make run [SCRIPT=file]   plays a script; without one, the first
 # make audit [SCRIPT=file] names who voted both ways in the scripts of one or two nodes; without any, in a fork
+# make demo [SEED=n]       plays a network of validators, four of them faulty, and draws it; without a seed, of 1
 # make bench               plays the rows of the benchmark and takes their time
 # make quick               proves what has changed, and plays all scripts
 # make test                proves everything and runs every test
@@ -8,21 +9,25 @@
 # These come to the shell by the environment, so that a space or a shell character in them does no harm.
 export MAKEFILE_NAMED = $(value MAKEFILE_LIST)
 export SCRIPT_NAMED = $(value SCRIPT)
+export SEED_NAMED = $(value SEED)
 # The folder in which make was called, also where -C leads elsewhere.
 export CALLED_IN = $(value PWD)
 # make would expand what it exports by itself.
-unexport SCRIPT
+unexport SCRIPT SEED
 
 # make begins its list of files with a space.
 TOP = "$$(dirname "$${MAKEFILE_NAMED\# }")"
 
-.PHONY: run audit bench quick test clean
+.PHONY: run audit demo bench quick test clean
 
 run:
 	@$(TOP)/tools/run "$$SCRIPT_NAMED"
 
 audit:
 	@$(TOP)/tools/run "$$SCRIPT_NAMED" batcher_audit
+
+demo:
+	@$(TOP)/tools/build batcher_demo && $(TOP)/crates/batcher_demo/out/batcher_demo "$${SEED_NAMED:-1}"
 
 bench:
 	@$(TOP)/tools/build batcher_bench && $(TOP)/crates/batcher_bench/out/batcher_bench time
