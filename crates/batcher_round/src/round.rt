@@ -293,16 +293,18 @@ impl<S: Scheme<D>, D: Digest> Round<S, D> {
         ensures refused { OnErr result (self.new ≡ self.old) }
         ensures same { SameRound self.old self.new }
     {
-        match self.verifier.participants().index(&sender) {
+        // As a rule a vote comes from its signer, so that one's key is looked at first.
+        let signer = vote.signer();
+        match self.verifier.participants().index_near(&sender, signer) {
             None => Ok(blocked(BlockReason::UnknownParticipant, None)),
             Some(index) => {
-                if index != vote.signer() {
+                if index != signer {
                     return Ok(blocked(mismatch_reason(vote.kind()), None));
                 }
                 let place = self.votes.place(index);
                 match Self::objection(&self.votes, place, &vote) {
                     Some(answer) => Ok(answer),
-                    None => admit(&mut self.verifier, &mut self.votes, place, vote),
+                    None => admit(&mut self.verifier, &mut self.votes, place, &vote),
                 }
             }
         }
@@ -365,10 +367,10 @@ impl<S: Scheme<D>, D: Digest> Round<S, D> {
         ensures same { SameRound self.old self.new }
     {
         let place = self.votes.place(vote.signer());
-        let outcome = own_result(&self.verifier, &self.votes, place, vote)?;
+        let outcome = own_result(&self.verifier, &self.votes, place, &vote)?;
         make_room_to_accept(&mut self.verifier, &mut self.votes, place, &vote, outcome)?;
         may_fix(&mut self.verifier, &self.votes, fixed_by(&vote));
-        take_in(&mut self.verifier, &mut self.votes, place, vote, true)?;
+        take_in(&mut self.verifier, &mut self.votes, place, &vote, true)?;
         Ok((outcome, report_by(outcome, vote)))
     }
 

@@ -412,6 +412,26 @@ module _ {X : Type 0} (key : X → ℕ) where
       let lt : key last < k = grind (arith, nat_tests) in
       λ j d below. lower_than xs k last up some is lt j d below
 
+  -- where the first element is higher, all are
+  pub all_above_first : (xs : List X) (k i : ℕ) (first : X) → IsAscending key xs → 0 < length xs
+      → ((d : X) → first ≡ get_or xs 0 d) → i ≡ key first → nat_lt k i ≡ true
+      → All (λ x. k < key x) xs
+  unfolding IsAscending
+  all_above_first [] k i first up some is e higher = absurd (omega arith)
+  all_above_first (x ∷ xs) k i first up some is e higher =
+      let same = is x in
+      let lt : k < key x = grind (arith, nat_tests) in
+      all_from_rec (λ y. k < key y) (x ∷ xs) (lt, rec_weaker (λ y. key x < key y) (λ y. k < key y) (λ y above. omega (arith, lt, above)) xs up.0)
+
+  -- where all elements are higher, a new one comes first
+  pub first_absent : (xs : List X) (k : ℕ) → All (λ x. k < key x) xs
+      → find (λ x. nat_eq (key x) k) xs ≡ None
+  first_absent xs k above = find_absent xs 0 k (omega arith) (λ j d lt. absurd (omega arith)) (λ j d le lt. above j d lt)
+
+  pub first_insert : (xs : List X) (k : ℕ) (x : X) → All (λ x. k < key x) xs → key x ≡ k
+      → take 0 xs ++ x ∷ drop 0 xs ≡ insert_by key x xs
+  first_insert xs k x above e = insert_at x xs 0 (omega arith) (λ j d lt. absurd (omega arith)) (λ j d le lt. omega (arith, above j d lt))
+
   -- where all elements are lower, a new one comes last
   pub last_absent : (xs : List X) (k : ℕ) → All (λ x. key x < k) xs
       → find (λ x. nat_eq (key x) k) xs ≡ None

@@ -128,6 +128,12 @@ module _ {X : Type 0} (key : X → ℕ) where
         let rest = all_lower xs below.1 in
         rw yes (omega (arith, rest))
 
+  -- the place before all elements, where they are higher
+  pub first_place : (xs : List X) (k : ℕ) → AllByRecursion (λ x. k < key x) xs
+      → find (λ x. nat_eq (key x) k) xs ≡ None → Err 0 ≡ place_of (map key xs) k
+  first_place xs k above absent =
+      absent_place xs k 0 (none_lower xs k (rec_weaker (λ x. k < key x) (λ x. k ≤ key x) (λ x lt. omega (arith, lt)) xs above)) absent
+
   none_found : (xs : List X) (k : ℕ) → AllByRecursion (λ x. k < key x) xs
       → find (λ x. nat_eq (key x) k) xs ≡ None
   none_found [] k h = refl

@@ -7,14 +7,13 @@ use Rattle.batcher_types.specs.declared.messages.Vote.{Vote}
 use Rattle.batcher_types.specs.declared.messages.Kind.{Kind}
 use Rattle.batcher_votes.specs.declared.votes.entry.Seen.{Seen}
 use Rattle.batcher_votes.specs.declared.votes.entry.Seen.TheVariants.{Nothing, Uncompared, Differs, Matches, Kept}
-use Rattle.batcher_votes.specs.declared.votes.entry.Entry.{Entry}
 use Rattle.batcher_types.specs.Ascending.{IsAscending}
 use Rattle.batcher_types.specs.Lists.{count, is_some_and}
 use Rattle.batcher_types.specs.Ordered.{rec_from_all, rec_weaker}
 use Rattle.batcher_types.specs.Votes.{signer_of, is_of_kind, is_vote_of}
 use Rattle.batcher_votes.specs.Held.{PerKind, of_kind}
 use Rattle.batcher_votes.specs.Tracking.{KeepsEach}
-use Rattle.batcher_votes.specs.Entries.{key_of, part, vote_at, kept_part, kept_among, may_say, Fits, tracked_by}
+use Rattle.batcher_votes.specs.Entries.{Entry, key_of, part, vote_at, kept_part, kept_among, may_say, Fits, tracked_by}
 use Rattle.batcher_votes.proofs.Parts.{Of}
 use Rattle.batcher_votes.proofs.Shown.{kept_numbered, kept_kinded, kept_is, kept_says, no_vote}
 use Rattle.batcher_votes.proofs.Recorded.{filter_map-same_each}

@@ -12,7 +12,6 @@ use Rattle.batcher_types.specs.declared.messages.Kind.{Kind}
 use Rattle.batcher_types.specs.declared.messages.Kind.TheVariants.{Notarization, Nullification, Finalization}
 use Rattle.batcher_votes.specs.declared.votes.entry.Seen.{Seen}
 use Rattle.batcher_votes.specs.declared.votes.entry.Seen.TheVariants.{Nothing, Uncompared, Differs, Matches, Kept}
-use Rattle.batcher_votes.specs.declared.votes.entry.Entry.{Entry}
 use Rattle.batcher_votes.specs.declared.votes.Outcome.{Outcome}
 use Rattle.batcher_votes.specs.declared.votes.Outcome.TheVariants.{Added, Duplicate}
 use Rattle.batcher_types.specs.Ascending.{IsAscending, insert_by}
@@ -22,7 +21,7 @@ use Rattle.batcher_types.specs.Ordered.{rec_from_all, all_from_rec, rec_weaker}
 use Rattle.batcher_types.specs.Votes.{kind_of, attestation_of, signer_of, is_kind, is_of_kind, is_vote_of, has_proposals, proposal_in, subject_of, same_proposal, is_for}
 use Rattle.batcher_votes.specs.Held.{PerKind, of_kind, for_each, Facts, Tracked}
 use Rattle.batcher_votes.specs.Tracking.{from_kept, from_facts, is_seen, is_known, observed, kept_vote, no_facts, facts_with, facts_of_kept, recorded_facts, RecordsKind, outcome_by, outcome_of}
-use Rattle.batcher_votes.specs.Entries.{part, with_part, nothing_seen, key_of, seen_in, entry_or_new, put_by, entries_with, has_place, compared, seen_outcome, facts_seen, facts_part, facts_among, with_vote}
+use Rattle.batcher_votes.specs.Entries.{Entry, part, with_part, nothing_seen, key_of, seen_in, entry_or_new, put_by, entries_with, has_place, compared, seen_outcome, facts_seen, facts_part, facts_among, with_vote}
 use Rattle.batcher_votes.specs.Entries.{own_vote, vote_at, kept_part, kept_among, tracked_by, observed_seen, may_say, Fits, IsTracked, tested}
 use Rattle.batcher_types.proofs.Orders.{found_key}
 use Rattle.batcher_votes.proofs.Parts.{Of, shown_by}

@@ -7,13 +7,12 @@ use Rattle.batcher_types.specs.declared.messages.Kind.{Kind}
 use Rattle.batcher_types.specs.declared.messages.Kind.TheVariants.{Notarization, Nullification, Finalization}
 use Rattle.batcher_votes.specs.declared.votes.entry.Seen.{Seen}
 use Rattle.batcher_votes.specs.declared.votes.entry.Seen.TheVariants.{Nothing, Uncompared, Differs, Matches, Kept}
-use Rattle.batcher_votes.specs.declared.votes.entry.Entry.{Entry}
 use Rattle.batcher_types.specs.Lists.{count, is_some_and}
 use Rattle.batcher_types.specs.Ordered.{rec_from_all, all_from_rec, rec_weaker}
 use Rattle.batcher_types.specs.Votes.{is_kind, is_vote_of, has_proposals, signer_of, kind_of}
 use Rattle.batcher_votes.specs.Held.{PerKind, of_kind, Facts}
 use Rattle.batcher_votes.specs.Tracking.{no_facts, facts_with, facts_of_kept, ReleasesKind, SameTracked}
-use Rattle.batcher_votes.specs.Entries.{with_mark, part, with_part, key_of, has_place, compared, facts_seen, facts_part, facts_among, without, own_vote, vote_at, kept_part, kept_among, tracked_by, may_say, Fits, IsTracked}
+use Rattle.batcher_votes.specs.Entries.{Entry, with_mark, part, with_part, key_of, has_place, compared, facts_seen, facts_part, facts_among, without, own_vote, vote_at, kept_part, kept_among, tracked_by, may_say, Fits, IsTracked}
 use Rattle.batcher_votes.specs.Entries.{tested, tested_at, seen_released, entry_released}
 use Rattle.batcher_votes.proofs.Parts.{made_of, filter_map-map_same}
 use Rattle.batcher_votes.proofs.Shown.{both_of, signed, kept_is, facts_is}

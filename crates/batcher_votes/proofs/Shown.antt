@@ -8,13 +8,12 @@ use Rattle.batcher_types.specs.declared.messages.Kind.{Kind}
 use Rattle.batcher_types.specs.declared.messages.Kind.TheVariants.{Notarization, Nullification, Finalization}
 use Rattle.batcher_votes.specs.declared.votes.entry.Seen.{Seen}
 use Rattle.batcher_votes.specs.declared.votes.entry.Seen.TheVariants.{Nothing, Uncompared, Differs, Matches, Kept}
-use Rattle.batcher_votes.specs.declared.votes.entry.Entry.{Entry}
 use Rattle.batcher_types.specs.Ascending.{IsAscending}
 use Rattle.batcher_types.specs.Lists.{is_some_and}
 use Rattle.batcher_types.specs.Votes.{kind_of, signer_of, is_kind, is_of_kind, is_vote_of}
 use Rattle.batcher_votes.specs.Held.{PerKind, of_kind, Facts}
 use Rattle.batcher_votes.specs.Tracking.{Observed, unseen, from_kept, from_facts, is_seen, observed, kept_vote, is_known, no_facts}
-use Rattle.batcher_votes.specs.Entries.{part, key_of, seen_in, facts_seen, facts_part, facts_among, own_vote, vote_at, kept_part, kept_among, tracked_by, observed_seen, may_say}
+use Rattle.batcher_votes.specs.Entries.{Entry, part, key_of, seen_in, facts_seen, facts_part, facts_among, own_vote, vote_at, kept_part, kept_among, tracked_by, observed_seen, may_say}
 use Rattle.batcher_votes.proofs.Parts.{Of, shown_by, find-filter_map}
 
 pub both_of : (a b : Bool) → (a && b) ≡ true → (a ≡ true) × (b ≡ true)

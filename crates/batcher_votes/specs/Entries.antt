@@ -10,7 +10,8 @@ use Rattle.batcher_types.specs.declared.messages.Kind.{Kind}
 use Rattle.batcher_types.specs.declared.messages.Kind.TheVariants.{Notarization, Nullification, Finalization}
 use Rattle.batcher_votes.specs.declared.votes.entry.Seen.{Seen}
 use Rattle.batcher_votes.specs.declared.votes.entry.Seen.TheVariants.{Nothing, Uncompared, Differs, Matches, Kept}
-use Rattle.batcher_votes.specs.declared.votes.entry.Entry.{Entry}
+use Rattle.batcher_votes.specs.declared.votes.entry.Mark.{Mark}
+use Rattle.batcher_votes.specs.declared.votes.entry.Mark.TheVariants.{Nothing as NothingMark, Uncompared as UncomparedMark, Differs as DiffersMark, Matches as MatchesMark, Kept as KeptMark}
 use Rattle.batcher_votes.specs.declared.votes.kept.KeptLists.{KeptLists}
 use Rattle.batcher_votes.specs.declared.votes.Marks.{Marks}
 use Rattle.batcher_votes.specs.declared.votes.Outcome.{Outcome}
@@ -32,6 +33,21 @@ abbrev pub with_mark : Kind → PerKind Bool → PerKind Bool
 with_mark Notarization marks = record marks { notarize = true }
 with_mark Nullification marks = record marks { nullify = true }
 with_mark Finalization marks = record marks { finalize = true }
+
+-- what is known of a signer, by kind
+pub record Entry : Type 0 where
+  pub signer : Participant
+  pub notarize : Seen
+  pub nullify : Seen
+  pub finalize : Seen
+
+-- what a mark says, with the place of the vote that is kept
+abbrev pub seen_by : Mark → ℕ → Seen
+seen_by NothingMark place = Nothing
+seen_by UncomparedMark place = Uncompared
+seen_by DiffersMark place = Differs
+seen_by MatchesMark place = Matches
+seen_by KeptMark place = Kept place
 
 -- what an entry says of a kind
 abbrev pub part : Kind → Entry → Seen

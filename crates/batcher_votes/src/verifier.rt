@@ -165,19 +165,22 @@ impl<S: Scheme<D>, D: Digest> Verifier<S, D> {
             ≤ of_kind self.new.verified_room kind + cond (is_of_kind kind vote && verified) 1 0 }
         ensures same { SameVerifier self.old self.new }
     {
-        self.state.add(vote, verified)
+        let most = self.scheme.participants().len();
+        self.state.add(vote, verified, most)
     }
 
     /// Takes a vote in as `add` does, with the room that it may need. It takes no memory.
-    pub fn take(&mut self, vote: Vote<S::Signature, D>, verified: bool)
+    pub fn take(&mut self, vote: &Vote<S::Signature, D>, verified: bool)
         requires attests { verified ≡ true
-            → (S.meaning self.old.scheme).attests (subject_of vote) (attestation_of vote) ≡ true }
-        requires of_round { is_of_round self.old.number vote ≡ true }
-        requires fresh { is_buffered self.old.holds (kind_of vote) (signer_of vote) ≡ false }
-        requires room { is_dropped D.eq self.old.holds vote ≡ false
-            → 1 ≤ cond verified (of_kind self.old.verified_room (kind_of vote))
-            (of_kind self.old.pending_room (kind_of vote)) }
-        ensures adds { AddsVote D.eq self.old.holds vote verified self.new.holds }
+            → (S.meaning self.old.scheme).attests (subject_of vote.now) (attestation_of vote.now)
+            ≡ true }
+        requires of_round { is_of_round self.old.number vote.now ≡ true }
+        requires fresh { is_buffered self.old.holds (kind_of vote.now) (signer_of vote.now)
+            ≡ false }
+        requires room { is_dropped D.eq self.old.holds vote.now ≡ false
+            → 1 ≤ cond verified (of_kind self.old.verified_room (kind_of vote.now))
+            (of_kind self.old.pending_room (kind_of vote.now)) }
+        ensures adds { AddsVote D.eq self.old.holds vote.now verified self.new.holds }
         ensures same { SameVerifier self.old self.new }
     {
         self.state.take(vote, verified);
@@ -329,7 +332,8 @@ impl<S: Scheme<D>, D: Digest> Verifier<S, D> {
             (of_kind self.old.pending_room kind) → IsOk result }
         ensures same { SameVerifier self.old self.new }
     {
-        self.state.make_room(kind, verified, additional)
+        let most = self.scheme.participants().len();
+        self.state.make_room(kind, verified, additional, most)
     }
 
     /// One attempt at a notarization, with the votes that are buffered, where the kind is ready.

@@ -5,12 +5,11 @@ ghost use Rattle.std.specs.Option.{option_copied, option_map};
 ghost use Rattle.std.specs.Iterator.{YieldsFirst, item_count};
 ghost use Rattle.batcher_types.specs.declared.messages.Kind.{Kind};
 ghost use Rattle.batcher_types.specs.declared.messages.Kind.TheVariants.{Notarization, Nullification, Finalization};
-ghost use Rattle.batcher_votes.specs.declared.votes.entry.Entry.{Entry as TheEntry};
 ghost use Rattle.batcher_types.specs.Ascending.{IsAscending};
 ghost use Rattle.batcher_types.specs.Lists.{is_some_and};
 ghost use Rattle.batcher_types.specs.Votes.{kind_of, attestation_of, waits};
 ghost use Rattle.batcher_votes.specs.Held.{of_kind};
-ghost use Rattle.batcher_votes.specs.Entries.{key_of, part, with_part, seen_in, entries_with, entry_released, votes_in, room_in, vote_at};
+ghost use Rattle.batcher_votes.specs.Entries.{Entry as TheEntry, key_of, part, with_part, seen_in, entries_with, entry_released, votes_in, room_in, vote_at};
 ghost use Rattle.batcher_types.specs.Items.{item_of, place_of};
 
 mod entry;

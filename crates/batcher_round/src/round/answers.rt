@@ -33,8 +33,8 @@ pub(super) fn blocked<G, D>(reason: BlockReason, report: Option<Activity<G, D>>)
 }
 
 // What is answered to a vote that stood against no other, of which this came.
-pub(super) fn admission_of<G: Copy, D: Copy>(outcome: Outcome, vote: Vote<G, D>) -> Admission<G, D>
-    ensures { result ≡ admission_of outcome vote }
+pub(super) fn admission_of<G: Copy, D: Copy>(outcome: Outcome, vote: &Vote<G, D>) -> Admission<G, D>
+    ensures { result ≡ admission_of outcome vote.now }
 {
     match outcome {
         Outcome::Added { .. } => added(vote),
@@ -44,13 +44,13 @@ pub(super) fn admission_of<G: Copy, D: Copy>(outcome: Outcome, vote: Vote<G, D>)
 }
 
 // The vote is added and reported.
-pub(super) fn added<G: Copy, D: Copy>(vote: Vote<G, D>) -> Admission<G, D>
-    ensures { result ≡ addition vote }
+pub(super) fn added<G: Copy, D: Copy>(vote: &Vote<G, D>) -> Admission<G, D>
+    ensures { result ≡ addition vote.now }
 {
     Admission {
         added: true,
         block: None,
-        report: Some(report_of(vote)),
+        report: Some(report_of(*vote)),
     }
 }
 

@@ -47,32 +47,32 @@ pub(super) fn admit<S: Scheme<D>, D: Digest>(
     verifier: &mut Verifier<S, D>,
     votes: &mut VoteTracker<S::Signature, D>,
     place: Place,
-    vote: Vote<S::Signature, D>,
+    vote: &Vote<S::Signature, D>,
 ) -> Result<Admission<S::Signature, D>, AllocError>
     requires right { IsRight (S.meaning verifier.old.scheme) votes.old verifier.old.holds
         verifier.old.quorum }
-    requires place { place ≡ place_of votes.old.signers (signer_of vote) }
+    requires place { place ≡ place_of votes.old.signers (signer_of vote.now) }
     requires unopposed { objection_by (⟦<S as Judge<D>>⟧.of (round_of verifier.old votes.old))
-        (observed_opposite votes.old.holds vote)
-        (observed_like votes.old.holds vote) vote ≡ None }
-    requires range { signer_of vote < length (S.meaning verifier.old.scheme).participants }
-    requires belongs { round_in (subject_of vote) ≡ verifier.old.number }
+        (observed_opposite votes.old.holds vote.now)
+        (observed_like votes.old.holds vote.now) vote.now ≡ None }
+    requires range { signer_of vote.now < length (S.meaning verifier.old.scheme).participants }
+    requires belongs { round_in (subject_of vote.now) ≡ verifier.old.number }
     ensures answer { IfOk result (λ answer. answer
         ≡ admission_by (⟦<S as Judge<D>>⟧.of (round_of verifier.old votes.old))
         (selected_in verifier.old.holds)
-        (observed_like votes.old.holds vote) vote) }
-    ensures spared { is_known votes.old.holds (signer_of vote) ≡ true
-        → of_kind votes.old.holds.compacted (kind_of vote) ≡ true → IsOk result }
+        (observed_like votes.old.holds vote.now) vote.now) }
+    ensures spared { is_known votes.old.holds (signer_of vote.now) ≡ true
+        → of_kind votes.old.holds.compacted (kind_of vote.now) ≡ true → IsOk result }
     ensures no_memory { (admission_by (⟦<S as Judge<D>>⟧.of (round_of verifier.old votes.old))
         (selected_in verifier.old.holds)
-        (observed_like votes.old.holds vote) vote).added ≡ false
+        (observed_like votes.old.holds vote.now) vote.now).added ≡ false
         → IsOk result }
     ensures tracked { OnOk result ((kind : TheKind)
         → RecordsKind D.eq votes.old.holds votes.new.holds
-        (selected_in verifier.old.holds) true vote kind) }
+        (selected_in verifier.old.holds) true vote.now kind) }
     ensures buffered { IfOk result (λ answer. MayAddVote D.eq
-        (answer.added && not (of_kind votes.old.holds.compacted (kind_of vote)))
-        verifier.old.holds vote false verifier.new.holds) }
+        (answer.added && not (of_kind votes.old.holds.compacted (kind_of vote.now)))
+        verifier.old.holds vote.now false verifier.new.holds) }
     ensures refused { OnErr result ((verifier.new.holds ≡ verifier.old.holds)
         × (votes.new.holds ≡ votes.old.holds)) }
     ensures right { IsRight (S.meaning verifier.old.scheme) votes.new verifier.new.holds
@@ -92,22 +92,22 @@ pub(super) fn own_result<S: Scheme<D>, D: Digest>(
     verifier: &Verifier<S, D>,
     votes: &VoteTracker<S::Signature, D>,
     place: Place,
-    vote: Vote<S::Signature, D>,
+    vote: &Vote<S::Signature, D>,
 ) -> Result<Outcome, OwnFault>
-    requires { place ≡ place_of votes.now.signers (signer_of vote) }
-    ensures { result ≡ own_result_by (observed_opposite votes.now.holds vote) (kind_of vote)
-        (outcome_by D.eq (proposal_of (fixes verifier.now.holds.selection (fixed_by vote)))
-        (of_kind votes.now.holds.compacted (kind_of vote))
-        (observed_like votes.now.holds vote) vote) }
+    requires { place ≡ place_of votes.now.signers (signer_of vote.now) }
+    ensures { result ≡ own_result_by (observed_opposite votes.now.holds vote.now) (kind_of vote.now)
+        (outcome_by D.eq (proposal_of (fixes verifier.now.holds.selection (fixed_by vote.now)))
+        (of_kind votes.now.holds.compacted (kind_of vote.now))
+        (observed_like votes.now.holds vote.now) vote.now) }
 {
-    if saw_opposite(votes, place, &vote).is_some() {
+    if saw_opposite(votes, place, vote).is_some() {
         return Err(opposite_fault(vote.kind()));
     }
-    let selected = match fixed_by(&vote) {
+    let selected = match fixed_by(vote) {
         Some(proposal) => verifier.selected_with(proposal),
         None => verifier.proposal().copied(),
     };
-    unopposed_result(vote.kind(), votes.outcome_at(place, &vote, selected))
+    unopposed_result(vote.kind(), votes.outcome_at(place, vote, selected))
 }
 
 // The proposal that an own vote fixes. A finalize does, since the node finalizes a proposal only
@@ -128,43 +128,44 @@ pub(super) fn take_in<S: Scheme<D>, D: Digest>(
     verifier: &mut Verifier<S, D>,
     votes: &mut VoteTracker<S::Signature, D>,
     place: Place,
-    vote: Vote<S::Signature, D>,
+    vote: &Vote<S::Signature, D>,
     verified: bool,
 ) -> Result<Outcome, AllocError>
-    requires place { place ≡ place_of votes.old.signers (signer_of vote) }
+    requires place { place ≡ place_of votes.old.signers (signer_of vote.now) }
     requires right { IsRight (S.meaning verifier.old.scheme) votes.old verifier.old.holds
         verifier.old.quorum }
-    requires range { signer_of vote < length (S.meaning verifier.old.scheme).participants }
-    requires belongs { round_in (subject_of vote) ≡ verifier.old.number }
+    requires range { signer_of vote.now < length (S.meaning verifier.old.scheme).participants }
+    requires belongs { round_in (subject_of vote.now) ≡ verifier.old.number }
     requires attests { verified ≡ true
-        → (S.meaning verifier.old.scheme).attests (subject_of vote) (attestation_of vote) ≡ true }
-    requires room { of_kind votes.old.holds.compacted (kind_of vote) ≡ false
-        → of_kind verifier.old.holds.certified (kind_of vote) ≡ false
+        → (S.meaning verifier.old.scheme).attests (subject_of vote.now) (attestation_of vote.now)
+        ≡ true }
+    requires room { of_kind votes.old.holds.compacted (kind_of vote.now) ≡ false
+        → of_kind verifier.old.holds.certified (kind_of vote.now) ≡ false
         → outcome_of D.eq votes.old.participants votes.old.holds
-        (selected_in verifier.old.holds) vote ≡ AddedOutcome true → 1
-        ≤ cond verified (of_kind verifier.old.verified_room (kind_of vote))
-        (of_kind verifier.old.pending_room (kind_of vote)) }
+        (selected_in verifier.old.holds) vote.now ≡ AddedOutcome true → 1
+        ≤ cond verified (of_kind verifier.old.verified_room (kind_of vote.now))
+        (of_kind verifier.old.pending_room (kind_of vote.now)) }
     ensures outcome { IfOk result (λ outcome. outcome
         ≡ outcome_of D.eq votes.old.participants votes.old.holds
-        (selected_in verifier.old.holds) vote) }
+        (selected_in verifier.old.holds) vote.now) }
     ensures tracked { OnOk result ((kind : TheKind)
         → RecordsKind D.eq votes.old.holds votes.new.holds
-        (selected_in verifier.old.holds) true vote kind) }
+        (selected_in verifier.old.holds) true vote.now kind) }
     ensures buffered { IfOk result (λ outcome. MayAddVote D.eq (is_kept outcome)
-        verifier.old.holds vote verified verifier.new.holds) }
+        verifier.old.holds vote.now verified verifier.new.holds) }
     ensures refused { OnErr result ((verifier.new.holds ≡ verifier.old.holds)
         × (votes.new.holds ≡ votes.old.holds)) }
     ensures right { IsRight (S.meaning verifier.old.scheme) votes.new verifier.new.holds
         verifier.old.quorum }
-    ensures known { is_known votes.old.holds (signer_of vote) ≡ true
-        → of_kind votes.old.holds.compacted (kind_of vote) ≡ true → IsOk result }
-    ensures repeated { is_seen (observed_like votes.old.holds vote) ≡ true
+    ensures known { is_known votes.old.holds (signer_of vote.now) ≡ true
+        → of_kind votes.old.holds.compacted (kind_of vote.now) ≡ true → IsOk result }
+    ensures repeated { is_seen (observed_like votes.old.holds vote.now) ≡ true
         → IsOk result }
-    ensures with_room { HasRoomToRecord votes.old place (kind_of vote) → IsOk result }
+    ensures with_room { HasRoomToRecord votes.old place (kind_of vote.now) → IsOk result }
     ensures same { SameVerifier verifier.old verifier.new }
     ensures mode { SameTracker votes.old votes.new }
 {
-    let outcome = votes.record_at(place, &vote, verifier.proposal())?;
+    let outcome = votes.record_at(place, vote, verifier.proposal())?;
     if is_kept(outcome) {
         verifier.take(vote, verified);
     }

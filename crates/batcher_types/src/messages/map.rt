@@ -15,7 +15,7 @@ use std::marker::Model;
 use std::mem;
 
 // For how many items there is room at first.
-const FIRST_ROOM: usize = 4;
+const FIRST_ROOM: usize = 16;
 
 /// `Ok` of where the item of a signer stands, else `Err` of where it would.
 pub type Place = Result<usize, usize>;
@@ -74,7 +74,7 @@ impl<T: Attributable> AttributableMap<T> {
         match self.place(item.signer()) {
             Ok(_) => Ok(false),
             Err(place) => {
-                make_room_below(&mut self.items, self.participants)?;
+                make_room_below(&mut self.items, 1, self.participants)?;
                 insert_reserved(&mut self.items, place, item);
                 Ok(true)
             }
@@ -133,7 +133,7 @@ impl<T: Attributable> AttributableMap<T> {
         ensures participants { self.new.participants ≡ self.old.participants }
         ensures no_memory { 1 ≤ self.old.room → IsOk result }
     {
-        make_room_below(&mut self.items, self.participants)
+        make_room_below(&mut self.items, 1, self.participants)
     }
 
     /// Puts the item in the place of its signer's, and answers that one. It takes no memory.
@@ -194,8 +194,8 @@ impl<T: Attributable> AttributableMap<T> {
     }
 
     /// Where the signer's item stands, else where it would. Items often come in the order of their
-    /// signers, so the last one is looked at first; and once each signer has one, its item stands
-    /// at the signer's own number, so that is looked at next.
+    /// signers, or in reverse, so the last one and the first are looked at; and once each signer
+    /// has one, its item stands at the signer's own number, so that is looked at next.
     pub fn place(&self, signer: Participant) -> Place
         ensures place { result ≡ place_of (map (λ x. (T.signed_by x).0) self.now.items) signer.0 }
         ensures ascending { IsAscending (λ x. (T.signed_by x).0) self.now.items }
@@ -210,6 +210,8 @@ impl<T: Attributable> AttributableMap<T> {
         let index = usize::from(signer);
         if self.is_below(signer) {
             Err(self.items.len())
+        } else if self.is_above(signer) {
+            Err(0)
         } else if self.is_at(index, signer) {
             Ok(index)
         } else {
@@ -224,6 +226,16 @@ impl<T: Attributable> AttributableMap<T> {
     {
         match self.items.last() {
             Some(last) => last.signer().0 < signer.0,
+            None => true,
+        }
+    }
+
+    // Whether all items are of higher signers.
+    fn is_above(&self, signer: Participant) -> bool
+        ensures { IsTrue result → All (λ x. signer.0 < (T.signed_by x).0) self.now.items }
+    {
+        match self.items.first() {
+            Some(first) => signer.0 < first.signer().0,
             None => true,
         }
     }
@@ -255,20 +267,26 @@ impl<T: Attributable> AttributableMap<T> {
     }
 }
 
-/// Makes room for one more item, of so many at most, and changes nothing else. The room doubles up
-/// to the bound, so that a full list has none to spare. Where there is room it takes no memory.
-pub fn make_room_below<T>(items: &mut Vec<T>, most: usize) -> Result<(), AllocError>
-    ensures room { OnOk result (1 ≤ vec_capacity items.new - vec_len items.new) }
+/// Makes room for so many more items, where there are to be so many at most, and changes nothing
+/// else. The room doubles up to the bound, so that a full list has none to spare. Where there is
+/// room it takes no memory.
+pub fn make_room_below<T>(
+    items: &mut Vec<T>,
+    additional: usize,
+    most: usize,
+) -> Result<(), AllocError>
+    ensures room { OnOk result (additional ≤ vec_capacity items.new - vec_len items.new) }
     ensures items { items.new.items ≡ items.old.items }
     ensures kept { vec_capacity items.old - vec_len items.old
         ≤ vec_capacity items.new - vec_len items.new }
-    ensures no_memory { 1 ≤ vec_capacity items.old - vec_len items.old → IsOk result }
+    ensures no_memory { additional ≤ vec_capacity items.old - vec_len items.old → IsOk result }
 {
     let len = items.len();
-    if len < items.capacity() {
+    if additional <= items.capacity() - len {
         return Ok(());
     }
-    items.reserve_exact(len.max(FIRST_ROOM).min(most.saturating_sub(len)).max(1))
+    let more = len.max(FIRST_ROOM).min(most.saturating_sub(len));
+    items.reserve_exact(more.max(additional))
 }
 
 // Inserts an item at a place. It takes no memory. The test is never true; the compiler concludes

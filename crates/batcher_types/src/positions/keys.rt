@@ -1,6 +1,6 @@
 //! The set of the participants' keys.
 
-ghost use Rattle.std.specs.Prelude.{◌≡◌, ◌<◌, ◌≤◌, ◌^◌, ◌↔◌, List, [], length, IsTrue, IsOk, IfOk, IfSome, slice_get};
+ghost use Rattle.std.specs.Prelude.{◌≡◌, ◌<◌, ◌≤◌, ◌^◌, ◌↔◌, List, [], length, IsTrue, IsOk, IfOk, IfSome, Some, slice_get};
 ghost use Rattle.std.specs.List.{IsDistinct};
 ghost use Rattle.std.specs.List.Sorted.{IsPermutation, IsStrictlySortedBy};
 ghost use Rattle.std.specs.Option.{option_copied};
@@ -92,6 +92,30 @@ impl<P: Copy + Ord> Set<P> {
         match self.keys.binary_search(key) {
             Ok(index) => Some(Participant::from_usize(index)),
             Err(_) => None,
+        }
+    }
+
+    /// The participant with the key, where it is likely to be this one, whose key is looked at
+    /// first.
+    pub fn index_near(&self, key: &P, likely: Participant) -> Option<Participant>
+        ensures index { result ≡ index_of P.cmp self.now key.now }
+        ensures in_range { IfSome result (λ p. p.0 < length self.now) }
+    {
+        if self.is_of(likely, key) {
+            return Some(likely);
+        }
+        self.index(key)
+    }
+
+    // Whether the key is the participant's.
+    fn is_of(&self, participant: Participant, key: &P) -> bool
+        ensures index { IsTrue result → index_of P.cmp self.now key.now ≡ Some participant }
+        ensures in_range { IsTrue result → participant.0 < length self.now }
+    {
+        let index = participant.0 as usize;
+        match self.keys.get(index) {
+            Some(other) => matches!(other.cmp(key), Ordering::Equal),
+            None => false,
         }
     }
 

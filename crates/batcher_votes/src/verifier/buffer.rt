@@ -7,7 +7,7 @@ ghost use Rattle.batcher_votes.specs.Buffering.{attestations_of, first_proposal,
 ghost use Rattle.batcher_votes.specs.Waiting.{may_wait, one_subject_in, spread, fitting};
 
 use crate::votes::KeptVotes;
-use batcher_types::messages::{Attestation, Digest, Proposal, Subject, Vote};
+use batcher_types::messages::{Attestation, Digest, Proposal, Subject, Vote, make_room_below};
 use batcher_types::positions::Participant;
 use std::alloc::{AllocError, Global};
 use std::marker::Model;
@@ -95,15 +95,16 @@ impl<G: Copy, D: Digest> Buffer<G, D> {
         }
     }
 
-    /// Makes room for so many more votes, and changes nothing else.
-    pub(crate) fn make_room(&mut self, additional: usize) -> Result<(), AllocError>
+    /// Makes room for so many more votes, where there are to be so many at most, and changes
+    /// nothing else.
+    pub(crate) fn make_room(&mut self, additional: usize, most: usize) -> Result<(), AllocError>
         ensures room { OnOk result (additional ≤ self.new.room) }
         ensures votes { self.new.votes ≡ self.old.votes }
         ensures kept { self.old.room ≤ self.new.room }
         ensures no_memory { additional ≤ self.old.room → result ≡ Ok tt }
     {
         self.runs.reserve(additional)?;
-        self.attestations.reserve(additional)
+        make_room_below(&mut self.attestations, additional, most)
     }
 
     /// Makes room for so many more votes of one subject, and changes nothing else.
@@ -122,9 +123,8 @@ impl<G: Copy, D: Digest> Buffer<G, D> {
         ensures votes { self.new.votes ≡ self.old.votes ++ vote.now ∷ [] }
         ensures room { self.old.room ≤ self.new.room + 1 }
     {
-        let (subject, attestation) = parts(vote);
-        push_subject(&mut self.runs, subject);
-        let _ = self.attestations.push(attestation);
+        push_subject(&mut self.runs, vote);
+        self.attestations.push_reserved(vote.attestation());
     }
 
     /// Takes votes with one subject to the end. With the room that it asks for it takes no memory.
@@ -189,28 +189,6 @@ impl<G: Copy, D: Digest> Buffer<G, D> {
     }
 }
 
-// What the signer of a vote signs, and its attestation.
-fn parts<G: Copy, D: Copy>(vote: &Vote<G, D>) -> (Subject<D>, Attestation<G>)
-    ensures subject { result.0 ≡ subject_of vote.now }
-    ensures attestation { result.1 ≡ attestation_of vote.now }
-{
-    match vote {
-        Vote::Notarize(vote) => (
-            Subject::Notarize {
-                proposal: vote.proposal,
-            },
-            vote.attestation,
-        ),
-        Vote::Nullify(vote) => (Subject::Nullify { round: vote.round }, vote.attestation),
-        Vote::Finalize(vote) => (
-            Subject::Finalize {
-                proposal: vote.proposal,
-            },
-            vote.attestation,
-        ),
-    }
-}
-
 // Whether there is an attestation of the signer.
 fn has_signer<G>(attestations: &[Attestation<G>], signer: Participant) -> bool
     ensures { result ≡ list_any (λ attestation. attestation.signer.0 == signer.0) attestations.now }
@@ -232,18 +210,30 @@ fn are_same<D: Digest>(one: &Subject<D>, other: &Subject<D>) -> bool
     }
 }
 
-// Takes the subject to the end, to the last run where it has the same.
-fn push_subject<D: Digest>(runs: &mut Vec<Run<D>>, subject: Subject<D>)
+// Whether the vote is for the subject.
+fn is_about<G, D: Digest>(subject: &Subject<D>, vote: &Vote<G, D>) -> bool
+    ensures { result ≡ same_subject D.eq subject.now (subject_of vote.now) }
+{
+    match (subject, vote) {
+        (Subject::Notarize { proposal: p }, Vote::Notarize(vote)) => *p == vote.proposal,
+        (Subject::Nullify { round: r }, Vote::Nullify(vote)) => *r == vote.round,
+        (Subject::Finalize { proposal: p }, Vote::Finalize(vote)) => *p == vote.proposal,
+        _ => false,
+    }
+}
+
+// Takes the vote's subject to the end, to the last run where it has the same.
+fn push_subject<G: Copy, D: Digest>(runs: &mut Vec<Run<D>>, vote: &Vote<G, D>)
     requires { 1 ≤ vec_capacity runs.old - vec_len runs.old }
-    ensures subjects { spread runs.new.items ≡ spread runs.old.items ++ subject ∷ [] }
+    ensures subjects { spread runs.new.items ≡ spread runs.old.items ++ subject_of vote.now ∷ [] }
     ensures room { vec_capacity runs.old - vec_len runs.old
         ≤ vec_capacity runs.new - vec_len runs.new + 1 }
 {
     let len = runs.len();
-    if len > 0 && runs[len - 1].more < usize::MAX && are_same(&runs[len - 1].subject, &subject) {
+    if len > 0 && runs[len - 1].more < usize::MAX && is_about(&runs[len - 1].subject, vote) {
         runs[len - 1].more += 1;
     } else {
-        push_run(runs, subject, 1);
+        push_run(runs, vote.subject(), 1);
     }
 }
 

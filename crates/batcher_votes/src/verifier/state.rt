@@ -62,8 +62,13 @@ impl<G: Copy, D: Digest> Certification<G, D> {
         }
     }
 
-    // Makes room in one of the buffers.
-    fn make_room(&mut self, verified: bool, additional: usize) -> Result<(), AllocError>
+    // Makes room in one of the buffers, for so many votes at most.
+    fn make_room(
+        &mut self,
+        verified: bool,
+        additional: usize,
+        most: usize,
+    ) -> Result<(), AllocError>
         ensures votes { (self.new.complete ≡ self.old.complete)
             × (self.new.pending.votes ≡ self.old.pending.votes)
             × (self.new.verified.votes ≡ self.old.verified.votes) }
@@ -75,9 +80,9 @@ impl<G: Copy, D: Digest> Certification<G, D> {
             → IsOk result }
     {
         if verified {
-            self.verified.make_room(additional)
+            self.verified.make_room(additional, most)
         } else {
-            self.pending.make_room(additional)
+            self.pending.make_room(additional, most)
         }
     }
 
@@ -213,12 +218,13 @@ impl<G: Copy, D: Digest> State<G, D> {
         }
     }
 
-    /// Makes room in one buffer of a kind, and changes nothing else.
+    /// Makes room in one buffer of a kind, for so many votes at most, and changes nothing else.
     pub(crate) fn make_room(
         &mut self,
         kind: Kind,
         verified: bool,
         additional: usize,
+        most: usize,
     ) -> Result<(), AllocError>
         ensures held { held_by self.new ≡ held_by self.old }
         ensures kept { KeepsRoom (pending_room_of self.old) (verified_room_of self.old)
@@ -230,9 +236,9 @@ impl<G: Copy, D: Digest> State<G, D> {
             (of_kind (pending_room_of self.old) kind) → IsOk result }
     {
         match kind {
-            Kind::Notarization => self.notarizes.make_room(verified, additional),
-            Kind::Nullification => self.nullifies.make_room(verified, additional),
-            Kind::Finalization => self.finalizes.make_room(verified, additional),
+            Kind::Notarization => self.notarizes.make_room(verified, additional, most),
+            Kind::Nullification => self.nullifies.make_room(verified, additional, most),
+            Kind::Finalization => self.finalizes.make_room(verified, additional, most),
         }
     }
 
@@ -255,21 +261,21 @@ impl<G: Copy, D: Digest> State<G, D> {
     }
 
     // Takes the vote to the end of one of the buffers of its kind, in which there is room.
-    fn place(&mut self, vote: Vote<G, D>, verified: bool)
-        requires { 1 ≤ cond verified (of_kind (verified_room_of self.old) (kind_of vote))
-            (of_kind (pending_room_of self.old) (kind_of vote)) }
-        ensures places { Places (held_by self.old) vote verified (held_by self.new) }
+    fn place(&mut self, vote: &Vote<G, D>, verified: bool)
+        requires { 1 ≤ cond verified (of_kind (verified_room_of self.old) (kind_of vote.now))
+            (of_kind (pending_room_of self.old) (kind_of vote.now)) }
+        ensures places { Places (held_by self.old) vote.now verified (held_by self.new) }
         ensures pending_room { (kind : TheKind) → of_kind (pending_room_of self.old) kind
-            ≤ of_kind (pending_room_of self.new) kind + cond (is_of_kind kind vote && not verified)
-            1 0 }
+            ≤ of_kind (pending_room_of self.new) kind
+            + cond (is_of_kind kind vote.now && not verified) 1 0 }
         ensures verified_room { (kind : TheKind) → of_kind (verified_room_of self.old) kind
-            ≤ of_kind (verified_room_of self.new) kind + cond (is_of_kind kind vote && verified) 1
-            0 }
+            ≤ of_kind (verified_room_of self.new) kind
+            + cond (is_of_kind kind vote.now && verified) 1 0 }
     {
         match vote {
-            Vote::Notarize(_) => self.notarizes.place(&vote, verified),
-            Vote::Nullify(_) => self.nullifies.place(&vote, verified),
-            Vote::Finalize(_) => self.finalizes.place(&vote, verified),
+            Vote::Notarize(_) => self.notarizes.place(vote, verified),
+            Vote::Nullify(_) => self.nullifies.place(vote, verified),
+            Vote::Finalize(_) => self.finalizes.place(vote, verified),
         }
     }
 
@@ -420,7 +426,13 @@ impl<G: Copy, D: Digest> State<G, D> {
     }
 
     /// Takes a vote in, where it can still count. The leader's notarize selects its proposal.
-    pub(crate) fn add(&mut self, vote: Vote<G, D>, verified: bool) -> Result<(), AllocError>
+    /// Its buffer is to have so many votes at most.
+    pub(crate) fn add(
+        &mut self,
+        vote: Vote<G, D>,
+        verified: bool,
+        most: usize,
+    ) -> Result<(), AllocError>
         requires { (kind : TheKind) → IsTidy D.eq (held_by self.old) kind }
         ensures adds { OnOk result (AddsVote D.eq (held_by self.old) vote verified
             (held_by self.new)) }
@@ -436,28 +448,28 @@ impl<G: Copy, D: Digest> State<G, D> {
             0 }
     {
         if !self.drops(&vote) {
-            self.make_room(vote.kind(), verified, 1)?;
+            self.make_room(vote.kind(), verified, 1, most)?;
         }
-        self.take(vote, verified);
+        self.take(&vote, verified);
         Ok(())
     }
 
     /// Takes a vote in as `add` does, with the room that it may need.
-    pub(crate) fn take(&mut self, vote: Vote<G, D>, verified: bool)
+    pub(crate) fn take(&mut self, vote: &Vote<G, D>, verified: bool)
         requires tidy { (kind : TheKind) → IsTidy D.eq (held_by self.old) kind }
-        requires room { is_dropped D.eq (held_by self.old) vote ≡ false
-            → 1 ≤ cond verified (of_kind (verified_room_of self.old) (kind_of vote))
-            (of_kind (pending_room_of self.old) (kind_of vote)) }
-        ensures adds { AddsVote D.eq (held_by self.old) vote verified (held_by self.new) }
+        requires room { is_dropped D.eq (held_by self.old) vote.now ≡ false
+            → 1 ≤ cond verified (of_kind (verified_room_of self.old) (kind_of vote.now))
+            (of_kind (pending_room_of self.old) (kind_of vote.now)) }
+        ensures adds { AddsVote D.eq (held_by self.old) vote.now verified (held_by self.new) }
         ensures pending_room { (kind : TheKind) → of_kind (pending_room_of self.old) kind
-            ≤ of_kind (pending_room_of self.new) kind + cond (is_of_kind kind vote && not verified)
-            1 0 }
+            ≤ of_kind (pending_room_of self.new) kind
+            + cond (is_of_kind kind vote.now && not verified) 1 0 }
         ensures verified_room { (kind : TheKind) → of_kind (verified_room_of self.old) kind
-            ≤ of_kind (verified_room_of self.new) kind + cond (is_of_kind kind vote && verified) 1
-            0 }
+            ≤ of_kind (verified_room_of self.new) kind
+            + cond (is_of_kind kind vote.now && verified) 1 0 }
     {
-        self.select_by(&vote);
-        if self.needs(&vote) {
+        self.select_by(vote);
+        if self.needs(vote) {
             self.place(vote, verified);
         }
     }

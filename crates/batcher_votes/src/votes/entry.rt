@@ -7,6 +7,7 @@ ghost use Rattle.batcher_votes.specs.Entries.{is_selected_in};
 use crate::votes::Outcome;
 use batcher_types::messages::{Attributable, Digest, Kind, Proposal};
 use batcher_types::positions::Participant;
+use std::marker::Model;
 
 /// What is known of a signer's votes of a kind.
 #[derive(Clone, Copy, Debug, PartialEq, Eq)]
@@ -26,16 +27,43 @@ pub(crate) enum Seen {
     Kept(u32),
 }
 
+// What is known of a signer's votes of a kind, but for the place of the one that is kept.
+#[derive(Clone, Copy)]
+enum Mark {
+    Nothing,
+    Uncompared,
+    Differs,
+    Matches,
+    Kept,
+}
+
 /// What is known of a signer, by kind.
 ///
 /// It is small, since it is moved where a signer's entry comes before others, and all that is left
-/// of votes that are released.
-#[derive(Clone, Copy)]
+/// of votes that are released. So of each kind a mark takes one byte, and a place stands apart from
+/// it, which is read where the mark says that a vote is kept.
+#[derive(Drop)]
 pub(crate) struct Entry {
-    pub(crate) signer: Participant,
-    pub(crate) notarize: Seen,
-    pub(crate) nullify: Seen,
-    pub(crate) finalize: Seen,
+    signer: Participant,
+    notarize_place: u32,
+    nullify_place: u32,
+    finalize_place: u32,
+    notarize: Mark,
+    nullify: Mark,
+    finalize: Mark,
+}
+
+impl Model for Entry {
+    ghost use Rattle.batcher_votes.specs.Entries.{Entry as TheEntry, seen_by};
+
+    ghost Value = { TheEntry };
+
+    ghost view = { λ entry. record {
+      signer = entry.signer;
+      notarize = seen_by entry.notarize entry.notarize_place;
+      nullify = seen_by entry.nullify entry.nullify_place;
+      finalize = seen_by entry.finalize entry.finalize_place;
+    } };
 }
 
 impl Attributable for Entry {
@@ -47,7 +75,33 @@ impl Attributable for Entry {
 }
 
 impl Seen {
-    ghost use Rattle.batcher_votes.specs.Entries.{has_place, compared, seen_outcome};
+    ghost use Rattle.batcher_votes.specs.Entries.{has_place, compared, seen_by, seen_outcome};
+
+    // What a mark says, with the place of the vote that is kept.
+    fn by(mark: Mark, place: u32) -> Self
+        ensures { result ≡ seen_by mark place }
+    {
+        match mark {
+            Mark::Nothing => Seen::Nothing,
+            Mark::Uncompared => Seen::Uncompared,
+            Mark::Differs => Seen::Differs,
+            Mark::Matches => Seen::Matches,
+            Mark::Kept => Seen::Kept(place),
+        }
+    }
+
+    // Its mark, and the place of the vote that is kept, or any.
+    fn parts(self) -> (Mark, u32)
+        ensures { seen_by result.0 result.1 ≡ self }
+    {
+        match self {
+            Seen::Nothing => (Mark::Nothing, 0),
+            Seen::Uncompared => (Mark::Uncompared, 0),
+            Seen::Differs => (Mark::Differs, 0),
+            Seen::Matches => (Mark::Matches, 0),
+            Seen::Kept(place) => (Mark::Kept, place),
+        }
+    }
 
     /// Whether the first vote is kept.
     pub(crate) fn is_kept(self) -> bool
@@ -109,9 +163,12 @@ impl Entry {
     {
         Entry {
             signer,
-            notarize: Seen::Nothing,
-            nullify: Seen::Nothing,
-            finalize: Seen::Nothing,
+            notarize_place: 0,
+            nullify_place: 0,
+            finalize_place: 0,
+            notarize: Mark::Nothing,
+            nullify: Mark::Nothing,
+            finalize: Mark::Nothing,
         }
     }
 
@@ -120,9 +177,9 @@ impl Entry {
         ensures { result ≡ part kind self.now }
     {
         match kind {
-            Kind::Notarization => self.notarize,
-            Kind::Nullification => self.nullify,
-            Kind::Finalization => self.finalize,
+            Kind::Notarization => Seen::by(self.notarize, self.notarize_place),
+            Kind::Nullification => Seen::by(self.nullify, self.nullify_place),
+            Kind::Finalization => Seen::by(self.finalize, self.finalize_place),
         }
     }
 
@@ -130,10 +187,20 @@ impl Entry {
     pub(crate) fn set(&mut self, kind: Kind, seen: Seen)
         ensures { self.new ≡ with_part kind seen self.old }
     {
+        let (mark, place) = seen.parts();
         match kind {
-            Kind::Notarization => self.notarize = seen,
-            Kind::Nullification => self.nullify = seen,
-            Kind::Finalization => self.finalize = seen,
+            Kind::Notarization => {
+                self.notarize = mark;
+                self.notarize_place = place;
+            }
+            Kind::Nullification => {
+                self.nullify = mark;
+                self.nullify_place = place;
+            }
+            Kind::Finalization => {
+                self.finalize = mark;
+                self.finalize_place = place;
+            }
         }
     }
 }

@@ -149,9 +149,9 @@ impl<G: Copy, D: Digest> KeptLists<G, D> {
         ensures no_memory { 1 ≤ of_kind (room_in self.old) kind → IsOk result }
     {
         match kind {
-            Kind::Notarization => make_room_below(&mut self.notarizes, most),
-            Kind::Nullification => make_room_below(&mut self.nullifies, most),
-            Kind::Finalization => make_room_below(&mut self.finalizes, most),
+            Kind::Notarization => make_room_below(&mut self.notarizes, 1, most),
+            Kind::Nullification => make_room_below(&mut self.nullifies, 1, most),
+            Kind::Finalization => make_room_below(&mut self.finalizes, 1, most),
         }
     }
 

@@ -18,28 +18,28 @@ pub returns-in-Some-objection-clause-step : goal.returns-in-Some-objection-claus
 returns-in-Some-objection-clause-step g c =
     let b = c.self.inside in
     let h = c.objection.ensures (g.S.Scheme.meaning b.verifier.scheme) b.verifier.number b.votes.mode in
-    let own = same_number c.in-Some.index.0 c.signer.result.0 (sym c.ne.ensures ∙ c.if-ne.false) ∙ ap (λ p. p.0) c.signer.ensures in
+    let own = same_number c.in-Some.index.0 c.signer-signer.result.0 (sym c.ne.ensures ∙ c.if-ne.false) ∙ ap (λ p. p.0) c.signer-signer.ensures in
     rw (← c.self.view_is)
     (objected _ _ c.args.sender c.in-Some.index c.args.vote c.in-Some-objection.answer
-    (rw (← c.participants.ensures, ← c.in-Some.is) (sym c.index.ensures.index)) own
+    (rw (← c.participants.ensures, ← c.in-Some.is) (sym c.index_near.ensures.index)) own
     (rw (← c.in-Some-objection.is) (sym h)))
 
 pub returns-in-None-objection-clause-step : goal.returns-in-None-objection-clause-step
 returns-in-None-objection-clause-step g c =
     let b = c.self.inside in
     let none = sym (c.objection.ensures (g.S.Scheme.meaning b.verifier.scheme) b.verifier.number b.votes.mode) ∙ c.in-None-objection.is in
-    let own = same_number c.in-Some.index.0 c.signer.result.0 (sym c.ne.ensures ∙ c.if-ne.false) ∙ ap (λ p. p.0) c.signer.ensures in
+    let own = same_number c.in-Some.index.0 c.signer-signer.result.0 (sym c.ne.ensures ∙ c.if-ne.false) ∙ ap (λ p. p.0) c.signer-signer.ensures in
     rw (← c.self.view_is)
-    (unopposed_step _ _ c.args.sender c.in-Some.index c.args.vote (rw (← c.participants.ensures, ← c.in-Some.is) (sym c.index.ensures.index)) own none
+    (unopposed_step _ _ c.args.sender c.in-Some.index c.args.vote (rw (← c.participants.ensures, ← c.in-Some.is) (sym c.index_near.ensures.index)) own none
     _ c.admit.result c.admit.ensures.answer c.admit.ensures.tracked c.admit.ensures.buffered refl)
 
 pub returns-in-None-objection-clause-no_memory : goal.returns-in-None-objection-clause-no_memory
 returns-in-None-objection-clause-no_memory g c =
     let b = c.self.inside in
     let none = sym (c.objection.ensures (g.S.Scheme.meaning b.verifier.scheme) b.verifier.number b.votes.mode) ∙ c.in-None-objection.is in
-    let own = same_number c.in-Some.index.0 c.signer.result.0 (sym c.ne.ensures ∙ c.if-ne.false) ∙ ap (λ p. p.0) c.signer.ensures in
+    let own = same_number c.in-Some.index.0 c.signer-signer.result.0 (sym c.ne.ensures ∙ c.if-ne.false) ∙ ap (λ p. p.0) c.signer-signer.ensures in
     let x = setting (g.S.Scheme.meaning b.verifier.scheme) g.S.PublicKey.Ord.cmp g.S.Signature.PartialEq.eq g.D.PartialEq.eq b.verifier.number b.votes.mode in
-    let sent : sender_in x c.args.sender ≡ Some c.in-Some.index = rw (← c.participants.ensures, ← c.in-Some.is) (sym c.index.ensures.index) in
+    let sent : sender_in x c.args.sender ≡ Some c.in-Some.index = rw (← c.participants.ensures, ← c.in-Some.is) (sym c.index_near.ensures.index) in
     rw (← c.self.view_is)
     (λ not_added. c.admit.ensures.no_memory (ap (λ a. a.added)
     (sym (unopposed_admission x (record { tracked = b.votes.holds; buffered = b.verifier.holds; forwarded = b.forwarded }) c.args.sender c.in-Some.index
@@ -50,10 +50,10 @@ returns-in-None-clause-step g c = search rules
 
 pub returns-then-ne-clause-step : goal.returns-then-ne-clause-step
 returns-then-ne-clause-step g c =
-    let other = not-true (c.in-Some.index.0 == c.signer.result.0) (sym c.ne.ensures ∙ c.if-ne.true) in
+    let other = not-true (c.in-Some.index.0 == c.signer-signer.result.0) (sym c.ne.ensures ∙ c.if-ne.true) in
     rw (← c.self.view_is)
-    (mismatched _ _ c.args.sender c.in-Some.index c.args.vote _ (rw (← c.participants.ensures, ← c.in-Some.is) (sym c.index.ensures.index))
-    (ap (λ n. c.in-Some.index.0 == n) (ap (λ p. p.0) (sym c.signer.ensures)) ∙ other)
+    (mismatched _ _ c.args.sender c.in-Some.index c.args.vote _ (rw (← c.participants.ensures, ← c.in-Some.is) (sym c.index_near.ensures.index))
+    (ap (λ n. c.in-Some.index.0 == n) (ap (λ p. p.0) (sym c.signer-signer.ensures)) ∙ other)
     (c.blocked-then-ne.ensures ∙ ap (λ r. block_for r None) (c.mismatch_reason.ensures ∙ ap mismatch_reason c.kind.ensures)))
 
 pub returns-in-None-clause-meets : goal.returns-in-None-clause-meets
@@ -128,5 +128,5 @@ returns-in-None-objection-clause-needed g c =
     let x = setting (g.S.Scheme.meaning b.verifier.scheme) g.S.PublicKey.Ord.cmp g.S.Signature.PartialEq.eq g.D.PartialEq.eq b.verifier.number b.votes.mode in
     let held : Held g.row.S-Signature.Denot g.row.D.Denot = record { tracked = b.votes.holds; buffered = b.verifier.holds; forwarded = b.forwarded } in
     let no_memory = rw (← c.self.view_is) at (returns-in-None-objection-clause-no_memory g c) in
-    let own = same_number c.in-Some.index.0 c.signer.result.0 (sym c.ne.ensures ∙ c.if-ne.false) ∙ ap (λ p. p.0) c.signer.ensures in
+    let own = same_number c.in-Some.index.0 c.signer-signer.result.0 (sym c.ne.ensures ∙ c.if-ne.false) ∙ ap (λ p. p.0) c.signer-signer.ensures in
     rw (← c.self.view_is) (λ past stands. network_needed x past held c.args.sender c.args.vote c.admit.result stands no_memory c.admit.ensures.spared)

@@ -13,7 +13,7 @@ nothing_shown o seen test shown_is tested failed = ap is_some (sym shown_is) ∙
 
 pub returns : goal.returns
 returns g c =
-    let vote = c.args.vote in
+    let vote = c.args.vote.now in
     let held = c.args.votes.now.holds in
     let selection = c.args.verifier.now.holds.selection in
     let none : is_some (shown (observed_opposite held vote)) ≡ false =

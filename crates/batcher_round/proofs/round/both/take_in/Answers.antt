@@ -31,13 +31,13 @@ room_for same participants held vote copied selected outcome e f kept certified 
 
 pub take-requires-clause-room : goal.take-requires-clause-room
 take-requires-clause-room g c = λ stays.
-    room_for g.D.PartialEq.eq c.args.votes.now.participants c.args.votes.now.holds c.args.vote _ _ c.in_ok-outcome.outcome c.in_ok-outcome.ensures.outcome
+    room_for g.D.PartialEq.eq c.args.votes.now.participants c.args.votes.now.holds c.args.vote.now _ _ c.in_ok-outcome.outcome c.in_ok-outcome.ensures.outcome
     c.proposal.ensures (sym c.is_kept.ensures ∙ c.if-is_kept.true) _ _ stays c.requires.room
 
 pub take-requires-clause-fresh : goal.take-requires-clause-fresh
 take-requires-clause-fresh g c =
     let held = c.args.votes.now.holds in
-    let vote = c.args.vote in
+    let vote = c.args.vote.now in
     let added = sym c.in_ok-outcome.ensures.outcome ∙ kept_outcome c.in_ok-outcome.outcome (sym c.is_kept.ensures ∙ c.if-is_kept.true) in
     let new : IsNew held vote = added_new _ held _ vote c.args.votes.now.participants added in
     not_buffered c.args.verifier.now.holds (kind_of vote) (signer_of vote) (rw new.none at (c.requires.right.within (kind_of vote) (signer_of vote)))
@@ -45,7 +45,7 @@ take-requires-clause-fresh g c =
 pub returns-then-is_kept-clause-right : goal.returns-then-is_kept-clause-right
 returns-then-is_kept-clause-right g c =
     let held = c.args.votes.now.holds in
-    let vote = c.args.vote in
+    let vote = c.args.vote.now in
     let verifier = c.args.verifier.now in
     let added = sym c.in_ok-outcome.ensures.outcome ∙ kept_outcome c.in_ok-outcome.outcome (sym c.is_kept.ensures ∙ c.if-is_kept.true) in
     let new : IsNew held vote = added_new _ held _ vote c.args.votes.now.participants added in
@@ -64,7 +64,7 @@ pub returns-in_err-outcome-clause-with_room : goal.returns-in_err-outcome-clause
 returns-in_err-outcome-clause-with_room g c = λ room. absurd (false≢true (c.in_err-outcome.ensures.with_room room))
 
 pub record_at-requires-clause-range : goal.record_at-requires-clause-range
-record_at-requires-clause-range g c = subst (λ n. signer_of c.args.vote < n) (sym c.requires.right.bound) c.requires.range
+record_at-requires-clause-range g c = subst (λ n. signer_of c.args.vote.now < n) (sym c.requires.right.bound) c.requires.range
 
 pub returns-in_err-outcome-clause-outcome : goal.returns-in_err-outcome-clause-outcome
 returns-in_err-outcome-clause-outcome g c = no_value _ c.from_residual.result c.from_residual.ensures.0
@@ -80,12 +80,12 @@ returns-in_err-outcome-clause-refused g c = whichever c.from_residual.result (re
 
 pub returns-then-is_kept-clause-outcome : goal.returns-then-is_kept-clause-outcome
 returns-then-is_kept-clause-outcome g c =
-    c.in_ok-outcome.ensures.outcome ∙ ap (λ s. outcome_of g.D.PartialEq.eq c.args.votes.now.participants c.args.votes.now.holds s c.args.vote)
+    c.in_ok-outcome.ensures.outcome ∙ ap (λ s. outcome_of g.D.PartialEq.eq c.args.votes.now.participants c.args.votes.now.holds s c.args.vote.now)
     c.proposal.ensures
 
 pub returns-then-is_kept-clause-tracked : goal.returns-then-is_kept-clause-tracked
 returns-then-is_kept-clause-tracked g c = λ kind.
-    subst (λ s. RecordsKind g.D.PartialEq.eq c.args.votes.now.holds c.record_at.new.self.holds s true c.args.vote kind) c.proposal.ensures
+    subst (λ s. RecordsKind g.D.PartialEq.eq c.args.votes.now.holds c.record_at.new.self.holds s true c.args.vote.now kind) c.proposal.ensures
     (c.in_ok-outcome.ensures.records kind)
 
 pub returns-then-is_kept-clause-buffered : goal.returns-then-is_kept-clause-buffered
@@ -93,27 +93,27 @@ returns-then-is_kept-clause-buffered g c =
     let kept = sym c.is_kept.ensures ∙ c.if-is_kept.true in
     let new = c.take.new.self.holds in
     let old = c.args.verifier.now.holds in
-    subst (λ k. MatchBool k (AddsVote g.D.PartialEq.eq old c.args.vote c.args.verified new) (new ≡ old)) (sym kept) c.take.ensures.adds
+    subst (λ k. MatchBool k (AddsVote g.D.PartialEq.eq old c.args.vote.now c.args.verified new) (new ≡ old)) (sym kept) c.take.ensures.adds
 
 pub returns-else-is_kept-clause-outcome : goal.returns-else-is_kept-clause-outcome
 returns-else-is_kept-clause-outcome g c =
-    c.in_ok-outcome.ensures.outcome ∙ ap (λ s. outcome_of g.D.PartialEq.eq c.args.votes.now.participants c.args.votes.now.holds s c.args.vote)
+    c.in_ok-outcome.ensures.outcome ∙ ap (λ s. outcome_of g.D.PartialEq.eq c.args.votes.now.participants c.args.votes.now.holds s c.args.vote.now)
     c.proposal.ensures
 
 pub returns-else-is_kept-clause-tracked : goal.returns-else-is_kept-clause-tracked
 returns-else-is_kept-clause-tracked g c = λ kind.
-    subst (λ s. RecordsKind g.D.PartialEq.eq c.args.votes.now.holds c.record_at.new.self.holds s true c.args.vote kind) c.proposal.ensures
+    subst (λ s. RecordsKind g.D.PartialEq.eq c.args.votes.now.holds c.record_at.new.self.holds s true c.args.vote.now kind) c.proposal.ensures
     (c.in_ok-outcome.ensures.records kind)
 
 pub returns-else-is_kept-clause-buffered : goal.returns-else-is_kept-clause-buffered
 returns-else-is_kept-clause-buffered g c =
     let kept = sym c.is_kept.ensures ∙ c.if-is_kept.false in
     let old = c.args.verifier.now.holds in
-    subst (λ k. MatchBool k (AddsVote g.D.PartialEq.eq old c.args.vote c.args.verified old) (old ≡ old)) (sym kept) refl
+    subst (λ k. MatchBool k (AddsVote g.D.PartialEq.eq old c.args.vote.now c.args.verified old) (old ≡ old)) (sym kept) refl
 
 pub returns-else-is_kept-clause-right : goal.returns-else-is_kept-clause-right
 returns-else-is_kept-clause-right g c =
     let verifier = c.args.verifier.now in
     right_recorded (g.S.Scheme.meaning verifier.scheme) g.D.PartialEq.eq c.args.votes.now c.record_at.new.self verifier.holds verifier.quorum c.requires.right _
-    _ c.args.vote
+    _ c.args.vote.now
     c.in_ok-outcome.ensures.participants c.in_ok-outcome.ensures.mode c.in_ok-outcome.ensures.records

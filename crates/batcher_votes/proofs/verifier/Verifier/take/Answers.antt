@@ -6,7 +6,7 @@ pub invariant_of-self : goal.invariant_of-self
 invariant_of-self g c =
     let v = c.self.inside in
     let m = g.S.Scheme.meaning v.scheme.value in
-    let may : MayJoin m g.D.PartialEq.eq v.round (held_by v.state) c.args.vote c.args.verified
+    let may : MayJoin m g.D.PartialEq.eq v.round (held_by v.state) c.args.vote.now c.args.verified
     =
     record {
       attests = rw (← c.self.view_is) at c.requires.attests;
@@ -15,7 +15,7 @@ invariant_of-self g c =
       fresh = rw (← c.self.view_is)
           at c.requires.fresh;
     } in
-    sound_adds m g.D.PartialEq.eq v.round v.quorum (held_by v.state) (held_by c.take.new.self) c.args.vote c.args.verified c.self.invariant may
+    sound_adds m g.D.PartialEq.eq v.round v.quorum (held_by v.state) (held_by c.take.new.self) c.args.vote.now c.args.verified c.self.invariant may
     c.take.ensures.adds
 
 pub take-requires-clause-tidy : goal.take-requires-clause-tidy

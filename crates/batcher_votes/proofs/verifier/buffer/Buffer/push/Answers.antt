@@ -6,7 +6,7 @@ use Rattle.batcher_votes.proofs.verifier.buffer.Buffer.push.Goals as goal
 
 pub returns-clause-votes : goal.returns-clause-votes
 returns-clause-votes g c =
-    let left = c.push_subject.ensures.subjects ∙ ap (λ s. spread c.self.inside.runs.items ++ s ∷ []) c.parts-subject.ensures.subject in
-    let right : c.push.new.self.items ≡ c.self.inside.attestations.items ++ attestation_of c.args.vote.now ∷ [] = search rules in
+    let left = c.push_subject.ensures.subjects in
+    let right : c.push_reserved.new.self.items ≡ c.self.inside.attestations.items ++ attestation_of c.args.vote.now ∷ [] = search rules in
     rw (← c.self.view_is, left, right)
     (push-from (spread c.self.inside.runs.items) c.self.inside.attestations.items c.args.vote.now c.self.invariant)
