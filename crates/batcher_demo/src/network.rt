@@ -331,10 +331,14 @@ impl Network {
         for (validator, witness) in self.validators.iter().zip(self.witnesses.iter()) {
             if role_of(validator.me) == Role::Honest {
                 let saw = witness.first && witness.second;
-                if validator.has_blocked(2) != saw || !are_just(validator) {
+                let told = validator.has_named(5);
+                if validator.has_blocked(2) != saw
+                    || validator.has_blocked(5) != told
+                    || !are_just(validator)
+                {
                     return false;
                 }
-                named = named.saturating_add(usize::from(validator.has_blocked(5)));
+                named = named.saturating_add(usize::from(told));
             }
         }
         named > 0

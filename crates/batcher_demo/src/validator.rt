@@ -145,6 +145,8 @@ pub(crate) struct Validator {
     // By their views.
     views: Vec<Seen>,
     pub(crate) blocks: Vec<Block>,
+    // Whose votes constructions have named as bad.
+    named: Vec<u32>,
     pub(crate) counts: Counts,
     /// What it is about to send.
     pub(crate) outbox: Vec<Message>,
@@ -165,6 +167,7 @@ impl Validator {
             entered: 0,
             views,
             blocks: Vec::new(alloc),
+            named: Vec::new(alloc),
             counts: NOTHING,
             outbox: Vec::new(alloc),
         })
@@ -181,6 +184,11 @@ impl Validator {
     /// Whether it has blocked a peer.
     pub(crate) fn has_blocked(&self, peer: u32) -> bool {
         self.blocks.iter().any(|b| b.peer == peer)
+    }
+
+    /// Whether a construction of its own has named a vote of a peer as bad.
+    pub(crate) fn has_named(&self, peer: u32) -> bool {
+        self.named.contains(&peer)
     }
 
     /// Whether it has blocked anybody for what was sent in the view.
@@ -358,10 +366,18 @@ impl Validator {
                 fallback: _,
             } = batch;
             self.counts.processed = self.counts.processed.saturating_add(processed);
+            self.note_named(invalid.as_slice())?;
             self.block_signers(view.0, invalid.as_slice())?;
             if let Some(certificate) = certificate {
                 self.keep(certificate)?;
             }
+        }
+        Ok(())
+    }
+
+    fn note_named(&mut self, signers: &[Participant]) -> Result<(), AllocError> {
+        for signer in signers {
+            self.named.push(signer.get())?;
         }
         Ok(())
     }
