@@ -375,19 +375,20 @@ impl Validator {
         Ok(())
     }
 
-    fn note_named(&mut self, signers: &[Participant]) -> Result<(), AllocError> {
-        for signer in signers {
-            self.named.push(signer.get())?;
-        }
-        Ok(())
-    }
-
     // The node leaves it to its caller to block whose votes don't attest.
     fn block_signers(&mut self, view: u64, signers: &[Participant]) -> Result<(), AllocError> {
         for signer in signers {
             if !self.has_blocked(signer.get()) {
                 self.block(signer.get(), view, Reason::Signature)?;
             }
+        }
+        Ok(())
+    }
+
+    // The network checks at its end that whoever was named is blocked.
+    fn note_named(&mut self, signers: &[Participant]) -> Result<(), AllocError> {
+        for signer in signers {
+            self.named.push(signer.get())?;
         }
         Ok(())
     }
