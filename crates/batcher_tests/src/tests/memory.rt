@@ -52,12 +52,13 @@ fn inserts_new(
     Ok(())
 }
 
+// A map begins with room for 16 at most, so with 18 it grows once.
 #[test]
 fn inserts(rt: HostRuntime) -> Result<(), Fail> {
     let alloc = rt.alloc();
-    let scheme = keyed_twice(alloc, 9)?;
-    let mut map = AttributableMap::new(alloc, 9);
-    for signer in 0..9 {
+    let scheme = keyed_twice(alloc, 18)?;
+    let mut map = AttributableMap::new(alloc, 18);
+    for signer in 0..18 {
         let item = nullify(&scheme, signer, true);
         inserts_new(&rt, &mut map, item)?;
         assert!(rt;
@@ -65,7 +66,7 @@ fn inserts(rt: HostRuntime) -> Result<(), Fail> {
             "an insert that answers false takes no memory"
         );
     }
-    assert_eq!(rt; map.len(), 9);
+    assert_eq!(rt; map.len(), 18);
     Ok(())
 }
 
@@ -217,7 +218,8 @@ fn bad_votes(rt: HostRuntime) -> Result<(), Fail> {
     brings_bad_votes(&rt, &mut round, &scheme)
 }
 
-// The leader's notarize selects its proposal. Five votes of a kind follow.
+// The leader's notarize selects its proposal. Seventeen votes of a kind follow, which are a quorum
+// of 25. Lists and buffers begin with room for 16 at most, so each grows once.
 fn brings_a_quorum(
     rt: &impl Abort,
     round: &mut TestRound,
@@ -227,7 +229,7 @@ fn brings_a_quorum(
 ) -> Result<(), Fail> {
     assert!(rt; round.set_leader(Participant::new(0)).is_ok());
     adds(rt, round, vote(scheme, Kind::Notarization, 0))?;
-    for signer in 1..6 {
+    for signer in 1..18 {
         adds(rt, round, vote(scheme, kind, signer))?;
     }
     constructs(rt, round, processed, &[], Some(kind))
@@ -240,18 +242,18 @@ fn certifies(
     kind: Kind,
     processed: usize,
 ) -> Result<(), Fail> {
-    let mut round = round_twice(rt, alloc, 7, false)?;
+    let mut round = round_twice(rt, alloc, 25, false)?;
     brings_a_quorum(rt, &mut round, scheme, kind, processed)
 }
 
 #[test]
 fn certificates(rt: HostRuntime) -> Result<(), Fail> {
-    let scheme = keyed_twice(rt.alloc(), 7)?;
+    let scheme = keyed_twice(rt.alloc(), 25)?;
     // The leader's notarize counts for a notarization too.
     for (kind, processed) in [
-        (Kind::Notarization, 6),
-        (Kind::Nullification, 5),
-        (Kind::Finalization, 5),
+        (Kind::Notarization, 18),
+        (Kind::Nullification, 17),
+        (Kind::Finalization, 17),
     ] {
         certifies(&rt, rt.alloc(), &scheme, kind, processed)?;
     }

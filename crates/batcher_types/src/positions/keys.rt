@@ -95,8 +95,8 @@ impl<P: Copy + Ord> Set<P> {
         }
     }
 
-    /// The participant with the key, where it is likely to be this one, whose key is looked at
-    /// first.
+    /// The participant with the key. The likely one is looked at first, which spares a search where
+    /// it has the key.
     pub fn index_near(&self, key: &P, likely: Participant) -> Option<Participant>
         ensures index { result ≡ index_of P.cmp self.now key.now }
         ensures in_range { IfSome result (λ p. p.0 < length self.now) }
