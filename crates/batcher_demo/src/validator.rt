@@ -385,7 +385,8 @@ impl Validator {
         Ok(())
     }
 
-    // The network checks at its end that whoever was named is blocked.
+    // The network checks at its end that just those who were told so have blocked the one that
+    // signs badly.
     fn note_named(&mut self, signers: &[Participant]) -> Result<(), AllocError> {
         for signer in signers {
             self.named.push(signer.get())?;

@@ -293,7 +293,7 @@ impl<S: Scheme<D>, D: Digest> Round<S, D> {
         ensures refused { OnErr result (self.new ≡ self.old) }
         ensures same { SameRound self.old self.new }
     {
-        // As a rule a vote comes from its signer, so that one's key is looked at first.
+        // As a rule a vote comes from its signer, whose key is therefore looked at first.
         let signer = vote.signer();
         match self.verifier.participants().index_near(&sender, signer) {
             None => Ok(blocked(BlockReason::UnknownParticipant, None)),

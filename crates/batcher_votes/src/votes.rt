@@ -208,7 +208,7 @@ fn release_each<G: Copy, D: Digest>(
 /// The votes of a kind are kept in full, as evidence and for a certificate, until the kind is
 /// compacted. From then on facts of each signer take their place: they tell a repeat from a
 /// conflict, and whether a signer has the selected proposal's block. They stand in the signers'
-/// entries, where the places of the votes were, so a kind is compacted without any memory, and
+/// entries, as the places of the votes did, so a kind is compacted without any memory, and
 /// that of its votes goes back.
 #[derive(Drop)]
 pub struct VoteTracker<G: Copy, D: Digest> {

@@ -267,9 +267,9 @@ impl<T: Attributable> AttributableMap<T> {
     }
 }
 
-/// Makes room for so many more items, where there are to be so many at most, and changes nothing
-/// else. The room doubles up to the bound, so that a full list has none to spare. Where there is
-/// room it takes no memory.
+/// Makes room for `additional` more items in a list that is to hold `most` at most, and changes
+/// nothing else. Where it is asked for one item at a time the room doubles up to the bound, so that
+/// a full list has none to spare. Where there is room it takes no memory.
 pub fn make_room_below<T>(
     items: &mut Vec<T>,
     additional: usize,

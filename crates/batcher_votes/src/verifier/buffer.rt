@@ -2,7 +2,7 @@
 
 ghost use Rattle.std.specs.Prelude.{◌≡◌, ◌+◌, ◌-◌, ◌≤◌, ◌<◌, ◌==◌, ◌++◌, ◌∷◌, [], Some, length, filter, map, replicate, take, OnOk, vec_len, vec_capacity};
 ghost use Rattle.std.specs.List.{list_all, list_any};
-ghost use Rattle.batcher_types.specs.Votes.{signer_of, subject_of, attestation_of, same_subject, waits};
+ghost use Rattle.batcher_types.specs.Votes.{signer_of, subject_of, same_subject, waits};
 ghost use Rattle.batcher_votes.specs.Buffering.{attestations_of, first_proposal, have_one_subject, vote_for};
 ghost use Rattle.batcher_votes.specs.Waiting.{may_wait, one_subject_in, spread, fitting};
 
@@ -95,8 +95,8 @@ impl<G: Copy, D: Digest> Buffer<G, D> {
         }
     }
 
-    /// Makes room for so many more votes, where there are to be so many at most, and changes
-    /// nothing else.
+    /// Makes room for `additional` more votes, where the buffer is to hold `most` at most, and
+    /// changes nothing else.
     pub(crate) fn make_room(&mut self, additional: usize, most: usize) -> Result<(), AllocError>
         ensures room { OnOk result (additional ≤ self.new.room) }
         ensures votes { self.new.votes ≡ self.old.votes }

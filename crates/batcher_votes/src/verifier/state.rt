@@ -62,7 +62,8 @@ impl<G: Copy, D: Digest> Certification<G, D> {
         }
     }
 
-    // Makes room in one of the buffers, for so many votes at most.
+    // Makes room for `additional` more votes in one of the buffers, which is to hold `most` at
+    // most.
     fn make_room(
         &mut self,
         verified: bool,
@@ -218,7 +219,8 @@ impl<G: Copy, D: Digest> State<G, D> {
         }
     }
 
-    /// Makes room in one buffer of a kind, for so many votes at most, and changes nothing else.
+    /// Makes room for `additional` more votes in one buffer of a kind, which is to hold `most` at
+    /// most, and changes nothing else.
     pub(crate) fn make_room(
         &mut self,
         kind: Kind,
@@ -426,7 +428,7 @@ impl<G: Copy, D: Digest> State<G, D> {
     }
 
     /// Takes a vote in, where it can still count. The leader's notarize selects its proposal.
-    /// Its buffer is to have so many votes at most.
+    /// The buffer that takes it is to hold `most` votes at most.
     pub(crate) fn add(
         &mut self,
         vote: Vote<G, D>,

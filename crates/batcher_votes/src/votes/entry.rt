@@ -90,7 +90,7 @@ impl Seen {
         }
     }
 
-    // Its mark, and the place of the vote that is kept, or any.
+    // Its mark, and the place of the vote that is kept, or 0 where none is.
     fn parts(self) -> (Mark, u32)
         ensures { seen_by result.0 result.1 ≡ self }
     {

@@ -141,8 +141,8 @@ impl<G: Copy, D: Digest> KeptLists<G, D> {
         }
     }
 
-    /// Makes room for one more vote of the kind, of so many at most, and changes nothing else.
-    /// Where there is room it takes no memory.
+    /// Makes room for one more vote of the kind, of which there are to be `most` at most, and
+    /// changes nothing else. Where there is room it takes no memory.
     pub(crate) fn make_room(&mut self, kind: Kind, most: usize) -> Result<(), AllocError>
         ensures room { OnOk result (1 ≤ of_kind (room_in self.new) kind) }
         ensures votes { votes_in self.new ≡ votes_in self.old }
