@@ -319,8 +319,8 @@ fn record(
     round.record_certificate(certificate)
 }
 
-// The leader's notarize is for payload 1, and those of seventeen others for payload 2. They are
-// restored where a certificate fixes it, for which there is no room yet.
+// The leader's notarize is for payload 1, and those of the others for payload 2. They are restored
+// where a certificate fixes it.
 fn replaces_a_proposal(
     rt: &impl Abort,
     round: &mut TestRound,
@@ -329,18 +329,18 @@ fn replaces_a_proposal(
 ) -> Result<(), Fail> {
     assert!(rt; round.set_leader(Participant::new(0)).is_ok());
     adds(rt, round, vote(scheme, Kind::Notarization, 0))?;
-    for signer in 1..18 {
+    for signer in 1..4 {
         adds(rt, round, notarize(scheme, signer, 2))?;
     }
     records(rt, round, certificate)?;
-    constructs(rt, round, 17, &[], Some(Kind::Notarization))
+    constructs(rt, round, 3, &[], Some(Kind::Notarization))
 }
 
 #[test]
 fn votes_are_restored(rt: HostRuntime) -> Result<(), Fail> {
     let alloc = rt.alloc();
-    let scheme = keyed_twice(alloc, 25)?;
-    let mut round = round_twice(&rt, alloc, 25, true)?;
+    let scheme = keyed_twice(alloc, 4)?;
+    let mut round = round_twice(&rt, alloc, 4, true)?;
     replaces_a_proposal(&rt, &mut round, &scheme, &finalization(alloc))
 }
 
