@@ -31,6 +31,16 @@ struct Played {
 }
 
 impl Played {
+    // Before any vote.
+    fn nothing(checksum: u64) -> Self {
+        Played {
+            votes: 0,
+            added: 0,
+            certificates: 0,
+            checksum,
+        }
+    }
+
     fn count_vote<P>(&mut self, admission: &Admission<Padded<P>, Sha256Digest>, mixes: bool) {
         self.votes = self.votes.saturating_add(1);
         self.added = self.added.saturating_add(usize::from(admission.added));
@@ -205,15 +215,20 @@ fn lead<P: Copy + Eq>(round: &mut Round<Plain<P>, Sha256Digest>) -> bool
     round.set_leader(Participant::new(0)).is_ok()
 }
 
+// A vote's answer is counted where it stands, so that no copy of it is taken for the layer's work.
 fn send<P: Copy + Eq>(
     round: &mut Round<Plain<P>, Sha256Digest>,
     sender: Name,
     vote: Vote<Padded<P>, Sha256Digest>,
-) -> Result<Admission<Padded<P>, Sha256Digest>, AllocError>
+    played: &mut Played,
+    mixes: bool,
+) -> Result<(), AllocError>
     requires { round_in (subject_of vote) ≡ round.old.number }
     ensures { round.new.number ≡ round.old.number }
 {
-    round.add_network(sender, vote)
+    let admission = round.add_network(sender, vote)?;
+    played.count_vote(&admission, mixes);
+    Ok(())
 }
 
 fn construct<P: Copy + Eq>(
@@ -245,17 +260,11 @@ fn play<P: Copy + Eq>(
 {
     let mut rng = Counter::new(0);
     let is_led = lead(round);
-    let mut played = Played {
-        votes: 0,
-        added: 0,
-        certificates: 0,
-        checksum: u64::from(mixes && is_led),
-    };
+    let mut played = Played::nothing(u64::from(mixes && is_led));
     for step in steps {
         match *step {
             Step::Send(sender, vote) => {
-                let admission = send(round, sender, vote)?;
-                played.count_vote(&admission, mixes);
+                send(round, sender, vote, &mut played, mixes)?;
             }
             Step::Construct => {
                 let batch = construct(round, &mut rng)?;
@@ -315,12 +324,13 @@ fn tell_steps<P: Copy + Eq>(
     requires steps { All (IsOfRound NUMBER) steps.now }
 {
     let mut rng = Counter::new(0);
+    let mut played = Played::nothing(0);
     let _ = lead(round);
     eprintln!(rt; "made")?;
     for step in steps {
         match *step {
             Step::Send(sender, vote) => {
-                let _ = send(round, sender, vote)?;
+                send(round, sender, vote, &mut played, false)?;
             }
             Step::Construct => {
                 eprintln!(rt; "before a construction")?;

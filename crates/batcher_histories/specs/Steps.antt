@@ -1,5 +1,5 @@
 -- What each call of a round answers and changes, by what the round holds alone.
-use Rattle.std.specs.Prelude.{◌≡◌, ◌≤◌, ℕ, Bool, true, false, not, cond, ◌&&◌, ◌||◌, ◌==◌, List, [], ◌++◌, length, Option, Some, None, is_some, Result, Ok, Err, MatchBool, filter, map}
+use Rattle.std.specs.Prelude.{◌≡◌, ◌≤◌, ℕ, Bool, true, false, not, cond, ◌&&◌, ◌||◌, ◌==◌, List, [], length, Option, Some, None, is_some, Result, Ok, Err, MatchBool, filter, map}
 use Rattle.std.specs.List.{range_with_len}
 use Rattle.rand_core.specs.Stream.{Stream}
 use Rattle.batcher_types.specs.declared.positions.Participant.{Participant}
@@ -21,14 +21,14 @@ use Rattle.batcher_votes.specs.declared.verifier.Batch.{Batch}
 use Rattle.batcher_votes.specs.declared.verifier.ProposalState.TheVariants.{Certificate as FixedProposal}
 use Rattle.batcher_votes.specs.declared.verifier.LeaderFault.{LeaderFault}
 use Rattle.batcher_votes.specs.declared.verifier.LeaderFault.TheVariants.{LeaderChanged}
-use Rattle.batcher_types.specs.Lists.{count, is_some_and}
+use Rattle.batcher_types.specs.Lists.{is_some_and}
 use Rattle.batcher_types.specs.Keys.{participant}
 use Rattle.batcher_types.specs.Quorum.{quorum_of}
 use Rattle.batcher_types.specs.Meaning.{Meaning}
 use Rattle.batcher_histories.specs.Setting.{Setting, quorum_in, sender_in}
 use Rattle.batcher_types.specs.Votes.{is_kind, kind_of, signer_of, proposal_in, subject_of, kind_certified, subject_certified, waits}
 use Rattle.batcher_votes.specs.Selected.{proposal_of, is_fixed, updated, fixes, same_selected}
-use Rattle.batcher_votes.specs.Held.{of_kind, Tracked, Buffered, Tracker, Held}
+use Rattle.batcher_votes.specs.Held.{of_kind, Buffered, Tracker, Held}
 use Rattle.batcher_votes.specs.Tracking.{Observed, unseen, in_full, as_facts, is_seen, is_seen_for, observed, observed_opposite, kept_vote, conflicts_with, outcome_by, RecordsKind, ReleasesKind, nothing_tracked, is_released_in}
 use Rattle.batcher_votes.specs.Buffering.{nothing_buffered, AddsVote, SetsLeader, SetsProposal, MayFix, CompletesKind, TriesKind, is_ready, coming_back, selected_in}
 use Rattle.batcher_histories.specs.Admissions.{report_of, addition, refusal, block_for, mismatch_reason, conflict_reason, admission_after, admission_after_facts, admission_beside}

@@ -1,5 +1,4 @@
 -- What a round looks up for a vote.
-use Rattle.std.specs.Prelude.{Option}
 use Rattle.batcher_types.specs.declared.messages.Vote.{Vote}
 use Rattle.batcher_types.specs.Votes.{kind_of, signer_of}
 use Rattle.batcher_votes.specs.Held.{Tracked}

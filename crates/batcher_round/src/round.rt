@@ -33,7 +33,8 @@ mod answers;
 mod both;
 
 use answers::{
-    after_facts, after_opposite, beside, blocked, is_selected_anew, mismatch_reason, report_by,
+    added, admission_of, after_facts, after_opposite, beside, blocked, is_selected_anew,
+    mismatch_reason, report_by,
 };
 pub use batcher_histories::answers::{Admission, BlockReason, OwnFault};
 use batcher_types::messages::{Activity, Certificate, Digest, Kind, Place, Proposal, Vote};
@@ -42,8 +43,8 @@ use batcher_types::scheme::Scheme;
 use batcher_votes::verifier::{Batch, LeaderFault, Verifier};
 use batcher_votes::votes::{Mode, ObservedVote, Outcome, VoteTracker};
 use both::{
-    admit, fixed_by, make_room_to_accept, make_room_to_fix, may_fix, own_result, saw_opposite,
-    settle, take_in,
+    admit, fixed_by, is_first, make_room_to_accept, make_room_to_fix, may_fix, own_result,
+    saw_opposite, settle, take_in,
 };
 use rand_core::CryptoRng;
 use std::alloc::{AllocError, Global};
@@ -295,22 +296,32 @@ impl<S: Scheme<D>, D: Digest> Round<S, D> {
     {
         // As a rule a vote comes from its signer, whose key is therefore looked at first.
         let signer = vote.signer();
-        match self.verifier.participants().index_near(&sender, signer) {
-            None => Ok(blocked(BlockReason::UnknownParticipant, None)),
-            Some(index) => {
-                if index != signer {
-                    return Ok(blocked(mismatch_reason(vote.kind()), None));
-                }
-                let place = self.votes.place(index);
-                match Self::objection(&self.votes, place, &vote) {
-                    Some(answer) => Ok(answer),
-                    None => admit(&mut self.verifier, &mut self.votes, place, &vote),
-                }
+        let Some(index) = self.verifier.participants().index_near(&sender, signer) else {
+            return Ok(blocked(BlockReason::UnknownParticipant, None));
+        };
+        if index != signer {
+            return Ok(blocked(mismatch_reason(vote.kind()), None));
+        }
+        let place = self.votes.place(index);
+        // The answer to the first vote of its kind is made at one place, and so isn't copied on its
+        // way to the caller.
+        if is_first(&self.votes, place, &vote) {
+            admit(&mut self.verifier, &mut self.votes, place, &vote)?;
+            return Ok(added(&vote));
+        }
+        match Self::objection(&self.votes, place, &vote) {
+            Some(answer) => Ok(answer),
+            None => {
+                let outcome = admit(&mut self.verifier, &mut self.votes, place, &vote)?;
+                Ok(admission_of(outcome, &vote))
             }
         }
     }
 
-    // What is answered to a vote that is not to be recorded.
+    // What is answered to a vote that is not to be recorded. It stands apart, since few votes meet
+    // one, and the compiler would otherwise make room for its answer at each vote.
+    #[cold]
+    #[inline(never)]
     fn objection(
         votes: &VoteTracker<S::Signature, D>,
         place: Place,

@@ -5,8 +5,6 @@ use Rattle.std.proofs.lemmas.List.Sums.{AllPass-from_list_all}
 use Rattle.std.specs.List.{AllByRecursion, AllPass, list_all, filter_map, cons_option}
 use Rattle.batcher_types.specs.declared.messages.Vote.{Vote}
 use Rattle.batcher_types.specs.declared.messages.Kind.{Kind}
-use Rattle.batcher_votes.specs.declared.votes.entry.Seen.{Seen}
-use Rattle.batcher_votes.specs.declared.votes.entry.Seen.TheVariants.{Nothing, Uncompared, Differs, Matches, Kept}
 use Rattle.batcher_types.specs.Ascending.{IsAscending}
 use Rattle.batcher_types.specs.Lists.{count, is_some_and}
 use Rattle.batcher_types.specs.Ordered.{rec_from_all, rec_weaker}

@@ -2,7 +2,7 @@
 use Rattle.std.proofs.Common.{◌≡◌, ◌<◌, ◌∙◌, ◌==◌, ◌+◌, ◌^◌, ℕ, suc, zero, Bool, true, false, not, cond, nat_eq, nat_lt, ◌&&◌, ◌||◌, List, [], ◌∷◌, ◌++◌, length, get_or, set, find, Option, Some, None, Result, Ok, Err, is_some}
 use Rattle.std.proofs.Common.{map, refl, ap, sym, subst, arith, length-append}
 use Rattle.std.proofs.lemmas.Bool.Decides.{nat_tests}
-use Rattle.std.specs.List.{All, AllByRecursion, AllPass, filter_map, cons_option, slice_get}
+use Rattle.std.specs.List.{AllByRecursion, AllPass, filter_map, slice_get}
 use Rattle.std.specs.Prelude.{IfErr}
 use Rattle.batcher_types.specs.declared.positions.Participant.{Participant}
 use Rattle.batcher_types.specs.declared.messages.Proposal.{Proposal}
@@ -12,21 +12,20 @@ use Rattle.batcher_types.specs.declared.messages.Kind.{Kind}
 use Rattle.batcher_types.specs.declared.messages.Kind.TheVariants.{Notarization, Nullification, Finalization}
 use Rattle.batcher_votes.specs.declared.votes.entry.Seen.{Seen}
 use Rattle.batcher_votes.specs.declared.votes.entry.Seen.TheVariants.{Nothing, Uncompared, Differs, Matches, Kept}
-use Rattle.batcher_votes.specs.declared.votes.Outcome.{Outcome}
 use Rattle.batcher_votes.specs.declared.votes.Outcome.TheVariants.{Added, Duplicate}
 use Rattle.batcher_types.specs.Ascending.{IsAscending, insert_by}
 use Rattle.batcher_types.specs.Items.{place_of}
-use Rattle.batcher_types.specs.Lists.{count, is_some_and, exactly_one}
+use Rattle.batcher_types.specs.Lists.{is_some_and, exactly_one}
 use Rattle.batcher_types.specs.Ordered.{rec_from_all, all_from_rec, rec_weaker}
-use Rattle.batcher_types.specs.Votes.{kind_of, attestation_of, signer_of, is_kind, is_of_kind, is_vote_of, has_proposals, proposal_in, subject_of, same_proposal, is_for}
+use Rattle.batcher_types.specs.Votes.{kind_of, attestation_of, signer_of, is_kind, is_of_kind, is_vote_of, has_proposals, same_proposal, is_for}
 use Rattle.batcher_votes.specs.Held.{PerKind, of_kind, for_each, Facts, Tracked}
-use Rattle.batcher_votes.specs.Tracking.{from_kept, from_facts, is_seen, is_known, observed, kept_vote, no_facts, facts_with, facts_of_kept, recorded_facts, RecordsKind, outcome_by, outcome_of}
-use Rattle.batcher_votes.specs.Entries.{Entry, part, with_part, nothing_seen, key_of, seen_in, entry_or_new, put_by, entries_with, has_place, compared, seen_outcome, facts_seen, facts_part, facts_among, with_vote}
+use Rattle.batcher_votes.specs.Tracking.{from_kept, is_seen, is_known, observed, kept_vote, no_facts, facts_with, facts_of_kept, recorded_facts, RecordsKind, outcome_by, outcome_of}
+use Rattle.batcher_votes.specs.Entries.{Entry, part, with_part, nothing_seen, key_of, seen_in, entry_or_new, put_by, entries_with, is_any, has_place, compared, seen_outcome, facts_seen, facts_part, facts_among, with_vote}
 use Rattle.batcher_votes.specs.Entries.{own_vote, vote_at, kept_part, kept_among, tracked_by, observed_seen, may_say, Fits, IsTracked, tested}
 use Rattle.batcher_types.proofs.Orders.{found_key}
 use Rattle.batcher_votes.proofs.Parts.{Of, shown_by}
 use Rattle.batcher_types.proofs.Places.{place_item, place_below, place_absent}
-use Rattle.batcher_votes.proofs.Putting.{put_there, put_new, Puts, at, new, puts, All-put, of_old, passes, count-put, filter_map-put_same, filter_map-put_new, filter_map-put_changed}
+use Rattle.batcher_votes.proofs.Putting.{put_there, put_new, Puts, puts, All-put, of_old, passes, count-put, filter_map-put_same, filter_map-put_new, filter_map-put_changed}
 use Rattle.batcher_votes.proofs.Shown.{both_of, facts_numbered, facts_found, kept_numbered, kept_is, facts_is, observed_by, observed_is, observed_says, nothing_by, kept_found, kept_says, no_vote, unknown}
 
 -- what holds of all elements holds of one that is found
@@ -497,6 +496,36 @@ module _ {G D : Type 0} where
 
         by_found : (o : Option Entry) → find (λ e. nat_eq (key_of e) i) es ≡ o
             → has_place (seen_in kind o) ≡ is_some (vote_at (of_kind votes kind) (seen_in kind o))
+        by_found None found = refl
+        by_found (Some e) found =
+            by_seen (of_kind c kind) (key_of e) (part kind e)
+            (found_passes key_of (λ e. may_say (of_kind c kind) kind (of_kind votes kind) (key_of e) (part kind e) ≡ true) es i e
+            (rec_from_all (λ e. may_say (of_kind c kind) kind (of_kind votes kind) (key_of e) (part kind e) ≡ true) es each) found)
+
+  -- whether any vote of the signer was seen
+  pub has_seen : (c : PerKind Bool) (votes : PerKind (List (Vote G D))) (es : List Entry)
+      (kind : Kind) (i : ℕ) (o : Option Entry) → IsAscending key_of es
+      → AllPass (λ e. may_say (of_kind c kind) kind (of_kind votes kind) (key_of e)
+      (part kind e)) es
+      → find (λ e. nat_eq (key_of e) i) es ≡ o
+      → is_any (seen_in kind o) ≡ is_seen (observed (tracked_by c votes es) kind i)
+  has_seen c votes es kind i o up each found =
+      by_found o found ∙ ap is_seen (sym (observed_found c votes es kind i o up each found)) where
+        by_seen : (b : Bool) (n : ℕ) (s : Seen) → may_say b kind (of_kind votes kind) n s ≡ true
+            → is_any s ≡ is_seen (observed_seen i (of_kind votes kind) s)
+        by_seen b n Nothing h = refl
+        by_seen b n Uncompared h = refl
+        by_seen b n Differs h = refl
+        by_seen b n Matches h = refl
+        by_seen b n (Kept p) h = there (slice_get (of_kind votes kind) p) (both_of (not b) _ h).1 where
+          there : (v : Option (Vote G D)) → is_some_and v (is_vote_of kind n) ≡ true
+              → true ≡ is_seen (from_kept v)
+          there None h = absurd (cc)
+          there (Some v) h = refl
+
+        by_found : (o : Option Entry) → find (λ e. nat_eq (key_of e) i) es ≡ o
+            → is_any (seen_in kind o)
+            ≡ is_seen (observed_seen i (of_kind votes kind) (seen_in kind o))
         by_found None found = refl
         by_found (Some e) found =
             by_seen (of_kind c kind) (key_of e) (part kind e)

@@ -1,6 +1,6 @@
 -- What releasing a kind changes of what a tracker shows, by its entries and the votes that it keeps.
-use Rattle.std.proofs.Common.{◌≡◌, ◌∙◌, ◌<◌, ◌^◌, ◌+◌, ℕ, Bool, true, false, not, cond, ◌&&◌, ◌||◌, List, [], ◌∷◌, length, map, Option, Some, None, refl, ap, sym, subst, arith}
-use Rattle.std.specs.List.{AllByRecursion, AllPass, filter_map, cons_option, slice_get}
+use Rattle.std.proofs.Common.{◌≡◌, ◌∙◌, ℕ, Bool, true, false, cond, ◌&&◌, ◌||◌, List, [], ◌∷◌, map, Option, Some, None, refl, ap, sym, subst}
+use Rattle.std.specs.List.{AllByRecursion, filter_map, cons_option, slice_get}
 use Rattle.batcher_types.specs.declared.messages.Proposal.{Proposal}
 use Rattle.batcher_types.specs.declared.messages.Vote.{Vote}
 use Rattle.batcher_types.specs.declared.messages.Kind.{Kind}
@@ -9,14 +9,14 @@ use Rattle.batcher_votes.specs.declared.votes.entry.Seen.{Seen}
 use Rattle.batcher_votes.specs.declared.votes.entry.Seen.TheVariants.{Nothing, Uncompared, Differs, Matches, Kept}
 use Rattle.batcher_types.specs.Lists.{count, is_some_and}
 use Rattle.batcher_types.specs.Ordered.{rec_from_all, all_from_rec, rec_weaker}
-use Rattle.batcher_types.specs.Votes.{is_kind, is_vote_of, has_proposals, signer_of, kind_of}
-use Rattle.batcher_votes.specs.Held.{PerKind, of_kind, Facts}
+use Rattle.batcher_types.specs.Votes.{is_kind, is_vote_of, has_proposals, kind_of}
+use Rattle.batcher_votes.specs.Held.{PerKind, of_kind}
 use Rattle.batcher_votes.specs.Tracking.{no_facts, facts_with, facts_of_kept, ReleasesKind, SameTracked}
-use Rattle.batcher_votes.specs.Entries.{Entry, with_mark, part, with_part, key_of, has_place, compared, facts_seen, facts_part, facts_among, without, own_vote, vote_at, kept_part, kept_among, tracked_by, may_say, Fits, IsTracked}
+use Rattle.batcher_votes.specs.Entries.{Entry, with_mark, part, key_of, has_place, compared, facts_seen, facts_part, facts_among, without, own_vote, vote_at, kept_part, kept_among, tracked_by, may_say, Fits}
 use Rattle.batcher_votes.specs.Entries.{tested, tested_at, seen_released, entry_released}
 use Rattle.batcher_votes.proofs.Parts.{made_of, filter_map-map_same}
 use Rattle.batcher_votes.proofs.Shown.{both_of, signed, kept_is, facts_is}
-use Rattle.batcher_votes.proofs.Recorded.{compared_facts, compared_stands, facts_with_vote, none_tested, part_with, key_with, with_compared}
+use Rattle.batcher_votes.proofs.Recorded.{compared_facts, compared_stands, facts_with_vote, none_tested, part_with, key_with}
 
 of_kind-with_mark : (released : Kind) (c : PerKind Bool) (kind : Kind)
     → of_kind (with_mark released c) kind ≡ (is_kind released kind || of_kind c kind)

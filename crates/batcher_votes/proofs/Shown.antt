@@ -1,7 +1,6 @@
 -- What a tracker shows of a signer, by its entries and the votes that it keeps.
-use Rattle.std.proofs.Common.{◌≡◌, ◌≤◌, ◌<◌, ◌∙◌, ◌==◌, ℕ, Bool, true, false, not, cond, nat_eq, ◌&&◌, ◌||◌, List, [], ◌∷◌, ◌++◌, length, find, Option, Some, None, refl, ap, sym, arith}
+use Rattle.std.proofs.Common.{◌≡◌, ◌==◌, ℕ, Bool, true, false, not, cond, nat_eq, ◌&&◌, List, find, Option, Some, None, refl, ap, arith}
 use Rattle.std.proofs.lemmas.Bool.Decides.{nat_tests}
-use Rattle.std.proofs.lemmas.Option.{slice_get_within}
 use Rattle.std.specs.List.{filter_map, slice_get}
 use Rattle.batcher_types.specs.declared.messages.Vote.{Vote}
 use Rattle.batcher_types.specs.declared.messages.Kind.{Kind}
@@ -12,8 +11,8 @@ use Rattle.batcher_types.specs.Ascending.{IsAscending}
 use Rattle.batcher_types.specs.Lists.{is_some_and}
 use Rattle.batcher_types.specs.Votes.{kind_of, signer_of, is_kind, is_of_kind, is_vote_of}
 use Rattle.batcher_votes.specs.Held.{PerKind, of_kind, Facts}
-use Rattle.batcher_votes.specs.Tracking.{Observed, unseen, from_kept, from_facts, is_seen, observed, kept_vote, is_known, no_facts}
-use Rattle.batcher_votes.specs.Entries.{Entry, part, key_of, seen_in, facts_seen, facts_part, facts_among, own_vote, vote_at, kept_part, kept_among, tracked_by, observed_seen, may_say}
+use Rattle.batcher_votes.specs.Tracking.{Observed, unseen, from_kept, from_facts, observed, is_known}
+use Rattle.batcher_votes.specs.Entries.{Entry, part, key_of, facts_seen, facts_part, facts_among, own_vote, vote_at, kept_part, kept_among, tracked_by, observed_seen, may_say}
 use Rattle.batcher_votes.proofs.Parts.{Of, shown_by, find-filter_map}
 
 pub both_of : (a b : Bool) → (a && b) ≡ true → (a ≡ true) × (b ≡ true)

@@ -22,7 +22,7 @@ use Rattle.batcher_types.specs.Lists.{count, is_some_and}
 use Rattle.batcher_types.specs.Votes.{is_vote_of, has_proposals, proposal_in, subject_of}
 use Rattle.batcher_votes.specs.Selected.{is_selected}
 use Rattle.batcher_votes.specs.Held.{PerKind, of_kind, Facts, Tracked}
-use Rattle.batcher_votes.specs.Tracking.{Observed, unseen, as_facts, from_kept, from_facts, no_facts}
+use Rattle.batcher_votes.specs.Tracking.{Observed, unseen, from_kept, from_facts, no_facts}
 
 abbrev pub marks_of : Marks → PerKind Bool
 marks_of marks =
@@ -89,6 +89,14 @@ put_by signer item items =
 abbrev pub entries_with : Participant → Kind → Seen → List Entry → List Entry
 entries_with i kind seen entries =
     put_by key_of (with_part kind seen (entry_or_new i (item_of key_of entries i.0))) entries
+
+-- whether any vote was seen
+abbrev pub is_any : Seen → Bool
+is_any Nothing = false
+is_any Uncompared = true
+is_any Differs = true
+is_any Matches = true
+is_any (Kept place) = true
 
 -- Whether a first vote is kept, and stands at a place.
 abbrev pub has_place : Seen → Bool

@@ -152,12 +152,29 @@ fn put_at(
 {
     match place {
         Ok(index) => set_at(entries, index, kind, seen),
-        Err(index) => {
-            let mut entry = Entry::unseen(signer);
-            entry.set(kind, seen);
-            entries.insert_at(index, entry);
-        }
+        Err(index) => insert_entry(entries, index, signer, kind, seen),
     }
+}
+
+// Puts the entry of a signer that has none in its place, and has it say this of the kind. It stands
+// apart, since a signer has one entry and many votes.
+#[inline(never)]
+fn insert_entry(
+    entries: &mut AttributableMap<Entry>,
+    index: usize,
+    signer: Participant,
+    kind: Kind,
+    seen: Seen,
+)
+    requires place { place_of (map key_of entries.old.items) signer.0 ≡ Err index }
+    requires range { signer.0 < entries.old.participants }
+    requires room { 1 ≤ entries.old.room }
+    ensures items { entries.new.items ≡ entries_with signer kind seen entries.old.items }
+    ensures participants { entries.new.participants ≡ entries.old.participants }
+{
+    let mut entry = Entry::unseen(signer);
+    entry.set(kind, seen);
+    entries.insert_at(index, entry);
 }
 
 // Makes room for the entry of a signer that has none at its place, and for one vote of the kind
@@ -418,6 +435,15 @@ impl<G: Copy, D: Digest> VoteTracker<G, D> {
     {
         self.kept
             .observed(kind, seen_at(&self.entries, place, kind))
+    }
+
+    /// Whether a vote of the kind was seen of the signer whose place `place` gave. `saw_at` copies
+    /// the vote, which is no use to who asks whether there is one.
+    pub fn has_seen_at(&self, place: Place, kind: Kind) -> bool
+        ensures { (i : ℕ) → place ≡ place_of self.now.signers i → result
+            ≡ is_seen (observed self.now.holds kind i) }
+    {
+        seen_at(&self.entries, place, kind).is_any()
     }
 
     /// Whether votes of the kind aren't kept.

@@ -19,8 +19,8 @@ use Rattle.batcher_types.specs.Votes.{is_kind, kind_of, signer_of, is_vote_of, i
 use Rattle.batcher_votes.specs.Held.{of_kind, Facts, Tracked, Buffered, Tracker, Held}
 use Rattle.batcher_votes.specs.Tracking.{Observed, unseen, in_full, as_facts, is_seen, observed, observed_opposite, kept_vote, from_kept, from_facts, known_facts, outcome_of, outcome_by, conflicts_with, RecordsKind, is_released_in}
 use Rattle.batcher_votes.specs.Buffering.{AddsVote, is_buffered, selected_in}
-use Rattle.batcher_histories.specs.Admissions.{block_for, mismatch_reason, admission_beside, admission_after, admission_after_facts}
-use Rattle.std.specs.Prelude.{MatchBool, Result, Ok, Err, IfOk, OnOk}
+use Rattle.batcher_histories.specs.Admissions.{addition, block_for, mismatch_reason, admission_beside, admission_after, admission_after_facts}
+use Rattle.std.specs.Prelude.{MatchBool}
 use Rattle.std.proofs.lemmas.Option.{none-some}
 use Rattle.batcher_histories.specs.Steps.{IsRight, AfterNetwork, objection_to, objection_by, admission, admission_by, admission_named, is_recorded}
 use Rattle.batcher_votes.proofs.Counts.{count-append}
@@ -488,18 +488,16 @@ module _ {D K G C : Type 0} (x : Setting D K G C) (old : Held G D) (sender : K) 
       let yes : (i.0 == signer_of vote) ≡ true = grind (arith, nat_tests) in rw (known, yes, (unopposed (observed_opposite old.tracked vote) none).0)
 
   -- and what that changes
-  pub unopposed_step : {E : Type 0} (new : Held G D) (r : Result (Admission G D) E)
-      → IfOk r (λ answer. answer ≡ admission_by x (selected_in old.buffered)
-      (observed old.tracked (kind_of vote) (signer_of vote)) vote)
-      → OnOk r ((kind : Kind) → RecordsKind x.same_digest old.tracked new.tracked
-      (selected_in old.buffered)
-      true vote kind)
-      → IfOk r (λ answer. MatchBool (answer.added
-      && not (of_kind old.tracked.compacted (kind_of vote)))
+  pub unopposed_after : (new : Held G D) (answer : Admission G D)
+      → answer ≡ admission_by x (selected_in old.buffered)
+      (observed old.tracked (kind_of vote) (signer_of vote)) vote
+      → ((kind : Kind) → RecordsKind x.same_digest old.tracked new.tracked
+      (selected_in old.buffered) true vote kind)
+      → MatchBool (answer.added && not (of_kind old.tracked.compacted (kind_of vote)))
       (AddsVote x.same_digest old.buffered vote false new.buffered)
-      (new.buffered ≡ old.buffered))
-      → new.forwarded ≡ old.forwarded → IfOk r (λ answer. AfterNetwork x old sender vote answer new)
-  unopposed_step new (Ok answer) told tracked buffered forwarded =
+      (new.buffered ≡ old.buffered)
+      → new.forwarded ≡ old.forwarded → AfterNetwork x old sender vote answer new
+  unopposed_after new answer told tracked buffered forwarded =
       record {
         answer_is = told ∙ sym unopposed_admission;
         forwarded = forwarded;
@@ -508,4 +506,28 @@ module _ {D K G C : Type 0} (x : Setting D K G C) (old : Held G D) (sender : K) 
             (sym unopposed_recorded) (tracked kind);
         buffered = buffered;
       }
-  unopposed_step new (Err refused) told tracked buffered forwarded = tt
+
+unseen_is : {G D : Type 0} (o : Observed G D) → not (is_seen o) ≡ true → o ≡ unseen
+unseen_is unseen h = refl
+unseen_is (in_full vote) h = absurd (cc)
+unseen_is (as_facts facts) h = absurd (cc)
+
+both_true : (a b : Bool) → (a && b) ≡ true → (a ≡ true) × (b ≡ true)
+both_true true b h = (refl, h)
+both_true false b h = absurd (cc)
+
+-- A vote beside which none was seen stands against no other, and is added.
+module _ {D K G C : Type 0} (x : Setting D K G C) (held : Held G D) (vote : Vote G D)
+    (first : (not (is_seen (observed_opposite held.tracked vote))
+    && not (is_seen (observed held.tracked (kind_of vote) (signer_of vote)))) ≡ true) where
+  none_seen : (observed_opposite held.tracked vote ≡ unseen)
+      × (observed held.tracked (kind_of vote) (signer_of vote) ≡ unseen)
+  none_seen = let both = both_true _ _ first in (unseen_is _ both.0, unseen_is _ both.1)
+
+  pub first_unopposed : objection_to x held vote ≡ None
+  first_unopposed = rw (none_seen.0, none_seen.1) refl
+
+  pub first_added : (selected : Option (Proposal D))
+      → admission_by x selected (observed held.tracked (kind_of vote) (signer_of vote)) vote
+      ≡ addition vote
+  first_added selected = ap (λ o. admission_by x selected o vote) none_seen.1

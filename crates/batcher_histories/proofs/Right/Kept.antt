@@ -1,5 +1,5 @@
 -- What a round keeps true through its calls.
-use Rattle.std.proofs.Common.{◌≡◌, ◌∙◌, ◌≤◌, ◌+◌, ◌==◌, ◌++◌, ◌∷◌, [], ℕ, Bool, true, false, cond, List, filter, length, Option, Some, None, is_some, refl, sym, ap, subst, arith}
+use Rattle.std.proofs.Common.{◌≡◌, ◌∙◌, ◌≤◌, ◌==◌, ◌++◌, ◌∷◌, [], ℕ, Bool, true, false, cond, List, length, Option, Some, None, is_some, refl, sym, ap, subst, arith}
 use Rattle.std.specs.Prelude.{find, Result, Ok, Err, OnOk, OnErr}
 use Rattle.std.specs.Option.{option_map}
 use Rattle.std.proofs.lemmas.Option.{none-some}
@@ -8,7 +8,6 @@ use Rattle.batcher_types.specs.declared.messages.Vote.TheVariants.{Notarize as N
 use Rattle.batcher_types.specs.declared.positions.Participant.{Participant}
 use Rattle.batcher_types.specs.declared.messages.Notarize.{Notarize}
 use Rattle.batcher_types.specs.declared.messages.Proposal.{Proposal}
-use Rattle.batcher_types.specs.declared.messages.Vote.{Vote}
 use Rattle.batcher_types.specs.declared.messages.Kind.{Kind}
 use Rattle.batcher_types.specs.declared.messages.Kind.TheVariants.{Notarization, Nullification, Finalization}
 use Rattle.batcher_votes.specs.declared.votes.Mode.{Mode}
@@ -16,13 +15,12 @@ use Rattle.batcher_votes.specs.declared.votes.Mode.TheVariants.{Retaining, Relea
 use Rattle.batcher_types.specs.Quorum.{quorum_of}
 use Rattle.batcher_types.specs.Lists.{count}
 use Rattle.batcher_types.specs.Meaning.{Meaning}
-use Rattle.batcher_types.specs.Votes.{signer_of, is_vote_of, waits}
+use Rattle.batcher_types.specs.Votes.{signer_of, is_vote_of}
 use Rattle.batcher_votes.specs.Held.{of_kind, Tracked, Buffered, Tracker}
-use Rattle.batcher_votes.specs.Selected.{proposal_of, is_fixed}
+use Rattle.batcher_votes.specs.Selected.{is_fixed}
 use Rattle.batcher_votes.specs.Tracking.{kept_vote, nothing_tracked, is_released_in}
 use Rattle.batcher_votes.specs.Buffering.{Buffers, nothing_buffered, SetsLeader, leader_answer}
 use Rattle.batcher_histories.specs.Steps.{IsRight, leader_set_answer}
-use Rattle.batcher_votes.proofs.Counts.{count-append, count-filter_le}
 use Rattle.batcher_votes.proofs.Fixing.{selects_fixed}
 use Rattle.batcher_votes.proofs.Restoring.{count_buffers}
 

@@ -21,7 +21,7 @@ use Rattle.batcher_votes.specs.Selected.{proposal_of, updated, fixes, is_fixed}
 use Rattle.batcher_histories.specs.Admissions.{admission_of, block_for, refusal, conflict_reason}
 use Rattle.std.proofs.lemmas.Option.{none-some}
 use Rattle.batcher_votes.specs.Held.{PerKind, of_kind, Tracked, Buffered, Tracker, Held}
-use Rattle.batcher_votes.specs.Tracking.{Observed, unseen, in_full, as_facts, shown, observed, observed_opposite, is_seen, is_known, kept_vote, conflicts_with, outcome_by, outcome_of, is_released_in, RecordsKind, ReleasesKind, SameTracked}
+use Rattle.batcher_votes.specs.Tracking.{Observed, unseen, in_full, as_facts, shown, observed, observed_opposite, is_seen, kept_vote, conflicts_with, outcome_by, outcome_of, is_released_in, RecordsKind, ReleasesKind, SameTracked}
 use Rattle.batcher_votes.specs.Buffering.{AddsVote, MayFix, CompletesKind, coming_back}
 use Rattle.batcher_histories.specs.Steps.{IsRight, AfterOwn, fixed_by, objection_by, admission_by, opposite_fault, unopposed_result, duplicate_result, own_result, own_result_by, report_by, is_added, is_kept}
 use Rattle.batcher_votes.specs.Sound.{WaitsWhereKept}

@@ -15,10 +15,11 @@ ghost use Rattle.batcher_votes.specs.Sound.{WaitsWhereKept, HasRoomFor, KeepsAll
 ghost use Rattle.batcher_histories.specs.Steps.{objection_by, own_result_by, admission_by, Fixes, IsRight, fixed_by, is_added, is_kept};
 ghost use Rattle.batcher_votes.specs.declared.votes.Mode.TheVariants.{Retaining};
 ghost use Rattle.batcher_votes.specs.declared.votes.Outcome.TheVariants.{Added as AddedOutcome};
+ghost use Rattle.batcher_histories.specs.Admissions.{admission_of};
 ghost use Rattle.batcher_round.specs.Seen.{observed_like};
 
-use crate::round::answers::{admission_of, is_added, is_kept, opposite_fault, unopposed_result};
-use crate::round::{Admission, Judge, OwnFault};
+use crate::round::answers::{is_added, is_kept, opposite_fault, unopposed_result};
+use crate::round::{Judge, OwnFault};
 use batcher_types::messages::{Digest, Kind, Place, Proposal, Vote};
 use batcher_types::scheme::Scheme;
 use batcher_votes::verifier::{ProposalState, Verifier};
@@ -41,6 +42,30 @@ pub(super) fn saw_opposite<G: Copy, D: Digest>(
     }
 }
 
+// Whether no vote was seen beside which this one could stand: none of its kind and signer, and of
+// nullify and finalize none of the other. It copies none, as nearly all votes are the first.
+pub(super) fn is_first<G: Copy, D: Digest>(
+    votes: &VoteTracker<G, D>,
+    place: Place,
+    vote: &Vote<G, D>,
+) -> bool
+    requires { place ≡ place_of votes.now.signers (signer_of vote.now) }
+    ensures { result ≡ (not (is_seen (observed_opposite votes.now.holds vote.now))
+        && not (is_seen (observed_like votes.now.holds vote.now))) }
+{
+    match vote {
+        Vote::Notarize(_) => !votes.has_seen_at(place, Kind::Notarization),
+        Vote::Nullify(_) => {
+            !votes.has_seen_at(place, Kind::Finalization)
+                && !votes.has_seen_at(place, Kind::Nullification)
+        }
+        Vote::Finalize(_) => {
+            !votes.has_seen_at(place, Kind::Nullification)
+                && !votes.has_seen_at(place, Kind::Finalization)
+        }
+    }
+}
+
 // Records a vote that stands against no other. Where votes of its kind are kept, it waits for a
 // certificate too.
 pub(super) fn admit<S: Scheme<D>, D: Digest>(
@@ -48,7 +73,7 @@ pub(super) fn admit<S: Scheme<D>, D: Digest>(
     votes: &mut VoteTracker<S::Signature, D>,
     place: Place,
     vote: &Vote<S::Signature, D>,
-) -> Result<Admission<S::Signature, D>, AllocError>
+) -> Result<Outcome, AllocError>
     requires right { IsRight (S.meaning verifier.old.scheme) votes.old verifier.old.holds
         verifier.old.quorum }
     requires place { place ≡ place_of votes.old.signers (signer_of vote.now) }
@@ -57,7 +82,7 @@ pub(super) fn admit<S: Scheme<D>, D: Digest>(
         (observed_like votes.old.holds vote.now) vote.now ≡ None }
     requires range { signer_of vote.now < length (S.meaning verifier.old.scheme).participants }
     requires belongs { round_in (subject_of vote.now) ≡ verifier.old.number }
-    ensures answer { IfOk result (λ answer. answer
+    ensures answer { IfOk result (λ outcome. admission_of outcome vote.now
         ≡ admission_by (⟦<S as Judge<D>>⟧.of (round_of verifier.old votes.old))
         (selected_in verifier.old.holds)
         (observed_like votes.old.holds vote.now) vote.now) }
@@ -70,8 +95,9 @@ pub(super) fn admit<S: Scheme<D>, D: Digest>(
     ensures tracked { OnOk result ((kind : TheKind)
         → RecordsKind D.eq votes.old.holds votes.new.holds
         (selected_in verifier.old.holds) true vote.now kind) }
-    ensures buffered { IfOk result (λ answer. MayAddVote D.eq
-        (answer.added && not (of_kind votes.old.holds.compacted (kind_of vote.now)))
+    ensures buffered { IfOk result (λ outcome. MayAddVote D.eq
+        ((admission_of outcome vote.now).added
+        && not (of_kind votes.old.holds.compacted (kind_of vote.now)))
         verifier.old.holds vote.now false verifier.new.holds) }
     ensures refused { OnErr result ((verifier.new.holds ≡ verifier.old.holds)
         × (votes.new.holds ≡ votes.old.holds)) }
@@ -83,8 +109,7 @@ pub(super) fn admit<S: Scheme<D>, D: Digest>(
     let kind = vote.kind();
     let additional = usize::from(!votes.is_compacted(kind) && !verifier.has_certificate(kind));
     verifier.make_room(kind, false, additional)?;
-    let outcome = take_in(verifier, votes, place, vote, false)?;
-    Ok(admission_of(outcome, vote))
+    take_in(verifier, votes, place, vote, false)
 }
 
 // What comes of an own vote, or why it is refused.

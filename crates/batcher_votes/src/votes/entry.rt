@@ -75,7 +75,7 @@ impl Attributable for Entry {
 }
 
 impl Seen {
-    ghost use Rattle.batcher_votes.specs.Entries.{has_place, compared, seen_by, seen_outcome};
+    ghost use Rattle.batcher_votes.specs.Entries.{is_any, has_place, compared, seen_by, seen_outcome};
 
     // What a mark says, with the place of the vote that is kept.
     fn by(mark: Mark, place: u32) -> Self
@@ -101,6 +101,13 @@ impl Seen {
             Seen::Matches => (Mark::Matches, 0),
             Seen::Kept(place) => (Mark::Kept, place),
         }
+    }
+
+    /// Whether any was seen.
+    pub(crate) fn is_any(self) -> bool
+        ensures { result ≡ is_any self }
+    {
+        !matches!(self, Seen::Nothing)
     }
 
     /// Whether the first vote is kept.

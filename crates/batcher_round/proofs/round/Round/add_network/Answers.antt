@@ -1,63 +1,23 @@
-use Rattle.std.proofs.Common.{None, rules, ◌==◌, ◌≡◌, ◌∙◌, Some, ap, sym, refl}
-use Rattle.batcher_histories.specs.Setting.{setting, sender_in}
-use Rattle.batcher_histories.proofs.Right.Admission.{mismatched, objected, same_number, unopposed_admission, unopposed_step}
+use Rattle.std.proofs.Common.{None, rules, ◌==◌, ◌≡◌, ◌&&◌, ◌∙◌, not, true, false, Some, ap, subst, sym, refl}
+use Rattle.std.specs.Prelude.{MatchBool}
 use Rattle.std.proofs.lemmas.Bool.{not-true}
-use Rattle.std.proofs.lemmas.Result.{IfOk-weaker}
-use Rattle.batcher_histories.specs.declared.calls.Call.TheVariants.{Network as NetworkCall}
-use Rattle.batcher_histories.specs.declared.answers.Answer.TheVariants.{Network as NetworkAnswer}
-use Rattle.batcher_histories.specs.Admissions.{block_for, mismatch_reason}
-use Rattle.batcher_votes.specs.Held.{Held}
-use Rattle.batcher_histories.specs.Steps.{AfterNetwork}
-use Rattle.batcher_histories.specs.Stands.{Follows}
+use Rattle.batcher_types.specs.Votes.{kind_of, signer_of}
+use Rattle.batcher_votes.specs.Held.{of_kind, Held}
+use Rattle.batcher_votes.specs.Tracking.{observed}
+use Rattle.batcher_votes.specs.Buffering.{selected_in, AddsVote}
+use Rattle.batcher_histories.specs.Setting.{setting, sender_in}
+use Rattle.batcher_histories.specs.Admissions.{block_for, mismatch_reason, admission_of}
+use Rattle.batcher_histories.proofs.Right.Admission.{first_added, first_unopposed, mismatched, objected, same_number, unopposed_admission, unopposed_after}
 use Rattle.batcher_histories.proofs.History.Laws.{HasLaws}
 use Rattle.batcher_histories.proofs.Follow.Network.{network_follows}
 use Rattle.batcher_histories.proofs.Memory.Needed.{network_needed}
 use Rattle.batcher_round.proofs.round.Round.add_network.Goals as goal
 
-pub returns-in-Some-objection-clause-step : goal.returns-in-Some-objection-clause-step
-returns-in-Some-objection-clause-step g c =
-    let b = c.self.inside in
-    let h = c.objection.ensures (g.S.Scheme.meaning b.verifier.scheme) b.verifier.number b.votes.mode in
-    let own = same_number c.in-Some.index.0 c.signer-signer.result.0 (sym c.ne.ensures ∙ c.if-ne.false) ∙ ap (λ p. p.0) c.signer-signer.ensures in
-    rw (← c.self.view_is)
-    (objected _ _ c.args.sender c.in-Some.index c.args.vote c.in-Some-objection.answer
-    (rw (← c.participants.ensures, ← c.in-Some.is) (sym c.index_near.ensures.index)) own
-    (rw (← c.in-Some-objection.is) (sym h)))
+pub returns-in_default-clause-step : goal.returns-in_default-clause-step
+returns-in_default-clause-step g c = search rules
 
-pub returns-in-None-objection-clause-step : goal.returns-in-None-objection-clause-step
-returns-in-None-objection-clause-step g c =
-    let b = c.self.inside in
-    let none = sym (c.objection.ensures (g.S.Scheme.meaning b.verifier.scheme) b.verifier.number b.votes.mode) ∙ c.in-None-objection.is in
-    let own = same_number c.in-Some.index.0 c.signer-signer.result.0 (sym c.ne.ensures ∙ c.if-ne.false) ∙ ap (λ p. p.0) c.signer-signer.ensures in
-    rw (← c.self.view_is)
-    (unopposed_step _ _ c.args.sender c.in-Some.index c.args.vote (rw (← c.participants.ensures, ← c.in-Some.is) (sym c.index_near.ensures.index)) own none
-    _ c.admit.result c.admit.ensures.answer c.admit.ensures.tracked c.admit.ensures.buffered refl)
-
-pub returns-in-None-objection-clause-no_memory : goal.returns-in-None-objection-clause-no_memory
-returns-in-None-objection-clause-no_memory g c =
-    let b = c.self.inside in
-    let none = sym (c.objection.ensures (g.S.Scheme.meaning b.verifier.scheme) b.verifier.number b.votes.mode) ∙ c.in-None-objection.is in
-    let own = same_number c.in-Some.index.0 c.signer-signer.result.0 (sym c.ne.ensures ∙ c.if-ne.false) ∙ ap (λ p. p.0) c.signer-signer.ensures in
-    let x = setting (g.S.Scheme.meaning b.verifier.scheme) g.S.PublicKey.Ord.cmp g.S.Signature.PartialEq.eq g.D.PartialEq.eq b.verifier.number b.votes.mode in
-    let sent : sender_in x c.args.sender ≡ Some c.in-Some.index = rw (← c.participants.ensures, ← c.in-Some.is) (sym c.index_near.ensures.index) in
-    rw (← c.self.view_is)
-    (λ not_added. c.admit.ensures.no_memory (ap (λ a. a.added)
-    (sym (unopposed_admission x (record { tracked = b.votes.holds; buffered = b.verifier.holds; forwarded = b.forwarded }) c.args.sender c.in-Some.index
-    c.args.vote sent own none)) ∙ not_added))
-
-pub returns-in-None-clause-step : goal.returns-in-None-clause-step
-returns-in-None-clause-step g c = search rules
-
-pub returns-then-ne-clause-step : goal.returns-then-ne-clause-step
-returns-then-ne-clause-step g c =
-    let other = not-true (c.in-Some.index.0 == c.signer-signer.result.0) (sym c.ne.ensures ∙ c.if-ne.true) in
-    rw (← c.self.view_is)
-    (mismatched _ _ c.args.sender c.in-Some.index c.args.vote _ (rw (← c.participants.ensures, ← c.in-Some.is) (sym c.index_near.ensures.index))
-    (ap (λ n. c.in-Some.index.0 == n) (ap (λ p. p.0) (sym c.signer-signer.ensures)) ∙ other)
-    (c.blocked-then-ne.ensures ∙ ap (λ r. block_for r None) (c.mismatch_reason.ensures ∙ ap mismatch_reason c.kind.ensures)))
-
-pub returns-in-None-clause-meets : goal.returns-in-None-clause-meets
-returns-in-None-clause-meets g c =
+pub returns-in_default-clause-meets : goal.returns-in_default-clause-meets
+returns-in_default-clause-meets g c =
     let b = c.self.inside in
     let x = setting (g.S.Scheme.meaning b.verifier.scheme) g.S.PublicKey.Ord.cmp g.S.Signature.PartialEq.eq g.D.PartialEq.eq b.verifier.number b.votes.mode in
     let laws : HasLaws x = record {
@@ -67,9 +27,17 @@ returns-in-None-clause-meets g c =
       digests_same = g.met.D.Eq.laws.refl;
     } in
     let held : Held g.row.S-Signature.Denot g.row.D.Denot = record { tracked = b.votes.holds; buffered = b.verifier.holds; forwarded = b.forwarded } in
-    let step = rw (← c.self.view_is) at (returns-in-None-clause-step g c) in
+    let step = rw (← c.self.view_is) at (returns-in_default-clause-step g c) in
     let allowed = rw (← c.self.view_is) at c.requires in
     rw (← c.self.view_is) (λ past stands. network_follows x laws past held c.args.sender c.args.vote _ _ stands allowed step)
+
+pub returns-then-ne-clause-step : goal.returns-then-ne-clause-step
+returns-then-ne-clause-step g c =
+    let other = not-true (c.in-Some.index.0 == c.signer-signer.result.0) (sym c.ne.ensures ∙ c.if-ne.true) in
+    rw (← c.self.view_is)
+    (mismatched _ _ c.args.sender c.in-Some.index c.args.vote _ (rw (← c.participants.ensures, ← c.in-Some.is) (sym c.index_near.ensures.index))
+    (ap (λ n. c.in-Some.index.0 == n) (ap (λ p. p.0) (sym c.signer-signer.ensures)) ∙ other)
+    (c.blocked-then-ne.ensures ∙ ap (λ r. block_for r None) (c.mismatch_reason.ensures ∙ ap mismatch_reason c.kind.ensures)))
 
 pub returns-then-ne-clause-meets : goal.returns-then-ne-clause-meets
 returns-then-ne-clause-meets g c =
@@ -86,6 +54,54 @@ returns-then-ne-clause-meets g c =
     let allowed = rw (← c.self.view_is) at c.requires in
     rw (← c.self.view_is) (λ past stands. network_follows x laws past held c.args.sender c.args.vote _ _ stands allowed step)
 
+pub returns-then-is_first-clause-step : goal.returns-then-is_first-clause-step
+returns-then-is_first-clause-step g c =
+    let b = c.self.inside in
+    let x = setting (g.S.Scheme.meaning b.verifier.scheme) g.S.PublicKey.Ord.cmp g.S.Signature.PartialEq.eq g.D.PartialEq.eq b.verifier.number b.votes.mode in
+    let held : Held g.row.S-Signature.Denot g.row.D.Denot = record { tracked = b.votes.holds; buffered = b.verifier.holds; forwarded = b.forwarded } in
+    let sent : sender_in x c.args.sender ≡ Some c.in-Some.index = rw (← c.participants.ensures, ← c.in-Some.is) (sym c.index_near.ensures.index) in
+    let own = same_number c.in-Some.index.0 c.signer-signer.result.0 (sym c.ne.ensures ∙ c.if-ne.false) ∙ ap (λ p. p.0) c.signer-signer.ensures in
+    let none = first_unopposed x held c.args.vote (sym c.is_first.ensures ∙ c.if-is_first.true) in
+    let new : Held g.row.S-Signature.Denot g.row.D.Denot = record
+    { tracked = c.admit.new.votes.holds; buffered = c.admit.new.verifier.holds; forwarded = b.forwarded } in
+    let selected = selected_in b.verifier.holds in
+    let vote = c.args.vote in
+    let seen = observed b.votes.holds (kind_of vote) (signer_of vote) in
+    let outcome = c.in_ok-admit.field-0 in
+    let answered : admission_of outcome vote ≡ c.added.result =
+    c.in_ok-admit.ensures.answer ∙ first_added x held vote (sym c.is_first.ensures ∙ c.if-is_first.true) selected ∙ sym c.added.ensures in
+    let waits : MatchBool (c.added.result.added && not (of_kind b.votes.holds.compacted (kind_of vote)))
+    (AddsVote x.same_digest b.verifier.holds vote false new.buffered) (new.buffered ≡ b.verifier.holds) =
+    subst (λ answer. MatchBool (answer.added && not (of_kind b.votes.holds.compacted (kind_of vote))) (AddsVote x.same_digest b.verifier.holds vote false new.buffered)
+    (new.buffered ≡ b.verifier.holds)) answered c.in_ok-admit.ensures.buffered in
+    rw (← c.self.view_is)
+    (unopposed_after x held c.args.sender c.in-Some.index vote sent own none new c.added.result (sym answered ∙ c.in_ok-admit.ensures.answer) c.in_ok-admit.ensures.tracked waits refl)
+
+pub returns-then-is_first-clause-meets : goal.returns-then-is_first-clause-meets
+returns-then-is_first-clause-meets g c =
+    let b = c.self.inside in
+    let x = setting (g.S.Scheme.meaning b.verifier.scheme) g.S.PublicKey.Ord.cmp g.S.Signature.PartialEq.eq g.D.PartialEq.eq b.verifier.number b.votes.mode in
+    let laws : HasLaws x = record {
+      scheme = g.met.S.Scheme.lawful b.verifier.scheme;
+      some_participant = c.self.invariant.some;
+      digests_equal = g.met.D.Digest.identical;
+      digests_same = g.met.D.Eq.laws.refl;
+    } in
+    let held : Held g.row.S-Signature.Denot g.row.D.Denot = record { tracked = b.votes.holds; buffered = b.verifier.holds; forwarded = b.forwarded } in
+    let step = rw (← c.self.view_is) at (returns-then-is_first-clause-step g c) in
+    let allowed = rw (← c.self.view_is) at c.requires in
+    rw (← c.self.view_is) (λ past stands. network_follows x laws past held c.args.sender c.args.vote _ _ stands allowed step)
+
+pub returns-in-Some-objection-clause-step : goal.returns-in-Some-objection-clause-step
+returns-in-Some-objection-clause-step g c =
+    let b = c.self.inside in
+    let h = c.objection.ensures (g.S.Scheme.meaning b.verifier.scheme) b.verifier.number b.votes.mode in
+    let own = same_number c.in-Some.index.0 c.signer-signer.result.0 (sym c.ne.ensures ∙ c.if-ne.false) ∙ ap (λ p. p.0) c.signer-signer.ensures in
+    rw (← c.self.view_is)
+    (objected _ _ c.args.sender c.in-Some.index c.args.vote c.in-Some-objection.answer
+    (rw (← c.participants.ensures, ← c.in-Some.is) (sym c.index_near.ensures.index)) own
+    (rw (← c.in-Some-objection.is) (sym h)))
+
 pub returns-in-Some-objection-clause-meets : goal.returns-in-Some-objection-clause-meets
 returns-in-Some-objection-clause-meets g c =
     let b = c.self.inside in
@@ -101,8 +117,30 @@ returns-in-Some-objection-clause-meets g c =
     let allowed = rw (← c.self.view_is) at c.requires in
     rw (← c.self.view_is) (λ past stands. network_follows x laws past held c.args.sender c.args.vote _ _ stands allowed step)
 
-pub returns-in-None-objection-clause-meets : goal.returns-in-None-objection-clause-meets
-returns-in-None-objection-clause-meets g c =
+pub returns-in_ok-outcome-in-None-clause-step : goal.returns-in_ok-outcome-in-None-clause-step
+returns-in_ok-outcome-in-None-clause-step g c =
+    let b = c.self.inside in
+    let x = setting (g.S.Scheme.meaning b.verifier.scheme) g.S.PublicKey.Ord.cmp g.S.Signature.PartialEq.eq g.D.PartialEq.eq b.verifier.number b.votes.mode in
+    let held : Held g.row.S-Signature.Denot g.row.D.Denot = record { tracked = b.votes.holds; buffered = b.verifier.holds; forwarded = b.forwarded } in
+    let sent : sender_in x c.args.sender ≡ Some c.in-Some.index = rw (← c.participants.ensures, ← c.in-Some.is) (sym c.index_near.ensures.index) in
+    let own = same_number c.in-Some.index.0 c.signer-signer.result.0 (sym c.ne.ensures ∙ c.if-ne.false) ∙ ap (λ p. p.0) c.signer-signer.ensures in
+    let none = sym (c.objection.ensures (g.S.Scheme.meaning b.verifier.scheme) b.verifier.number b.votes.mode) ∙ c.in-None.is in
+    let new : Held g.row.S-Signature.Denot g.row.D.Denot = record
+    { tracked = c.admit-in-None.new.votes.holds; buffered = c.admit-in-None.new.verifier.holds; forwarded = b.forwarded } in
+    let selected = selected_in b.verifier.holds in
+    let vote = c.args.vote in
+    let seen = observed b.votes.holds (kind_of vote) (signer_of vote) in
+    let outcome = c.in_ok-outcome-in-None.outcome in
+    let answered : admission_of outcome vote ≡ c.admission_of.result = sym c.admission_of.ensures in
+    let waits : MatchBool (c.admission_of.result.added && not (of_kind b.votes.holds.compacted (kind_of vote)))
+    (AddsVote x.same_digest b.verifier.holds vote false new.buffered) (new.buffered ≡ b.verifier.holds) =
+    subst (λ answer. MatchBool (answer.added && not (of_kind b.votes.holds.compacted (kind_of vote))) (AddsVote x.same_digest b.verifier.holds vote false new.buffered)
+    (new.buffered ≡ b.verifier.holds)) answered c.in_ok-outcome-in-None.ensures.buffered in
+    rw (← c.self.view_is)
+    (unopposed_after x held c.args.sender c.in-Some.index vote sent own none new c.admission_of.result (sym answered ∙ c.in_ok-outcome-in-None.ensures.answer) c.in_ok-outcome-in-None.ensures.tracked waits refl)
+
+pub returns-in_ok-outcome-in-None-clause-meets : goal.returns-in_ok-outcome-in-None-clause-meets
+returns-in_ok-outcome-in-None-clause-meets g c =
     let b = c.self.inside in
     let x = setting (g.S.Scheme.meaning b.verifier.scheme) g.S.PublicKey.Ord.cmp g.S.Signature.PartialEq.eq g.D.PartialEq.eq b.verifier.number b.votes.mode in
     let laws : HasLaws x = record {
@@ -112,21 +150,41 @@ returns-in-None-objection-clause-meets g c =
       digests_same = g.met.D.Eq.laws.refl;
     } in
     let held : Held g.row.S-Signature.Denot g.row.D.Denot = record { tracked = b.votes.holds; buffered = b.verifier.holds; forwarded = b.forwarded } in
-    let new : Held g.row.S-Signature.Denot g.row.D.Denot = record
-    { tracked = c.admit.new.votes.holds; buffered = c.admit.new.verifier.holds; forwarded = b.forwarded } in
-    let step = rw (← c.self.view_is) at (returns-in-None-objection-clause-step g c) in
+    let step = rw (← c.self.view_is) at (returns-in_ok-outcome-in-None-clause-step g c) in
     let allowed = rw (← c.self.view_is) at c.requires in
-    rw (← c.self.view_is)
-    (λ past stands.
-    IfOk-weaker c.admit.result (λ answer. AfterNetwork x held c.args.sender c.args.vote answer new)
-    (λ answer. Follows x past held (NetworkCall c.args.sender c.args.vote, NetworkAnswer answer) new)
-    (λ answer after. network_follows x laws past held c.args.sender c.args.vote answer new stands allowed after) step)
+    rw (← c.self.view_is) (λ past stands. network_follows x laws past held c.args.sender c.args.vote _ _ stands allowed step)
 
-pub returns-in-None-objection-clause-needed : goal.returns-in-None-objection-clause-needed
-returns-in-None-objection-clause-needed g c =
+pub returns-in_err-admit-clause-no_memory : goal.returns-in_err-admit-clause-no_memory
+returns-in_err-admit-clause-no_memory g c = search rules
+
+pub returns-in_err-admit-clause-needed : goal.returns-in_err-admit-clause-needed
+returns-in_err-admit-clause-needed g c =
     let b = c.self.inside in
     let x = setting (g.S.Scheme.meaning b.verifier.scheme) g.S.PublicKey.Ord.cmp g.S.Signature.PartialEq.eq g.D.PartialEq.eq b.verifier.number b.votes.mode in
     let held : Held g.row.S-Signature.Denot g.row.D.Denot = record { tracked = b.votes.holds; buffered = b.verifier.holds; forwarded = b.forwarded } in
-    let no_memory = rw (← c.self.view_is) at (returns-in-None-objection-clause-no_memory g c) in
+    let no_memory = rw (← c.self.view_is) at (returns-in_err-admit-clause-no_memory g c) in
+    rw (← c.self.view_is) (λ past stands. network_needed x past held c.args.sender c.args.vote c.from_residual.result stands no_memory (λ known full. let wrong : false ≡ true = c.in_err-admit.ensures.spared known full in absurd (cc)))
+
+pub returns-in_err-outcome-in-None-clause-no_memory : goal.returns-in_err-outcome-in-None-clause-no_memory
+returns-in_err-outcome-in-None-clause-no_memory g c =
+    let b = c.self.inside in
+    let x = setting (g.S.Scheme.meaning b.verifier.scheme) g.S.PublicKey.Ord.cmp g.S.Signature.PartialEq.eq g.D.PartialEq.eq b.verifier.number b.votes.mode in
+    let held : Held g.row.S-Signature.Denot g.row.D.Denot = record { tracked = b.votes.holds; buffered = b.verifier.holds; forwarded = b.forwarded } in
+    let sent : sender_in x c.args.sender ≡ Some c.in-Some.index = rw (← c.participants.ensures, ← c.in-Some.is) (sym c.index_near.ensures.index) in
     let own = same_number c.in-Some.index.0 c.signer-signer.result.0 (sym c.ne.ensures ∙ c.if-ne.false) ∙ ap (λ p. p.0) c.signer-signer.ensures in
-    rw (← c.self.view_is) (λ past stands. network_needed x past held c.args.sender c.args.vote c.admit.result stands no_memory c.admit.ensures.spared)
+    let none = sym (c.objection.ensures (g.S.Scheme.meaning b.verifier.scheme) b.verifier.number b.votes.mode) ∙ c.in-None.is in
+    rw (← c.self.view_is)
+    (λ not_added.
+    let wrong : false ≡ true = c.in_err-outcome-in-None.ensures.no_memory
+    (ap (λ a. a.added) (sym (unopposed_admission x held c.args.sender c.in-Some.index c.args.vote sent own none)) ∙ not_added) in
+    absurd (cc))
+
+pub returns-in_err-outcome-in-None-clause-needed : goal.returns-in_err-outcome-in-None-clause-needed
+returns-in_err-outcome-in-None-clause-needed g c =
+    let b = c.self.inside in
+    let x = setting (g.S.Scheme.meaning b.verifier.scheme) g.S.PublicKey.Ord.cmp g.S.Signature.PartialEq.eq g.D.PartialEq.eq b.verifier.number b.votes.mode in
+    let held : Held g.row.S-Signature.Denot g.row.D.Denot = record { tracked = b.votes.holds; buffered = b.verifier.holds; forwarded = b.forwarded } in
+    let no_memory = rw (← c.self.view_is) at (returns-in_err-outcome-in-None-clause-no_memory g c) in
+    rw (← c.self.view_is)
+    (λ past stands. network_needed x past held c.args.sender c.args.vote c.from_residual-in_err-outcome-in-None.result stands no_memory
+    (λ known full. let wrong : false ≡ true = c.in_err-outcome-in-None.ensures.spared known full in absurd (cc)))

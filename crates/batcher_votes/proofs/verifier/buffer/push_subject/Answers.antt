@@ -1,6 +1,5 @@
 use Rattle.std.proofs.Common.{◌≡◌, ◌<◌, ◌+◌, ◌-◌, ◌∙◌, ap, sym, length, arith}
 use Rattle.batcher_types.specs.Votes.{subject_of}
-use Rattle.batcher_votes.specs.Waiting.{spread}
 use Rattle.batcher_votes.proofs.Constructing.{subject_is}
 use Rattle.batcher_votes.proofs.Pairing.{same_item, spread-grow}
 use Rattle.batcher_votes.proofs.verifier.buffer.push_subject.Goals as goal

@@ -1,4 +1,3 @@
-use Rattle.batcher_votes.specs.Entries.{marks_of}
 use Rattle.batcher_votes.proofs.Recorded.{tracked_fresh}
 use Rattle.batcher_votes.proofs.votes.VoteTracker.new.Goals as goal
 

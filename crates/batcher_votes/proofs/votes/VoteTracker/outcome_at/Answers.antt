@@ -1,8 +1,6 @@
-use Rattle.std.proofs.Common.{◌∙◌, ap, sym, refl, nat_eq, find}
-use Rattle.std.specs.Option.{option_copied}
-use Rattle.batcher_votes.specs.Held.{of_kind}
-use Rattle.batcher_types.specs.Votes.{signer_of, kind_of}
-use Rattle.batcher_votes.specs.Entries.{key_of, marks_of, seen_in, seen_outcome, tested, votes_in}
+use Rattle.std.proofs.Common.{◌∙◌, refl, nat_eq, find}
+use Rattle.batcher_types.specs.Votes.{signer_of}
+use Rattle.batcher_votes.specs.Entries.{key_of, marks_of, votes_in}
 use Rattle.batcher_votes.proofs.Recorded.{outcome_here}
 use Rattle.batcher_votes.proofs.votes.VoteTracker.outcome_at.Goals as goal
 

@@ -1,5 +1,4 @@
-use Rattle.std.proofs.Common.{◌≡◌, ◌∙◌, true, false, sym, ap}
-use Rattle.std.specs.Option.{option_copied}
+use Rattle.std.proofs.Common.{◌≡◌, ◌∙◌, true, false, sym}
 use Rattle.batcher_votes.specs.Held.{of_kind}
 use Rattle.batcher_votes.specs.Tracking.{is_released_in}
 use Rattle.batcher_votes.specs.Entries.{marks_of, votes_in}

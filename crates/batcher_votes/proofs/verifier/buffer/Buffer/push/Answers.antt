@@ -1,5 +1,5 @@
-use Rattle.std.proofs.Common.{◌≡◌, ◌++◌, ◌∷◌, [], ◌∙◌, ap, length, rules, arith, length-append}
-use Rattle.batcher_types.specs.Votes.{subject_of, attestation_of}
+use Rattle.std.proofs.Common.{◌≡◌, ◌++◌, ◌∷◌, [], rules}
+use Rattle.batcher_types.specs.Votes.{attestation_of}
 use Rattle.batcher_votes.specs.Waiting.{spread}
 use Rattle.batcher_votes.proofs.Pairing.{push-from}
 use Rattle.batcher_votes.proofs.verifier.buffer.Buffer.push.Goals as goal

@@ -1,0 +1,15 @@
+use Rattle.std.proofs.Common.{◌∙◌, ap, refl, nat_eq, find}
+use Rattle.batcher_votes.specs.Entries.{key_of, marks_of, is_any, votes_in}
+use Rattle.batcher_votes.proofs.Recorded.{has_seen}
+use Rattle.batcher_votes.proofs.votes.VoteTracker.has_seen_at.Goals as goal
+
+pub returns : goal.returns
+returns g c = λ i is.
+    let marks = marks_of c.self.inside.compacted in
+    let votes = votes_in c.self.inside.kept in
+    let es = c.self.inside.entries.items in
+    let seen = c.seen_at.ensures.seen i (rw (← c.self.view_is) at is) in
+    rw (← c.self.view_is)
+    (c.is_any.ensures ∙ ap is_any seen
+    ∙ has_seen marks votes es c.args.kind i (find (λ e. nat_eq (key_of e) i) es) c.seen_at.ensures.ascending
+    (c.self.invariant.kinds c.args.kind).each refl)
