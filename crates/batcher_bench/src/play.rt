@@ -31,8 +31,8 @@ struct Played {
 }
 
 impl Played {
-    // Before any vote.
-    fn nothing(checksum: u64) -> Self {
+    // No vote was played yet. The checksum has what was mixed before.
+    fn new(checksum: u64) -> Self {
         Played {
             votes: 0,
             added: 0,
@@ -215,7 +215,8 @@ fn lead<P: Copy + Eq>(round: &mut Round<Plain<P>, Sha256Digest>) -> bool
     round.set_leader(Participant::new(0)).is_ok()
 }
 
-// A vote's answer is counted where it stands, so that no copy of it is taken for the layer's work.
+// The answer is counted here and not returned: a copy of it on its way to the caller would be the
+// benchmark's own, and be counted as the layer's.
 fn send<P: Copy + Eq>(
     round: &mut Round<Plain<P>, Sha256Digest>,
     sender: Name,
@@ -260,7 +261,7 @@ fn play<P: Copy + Eq>(
 {
     let mut rng = Counter::new(0);
     let is_led = lead(round);
-    let mut played = Played::nothing(u64::from(mixes && is_led));
+    let mut played = Played::new(u64::from(mixes && is_led));
     for step in steps {
         match *step {
             Step::Send(sender, vote) => {
@@ -324,7 +325,7 @@ fn tell_steps<P: Copy + Eq>(
     requires steps { All (IsOfRound NUMBER) steps.now }
 {
     let mut rng = Counter::new(0);
-    let mut played = Played::nothing(0);
+    let mut played = Played::new(0);
     let _ = lead(round);
     eprintln!(rt; "made")?;
     for step in steps {

@@ -43,8 +43,8 @@ use batcher_types::scheme::Scheme;
 use batcher_votes::verifier::{Batch, LeaderFault, Verifier};
 use batcher_votes::votes::{Mode, ObservedVote, Outcome, VoteTracker};
 use both::{
-    admit, fixed_by, is_first, make_room_to_accept, make_room_to_fix, may_fix, own_result,
-    saw_opposite, settle, take_in,
+    admit, fixed_by, is_first, make_room_to_accept, make_room_to_fix, may_fix, missing_among,
+    own_result, saw_opposite, settle, take_in,
 };
 use rand_core::CryptoRng;
 use std::alloc::{AllocError, Global};
@@ -303,14 +303,15 @@ impl<S: Scheme<D>, D: Digest> Round<S, D> {
             return Ok(blocked(mismatch_reason(vote.kind()), None));
         }
         let place = self.votes.place(index);
-        // The answer to the first vote of its kind is made at one place, and so isn't copied on its
-        // way to the caller.
+        // Nearly every vote is one that nothing excludes. Its answer is built here, since it would
+        // be copied if it were handed up from below.
         if is_first(&self.votes, place, &vote) {
             admit(&mut self.verifier, &mut self.votes, place, &vote)?;
             return Ok(added(&vote));
         }
         match Self::objection(&self.votes, place, &vote) {
             Some(answer) => Ok(answer),
+            // Facts are left of an earlier vote: this one repeats it, or contradicts it.
             None => {
                 let outcome = admit(&mut self.verifier, &mut self.votes, place, &vote)?;
                 Ok(admission_of(outcome, &vote))
@@ -318,8 +319,8 @@ impl<S: Scheme<D>, D: Digest> Round<S, D> {
         }
     }
 
-    // What is answered to a vote that is not to be recorded. It stands apart, since few votes meet
-    // one, and the compiler would otherwise make room for its answer at each vote.
+    // What is answered to a vote that is not to be recorded. Only a vote that isn't the first comes
+    // here, so its code is kept out of the way of the others.
     #[cold]
     #[inline(never)]
     fn objection(
@@ -510,8 +511,8 @@ impl<S: Scheme<D>, D: Digest> Round<S, D> {
     fn has_block(&self, proposal: &Proposal<D>, participant: Participant) -> bool
         ensures { result ≡ has_block_held D.eq self.now.holds participant.0 proposal.now }
     {
-        self.votes.has_notarize_for(participant, proposal)
-            || self.votes.has_finalize_for(participant, proposal)
+        let place = self.votes.place(participant);
+        self.votes.has_block_at(place, proposal)
     }
 
     /// The participants that aren't known to have the proposal's block, in ascending order.
@@ -522,14 +523,9 @@ impl<S: Scheme<D>, D: Digest> Round<S, D> {
         ensures meets { FollowsOnOk ⟦<S as Judge<D>>⟧.of self.now
             (MissingCall proposal.now) MissingAnswer result self.now.holds }
     {
+        let alloc = self.verifier.alloc();
         let participants = self.verifier.participants().len();
-        let mut missing = Vec::with_capacity(self.verifier.alloc(), participants)?;
-        for index in 0..participants {
-            let participant = Participant::from_usize(index);
-            if self.is_missing_voter(proposal, participant) {
-                missing.push_reserved(participant);
-            }
-        }
+        let missing = missing_among(alloc, &self.votes, participants, proposal)?;
         Ok(Participants::from(missing))
     }
 }

@@ -9,7 +9,7 @@ use Rattle.std.specs.List.{All, AllByRecursion, list_any, slice_get}
 use Rattle.std.specs.List.Sorted.{IsSearchInRange, IsBinarySearchResult}
 use Rattle.std.specs.Ordering.{nat_cmp}
 use Rattle.batcher_types.specs.Ascending.{IsAscending, insert_by}
-use Rattle.batcher_types.specs.Lists.{count}
+use Rattle.batcher_types.specs.Lists.{count, is_some_and}
 use Rattle.batcher_types.specs.Items.{place_of, replace_by}
 use Rattle.batcher_types.specs.Ordered.{rec_weaker, rec_from_all, all_from_rec}
 use Rattle.batcher_types.proofs.Orders.{replace_at, find_at, found_key, lower, higher, searched_found, searched_absent}
@@ -30,6 +30,13 @@ one_more n = omega arith
 none_of : {X : Type 0} (o : Option X) → is_some o ≡ false → o ≡ None
 none_of None h = refl
 none_of (Some x) h = absurd (cc)
+
+-- No number is below 0.
+pub none_below : (numbers : List ℕ) → count (λ s. nat_lt s 0) numbers ≡ 0
+none_below [] = refl
+none_below (n ∷ numbers) =
+    let no : nat_lt n 0 ≡ false = grind (arith, nat_tests) in
+    rw no (omega (arith, none_below numbers))
 
 module _ {X : Type 0} (key : X → ℕ) where
   -- how many elements have a lower number
@@ -167,6 +174,67 @@ module _ {X : Type 0} (key : X → ℕ) where
   place_found xs k i up is =
       let both = found_of _ _ i is in
       rw (← both.1) (at_count xs k up (sym (any_found xs k) ∙ both.0))
+
+  -- The element before which all lower ones stand has the number, if any has.
+  after_test : (xs : List X) (k : ℕ) → IsAscending key xs
+      → is_some_and (slice_get xs (lower_count xs k)) (λ x. key x == k)
+      ≡ list_any (λ s. s == k) (map key xs)
+  unfolding IsAscending
+  after_test [] k up = refl
+  after_test (y ∷ ys) k up = after_cons (nat_lt (key y) k) (nat_eq (key y) k) refl refl (after_test ys k up.1) where
+    after_cons : (lt eq : Bool) → nat_lt (key y) k ≡ lt → nat_eq (key y) k ≡ eq
+        → is_some_and (slice_get ys (lower_count ys k)) (λ x. key x == k)
+        ≡ list_any (λ s. s == k) (map key ys)
+        → is_some_and (slice_get (y ∷ ys) (cond lt 1 0 + lower_count ys k)) (λ x. key x == k)
+        ≡ (eq || list_any (λ s. s == k) (map key ys))
+    after_cons true true elt eeq rest = absurd (grind (arith, nat_tests))
+    after_cons true false elt eeq rest = ap (λ n. is_some_and (slice_get (y ∷ ys) n) (λ x. key x == k)) (one_more (lower_count ys k)) ∙ rest
+    after_cons false true elt eeq rest =
+        let from : k ≤ key y = grind (arith, nat_tests) in
+        rw (none_lower ys k (rec_weaker (λ z. key y < key z) (λ z. k ≤ key z) (λ z lt. omega (arith, lt, from)) ys up.0)) eeq
+    after_cons false false elt eeq rest =
+        let above : k < key y = grind (arith, nat_tests) in
+        let none = none_found ys k (rec_weaker (λ z. key y < key z) (λ z. k < key z) (λ z lt. omega (arith, lt, above)) ys up.0) in
+        rw (none_lower ys k (rec_weaker (λ z. key y < key z) (λ z. k ≤ key z) (λ z lt. omega (arith, lt, above)) ys up.0))
+        (eeq ∙ sym (any_found ys k ∙ ap is_some none))
+
+  -- One more is below the next number where one has the number.
+  after_next : (xs : List X) (k : ℕ) → IsAscending key xs
+      → lower_count xs (k + 1) ≡ lower_count xs k + cond (list_any (λ s. s == k) (map key xs)) 1 0
+  unfolding IsAscending
+  after_next [] k up = refl
+  after_next (y ∷ ys) k up = next_cons (nat_lt (key y) k) (nat_eq (key y) k) refl refl (after_next ys k up.1) where
+    next_cons : (lt eq : Bool) → nat_lt (key y) k ≡ lt → nat_eq (key y) k ≡ eq
+        → lower_count ys (k + 1) ≡ lower_count ys k + cond (list_any (λ s. s == k) (map key ys)) 1 0
+        → cond (nat_lt (key y) (k + 1)) 1 0 + lower_count ys (k + 1)
+        ≡ cond lt 1 0 + lower_count ys k + cond (eq || list_any (λ s. s == k) (map key ys)) 1 0
+    next_cons true true elt eeq rest = absurd (grind (arith, nat_tests))
+    next_cons true false elt eeq rest =
+        let yes : nat_lt (key y) (k + 1) ≡ true = grind (arith, nat_tests) in
+        rw yes (omega (arith, rest))
+    next_cons false true elt eeq rest =
+        let yes : nat_lt (key y) (k + 1) ≡ true = grind (arith, nat_tests) in
+        let from : k ≤ key y = grind (arith, nat_tests) in
+        let none = none_lower ys k (rec_weaker (λ z. key y < key z) (λ z. k ≤ key z) (λ z lt. omega (arith, lt, from)) ys up.0) in
+        let still = none_lower ys (k + 1) (rec_weaker (λ z. key y < key z) (λ z. k + 1 ≤ key z) (λ z lt. omega (arith, lt, from)) ys up.0) in
+        rw yes (omega (arith, none, still))
+    next_cons false false elt eeq rest =
+        let no : nat_lt (key y) (k + 1) ≡ false = grind (arith, nat_tests) in
+        rw no (omega (arith, rest))
+
+  -- so one look there tells the place, and how many are below the next number
+  module _ (xs : List X) (k i : ℕ) (is_there : Bool) (up : IsAscending key xs)
+      (at : i ≡ count (λ s. nat_lt s k) (map key xs))
+      (test : is_there ≡ is_some_and (slice_get xs i) (λ x. key x == k)) where
+    any_there : is_there ≡ list_any (λ s. s == k) (map key xs)
+    any_there = test ∙ ap (λ n. is_some_and (slice_get xs n) (λ x. key x == k)) at ∙ after_test xs k up
+
+    pub look_place : cond is_there (Ok i) (Err i) ≡ place_of (map key xs) k
+    unfolding place_of
+    look_place = rw (any_there, at) refl
+
+    pub look_next : count (λ s. nat_lt s (k + 1)) (map key xs) ≡ i + cond is_there 1 0
+    look_next = rw (any_there, at) (after_next xs k up)
 
   below_any : (xs : List X) (k : ℕ) → list_any (λ s. s == k) (map key xs) ≡ true → lower_count xs k
       < length xs

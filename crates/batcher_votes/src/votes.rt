@@ -1,12 +1,12 @@
 //! The votes of a round: the first of each kind per signer, in full or as facts.
 
-ghost use Rattle.std.specs.Prelude.{ℕ, ◌≡◌, ◌≤◌, ◌<◌, ◌^◌, true, false, ◌&&◌, is_some, IsOk, IfOk, IfErr, OnOk, OnErr, Some, None, length, filter, map, slice_set, slice_index_or};
+ghost use Rattle.std.specs.Prelude.{ℕ, ◌≡◌, ◌≤◌, ◌<◌, ◌+◌, ◌^◌, true, false, ◌&&◌, ◌||◌, nat_lt, cond, is_ok, is_some, IsOk, IfOk, IfErr, OnOk, OnErr, Some, None, length, filter, map, slice_set, slice_index_or};
 ghost use Rattle.std.specs.Option.{option_copied, option_map};
 ghost use Rattle.std.specs.Iterator.{YieldsFirst, item_count};
 ghost use Rattle.batcher_types.specs.declared.messages.Kind.{Kind};
 ghost use Rattle.batcher_types.specs.declared.messages.Kind.TheVariants.{Notarization, Nullification, Finalization};
 ghost use Rattle.batcher_types.specs.Ascending.{IsAscending};
-ghost use Rattle.batcher_types.specs.Lists.{is_some_and};
+ghost use Rattle.batcher_types.specs.Lists.{count, is_some_and};
 ghost use Rattle.batcher_types.specs.Votes.{kind_of, attestation_of, waits};
 ghost use Rattle.batcher_votes.specs.Held.{of_kind};
 ghost use Rattle.batcher_votes.specs.Entries.{Entry as TheEntry, key_of, part, with_part, seen_in, entries_with, entry_released, votes_in, room_in, vote_at};
@@ -156,8 +156,8 @@ fn put_at(
     }
 }
 
-// Puts the entry of a signer that has none in its place, and has it say this of the kind. It stands
-// apart, since a signer has one entry and many votes.
+// Inserts an entry for a signer that has none, at its place, which says this of the kind. It isn't
+// inlined, so that only who inserts an entry pays for it.
 #[inline(never)]
 fn insert_entry(
     entries: &mut AttributableMap<Entry>,
@@ -324,6 +324,17 @@ impl<G: Copy, D: Digest> VoteTracker<G, D> {
         self.entries.place(signer)
     }
 
+    /// The same, where it is known how many entries are of lower signers. Who goes over all signers
+    /// in their order knows that, and needs no search.
+    pub fn place_after(&self, lower: usize, signer: Participant) -> Place
+        requires { lower ≡ count (λ s. nat_lt s signer.0) self.now.signers }
+        ensures place { result ≡ place_of self.now.signers signer.0 }
+        ensures next { count (λ s. nat_lt s (signer.0 + 1)) self.now.signers
+            ≡ lower + cond (is_ok result) 1 0 }
+    {
+        self.entries.place_after(lower, signer)
+    }
+
     /// Records a vote, where `place` gave the place of its signer, which is in range.
     pub fn record_at(
         &mut self,
@@ -437,8 +448,8 @@ impl<G: Copy, D: Digest> VoteTracker<G, D> {
             .observed(kind, seen_at(&self.entries, place, kind))
     }
 
-    /// Whether a vote of the kind was seen of the signer whose place `place` gave. `saw_at` copies
-    /// the vote, which is no use to who asks whether there is one.
+    /// Whether a vote of the kind was seen of the signer whose place `place` gave. Unlike `saw_at`
+    /// it copies no vote.
     pub fn has_seen_at(&self, place: Place, kind: Kind) -> bool
         ensures { (i : ℕ) → place ≡ place_of self.now.signers i → result
             ≡ is_seen (observed self.now.holds kind i) }
@@ -469,6 +480,26 @@ impl<G: Copy, D: Digest> VoteTracker<G, D> {
             (observed self.now.holds Finalization signer.0) }
     {
         self.has_vote_for(Kind::Finalization, signer, proposal)
+    }
+
+    /// Whether the signer whose place `place` gave is known to have the proposal's block, since it
+    /// notarized it or finalized it, as far as `has_notarize_for` and `has_finalize_for` tell.
+    pub fn has_block_at(&self, place: Place, proposal: &Proposal<D>) -> bool
+        ensures { (i : ℕ) → place ≡ place_of self.now.signers i → result
+            ≡ (is_seen_for D.eq proposal.now (observed self.now.holds Notarization i)
+            || is_seen_for D.eq proposal.now (observed self.now.holds Finalization i)) }
+    {
+        self.has_vote_at(place, Kind::Notarization, proposal)
+            || self.has_vote_at(place, Kind::Finalization, proposal)
+    }
+
+    // Whether a vote of the kind for the proposal was seen of the signer whose place `place` gave.
+    fn has_vote_at(&self, place: Place, kind: Kind, proposal: &Proposal<D>) -> bool
+        ensures { (i : ℕ) → place ≡ place_of self.now.signers i → result
+            ≡ is_seen_for D.eq proposal.now (observed self.now.holds kind i) }
+    {
+        let seen = seen_at(&self.entries, place, kind);
+        self.kept.is_seen_for(kind, seen, proposal)
     }
 
     /// Whether a nullify of the signer is kept.

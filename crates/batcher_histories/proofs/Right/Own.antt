@@ -1,6 +1,6 @@
 -- What comes of own votes, and what certificates from outside keep right.
 use Rattle.std.specs.Prelude.{find, IsErrAnd, IfErr, MatchBool}
-use Rattle.std.proofs.Common.{◌≡◌, ◌∙◌, ◌≤◌, ◌==◌, ◌&&◌, ◌||◌, ◌++◌, [], ℕ, Bool, true, false, not, cond, nat_lt, List, filter, Option, Some, None, is_some, Result, Ok, Err, refl, sym, ap, subst, arith}
+use Rattle.std.proofs.Common.{◌≡◌, ◌∙◌, ◌≤◌, ◌==◌, ◌&&◌, ◌||◌, ◌++◌, [], ℕ, Bool, true, false, cond, nat_lt, List, filter, Option, Some, None, is_some, Result, Ok, Err, refl, sym, ap, subst, arith}
 use Rattle.batcher_types.specs.declared.messages.Proposal.{Proposal}
 use Rattle.batcher_types.specs.declared.messages.Vote.{Vote}
 use Rattle.batcher_types.specs.declared.messages.Activity.{Activity}
@@ -18,12 +18,10 @@ use Rattle.batcher_types.specs.Meaning.{Meaning}
 use Rattle.batcher_histories.specs.Setting.{Setting}
 use Rattle.batcher_types.specs.Votes.{is_kind, kind_of, signer_of, is_vote_of, waits}
 use Rattle.batcher_votes.specs.Selected.{proposal_of, updated, fixes, is_fixed}
-use Rattle.batcher_histories.specs.Admissions.{admission_of, block_for, refusal, conflict_reason}
-use Rattle.std.proofs.lemmas.Option.{none-some}
 use Rattle.batcher_votes.specs.Held.{PerKind, of_kind, Tracked, Buffered, Tracker, Held}
-use Rattle.batcher_votes.specs.Tracking.{Observed, unseen, in_full, as_facts, shown, observed, observed_opposite, is_seen, kept_vote, conflicts_with, outcome_by, outcome_of, is_released_in, RecordsKind, ReleasesKind, SameTracked}
+use Rattle.batcher_votes.specs.Tracking.{Observed, unseen, in_full, as_facts, shown, observed, observed_opposite, is_seen, kept_vote, outcome_by, outcome_of, is_released_in, RecordsKind, ReleasesKind, SameTracked}
 use Rattle.batcher_votes.specs.Buffering.{AddsVote, MayFix, CompletesKind, coming_back}
-use Rattle.batcher_histories.specs.Steps.{IsRight, AfterOwn, fixed_by, objection_by, admission_by, opposite_fault, unopposed_result, duplicate_result, own_result, own_result_by, report_by, is_added, is_kept}
+use Rattle.batcher_histories.specs.Steps.{IsRight, AfterOwn, fixed_by, opposite_fault, unopposed_result, duplicate_result, own_result, own_result_by, report_by, is_added, is_kept}
 use Rattle.batcher_votes.specs.Sound.{WaitsWhereKept}
 use Rattle.batcher_votes.proofs.Fixing.{fixes_fixed, fixes_any}
 
@@ -85,37 +83,6 @@ module _ {G D : Type 0} where
       ≡ outcome_by same selected (of_kind held.compacted (kind_of vote))
       (observed held (kind_of vote) (signer_of vote)) vote
   in_range same participants held selected vote below = rw below refl
-
-module _ {D K G C : Type 0} (x : Setting D K G C) (selected : Option (Proposal D))
-    (compacted : Bool) (vote : Vote G D) where
-  admitted_by : (conflicts : Bool) → admission_of (cond conflicts Conflicting (Duplicate false))
-      vote ≡ cond conflicts (block_for (conflict_reason (kind_of vote)) None) refusal
-  admitted_by true = refl
-  admitted_by false = refl
-
-  -- what is answered to a vote that stands against no other is what recording it tells
-  pub admitted : (opposite own : Observed G D) → objection_by x opposite own vote ≡ None
-      → admission_of (outcome_by x.same_digest selected compacted own vote) vote
-      ≡ admission_by x selected own vote
-  admitted opposite unseen h = refl
-  admitted unseen (in_full kept) h = absurd (none-some _ (sym h))
-  admitted (in_full earlier) (in_full kept) h = absurd (none-some _ (sym h))
-  admitted (as_facts facts) (in_full kept) h = absurd (none-some _ (sym h))
-  admitted opposite (as_facts facts) h = admitted_by (conflicts_with x.same_digest selected vote facts)
-
-  kept_by : (conflicts : Bool) → is_kept (cond conflicts Conflicting (Duplicate false))
-      ≡ ((admission_of (cond conflicts Conflicting (Duplicate false)) vote).added && not compacted)
-  kept_by true = refl
-  kept_by false = refl
-
-  -- and it waits where it is added and kept in full
-  pub kept_so : (own : Observed G D)
-      → is_kept (outcome_by x.same_digest selected compacted own vote)
-      ≡ ((admission_of (outcome_by x.same_digest selected compacted own vote) vote).added
-      && not compacted)
-  kept_so unseen = refl
-  kept_so (in_full kept) = refl
-  kept_so (as_facts facts) = kept_by (conflicts_with x.same_digest selected vote facts)
 
 duplicate_is : (kind : Kind) (r : Outcome) → duplicate_result kind ≡ Ok r → r ≡ Duplicate true
 duplicate_is Notarization r h = absurd (cc)

@@ -1,18 +1,18 @@
 //! What a round does to its tracker and its verifier together: it makes all room first, and then
 //! changes both.
 
-ghost use Rattle.std.specs.Prelude.{◌≡◌, ◌≤◌, ◌<◌, ◌&&◌, ◌||◌, not, None, true, false, length, IfOk, OnOk, OnErr, IsOk, cond};
+ghost use Rattle.std.specs.Prelude.{◌≡◌, ◌≤◌, ◌<◌, ◌^◌, ◌&&◌, ◌||◌, not, None, true, false, length, IfOk, OnOk, OnErr, IsOk, cond};
 ghost use Rattle.batcher_types.specs.declared.messages.Kind.{Kind as TheKind};
 ghost use Rattle.batcher_types.specs.Items.{place_of};
 ghost use Rattle.batcher_histories.specs.Setting.{setting};
 ghost use Rattle.batcher_types.specs.Lists.{is_some_and};
 ghost use Rattle.batcher_types.specs.Votes.{is_kind, has_proposals, kind_of, signer_of, attestation_of, subject_of, round_in};
 ghost use Rattle.batcher_votes.specs.Selected.{proposal_of, replaces, fixes, same_selected};
-ghost use Rattle.batcher_votes.specs.Held.{of_kind, round_of, SameVerifier, SameTracker};
+ghost use Rattle.batcher_votes.specs.Held.{Held, of_kind, round_of, SameVerifier, SameTracker};
 ghost use Rattle.batcher_votes.specs.Tracking.{shown, is_known, is_seen, HasRoomToRecord, outcome_of, outcome_by, observed_opposite, RecordsKind};
 ghost use Rattle.batcher_votes.specs.Buffering.{selected_in, MayAddVote, FixesProposal, MayFix};
 ghost use Rattle.batcher_votes.specs.Sound.{WaitsWhereKept, HasRoomFor, KeepsAllRoom, WhereItReplaces};
-ghost use Rattle.batcher_histories.specs.Steps.{objection_by, own_result_by, admission_by, Fixes, IsRight, fixed_by, is_added, is_kept};
+ghost use Rattle.batcher_histories.specs.Steps.{missing_in, objection_by, own_result_by, admission_by, Fixes, IsRight, fixed_by, is_added, is_kept};
 ghost use Rattle.batcher_votes.specs.declared.votes.Mode.TheVariants.{Retaining};
 ghost use Rattle.batcher_votes.specs.declared.votes.Outcome.TheVariants.{Added as AddedOutcome};
 ghost use Rattle.batcher_histories.specs.Admissions.{admission_of};
@@ -21,10 +21,11 @@ ghost use Rattle.batcher_round.specs.Seen.{observed_like};
 use crate::round::answers::{is_added, is_kept, opposite_fault, unopposed_result};
 use crate::round::{Judge, OwnFault};
 use batcher_types::messages::{Digest, Kind, Place, Proposal, Vote};
+use batcher_types::positions::Participant;
 use batcher_types::scheme::Scheme;
 use batcher_votes::verifier::{ProposalState, Verifier};
 use batcher_votes::votes::{ObservedVote, Outcome, VoteTracker};
-use std::alloc::AllocError;
+use std::alloc::{AllocError, Global};
 
 // What was seen of the other of nullify and finalize.
 pub(super) fn saw_opposite<G: Copy, D: Digest>(
@@ -42,8 +43,8 @@ pub(super) fn saw_opposite<G: Copy, D: Digest>(
     }
 }
 
-// Whether no vote was seen beside which this one could stand: none of its kind and signer, and of
-// nullify and finalize none of the other. It copies none, as nearly all votes are the first.
+// Whether nothing that was seen of its signer excludes the vote: none of its kind and, for a
+// nullify or a finalize, none of the other of the two. Nearly all votes pass, so it copies none.
 pub(super) fn is_first<G: Copy, D: Digest>(
     votes: &VoteTracker<G, D>,
     place: Place,
@@ -357,4 +358,32 @@ pub(super) fn settle<S: Scheme<D>, D: Digest>(
     if let Some(proposal) = proposal {
         verifier.set_proposal(ProposalState::Certificate(proposal));
     }
+}
+
+// The participants, of so many, that aren't known to have the proposal's block. They and the
+// entries both ascend, so each entry is looked at once, and none is searched for.
+pub(super) fn missing_among<G: Copy, D: Digest>(
+    alloc: Global,
+    votes: &VoteTracker<G, D>,
+    participants: usize,
+    proposal: &Proposal<D>,
+) -> Result<Vec<Participant>, AllocError>
+    requires { participants < 2 ^ 32 }
+    ensures { IfOk result (λ list. (held : Held G D) → held.tracked ≡ votes.now.holds
+        → list.items ≡ missing_in D.eq held proposal.now participants) }
+{
+    let mut missing = Vec::with_capacity(alloc, participants)?;
+    // How many entries are of participants before this one.
+    let mut lower = 0;
+    for index in 0..participants {
+        let participant = Participant::from_usize(index);
+        let place = votes.place_after(lower, participant);
+        if place.is_ok() {
+            lower += 1;
+        }
+        if !votes.has_block_at(place, proposal) {
+            missing.push_reserved(participant);
+        }
+    }
+    Ok(missing)
 }

@@ -1,12 +1,13 @@
 //! A map from signers to their items.
 
 ghost use Rattle.std.specs.Prelude.{ℕ, ◌≡◌, ◌+◌, ◌-◌, ◌<◌, ◌≤◌, ◌↔◌, List, [], Some, None, false, length, IsTrue, IsOk, IfOk, OnOk, OnErr, IfErr, vec_len, vec_capacity, slice_get, slice_index_or, slice_set, insert, map, Err, if◌then◌else◌};
-ghost use Rattle.std.specs.Prelude.{MatchResult};
+ghost use Rattle.std.specs.Prelude.{MatchResult, is_ok, cond, nat_lt, ◌==◌};
 ghost use Rattle.std.specs.List.{All};
 ghost use Rattle.std.specs.Option.{option_copied};
 ghost use Rattle.std.specs.Iterator.{YieldsFirstRef, item_count};
 ghost use Rattle.batcher_types.specs.Ascending.{IsAscending, insert_by};
 ghost use Rattle.batcher_types.specs.Items.{Items, item_of, is_new, replace_by, place_of};
+ghost use Rattle.batcher_types.specs.Lists.{count, is_some_and};
 
 use crate::messages::Attributable;
 use crate::positions::Participant;
@@ -219,6 +220,22 @@ impl<T: Attributable> AttributableMap<T> {
         }
     }
 
+    /// Where the signer's item stands, else where it would, by how many items are of lower signers.
+    /// Who goes over all signers in their order knows that, and needs no search.
+    pub fn place_after(&self, lower: usize, signer: Participant) -> Place
+        requires { lower ≡ count (λ s. nat_lt s signer.0)
+            (map (λ x. (T.signed_by x).0) self.now.items) }
+        ensures place { result ≡ place_of (map (λ x. (T.signed_by x).0) self.now.items) signer.0 }
+        ensures next { count (λ s. nat_lt s (signer.0 + 1))
+            (map (λ x. (T.signed_by x).0) self.now.items) ≡ lower + cond (is_ok result) 1 0 }
+    {
+        if self.is_at(lower, signer) {
+            Ok(lower)
+        } else {
+            Err(lower)
+        }
+    }
+
     // Whether all items are of lower signers.
     fn is_below(&self, signer: Participant) -> bool
         ensures ascending { IsAscending (λ x. (T.signed_by x).0) self.now.items }
@@ -242,8 +259,11 @@ impl<T: Attributable> AttributableMap<T> {
 
     // Whether the signer's item stands at the index.
     fn is_at(&self, index: usize, signer: Participant) -> bool
-        ensures { IsTrue result → (index < length self.now.items)
+        ensures at { IsTrue result → (index < length self.now.items)
             × ((d : T) → (T.signed_by (slice_index_or self.now.items index d)).0 ≡ signer.0) }
+        ensures test { result ≡ is_some_and (slice_get self.now.items index)
+            (λ x. (T.signed_by x).0 == signer.0) }
+        ensures ascending { IsAscending (λ x. (T.signed_by x).0) self.now.items }
     {
         match self.items.get(index) {
             Some(item) => item.signer().0 == signer.0,

@@ -233,14 +233,15 @@ fn push_subject<G: Copy, D: Digest>(runs: &mut Vec<Run<D>>, vote: &Vote<G, D>)
     if len > 0 && runs[len - 1].more < usize::MAX && is_about(&runs[len - 1].subject, vote) {
         runs[len - 1].more += 1;
     } else {
-        push_first(runs, vote);
+        begin_run(runs, vote);
     }
 }
 
-// Takes a run of the vote's subject alone to the end. It stands apart, since few votes begin a run.
+// Begins a run at the end, of the vote's subject. Few votes begin one, so its code is kept out of
+// the way of the others.
 #[cold]
 #[inline(never)]
-fn push_first<G: Copy, D: Digest>(runs: &mut Vec<Run<D>>, vote: &Vote<G, D>)
+fn begin_run<G: Copy, D: Digest>(runs: &mut Vec<Run<D>>, vote: &Vote<G, D>)
     requires { 1 ≤ vec_capacity runs.old - vec_len runs.old }
     ensures subjects { spread runs.new.items ≡ spread runs.old.items ++ subject_of vote.now ∷ [] }
     ensures room { vec_capacity runs.old - vec_len runs.old

@@ -1,9 +1,8 @@
 use Rattle.std.proofs.Common.{None, rules, ◌==◌, ◌≡◌, ◌&&◌, ◌∙◌, not, true, false, Some, ap, subst, sym, refl}
 use Rattle.std.specs.Prelude.{MatchBool}
 use Rattle.std.proofs.lemmas.Bool.{not-true}
-use Rattle.batcher_types.specs.Votes.{kind_of, signer_of}
+use Rattle.batcher_types.specs.Votes.{kind_of}
 use Rattle.batcher_votes.specs.Held.{of_kind, Held}
-use Rattle.batcher_votes.specs.Tracking.{observed}
 use Rattle.batcher_votes.specs.Buffering.{selected_in, AddsVote}
 use Rattle.batcher_histories.specs.Setting.{setting, sender_in}
 use Rattle.batcher_histories.specs.Admissions.{block_for, mismatch_reason, admission_of}
@@ -66,16 +65,16 @@ returns-then-is_first-clause-step g c =
     { tracked = c.admit.new.votes.holds; buffered = c.admit.new.verifier.holds; forwarded = b.forwarded } in
     let selected = selected_in b.verifier.holds in
     let vote = c.args.vote in
-    let seen = observed b.votes.holds (kind_of vote) (signer_of vote) in
     let outcome = c.in_ok-admit.field-0 in
     let answered : admission_of outcome vote ≡ c.added.result =
     c.in_ok-admit.ensures.answer ∙ first_added x held vote (sym c.is_first.ensures ∙ c.if-is_first.true) selected ∙ sym c.added.ensures in
     let waits : MatchBool (c.added.result.added && not (of_kind b.votes.holds.compacted (kind_of vote)))
     (AddsVote x.same_digest b.verifier.holds vote false new.buffered) (new.buffered ≡ b.verifier.holds) =
-    subst (λ answer. MatchBool (answer.added && not (of_kind b.votes.holds.compacted (kind_of vote))) (AddsVote x.same_digest b.verifier.holds vote false new.buffered)
-    (new.buffered ≡ b.verifier.holds)) answered c.in_ok-admit.ensures.buffered in
+    subst (λ answer. MatchBool (answer.added && not (of_kind b.votes.holds.compacted (kind_of vote)))
+    (AddsVote x.same_digest b.verifier.holds vote false new.buffered) (new.buffered ≡ b.verifier.holds)) answered c.in_ok-admit.ensures.buffered in
     rw (← c.self.view_is)
-    (unopposed_after x held c.args.sender c.in-Some.index vote sent own none new c.added.result (sym answered ∙ c.in_ok-admit.ensures.answer) c.in_ok-admit.ensures.tracked waits refl)
+    (unopposed_after x held c.args.sender c.in-Some.index vote sent own none new c.added.result
+    (sym answered ∙ c.in_ok-admit.ensures.answer) c.in_ok-admit.ensures.tracked waits refl)
 
 pub returns-then-is_first-clause-meets : goal.returns-then-is_first-clause-meets
 returns-then-is_first-clause-meets g c =
@@ -127,17 +126,16 @@ returns-in_ok-outcome-in-None-clause-step g c =
     let none = sym (c.objection.ensures (g.S.Scheme.meaning b.verifier.scheme) b.verifier.number b.votes.mode) ∙ c.in-None.is in
     let new : Held g.row.S-Signature.Denot g.row.D.Denot = record
     { tracked = c.admit-in-None.new.votes.holds; buffered = c.admit-in-None.new.verifier.holds; forwarded = b.forwarded } in
-    let selected = selected_in b.verifier.holds in
     let vote = c.args.vote in
-    let seen = observed b.votes.holds (kind_of vote) (signer_of vote) in
     let outcome = c.in_ok-outcome-in-None.outcome in
     let answered : admission_of outcome vote ≡ c.admission_of.result = sym c.admission_of.ensures in
     let waits : MatchBool (c.admission_of.result.added && not (of_kind b.votes.holds.compacted (kind_of vote)))
     (AddsVote x.same_digest b.verifier.holds vote false new.buffered) (new.buffered ≡ b.verifier.holds) =
-    subst (λ answer. MatchBool (answer.added && not (of_kind b.votes.holds.compacted (kind_of vote))) (AddsVote x.same_digest b.verifier.holds vote false new.buffered)
-    (new.buffered ≡ b.verifier.holds)) answered c.in_ok-outcome-in-None.ensures.buffered in
+    subst (λ answer. MatchBool (answer.added && not (of_kind b.votes.holds.compacted (kind_of vote)))
+    (AddsVote x.same_digest b.verifier.holds vote false new.buffered) (new.buffered ≡ b.verifier.holds)) answered c.in_ok-outcome-in-None.ensures.buffered in
     rw (← c.self.view_is)
-    (unopposed_after x held c.args.sender c.in-Some.index vote sent own none new c.admission_of.result (sym answered ∙ c.in_ok-outcome-in-None.ensures.answer) c.in_ok-outcome-in-None.ensures.tracked waits refl)
+    (unopposed_after x held c.args.sender c.in-Some.index vote sent own none new c.admission_of.result
+    (sym answered ∙ c.in_ok-outcome-in-None.ensures.answer) c.in_ok-outcome-in-None.ensures.tracked waits refl)
 
 pub returns-in_ok-outcome-in-None-clause-meets : goal.returns-in_ok-outcome-in-None-clause-meets
 returns-in_ok-outcome-in-None-clause-meets g c =
@@ -163,9 +161,12 @@ returns-in_err-admit-clause-needed g c =
     let x = setting (g.S.Scheme.meaning b.verifier.scheme) g.S.PublicKey.Ord.cmp g.S.Signature.PartialEq.eq g.D.PartialEq.eq b.verifier.number b.votes.mode in
     let held : Held g.row.S-Signature.Denot g.row.D.Denot = record { tracked = b.votes.holds; buffered = b.verifier.holds; forwarded = b.forwarded } in
     let no_memory = rw (← c.self.view_is) at (returns-in_err-admit-clause-no_memory g c) in
-    rw (← c.self.view_is) (λ past stands. network_needed x past held c.args.sender c.args.vote c.from_residual.result stands no_memory (λ known full. let wrong : false ≡ true = c.in_err-admit.ensures.spared known full in absurd (cc)))
+    rw (← c.self.view_is)
+    (λ past stands. network_needed x past held c.args.sender c.args.vote c.from_residual.result stands no_memory
+    (λ known full. let wrong : false ≡ true = c.in_err-admit.ensures.spared known full in absurd (cc)))
 
-pub returns-in_err-outcome-in-None-clause-no_memory : goal.returns-in_err-outcome-in-None-clause-no_memory
+pub returns-in_err-outcome-in-None-clause-no_memory :
+    goal.returns-in_err-outcome-in-None-clause-no_memory
 returns-in_err-outcome-in-None-clause-no_memory g c =
     let b = c.self.inside in
     let x = setting (g.S.Scheme.meaning b.verifier.scheme) g.S.PublicKey.Ord.cmp g.S.Signature.PartialEq.eq g.D.PartialEq.eq b.verifier.number b.votes.mode in

@@ -26,14 +26,14 @@ returns-then-is_below-clause-place g c =
 pub returns-then-is_at-clause-place : goal.returns-then-is_at-clause-place
 returns-then-is_at-clause-place g c =
     let now = ap (λ v. v.items) c.self.view_is in
-    let at = rw (← now) at (c.if-is_at.ensures refl) in
+    let at = rw (← now) at (c.if-is_at.ensures.at refl) in
     rw (← now)
     (item_place (λ x. (g.T.Attributable.signed_by x).0) c.self.inside.items.items c.args.signer.0 c.from-index.result c.self.invariant.0 at.0 at.1)
 
 pub returns-then-is_at-clause-found : goal.returns-then-is_at-clause-found
 returns-then-is_at-clause-found g c =
     let now = ap (λ v. v.items) c.self.view_is in
-    let at = rw (← now) at (c.if-is_at.ensures refl) in
+    let at = rw (← now) at (c.if-is_at.ensures.at refl) in
     rw (← now) (
       at.0,
       λ d. find_at (λ x. (g.T.Attributable.signed_by x).0) c.self.inside.items.items c.from-index.result c.args.signer.0 d c.self.invariant.0
