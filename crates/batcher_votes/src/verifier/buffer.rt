@@ -118,6 +118,7 @@ impl<G: Copy, D: Digest> Buffer<G, D> {
     }
 
     /// Takes the vote to the end. With the room that it asks for it takes no memory.
+    #[inline(always)]
     pub(crate) fn push(&mut self, vote: &Vote<G, D>)
         requires { 1 ≤ self.old.room }
         ensures votes { self.new.votes ≡ self.old.votes ++ vote.now ∷ [] }

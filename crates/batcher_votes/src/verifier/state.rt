@@ -100,6 +100,7 @@ impl<G: Copy, D: Digest> Certification<G, D> {
     }
 
     // Takes the vote to the end of one of the buffers, in which there is room.
+    #[inline(always)]
     fn place(&mut self, vote: &Vote<G, D>, verified: bool)
         requires { 1 ≤ cond verified self.old.verified.room self.old.pending.room }
         ensures complete { self.new.complete ≡ self.old.complete }
