@@ -69,7 +69,6 @@ pub(super) fn is_first<G: Copy, D: Digest>(
 
 // Records a vote that stands against no other. Where votes of its kind are kept, it waits for a
 // certificate too.
-#[inline(always)]
 pub(super) fn admit<S: Scheme<D>, D: Digest>(
     verifier: &mut Verifier<S, D>,
     votes: &mut VoteTracker<S::Signature, D>,
