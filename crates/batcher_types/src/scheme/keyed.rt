@@ -131,7 +131,8 @@ fn in_order(
     requires { EachOnce index_of_signer (prior.now ++ fresh.now) }
     ensures { IfOk result (λ v. v.items ≡ ordered_by index_of_signer (prior.now ++ fresh.now)) }
 {
-    let mut all = Vec::from_slice(alloc, prior)?;
+    let mut all = Vec::with_capacity(alloc, prior.len().saturating_add(fresh.len()))?;
+    all.extend_from_slice(prior)?;
     all.extend_from_slice(fresh)?;
     all.sort_unstable_by_key(|a| a.signer.0);
     Ok(all)
@@ -243,11 +244,11 @@ impl<const BATCHABLE: bool> Scheme<Sha256Digest> for Keyed<BATCHABLE> {
             verified.now (R.stream rng.old)) }
         ensures drawn { R.stream rng.new ≡ R.stream rng.old }
     {
-        let found = self.verify_attestations(alloc, rng, subject, pending)?;
-        if found.invalid.is_empty() {
+        if all_signed(self.participants.len(), &self.root, subject, pending) {
             let certificate = self.assemble(alloc, subject, verified, pending)?;
             Ok(Ok(certificate))
         } else {
+            let found = self.verify_attestations(alloc, rng, subject, pending)?;
             Ok(Err(found))
         }
     }
