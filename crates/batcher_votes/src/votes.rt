@@ -513,8 +513,7 @@ impl<G: Copy, D: Digest> VoteTracker<G, D> {
     fn has_vote_for(&self, kind: Kind, signer: Participant, proposal: &Proposal<D>) -> bool
         ensures { result ≡ is_seen_for D.eq proposal.now (observed self.now.holds kind signer.0) }
     {
-        let seen = seen_of(&self.entries, signer, kind);
-        self.kept.is_seen_for(kind, seen, proposal)
+        self.has_vote_at(self.place(signer), kind, proposal)
     }
 
     /// The votes of a kind that are kept, in ascending order of their signers.

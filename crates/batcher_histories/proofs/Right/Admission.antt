@@ -25,6 +25,7 @@ use Rattle.std.proofs.lemmas.Option.{none-some}
 use Rattle.batcher_histories.specs.Steps.{IsRight, AfterNetwork, objection_to, objection_by, admission, admission_by, admission_named, is_recorded}
 use Rattle.batcher_votes.proofs.Counts.{count-append}
 use Rattle.batcher_votes.proofs.Restoring.{count_buffers}
+use Rattle.batcher_votes.proofs.Shown.{both_of}
 use Rattle.batcher_votes.specs.Selected.{is_fixed}
 use Rattle.batcher_votes.proofs.Fixing.{selects_fixed}
 
@@ -512,17 +513,13 @@ unseen_is unseen h = refl
 unseen_is (in_full vote) h = absurd (cc)
 unseen_is (as_facts facts) h = absurd (cc)
 
-both_true : (a b : Bool) → (a && b) ≡ true → (a ≡ true) × (b ≡ true)
-both_true true b h = (refl, h)
-both_true false b h = absurd (cc)
-
 -- A vote beside which none was seen stands against no other, and is added.
 module _ {D K G C : Type 0} (x : Setting D K G C) (held : Held G D) (vote : Vote G D)
     (first : (not (is_seen (observed_opposite held.tracked vote))
     && not (is_seen (observed held.tracked (kind_of vote) (signer_of vote)))) ≡ true) where
   none_seen : (observed_opposite held.tracked vote ≡ unseen)
       × (observed held.tracked (kind_of vote) (signer_of vote) ≡ unseen)
-  none_seen = let both = both_true _ _ first in (unseen_is _ both.0, unseen_is _ both.1)
+  none_seen = let both = both_of _ _ first in (unseen_is _ both.0, unseen_is _ both.1)
 
   pub first_unopposed : objection_to x held vote ≡ None
   first_unopposed = rw (none_seen.0, none_seen.1) refl

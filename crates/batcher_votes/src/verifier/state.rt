@@ -99,7 +99,8 @@ impl<G: Copy, D: Digest> Certification<G, D> {
         self.verified.make_room_for_run(additional)
     }
 
-    // Takes the vote to the end of one of the buffers, in which there is room.
+    // Takes the vote to the end of one of the buffers, in which there is room. It is inlined, as
+    // `push` is, since nearly every vote comes here.
     #[inline(always)]
     fn place(&mut self, vote: &Vote<G, D>, verified: bool)
         requires { 1 ≤ cond verified self.old.verified.room self.old.pending.room }
