@@ -1,3 +1,4 @@
+# make hello               plays one view, from its leader's proposal to a certificate
 # make run [SCRIPT=file]   plays a script; without one, the first
 # make audit [SCRIPT=file] names who voted both ways in the scripts of one or two nodes; without any, in a fork
 # make demo [SEED=n]       plays a network of validators, four of them faulty, and draws it; without a seed, of 1
@@ -19,10 +20,13 @@ unexport SCRIPT SEED
 # make begins its list of files with a space.
 TOP = "$$(dirname "$${MAKEFILE_NAMED\# }")"
 
-.PHONY: run audit demo prove bench quick test clean
+.PHONY: run hello audit demo prove bench quick test clean
 
 run:
 	@$(TOP)/tools/run "$$SCRIPT_NAMED"
+
+hello:
+	@$(TOP)/tools/play batcher_hello < /dev/null
 
 audit:
 	@$(TOP)/tools/run "$$SCRIPT_NAMED" batcher_audit
