@@ -4,5 +4,6 @@ pub mod Refused
 pub mod Blocked
 pub mod Contrary
 pub mod Reported
+pub mod Own
 pub mod Honest
 pub mod Flood

@@ -49,6 +49,7 @@ use Rattle.batcher_promises.proofs.Quorums.Completed.{completes}
 use Rattle.batcher_promises.proofs.Headline.Work.{count_implied}
 use Rattle.batcher_promises.proofs.Pairs.Compared.{any_in_filtered}
 use Rattle.batcher_promises.proofs.Order.Reordered.{excludes_same, excludes_itself}
+use Rattle.batcher_promises.proofs.Blocks.Own.{own_agree}
 use Rattle.batcher_promises.proofs.Headline.Promises.{first_is_cast, at_each_vote, at_each_event, at_each_time}
 
 -- LISTS
@@ -533,6 +534,7 @@ module _ {D K G C : Type 0} (x : Setting D K G C) where
   takes_in_honest laws past possible =
       record {
         votes_are_added = at_each_vote x (IsAddedWithoutCause x) added_or_same past possible;
+        own_added_agree = own_agree x past possible;
         named_once = named_at_most_once past possible;
         named_for_its_own_vote = at_each_event x (NamesForOwnVotes x) (names_for_own laws) past possible;
         honest_quorums_complete = at_each_time x (CompletesHonestQuorums x) (completes_honest laws) past possible;
