@@ -1,14 +1,14 @@
 -- What an honest participant can rely on.
-use Rattle.std.specs.Prelude.{◌≡◌, ◌≤◌, ◌+◌, ◌&&◌, ◌||◌, ◌==◌, ℕ, Bool, true, false, not, cond, List, [], ◌∷◌, ◌++◌}
+use Rattle.std.specs.Prelude.{◌≡◌, ◌≤◌, ◌+◌, ◌&&◌, ◌||◌, ◌==◌, ⊤, ℕ, Bool, true, false, not, cond, List, [], ◌∷◌, ◌++◌, None}
 use Rattle.std.specs.List.{list_any, AllPass, range_with_len}
 use Rattle.std.specs.Option.{option_map_or}
 use Rattle.batcher_types.specs.declared.positions.Participant.{Participant}
 use Rattle.batcher_types.specs.declared.messages.Vote.{Vote}
 use Rattle.batcher_types.specs.declared.messages.Kind.{Kind}
 use Rattle.batcher_histories.specs.declared.answers.Admission.{Admission}
-use Rattle.batcher_histories.specs.declared.calls.Call.TheVariants.{Network as NetworkCall, Own as OwnCall}
+use Rattle.batcher_histories.specs.declared.calls.Call.TheVariants.{Network as NetworkCall, Own as OwnCall, Construct as ConstructCall}
 use Rattle.batcher_histories.specs.declared.answers.Answer.{Answer}
-use Rattle.batcher_histories.specs.declared.answers.Answer.TheVariants.{Network as NetworkAnswer, Own as OwnAnswer}
+use Rattle.batcher_histories.specs.declared.answers.Answer.TheVariants.{Network as NetworkAnswer, Own as OwnAnswer, Construct as ConstructAnswer}
 use Rattle.batcher_histories.specs.Setting.{Setting, participants_in, quorum_in}
 use Rattle.batcher_types.specs.Lists.{count, is_some_and}
 use Rattle.batcher_types.specs.Votes.{signer_of, is_vote_of, excludes}
@@ -95,6 +95,13 @@ module _ {D K G C : Type 0} (x : Setting D K G C) where
       is_skipped x.mode ≡ false → ends_in_constructions 3 past ≡ true
       → (kind : Kind) → quorum_in x ≤ honest_voters past kind → is_certified past kind ≡ true
 
+  -- Nor is such a kind left by a construction that gives no batch: it is certified by then.
+  abbrev pub LeavesNoHonestQuorum : History D K G C → Event D K G C → Type 0
+  LeavesNoHonestQuorum past (ConstructCall, ConstructAnswer None) =
+      is_skipped x.mode ≡ false → (kind : Kind) → quorum_in x ≤ honest_voters past kind
+      → is_certified past kind ≡ true
+  LeavesNoHonestQuorum past event = ⊤
+
   -- What holds of every list of calls on a fresh round, over its history.
   pub record TakesInHonest (past : History D K G C) : Type 0 where
     pub votes_are_added : AtEachVote IsAddedWithoutCause past
@@ -104,3 +111,4 @@ module _ {D K G C : Type 0} (x : Setting D K G C) where
     pub named_once : (kind : Kind) (i : ℕ) → times_named past kind i ≤ 1
     pub named_for_its_own_vote : AtEachEvent NamesForOwnVotes past
     pub honest_quorums_complete : AtEachTime CompletesHonestQuorums past
+    pub no_honest_quorum_left : AtEachEvent LeavesNoHonestQuorum past
