@@ -11,7 +11,7 @@ use Rattle.batcher_histories.specs.History.{History, history}
 use Rattle.batcher_histories.specs.Answers.{AreAnswered}
 use Rattle.batcher_histories.specs.Stands.{Stands}
 use Rattle.batcher_promises.specs.Promises.{Promises}
-use Rattle.batcher_promises.specs.Composed.{HoldsThroughout}
+use Rattle.batcher_promises.specs.Composed.{AtEachCall, ConflictsWithAnother, HoldsThroughout}
 use Rattle.batcher_promises.specs.Backed.{GivesSafely}
 use Rattle.batcher_promises.specs.Prompt.{GivesPromptly}
 use Rattle.batcher_promises.specs.Blocked.{BlocksJustly}
@@ -34,9 +34,12 @@ pub record IsPromised {D K G C : Type 0} (x : Setting D K G C) (past : History D
     pub takes_in_honest : TakesInHonest x past
     -- work: what a flood of messages can cost
     pub flood_bounded : IsFloodBounded x past
+    -- answers: what else holds of them, and what follows from the definitions alone
+    pub throughout : HoldsThroughout x past
+    pub follows : FollowsByDefinition x past
 
 -- Each call is its step from what those before left, what is held stands after all of them, each is
--- answered as those before it name, and what is promised holds, and what else holds throughout.
+-- answered as those before it name, and what is promised holds.
 pub record IsRun {D K G C : Type 0} (x : Setting D K G C) (before : Stream)
     (calls : List (Call K G C D)) (answers : List (Answer G C D)) (held : Held G D) (after : Stream)
     : Type 0 where
@@ -44,7 +47,8 @@ pub record IsRun {D K G C : Type 0} (x : Setting D K G C) (before : Stream)
   pub stands : Stands x (history calls answers) held
   pub answered : AreAnswered x [] calls answers
   pub promised : IsPromised x (history calls answers)
-  pub throughout : HoldsThroughout x calls answers
-  pub follows : FollowsByDefinition x (history calls answers)
+  -- A call that is answered as a conflict has a cause, also one that is refused as such and so isn't
+  -- in the history.
+  pub conflicts_have_cause : AtEachCall (ConflictsWithAnother x) [] calls answers
   -- Somebody takes part, so that a quorum is at least one vote.
   pub some_participant : 1 ≤ participants_in x
