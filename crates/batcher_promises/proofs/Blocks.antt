@@ -6,4 +6,5 @@ pub mod Contrary
 pub mod Reported
 pub mod Own
 pub mod Honest
+pub mod Constructions
 pub mod Flood

@@ -78,5 +78,8 @@ honest_computed =
       costs_of_four = refl;
       costs_again = refl;
       costs_of_own = refl;
+      constructions_of_one = refl;
+      endless_is_refused = λ few.
+          absurd (omega (arith, few ((λ h. refl), ((λ h. refl), ((λ h. refl), ((λ h. absurd (false≢true h)), tt))))));
       costs_against_law = refl;
     }

@@ -17,7 +17,7 @@ use Rattle.batcher_histories.specs.History.{Event}
 use Rattle.batcher_promises.specs.Promises.{AtEachVote, AtEachEvent, AtEachTime, votes_cast, gave_cause}
 use Rattle.batcher_promises.specs.Honest.{own_votes_added, OwnAddedAgree, IsAddedWithoutCause, NamesForOwnVotes, CompletesHonestQuorums, times_named, voted_well, honest_voters}
 use Rattle.batcher_promises.specs.Composed.{votes_added}
-use Rattle.batcher_promises.specs.Flood.{batches_given}
+use Rattle.batcher_promises.specs.Flood.{batches_given, constructions_made, others_made, TakesFewConstructions}
 use Rattle.batcher_promises.specs.Examples.Answers.{TinySetting, TinyVote, TinyCall, TinyHistory, listing, is_good, round_of, four, one_by_one, notarize, bad_notarize, nullify, bad_nullify, finalize, notarization, nullification, net, own, lead}
 use Rattle.batcher_promises.specs.Examples.Answers.{construct, cert, own_round}
 use Rattle.batcher_promises.specs.Examples.Answers.{added, refused, blocked, own_added, own_duplicate, batch, no_batch, answers, played, with_cause}
@@ -98,6 +98,12 @@ module _ (x : TinySetting) where
   costs calls =
       let past = played x calls in
       (length (votes_added past), processed_total past, batches_given past)
+
+  -- how many constructions were made, votes added and other calls made
+  abbrev pub constructions : List TinyCall → ℕ × ℕ × ℕ
+  constructions calls =
+      let past = played x calls in
+      (constructions_made past, length (votes_added past), others_made past)
 
 -- own votes of which the second contradicts the first: in a skipped round, after a release, and a
 -- nullify that is signed anew
@@ -241,6 +247,13 @@ pub record HonestExamples : Type 0 where
   -- An own vote is added, and tried in a batch, but not processed.
   pub costs_of_own :
       costs (round_of 1 Retaining) (own (notarize 0 1) ∷ construct ∷ []) ≡ (1, 0, 1)
+  -- Who constructs until no batch is given makes as many constructions as votes are added and other
+  -- calls made, and no more: answers that go on to give batches are refused.
+  pub constructions_of_one :
+      constructions (round_of 1 Retaining) (own (notarize 0 1) ∷ construct ∷ construct ∷ [])
+      ≡ (2, 1, 1)
+  pub endless_is_refused :
+      TakesFewConstructions (naming_one ∷ naming_one ∷ naming_one ∷ added_one ∷ []) → ⊥
   -- Where others than the participants attest, more own votes are added.
   pub costs_against_law :
       costs lawless (own (nullify 0) ∷ own (nullify 1) ∷ own (nullify 2) ∷ []) ≡ (3, 0, 0)
