@@ -2,6 +2,7 @@
 
 pub mod Refused
 pub mod Blocked
+pub mod Caused
 pub mod Contrary
 pub mod Reported
 pub mod Own

@@ -1,12 +1,12 @@
 -- What a list of calls on a fresh round leaves.
-use Rattle.std.specs.Prelude.{◌≤◌, List, []}
+use Rattle.std.specs.Prelude.{◌≤◌, List, [], All}
 use Rattle.rand_core.specs.Stream.{Stream}
 use Rattle.batcher_histories.specs.declared.calls.Call.{Call}
 use Rattle.batcher_histories.specs.declared.answers.Answer.{Answer}
 use Rattle.batcher_histories.specs.Setting.{Setting, participants_in}
 use Rattle.batcher_votes.specs.Held.{Held}
 use Rattle.batcher_histories.specs.Steps.{nothing_held}
-use Rattle.batcher_histories.specs.Runs.{Runs}
+use Rattle.batcher_histories.specs.Runs.{Runs, blocked_senders}
 use Rattle.batcher_histories.specs.History.{History, history}
 use Rattle.batcher_histories.specs.Answers.{AreAnswered}
 use Rattle.batcher_histories.specs.Stands.{Stands}
@@ -14,7 +14,7 @@ use Rattle.batcher_promises.specs.Promises.{Promises}
 use Rattle.batcher_promises.specs.Composed.{AtEachCall, ConflictsWithAnother, HoldsThroughout}
 use Rattle.batcher_promises.specs.Backed.{GivesSafely}
 use Rattle.batcher_promises.specs.Prompt.{GivesPromptly}
-use Rattle.batcher_promises.specs.Blocked.{BlocksJustly}
+use Rattle.batcher_promises.specs.Blocked.{BlocksJustly, GaveCause}
 use Rattle.batcher_promises.specs.Reported.{ReportsTruly}
 use Rattle.batcher_promises.specs.Honest.{TakesInHonest}
 use Rattle.batcher_promises.specs.Flood.{IsFloodBounded}
@@ -50,5 +50,7 @@ pub record IsRun {D K G C : Type 0} (x : Setting D K G C) (before : Stream)
   -- A call that is answered as a conflict has a cause, also one that is refused as such and so isn't
   -- in the history.
   pub conflicts_have_cause : AtEachCall (ConflictsWithAnother x) [] calls answers
+  -- All whom the answers block gave cause.
+  pub blocked_gave_cause : All (GaveCause x (history calls answers)) (blocked_senders calls answers)
   -- Somebody takes part, so that a quorum is at least one vote.
   pub some_participant : 1 ≤ participants_in x

@@ -19,6 +19,7 @@ use Rattle.batcher_promises.proofs.Headline.Promises.{promised}
 use Rattle.batcher_promises.proofs.Certificates.Agree.{gives_safely}
 use Rattle.batcher_promises.proofs.Certificates.Prompt.{gives_promptly}
 use Rattle.batcher_promises.proofs.Blocks.Blocked.{blocks_justly}
+use Rattle.batcher_promises.proofs.Blocks.Caused.{blocked_for_cause_all}
 use Rattle.batcher_promises.proofs.Blocks.Reported.{reports_truly}
 use Rattle.batcher_promises.proofs.Blocks.Honest.{takes_in_honest}
 use Rattle.batcher_promises.proofs.Blocks.Flood.{flood_bounded}
@@ -79,5 +80,6 @@ module _ {D K G C : Type 0} (x : Setting D K G C) where
         answered = goes.answered;
         promised = is_promised laws (history calls answers) goes.stands.possible;
         conflicts_have_cause = answered_conflicts x laws [] calls answers goes.answered;
+        blocked_gave_cause = blocked_for_cause_all x laws [] calls answers goes.answered;
         some_participant = laws.some_participant;
       }
