@@ -64,7 +64,8 @@ module _ {D K G C : Type 0} (x : Setting D K G C) where
   -- A construction that gives no batch leaves no kind due: each of which a quorum is valid is
   -- certified by then, whatever bad votes there are.
   abbrev pub LeavesNoneDue : History D K G C → Event D K G C → Type 0
-  LeavesNoneDue past (ConstructCall, ConstructAnswer None) = (kind : Kind) → is_due past kind ≡ false
+  LeavesNoneDue past (ConstructCall, ConstructAnswer None) =
+      (kind : Kind) → is_due past kind ≡ false
   LeavesNoneDue past event = ⊤
 
   -- What holds of the constructions of a list of calls on a fresh round.

@@ -47,8 +47,8 @@ pub record IsRun {D K G C : Type 0} (x : Setting D K G C) (before : Stream)
   pub stands : Stands x (history calls answers) held
   pub answered : AreAnswered x [] calls answers
   pub promised : IsPromised x (history calls answers)
-  -- A call that is answered as a conflict has a cause, also one that is refused as such and so isn't
-  -- in the history.
+  -- A call that is answered as a conflict has a cause, also one that is refused as such and so is
+  -- not in the history.
   pub conflicts_have_cause : AtEachCall (ConflictsWithAnother x) [] calls answers
   -- All whom the answers block gave cause.
   pub blocked_gave_cause : All (GaveCause x (history calls answers)) (blocked_senders calls answers)

@@ -200,7 +200,7 @@ pub record HonestExamples : Type 0 where
   pub named_twice :
       times_named (four Retaining)
       ((construct, batch 3 (1 ∷ 1 ∷ []) None true) ∷ played_nullifies) Nullification 1 ≡ 2
-  -- Own votes that contradict earlier ones needn't be refused, but aren't added: in a skipped round,
+  -- Own votes that contradict earlier ones may be no fault, but aren't added: in a skipped round,
   pub other_of_skipped :
       answers (four Skipped) own_for_both
       ≡ OwnAnswer (Added false) (Some (report_of (notarize 1 1))) ∷ own_duplicate ∷ []
