@@ -19,7 +19,7 @@ use Rattle.batcher_histories.specs.Setting.{Setting}
 use Rattle.batcher_types.specs.Lists.{count, is_some_and, SameElements}
 use Rattle.batcher_types.specs.Votes.{kind_of, signer_of, subject_of, proposal_in, is_vote_of, same_proposal, subject_certified}
 use Rattle.batcher_histories.specs.Steps.{is_added}
-use Rattle.batcher_histories.specs.History.{Event, History, history, history_after, batch_given, certificate_given, cast_votes}
+use Rattle.batcher_histories.specs.History.{Event, History, history_after, batch_given, certificate_given, cast_votes}
 use Rattle.batcher_histories.specs.FirstVotes.{first_vote, first_votes}
 use Rattle.batcher_histories.specs.Selection.{forwards, selection, selected_proposal}
 use Rattle.batcher_histories.specs.Standing.{is_valid, was_invalid, standing_votes, trials, proven_votes, fresh_votes, ready_kind}
