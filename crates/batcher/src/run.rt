@@ -1,6 +1,6 @@
 //! Calls of a round as values, and whole lists of them.
 
-ghost use Rattle.std.specs.Prelude.{◌≡◌, ◌≤◌, All, IfOk, OnErr, [], true, vec_capacity};
+ghost use Rattle.std.specs.Prelude.{◌≡◌, All, IfOk, OnErr, true};
 ghost use Rattle.std.specs.List.{list_any};
 ghost use Rattle.std.specs.List.Sorted.{IsStrictlySortedBy};
 ghost use Rattle.batcher_votes.specs.Held.{SameRound};
@@ -53,27 +53,19 @@ pub fn run<S: Scheme<D>, D: Digest, R: CryptoRng>(
 {
     // For what it says of every round: that it has participants.
     let _ = round.number();
-    let mut answers = Vec::with_capacity(alloc, calls.len())?;
-    for call in calls {
-        answers.push_reserved(step(&mut round, rng, call));
+    match Vec::with_capacity(alloc, calls.len()) {
+        Ok(mut answers) => {
+            for call in calls {
+                answers.push_reserved(step(&mut round, rng, call));
+            }
+            Ok(Ran { round, answers })
+        }
+        // Handed over, since a drop by `?` would be proved anew here, field by field.
+        Err(error) => {
+            drop(round);
+            Err(error)
+        }
     }
-    Ok(Ran { round, answers })
-}
-
-// The round before its calls, with room for as many answers.
-fn with_room<S: Scheme<D>, D: Digest>(
-    alloc: Global,
-    round: Round<S, D>,
-    calls: usize,
-) -> Result<Ran<S, D>, AllocError>
-    ensures round { IfOk result (λ ran. ran.round ≡ round) }
-    ensures answers { IfOk result (λ ran. ran.answers.items ≡ []) }
-    ensures room { IfOk result (λ ran. calls ≤ vec_capacity ran.answers) }
-{
-    Ok(Ran {
-        round,
-        answers: Vec::with_capacity(alloc, calls)?,
-    })
 }
 
 // Makes one call.
