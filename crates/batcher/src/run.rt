@@ -25,7 +25,10 @@ pub use batcher_histories::calls::Call;
 pub use pair::{PairRan, run_pair};
 use rand_core::CryptoRng;
 use std::alloc::{AllocError, Global};
-pub use theorems::{order_is_free, possible_histories_are_promised, replays, worked_examples};
+pub use theorems::{
+    order_is_free, possible_histories_are_promised, replays, senders_of_added_give_no_cause,
+    worked_examples,
+};
 
 /// A round after its calls, with the answers in their order.
 #[derive(Drop)]

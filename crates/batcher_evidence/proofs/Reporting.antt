@@ -7,7 +7,7 @@ use Rattle.batcher.specs.Meaning.{Meaning}
 use Rattle.batcher.specs.Setting.{Setting}
 use Rattle.batcher.specs.Votes.{signer_of, subject_of, attestation_of}
 use Rattle.batcher.specs.Reported.{subjects_contradict, evidence_in, AreContrary, ReportsContrary}
-use Rattle.batcher.specs.History.{History, history, names_sender}
+use Rattle.batcher.specs.History.{History, names_sender}
 use Rattle.batcher.specs.Promises.{AtEachVote, votes_cast}
 use Rattle.batcher.specs.positions.Participant.{Participant}
 use Rattle.batcher.specs.messages.Vote.{Vote}

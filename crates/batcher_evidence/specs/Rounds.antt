@@ -3,21 +3,17 @@
 use Rattle.std.specs.Prelude.{◌≡◌, ◌<◌, ◌≤◌, ◌+◌, ◌-◌, ◌/◌, ◌==◌, ◌&&◌, ℕ, zero, suc, Bool, true, cond, List, length, Some, IfSome, IsSomeAnd}
 use Rattle.std.specs.List.{list_any}
 use Rattle.std.specs.declared.cmp.Ordering.{Ordering}
-use Rattle.rand_core.specs.Stream.{Stream}
 use Rattle.batcher.specs.positions.Round.{Round}
 use Rattle.batcher.specs.messages.Attestation.{Attestation}
 use Rattle.batcher.specs.messages.Vote.{Vote}
 use Rattle.batcher.specs.messages.Certificate.{Certificate}
 use Rattle.batcher.specs.votes.Mode.{Mode}
 use Rattle.batcher.specs.answers.Admission.{Admission}
-use Rattle.batcher.specs.calls.Call.{Call}
-use Rattle.batcher.specs.answers.Answer.{Answer}
 use Rattle.batcher.specs.Quorum.{quorum_of}
 use Rattle.batcher.specs.Meaning.{Meaning}
 use Rattle.batcher.specs.Setting.{Setting, setting}
-use Rattle.batcher.specs.Held.{Held}
 use Rattle.batcher.specs.Votes.{signer_of, subject_of, attestation_of}
-use Rattle.batcher.specs.History.{History, history}
+use Rattle.batcher.specs.History.{History}
 use Rattle.batcher.specs.Promises.{AtEachVote, votes_cast}
 use Rattle.batcher.specs.Reported.{subjects_contradict, evidence_in}
 use Rattle.batcher.specs.Backed.{IsGiven}
@@ -77,9 +73,9 @@ module _ {D K G C : Type 0} (m : Meaning D K G C) where
           → IsPromised (round_of number mode) past
           → AtEachVote (ConvictsIfAttested same_digest) past
 
-      -- Histories of two rounds of one scheme, whoever holds the rounds, of any numbers, whatever was
-      -- called and in what modes: where certificates that they gave contradict each other, there are
-      -- culprits.
+      -- Histories of two rounds of one scheme, whoever holds the rounds, of any numbers, whatever
+      -- was called and in what modes: where certificates that they gave contradict each other,
+      -- there are culprits.
       abbrev pub AreAccountable : (C → List (Attestation G)) → Type 0
       AreAccountable shown =
           (number other : Round) (mode other_mode : Mode) (past other_past : History D K G C)
@@ -90,9 +86,9 @@ module _ {D K G C : Type 0} (m : Meaning D K G C) where
           → certificates_contradict same_digest a b ≡ true
           → IsSomeAnd (culprits_of m shown same_digest a b) (AreCulprits m shown a b)
 
-      -- Histories of two rounds of one scheme and one number, whoever holds the rounds, whatever was
-      -- called and in what modes: certificates that they gave contradict each other only where more
-      -- participants than may be faulty cast votes that do.
+      -- Histories of two rounds of one scheme and one number, whoever holds the rounds, whatever
+      -- was called and in what modes: certificates that they gave contradict each other only where
+      -- more participants than may be faulty cast votes that do.
       abbrev pub TakeContradictingVotes : Type 0
       TakeContradictingVotes =
           (number : Round) (mode other_mode : Mode) (past other_past : History D K G C)

@@ -14,16 +14,16 @@ pub fn worked_examples()
 {}
 
 /// Does nothing. Its contract says of every history of a round for which what `run` promises holds,
-/// as it does for that of a run and of a view of a node, that a report of a conflict whose two votes
-/// attest convicts their signer, who is the sender of the later one.
+/// as it does for that of a run and of a view of a node, that a report of a conflict whose two
+/// votes attest convicts their signer, who is the sender of the later one.
 pub fn reports_convict<S: Scheme<D>, D: Digest>()
     ensures { (scheme : S)
         → ReportsConvict (S.meaning scheme) S.PublicKey.cmp S.Signature.eq D.eq }
 {}
 
 /// Does nothing. Its contract says of any two such histories over an accountable scheme, whoever
-/// holds the rounds and whatever was called, that of certificates which were given in them and which
-/// contradict each other `culprits` gives a list.
+/// holds the rounds and whatever was called, that of certificates which were given in them and
+/// which contradict each other `culprits` gives a list.
 pub fn rounds_are_accountable<S: Accountable<D>, D: Digest>()
     ensures { (scheme : S)
         → AreAccountable (S.meaning scheme) S.PublicKey.cmp S.Signature.eq D.eq S.shown }

@@ -7,5 +7,6 @@ pub mod Contrary
 pub mod Reported
 pub mod Own
 pub mod Honest
+pub mod Sent
 pub mod Constructions
 pub mod Flood

@@ -57,7 +57,7 @@ use Rattle.batcher_promises.proofs.Headline.Promises.{first_is_cast, at_each_vot
 
 -- LISTS
 -- what passes among some is among them
-some_among :
+pub some_among :
     {X : Type 0} (p : X → Bool) (vs : List X) → list_any p vs ≡ true
     → (v : X) × (p v ≡ true) × IsAmong v vs
 some_among p [] h = absurd (false≢true h)

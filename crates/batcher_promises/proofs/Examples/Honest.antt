@@ -8,9 +8,10 @@ use Rattle.batcher_types.specs.Meaning.{IsLawful}
 use Rattle.batcher_types.specs.declared.messages.Kind.TheVariants.{Nullification}
 use Rattle.batcher_votes.specs.declared.votes.Mode.TheVariants.{Retaining}
 use Rattle.batcher_types.specs.Lists.{is_some_and}
+use Rattle.batcher_types.specs.Votes.{is_for}
 use Rattle.batcher_histories.specs.Standing.{ready_kind}
 use Rattle.batcher_promises.specs.Honest.{sent_bad_vote}
-use Rattle.batcher_promises.specs.Examples.Answers.{is_good, four, notarize, nullify}
+use Rattle.batcher_promises.specs.Examples.Answers.{is_good, four, p, notarize, nullify}
 use Rattle.batcher_types.specs.Keys.{index_of, participant}
 use Rattle.batcher_promises.specs.Examples.Honest.{undiscerning, played_nullifies, HonestExamples}
 
@@ -69,6 +70,8 @@ honest_computed =
       nullify_signed_anew = refl;
       added_signed_anew = refl;
       added_once = refl;
+      both_sent_give_cause = refl;
+      both_sent_is_refused = λ sends. false≢true ((sends.0 refl).1 (is_for (λ a b. a == b) (p 2)) refl);
       both_added_is_refused = λ agree. absurd (omega (arith, agree (notarize 1 1)));
       finalize_after_nullify_is_refused = λ agree. absurd (omega (arith, agree (nullify 1)));
       added_thrice = refl;

@@ -16,6 +16,7 @@ use Rattle.batcher_promises.specs.Work.{processed_total}
 use Rattle.batcher_histories.specs.History.{Event}
 use Rattle.batcher_promises.specs.Promises.{AtEachVote, AtEachEvent, AtEachTime, votes_cast, gave_cause}
 use Rattle.batcher_promises.specs.Honest.{own_votes_added, OwnAddedAgree, IsAddedWithoutCause, NamesForOwnVotes, CompletesHonestQuorums, times_named, voted_well, honest_voters}
+use Rattle.batcher_promises.specs.Sent.{SendsAdded}
 use Rattle.batcher_promises.specs.Composed.{votes_added}
 use Rattle.batcher_promises.specs.Flood.{batches_given, constructions_made, others_made, TakesFewConstructions}
 use Rattle.batcher_promises.specs.Examples.Answers.{TinySetting, TinyVote, TinyCall, TinyHistory, listing, is_good, round_of, four, one_by_one, notarize, bad_notarize, nullify, bad_nullify, finalize, notarization, nullification, net, own, lead}
@@ -109,6 +110,9 @@ module _ (x : TinySetting) where
 -- nullify that is signed anew
 abbrev pub own_for_both : List TinyCall
 own_for_both = own (notarize 1 1) ∷ own (notarize 1 2) ∷ []
+
+abbrev pub both_sent : List TinyCall
+both_sent = net 1 (notarize 1 1) ∷ net 1 (notarize 1 2) ∷ []
 
 abbrev pub own_after_release : List TinyCall
 own_after_release = own (notarize 1 1) ∷ cert (notarization 3) ∷ own (notarize 1 2) ∷ []
@@ -221,6 +225,11 @@ pub record HonestExamples : Type 0 where
   pub added_once :
       own_votes_added (played (four Retaining) own_round)
       ≡ finalize 1 2 ∷ notarize 3 2 ∷ notarize 2 2 ∷ notarize 1 2 ∷ notarize 0 1 ∷ []
+  -- Who sends both gives cause, and sends another than those that were added.
+  pub both_sent_give_cause : with_cause (four Retaining) both_sent ≡ 1 ∷ []
+  pub both_sent_is_refused :
+      AtEachEvent (SendsAdded (four Retaining) (played (four Skipped) own_for_both) 1)
+      (played (four Retaining) both_sent) → ⊥
   -- Answers by which both of two such votes are added are refused.
   pub both_added_is_refused :
       OwnAddedAgree
