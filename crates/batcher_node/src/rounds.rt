@@ -24,6 +24,7 @@ use batcher::votes::Outcome;
 use rand_core::CryptoRng;
 use std::alloc::{AllocError, Global};
 use std::collections::BTreeMap;
+use std::mem::drop;
 use std::rc::Rc;
 
 pub(crate) type Slots<S, D> = BTreeMap<u64, Slot<Round<S, D>>>;
@@ -225,7 +226,8 @@ pub(crate) fn tell_to_construct<S: Scheme<D>, D: Digest, R: CryptoRng>(
     }
 }
 
-// Keeps a fresh round of a view, to which something was told.
+// Keeps a fresh round of a view, to which something was told. A round that is given up is handed to
+// `drop`, here and below: where `?` drops one, each function takes ten seconds more to prove.
 fn keep<S: Scheme<D>, D: Digest>(
     slots: &mut Slots<S, D>,
     view: u64,
@@ -238,7 +240,7 @@ fn keep<S: Scheme<D>, D: Digest>(
     ensures refused { OnErr result (slots.new.entries ≡ slots.old.entries) }
 {
     let changed = true;
-    slots.insert(view, Slot { round, changed })?;
+    drop(slots.insert(view, Slot { round, changed })?);
     Ok(())
 }
 
@@ -265,9 +267,16 @@ pub(crate) fn tell_vote<S: Scheme<D>, D: Digest>(
         Some(answer) => Ok(answer),
         None => {
             let mut round = fresh(frame, window, view)?;
-            let admission = round.add_network(peer, vote)?;
-            keep(slots, view, round)?;
-            Ok(admission)
+            match round.add_network(peer, vote) {
+                Ok(admission) => {
+                    keep(slots, view, round)?;
+                    Ok(admission)
+                }
+                Err(error) => {
+                    drop(round);
+                    Err(error)
+                }
+            }
         }
     }
 }
@@ -297,9 +306,16 @@ pub(crate) fn tell_own<S: Scheme<D>, D: Digest>(
         Some(answer) => Ok(answer),
         None => {
             let mut round = fresh(frame, window, view)?;
-            let answer = round.accept_vote(vote)?;
-            keep(slots, view, round)?;
-            Ok(answer)
+            match round.accept_vote(vote) {
+                Ok(answer) => {
+                    keep(slots, view, round)?;
+                    Ok(answer)
+                }
+                Err(fault) => {
+                    drop(round);
+                    Err(fault)
+                }
+            }
         }
     }
 }
@@ -327,9 +343,16 @@ pub(crate) fn tell_certificate<S: Scheme<D>, D: Digest>(
         Some(answer) => Ok(answer),
         None => {
             let mut round = fresh(frame, window, view)?;
-            let answer = round.record_certificate(certificate)?;
-            keep(slots, view, round)?;
-            Ok(answer)
+            match round.record_certificate(certificate) {
+                Ok(answer) => {
+                    keep(slots, view, round)?;
+                    Ok(answer)
+                }
+                Err(error) => {
+                    drop(round);
+                    Err(error)
+                }
+            }
         }
     }
 }
@@ -353,9 +376,16 @@ pub(crate) fn tell_leader<S: Scheme<D>, D: Digest>(
         Some(answer) => Ok(answer),
         None => {
             let mut round = fresh(frame, window, view)?;
-            round.set_leader(leader)?;
-            keep(slots, view, round)?;
-            Ok(())
+            match round.set_leader(leader) {
+                Ok(()) => {
+                    keep(slots, view, round)?;
+                    Ok(())
+                }
+                Err(fault) => {
+                    drop(round);
+                    Err(fault.into())
+                }
+            }
         }
     }
 }

@@ -1,18 +1,18 @@
 use Rattle.std.proofs.Common.{◌≡◌, ◌∙◌, refl, sym, ap}
-use Rattle.batcher_node.proofs.Telling.{told_fresh, if_none, on_err}
+use Rattle.batcher_node.proofs.Telling.{told_fresh, if_none}
 use Rattle.batcher_node.proofs.rounds.tell_vote.Goals as goal
 
-pub returns-in_ok-keep-in-None-clause-tells : goal.returns-in_ok-keep-in-None-clause-tells
-returns-in_ok-keep-in-None-clause-tells g c =
+pub returns-in_ok-keep-in-Ok-clause-tells : goal.returns-in_ok-keep-in-Ok-clause-tells
+returns-in_ok-keep-in-Ok-clause-tells g c =
     let made = c.in_ok-round-in-None.ensures in
     told_fresh _ c.args.slots.now c.tell_vote_there.new.slots c.keep.new.slots c.args.view
     (if_none _ c.in-None.is c.in_ok-answer.ensures.untold)
     (if_none _ c.in-None.is c.in_ok-answer.ensures.absent)
     _ c.in_ok-round-in-None.round _ _ made.made made.stands
-    c.add_network.new.self c.add_network.ensures.same c.in_ok-admission-in-None.ensures.meets
-    c.in_ok-keep-in-None.ensures.here c.in_ok-keep-in-None.ensures.others
+    c.add_network.new.self c.add_network.ensures.same c.in-Ok.ensures.meets
+    c.in_ok-keep-in-Ok.ensures.here c.in_ok-keep-in-Ok.ensures.others
 
-pub returns-in_err-admission-in-None-clause-refused :
-    goal.returns-in_err-admission-in-None-clause-refused
-returns-in_err-admission-in-None-clause-refused g c =
-    on_err _ (if_none _ c.in-None.is c.in_ok-answer.ensures.untold)
+pub returns-in-Err-clause-refused :
+    goal.returns-in-Err-clause-refused
+returns-in-Err-clause-refused g c =
+    if_none _ c.in-None.is c.in_ok-answer.ensures.untold
