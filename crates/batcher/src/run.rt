@@ -3,11 +3,14 @@
 ghost use Rattle.std.specs.Prelude.{◌≡◌, All, IfOk, OnErr, true};
 ghost use Rattle.std.specs.List.{list_any};
 ghost use Rattle.std.specs.List.Sorted.{IsStrictlySortedBy};
-ghost use Rattle.batcher_votes.specs.Held.{SameRound};
+ghost use Rattle.batcher_votes.specs.Held.{Held as TheHeld, SameRound};
+ghost use Rattle.batcher_histories.specs.Setting.{Setting as TheSetting};
+ghost use Rattle.batcher_histories.specs.History.{history};
 ghost use Rattle.batcher_histories.specs.Judged.{WhereverItStands};
 ghost use Rattle.batcher_histories.specs.Steps.{nothing_held};
 ghost use Rattle.batcher_histories.specs.Answers.{IsAnswered};
 ghost use Rattle.batcher_histories.specs.Stands.{Meets};
+ghost use Rattle.batcher_promises.specs.Blocked.{GaveCause};
 ghost use Rattle.batcher_promises.specs.Ran.{IsRun};
 ghost use Rattle.batcher_histories.specs.Runs.{MayCall, Steps, StepsNetwork, StepsOwn, StepsCertificate, StepsConstruct, StepsMissing, blocked_sender, blocked_senders};
 ghost use Rattle.batcher_histories.specs.declared.calls.Call.TheVariants.{Network as NetworkCall, Own as OwnCall, Certificate as CertificateCall, Construct as ConstructCall, Missing as MissingCall};
@@ -198,7 +201,8 @@ fn answer_missing<S: Scheme<D>, D: Digest>(
 /// The senders that the answers block, each once, in ascending order of keys.
 ///
 /// Each answer is that to the call at its place, and a call without an answer blocks no one. Of
-/// keys that compare as equal one is listed, and which one is left open.
+/// keys that compare as equal one is listed, and which one is left open. Of the answers of a run
+/// all who are listed and take part gave cause.
 pub fn blocked<P: Copy + Ord, G, C, D>(
     alloc: Global,
     calls: &[Call<P, G, C, D>],
@@ -207,6 +211,9 @@ pub fn blocked<P: Copy + Ord, G, C, D>(
     ensures ascending { IfOk result (λ keys. IsStrictlySortedBy P.cmp keys.items) }
     ensures senders { IfOk result (λ keys. (key : P) → list_any (P.eq key) keys.items
         ≡ list_any (P.eq key) (blocked_senders calls.now answers.now)) }
+    ensures cause { IfOk result (λ keys. (x : TheSetting D P G C) (before after : Stream)
+        (held : TheHeld G D) → IsRun x before calls.now answers.now held after
+        → All (GaveCause x (history calls.now answers.now)) keys.items) }
 {
     let mut senders = blocked_in_order(alloc, calls, answers)?;
     senders.sort_unstable();

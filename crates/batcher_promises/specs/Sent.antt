@@ -1,6 +1,5 @@
 -- What comes of a participant that sends just those own votes that its round answered as added.
-use Rattle.std.specs.Prelude.{◌≡◌, ◌==◌, ⊤, ℕ, Bool, true, false}
-use Rattle.batcher_types.specs.declared.messages.Vote.{Vote}
+use Rattle.std.specs.Prelude.{◌≡◌, ◌==◌, ⊤, ℕ, true, false}
 use Rattle.batcher_histories.specs.declared.calls.Call.TheVariants.{Network as NetworkCall, Own as OwnCall}
 use Rattle.batcher_histories.specs.Setting.{Setting, sender_in}
 use Rattle.batcher_types.specs.Lists.{is_some_and}

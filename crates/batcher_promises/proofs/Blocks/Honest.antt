@@ -4,7 +4,8 @@ use Rattle.std.proofs.Common.{◌≡◌, ◌≤◌, ◌+◌, ◌==◌, ℕ, zero
 use Rattle.std.specs.Prelude.{IfSome}
 use Rattle.std.specs.List.{list_any, range_with_len, AllPass}
 use Rattle.std.specs.Option.{option_map_or}
-use Rattle.std.proofs.lemmas.Bool.{cases_Bool, and_parts, and_from, and_right, or_from, or_parts, or_cases, or_left, or_right, false_from_ne_true, true≢false, false≢true, not-true, not-false, eqb-true, eq-eqb, lt-ltb, le-leb, true_from_ne_false}
+use Rattle.std.proofs.lemmas.Bool.{cases_Bool, and_parts, and_from, and_right, or_from, or_parts, or_cases, or_left, or_right, false_from_ne_true, true≢false, false≢true, not-true, not-false, eqb-true, eq-eqb}
+use Rattle.std.proofs.lemmas.Bool.{lt-ltb, le-leb, true_from_ne_false}
 use Rattle.std.proofs.lemmas.Bool.Decides.{nat_tests}
 use Rattle.std.proofs.lemmas.List.Folds.{list_any-append}
 use Rattle.std.proofs.lemmas.List.Sums.{AllPass-from_list_all}

@@ -1,7 +1,7 @@
 -- Who sends just those own votes that its round answered as added gives no cause to be blocked.
-use Rattle.std.proofs.Common.{◌≡◌, ◌≤◌, ◌+◌, ◌==◌, ℕ, Bool, true, false, not, cond, ◌&&◌, ◌||◌, List, [], ◌∷◌, ◌++◌, Option, Some, None, refl, ap, sym, ◌∙◌, subst, arith, ⊎_elim, eqb, ltb}
+use Rattle.std.proofs.Common.{◌≡◌, ◌≤◌, ◌+◌, ◌==◌, ℕ, Bool, true, false, not, cond, ◌&&◌, List, [], ◌∷◌, ◌++◌, Option, Some, None, refl, ap, sym, ◌∙◌, subst, arith, ⊎_elim}
 use Rattle.std.specs.List.{list_any}
-use Rattle.std.proofs.lemmas.Bool.{cases_Bool, and_parts, and_from, or_from, or_cases, false_from_ne_true, true≢false, false≢true, eqb-true, eq-eqb, ltb-true}
+use Rattle.std.proofs.lemmas.Bool.{and_parts, and_from, or_cases, false_from_ne_true, true≢false, false≢true, eqb-true, eq-eqb, ltb-true}
 use Rattle.std.proofs.lemmas.List.Folds.{list_any-append}
 use Rattle.batcher_types.specs.declared.positions.Participant.{Participant}
 use Rattle.batcher_types.specs.declared.positions.Round.{Round}
@@ -15,7 +15,7 @@ use Rattle.batcher_types.specs.Votes.{signer_of, subject_of, attestation_of, exc
 use Rattle.batcher_histories.specs.Admissions.{same_vote}
 use Rattle.batcher_histories.specs.History.{Event, History, cast_votes}
 use Rattle.batcher_histories.specs.FirstVotes.{contradicts}
-use Rattle.batcher_promises.specs.Promises.{AtEachEvent, votes_cast, names_another, contradicts_itself, gave_cause}
+use Rattle.batcher_promises.specs.Promises.{AtEachEvent, votes_cast, names_another, contradicts_itself}
 use Rattle.batcher_promises.specs.Reported.{IsAmong}
 use Rattle.batcher_promises.specs.Honest.{own_votes_added, OwnAddedAgree}
 use Rattle.batcher_promises.specs.Sent.{SendsAdded, SendersOfAddedGiveNoCause}
