@@ -8,6 +8,7 @@
 mod memory;
 mod rows;
 mod schemes;
+mod scripts;
 mod verifiers;
 
 use batcher::messages::{
