@@ -32,6 +32,17 @@ pub struct Ran<S: Scheme<D>, D: Digest> {
     pub answers: Vec<Answer<S::Signature, S::Certificate, D>>,
 }
 
+impl<S: Scheme<D>, D: Digest> Ran<S, D> {
+    /// The answers alone.
+    pub fn into_answers(self) -> Vec<Answer<S::Signature, S::Certificate, D>>
+        ensures { result ≡ self.answers }
+    {
+        let Ran { round, answers } = self;
+        drop(round);
+        answers
+    }
+}
+
 /// Makes the calls in order on a fresh round, and answers each.
 ///
 /// Room for the answers is made first: that growth alone gives the error, and the round is then

@@ -8,8 +8,8 @@ ghost use Rattle.batcher_reader.specs.Commands.{is_among};
 use super::printed;
 use batcher::messages::Sha256Digest;
 use batcher::round::Round;
-use batcher::run::{Answer, PairRan, Ran, run_pair};
-use batcher::scheme::{AttestationList, Counter, Keyed};
+use batcher::run::{Answer, PairRan, run_pair};
+use batcher::scheme::{Counter, Keyed};
 use batcher_reader::calls::{TestScheme, calls_of, names};
 use batcher_reader::script::{Command, Opening, Script};
 use std::alloc::{AllocError, Global};
@@ -93,15 +93,6 @@ fn ran(
     )
 }
 
-// The answers of a run, whose round is dropped.
-fn answers_of(
-    ran: Ran<Keyed<true>, Sha256Digest>,
-) -> Vec<Answer<[u8; 32], AttestationList, Sha256Digest>> {
-    let Ran { round, answers } = ran;
-    drop(round);
-    answers
-}
-
 fn lines<G: Drop, C: Drop>(
     alloc: Global,
     answers: &[Answer<G, C, Sha256Digest>],
@@ -124,8 +115,8 @@ pub fn told(alloc: Global, text: &str) -> Result<PairTold, AllocError> {
         releasing,
         stopped,
     } = ran(alloc, opening, script.lines.commands.as_slice())?;
-    let retaining = answers_of(retaining);
-    let releasing = answers_of(releasing);
+    let retaining = retaining.into_answers();
+    let releasing = releasing.into_answers();
     Ok(PairTold {
         retaining: lines(alloc, retaining.as_slice())?,
         releasing: lines(alloc, releasing.as_slice())?,
