@@ -59,3 +59,4 @@ pub use Rattle.batcher_votes.specs.declared.verifier
 pub use Rattle.batcher_histories.specs.declared.calls
 pub use Rattle.batcher_histories.specs.declared.answers
 pub use Rattle.batcher_round.specs.declared.round
+pub use Rattle.batcher_run.specs.declared.run

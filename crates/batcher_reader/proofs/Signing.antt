@@ -3,7 +3,7 @@
 use Rattle.std.proofs.Common.{◌≡◌, ◌<◌, ℕ, true, false, ◌&&◌, List, [], ◌∷◌, length, refl, ap, arith, eqb, slice_set, get_or}
 use Rattle.std.specs.Int.Bits.{bit_xor, xor_add_and}
 use Rattle.std.proofs.lemmas.Bool.{eq-eqb, eqb-true, false_from_ne_true}
-use Rattle.batcher.specs.Hashed.{same_bytes}
+use Rattle.batcher_types.specs.Hashed.{same_bytes}
 
 pub same_itself : (xs : List ℕ) → same_bytes xs xs ≡ true
 same_itself [] = refl

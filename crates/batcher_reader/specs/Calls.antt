@@ -1,17 +1,17 @@
 -- The calls that commands stand for.
 use Rattle.std.specs.Prelude.{◌≡◌, ⊤, ℕ, Bool, true, false, ◌&&◌, nat_lt, length, replicate}
-use Rattle.batcher.specs.positions.Round.{Round}
-use Rattle.batcher.specs.messages.Proposal.{Proposal}
-use Rattle.batcher.specs.messages.Sha256Digest.{Sha256Digest}
-use Rattle.batcher.specs.messages.Subject.{Subject}
-use Rattle.batcher.specs.messages.Subject.TheVariants.{Notarize as NotarizeSubject, Nullify as NullifySubject, Finalize as FinalizeSubject}
-use Rattle.batcher.specs.scheme.keyed.Name.{Name}
-use Rattle.batcher.specs.calls.Call.{Call}
-use Rattle.batcher.specs.calls.Call.TheVariants.{Network as NetworkCall, Own as OwnCall, Certificate as CertificateCall, Leader as LeaderCall, Construct as ConstructCall, Forward as ForwardCall, Missing as MissingCall}
-use Rattle.batcher.specs.messages.Vote.{Vote}
-use Rattle.batcher.specs.Meaning.{Meaning}
-use Rattle.batcher.specs.Votes.{signer_of, subject_of, attestation_of, subject_certified}
-use Rattle.batcher.specs.Verifiers.{certifies_itself}
+use Rattle.batcher_types.specs.declared.positions.Round.{Round}
+use Rattle.batcher_types.specs.declared.messages.Proposal.{Proposal}
+use Rattle.batcher_types.specs.declared.messages.Sha256Digest.{Sha256Digest}
+use Rattle.batcher_types.specs.declared.messages.Subject.{Subject}
+use Rattle.batcher_types.specs.declared.messages.Subject.TheVariants.{Notarize as NotarizeSubject, Nullify as NullifySubject, Finalize as FinalizeSubject}
+use Rattle.batcher_types.specs.declared.scheme.keyed.Name.{Name}
+use Rattle.batcher_histories.specs.declared.calls.Call.{Call}
+use Rattle.batcher_histories.specs.declared.calls.Call.TheVariants.{Network as NetworkCall, Own as OwnCall, Certificate as CertificateCall, Leader as LeaderCall, Construct as ConstructCall, Forward as ForwardCall, Missing as MissingCall}
+use Rattle.batcher_types.specs.declared.messages.Vote.{Vote}
+use Rattle.batcher_types.specs.Meaning.{Meaning}
+use Rattle.batcher_types.specs.Votes.{signer_of, subject_of, attestation_of, subject_certified}
+use Rattle.batcher_votes.specs.Verifiers.{certifies_itself}
 use Rattle.batcher_reader.specs.declared.script.Ballot.{Ballot}
 use Rattle.batcher_reader.specs.declared.script.Ballot.TheVariants.{Notarize, Nullify, Finalize}
 use Rattle.batcher_reader.specs.declared.script.Signature.{Signature}

@@ -2,17 +2,17 @@
 use Rattle.std.specs.Prelude.{ℕ, List}
 use Rattle.std.specs.declared.cmp.Ordering.{Ordering}
 use Rattle.rand_core.specs.Stream.{Stream}
-use Rattle.batcher.specs.positions.Round.{Round}
-use Rattle.batcher.specs.messages.Sha256Digest.{Sha256Digest}
-use Rattle.batcher.specs.scheme.keyed.Name.{Name}
-use Rattle.batcher.specs.votes.Mode.{Mode}
-use Rattle.batcher.specs.calls.Call.{Call}
-use Rattle.batcher.specs.answers.Answer.{Answer}
-use Rattle.batcher.specs.Hashed.{same_bytes}
-use Rattle.batcher.specs.Meaning.{Meaning}
-use Rattle.batcher.specs.Setting.{setting}
-use Rattle.batcher.specs.Held.{Held}
-use Rattle.batcher.specs.Ran.{IsRun}
+use Rattle.batcher_types.specs.declared.positions.Round.{Round}
+use Rattle.batcher_types.specs.declared.messages.Sha256Digest.{Sha256Digest}
+use Rattle.batcher_types.specs.declared.scheme.keyed.Name.{Name}
+use Rattle.batcher_votes.specs.declared.votes.Mode.{Mode}
+use Rattle.batcher_histories.specs.declared.calls.Call.{Call}
+use Rattle.batcher_histories.specs.declared.answers.Answer.{Answer}
+use Rattle.batcher_types.specs.Hashed.{same_bytes}
+use Rattle.batcher_types.specs.Meaning.{Meaning}
+use Rattle.batcher_histories.specs.Setting.{setting}
+use Rattle.batcher_votes.specs.Held.{Held}
+use Rattle.batcher_promises.specs.Ran.{IsRun}
 
 -- The answers are those of a run of the calls on a fresh round of the number, in some mode and by
 -- some order of names.

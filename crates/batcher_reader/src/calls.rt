@@ -2,20 +2,20 @@
 
 ghost use Rattle.std.specs.Prelude.{◌≡◌, ◌<◌, ◌≤◌, ◌&&◌, ℕ, List, All, IfOk, length, nat_lt, true, false};
 ghost use Rattle.std.specs.List.{AllPass, AllZip};
-ghost use Rattle.batcher.specs.messages.Attestation.{Attestation as TheAttestation};
-ghost use Rattle.batcher.specs.Attestations.{IsQuorum};
-ghost use Rattle.batcher.specs.Runs.{MayCall};
-ghost use Rattle.batcher.specs.Hashed.{same_bytes};
-ghost use Rattle.batcher.specs.Verifiers.{certifies_itself};
-ghost use Rattle.batcher.specs.Votes.{subject_certified};
+ghost use Rattle.batcher_types.specs.declared.messages.Attestation.{Attestation as TheAttestation};
+ghost use Rattle.batcher_types.specs.Attestations.{IsQuorum};
+ghost use Rattle.batcher_histories.specs.Runs.{MayCall};
+ghost use Rattle.batcher_types.specs.Hashed.{same_bytes};
+ghost use Rattle.batcher_votes.specs.Verifiers.{certifies_itself};
+ghost use Rattle.batcher_types.specs.Votes.{subject_certified};
 ghost use Rattle.batcher_reader.specs.Calls.{IsVoteOf, IsCallOf, is_good, proposal_for, subject_for};
 ghost use Rattle.batcher_reader.specs.Commands.{is_among};
 
 use crate::script::{Ballot, Command, Signature};
-use batcher::messages::{Attestation, Certificate, Proposal, Sha256Digest, Subject, Vote};
-use batcher::positions::{self, Participant, Set, View, quorum};
-use batcher::run::Call;
-use batcher::scheme::{Keyed, Name, Scheme, Sealed};
+use batcher_run::run::Call;
+use batcher_types::messages::{Attestation, Certificate, Proposal, Sha256Digest, Subject, Vote};
+use batcher_types::positions::{self, Participant, Set, View, quorum};
+use batcher_types::scheme::{Keyed, Name, Scheme, Sealed};
 use std::alloc::{AllocError, Global};
 
 /// A test scheme, of which every vote can be made.

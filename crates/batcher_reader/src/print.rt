@@ -2,12 +2,13 @@
 
 use crate::input::Stop;
 use crate::script::Opening;
-use batcher::messages::{Activity, Certificate, Proposal, Sha256Digest};
-use batcher::positions::{Participant, Participants, quorum};
-use batcher::round::{Admission, BlockReason};
-use batcher::scheme::Name;
-use batcher::verifier::Batch;
-use batcher::votes::Outcome;
+use batcher_round::round::{Admission, BlockReason};
+use batcher_run::run::Answer;
+use batcher_types::messages::{Activity, Certificate, Proposal, Sha256Digest};
+use batcher_types::positions::{Participant, Participants, quorum};
+use batcher_types::scheme::Name;
+use batcher_votes::verifier::Batch;
+use batcher_votes::votes::Outcome;
 use std::alloc::Global;
 use std::collections::BTreeSet;
 use std::fmt;
@@ -53,6 +54,29 @@ impl<W: Write> Output<W> {
     pub fn flush(&mut self) -> Result<(), Stop> {
         self.write()?;
         self.writer.flush().map_err(|_| Stop::Output)
+    }
+}
+
+/// Prints the line of an answer. To an answer for want of memory there is none.
+pub fn print_answer<G: Drop, C: Drop, W: Write>(
+    answer: &Answer<G, C, Sha256Digest>,
+    output: &mut Output<W>,
+) -> Result<(), Stop> {
+    match answer {
+        Answer::Network(admission) => output.print(format_args!("net: {}", AsText(admission))),
+        Answer::Own(outcome, report) => {
+            let outcome = AsText(outcome);
+            let report = AsText(report);
+            output.print(format_args!("own: {outcome}, report {report}"))
+        }
+        Answer::OwnRefused(fault) => output.print(format_args!("own: refused {fault}")),
+        Answer::Certificate(changed) => output.print(format_args!("cert: {changed}")),
+        Answer::Leader(Ok(())) => output.print(format_args!("leader: ok")),
+        Answer::Leader(Err(fault)) => output.print(format_args!("leader: refused {fault}")),
+        Answer::Construct(batch) => output.print(format_args!("construct: {}", AsText(batch))),
+        Answer::Forward(proposal) => output.print(format_args!("forward: {}", AsText(proposal))),
+        Answer::Missing(missing) => output.print(format_args!("missing: {}", AsText(missing))),
+        Answer::OutOfMemory => Err(Stop::OutOfMemory),
     }
 }
 

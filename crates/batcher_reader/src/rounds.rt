@@ -2,18 +2,18 @@
 
 ghost use Rattle.std.specs.Prelude.{◌≡◌, ◌≤◌, true, length, IfOk};
 ghost use Rattle.std.specs.List.{list_all, AllZip};
-ghost use Rattle.batcher.specs.Steps.{nothing_held};
+ghost use Rattle.batcher_histories.specs.Steps.{nothing_held};
 ghost use Rattle.batcher_reader.specs.Calls.{IsCallOf};
 ghost use Rattle.batcher_reader.specs.Commands.{is_among};
 ghost use Rattle.batcher_reader.specs.Played.{IsPlayed};
 
 use crate::calls::{TestScheme, calls_of, names};
 use crate::script::{Command, Opening};
-use batcher::messages::Sha256Digest;
-use batcher::round::Round;
-use batcher::run::{Answer, Call, Ran, run};
-use batcher::scheme::{Counter, Name};
-use batcher::votes::Mode;
+use batcher_round::round::Round;
+use batcher_run::run::{Answer, Call, run};
+use batcher_types::messages::Sha256Digest;
+use batcher_types::scheme::{Counter, Name};
+use batcher_votes::votes::Mode;
 use std::alloc::{AllocError, Global};
 use std::rc::Rc;
 
@@ -52,9 +52,11 @@ pub fn answer_all<S: TestScheme>(
 {
     let calls = calls_of(alloc, &*scheme, opening.round, commands)?;
     let round = fresh_round(alloc, opening, scheme);
-    let Ran { round, answers } = run(alloc, round, &mut Counter::new(0), calls.as_slice())?;
-    drop(round);
-    Ok(Answered { calls, answers })
+    let ran = run(alloc, round, &mut Counter::new(0), calls.as_slice())?;
+    Ok(Answered {
+        calls,
+        answers: ran.into_answers(),
+    })
 }
 
 // The round that the first line asks for.

@@ -5,8 +5,8 @@ ghost use Rattle.std.specs.Prelude.{◌≤◌, ◌≡◌, true};
 ghost use Rattle.std.specs.Option.{option_map};
 ghost use Rattle.batcher_reader.specs.Commands.{is_among, are_among};
 
-use batcher::positions::{Epoch, Round, View};
-use batcher::votes::Mode;
+use batcher_types::positions::{Epoch, Round, View};
+use batcher_votes::votes::Mode;
 use std::alloc::{AllocError, Global};
 use std::str::FromStr;
 

@@ -4,14 +4,14 @@ ghost use Rattle.std.specs.Prelude.{◌≡◌, true};
 ghost use Rattle.std.specs.List.{list_all};
 ghost use Rattle.batcher_reader.specs.Commands.{is_among};
 
-use batcher::messages::Sha256Digest;
-use batcher::run::{Answer, blocked};
-use batcher::scheme::{Keyed, Sealed};
 use batcher_reader::calls::TestScheme;
 use batcher_reader::input::{Stop, read_all};
-use batcher_reader::print::{AsText, Output};
+use batcher_reader::print::{AsText, Output, print_answer};
 use batcher_reader::rounds::{answer_all, scheme_of};
 use batcher_reader::script::{Command, Opening, SchemeWord, Script};
+use batcher_run::run::{Answer, blocked};
+use batcher_types::messages::Sha256Digest;
+use batcher_types::scheme::{Keyed, Sealed};
 use std::alloc::Global;
 use std::collections::BTreeSet;
 use std::io::{Read, Write};
@@ -113,31 +113,5 @@ fn print_each<G: Drop, C: Drop, W: Write>(
     Ok(())
 }
 
-fn print_answer<G: Drop, C: Drop, W: Write>(
-    answer: &Answer<G, C, Sha256Digest>,
-    output: &mut Output<W>,
-) -> Result<(), Stop> {
-    match answer {
-        Answer::Network(admission) => output.print(format_args!("net: {}", AsText(admission))),
-        Answer::Own(outcome, report) => {
-            let outcome = AsText(outcome);
-            let report = AsText(report);
-            output.print(format_args!("own: {outcome}, report {report}"))
-        }
-        Answer::OwnRefused(fault) => output.print(format_args!("own: refused {fault}")),
-        Answer::Certificate(changed) => output.print(format_args!("cert: {changed}")),
-        Answer::Leader(Ok(())) => output.print(format_args!("leader: ok")),
-        Answer::Leader(Err(fault)) => output.print(format_args!("leader: refused {fault}")),
-        Answer::Construct(batch) => output.print(format_args!("construct: {}", AsText(batch))),
-        Answer::Forward(proposal) => output.print(format_args!("forward: {}", AsText(proposal))),
-        Answer::Missing(missing) => output.print(format_args!("missing: {}", AsText(missing))),
-        Answer::OutOfMemory => Err(Stop::OutOfMemory),
-    }
-}
-
-#[cfg(test)]
-mod memory;
-#[cfg(test)]
-mod pairs;
 #[cfg(test)]
 mod tests;

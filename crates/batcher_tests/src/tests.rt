@@ -3,11 +3,13 @@
 //! scripts of `vectors/`.
 //!
 //! A test is proved safe before it runs, and what its calls promise is carried to its end. So the
-//! calls of a round stand in functions that promise nothing.
+//! calls of a round stand in functions that promise nothing. They take it by `&mut`: wherever a
+//! function that owns a round may end, its drop is proved once more.
 
 mod memory;
 mod rows;
 mod schemes;
+mod scripts;
 mod verifiers;
 
 use batcher::messages::{
@@ -68,6 +70,23 @@ fn round(
     assert!(rt; participants.len() >= 1);
     let scheme = Rc::new(alloc, Keyed::new(participants, ROOT))?;
     Ok(Round::new(alloc, number(), scheme, track_historical_votes))
+}
+
+// A fresh round over `n` names, and the scheme by which they sign.
+fn fresh(
+    rt: &impl Abort,
+    alloc: Global,
+    n: u64,
+    track_historical_votes: bool,
+) -> Result<(TestRound, Keyed<true>), AllocError> {
+    let scheme = keyed(alloc, n)?;
+    match round(rt, alloc, n, track_historical_votes) {
+        Ok(round) => Ok((round, scheme)),
+        Err(error) => {
+            drop(scheme);
+            Err(error)
+        }
+    }
 }
 
 // The nullify of a signer, or one whose signature is off by a bit.

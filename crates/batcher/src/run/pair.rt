@@ -7,10 +7,10 @@ ghost use Rattle.batcher_histories.specs.Steps.{nothing_held};
 ghost use Rattle.batcher_histories.specs.Runs.{MayCall};
 ghost use Rattle.batcher_promises.specs.Pairs.{IsPairRun, ends_pair};
 
-use super::{Answer, Call, Ran, step};
 use crate::messages::Digest;
 use crate::round::Round;
 use crate::scheme::Scheme;
+use batcher_run::run::{Answer, Call, Ran, step};
 use rand_core::CryptoRng;
 use std::alloc::{AllocError, Global};
 

@@ -25,13 +25,13 @@ fn keyed_twice(alloc: Global, n: u64) -> Result<Keyed<true>, AllocError> {
     twice(|| keyed(alloc, n))
 }
 
-fn round_twice(
+fn fresh_twice(
     rt: &impl Abort,
     alloc: Global,
     n: u64,
     track_historical_votes: bool,
-) -> Result<TestRound, AllocError> {
-    twice(|| round(rt, alloc, n, track_historical_votes))
+) -> Result<(TestRound, Keyed<true>), AllocError> {
+    twice(|| fresh(rt, alloc, n, track_historical_votes))
 }
 
 // Inserts an item that is new.
@@ -214,9 +214,10 @@ fn brings_bad_votes(
 
 #[test]
 fn bad_votes(rt: HostRuntime) -> Result<(), Fail> {
-    let scheme = keyed_twice(rt.alloc(), 7)?;
-    let mut round = round_twice(&rt, rt.alloc(), 7, true)?;
-    brings_bad_votes(&rt, &mut round, &scheme)
+    let (mut round, scheme) = fresh_twice(&rt, rt.alloc(), 7, true)?;
+    let brought = brings_bad_votes(&rt, &mut round, &scheme);
+    drop((round, scheme));
+    brought
 }
 
 // The leader's notarize selects its proposal. Seventeen votes of a kind follow, which are a quorum
@@ -236,27 +237,22 @@ fn brings_a_quorum(
     constructs(rt, round, processed, &[], Some(kind))
 }
 
-fn certifies(
-    rt: &impl Abort,
-    alloc: Global,
-    scheme: &Keyed<true>,
-    kind: Kind,
-    processed: usize,
-) -> Result<(), Fail> {
-    let mut round = round_twice(rt, alloc, 25, false)?;
-    brings_a_quorum(rt, &mut round, scheme, kind, processed)
+fn certifies(rt: &impl Abort, alloc: Global, kind: Kind, processed: usize) -> Result<(), Fail> {
+    let (mut round, scheme) = fresh_twice(rt, alloc, 25, false)?;
+    let brought = brings_a_quorum(rt, &mut round, &scheme, kind, processed);
+    drop((round, scheme));
+    brought
 }
 
 #[test]
 fn certificates(rt: HostRuntime) -> Result<(), Fail> {
-    let scheme = keyed_twice(rt.alloc(), 25)?;
     // The leader's notarize counts for a notarization too.
     for (kind, processed) in [
         (Kind::Notarization, 18),
         (Kind::Nullification, 17),
         (Kind::Finalization, 17),
     ] {
-        certifies(&rt, rt.alloc(), &scheme, kind, processed)?;
+        certifies(&rt, rt.alloc(), kind, processed)?;
     }
     Ok(())
 }
@@ -286,9 +282,10 @@ fn brings_two_votes(
 
 #[test]
 fn missing_voters(rt: HostRuntime) -> Result<(), Fail> {
-    let scheme = keyed_twice(rt.alloc(), 4)?;
-    let mut round = round_twice(&rt, rt.alloc(), 4, false)?;
-    Ok(brings_two_votes(&rt, &mut round, &scheme)?)
+    let (mut round, scheme) = fresh_twice(&rt, rt.alloc(), 4, false)?;
+    let brought = brings_two_votes(&rt, &mut round, &scheme);
+    drop((round, scheme));
+    Ok(brought?)
 }
 
 // A finalization for payload 2, which no one has verified.
@@ -339,10 +336,11 @@ fn replaces_a_proposal(
 
 #[test]
 fn votes_are_restored(rt: HostRuntime) -> Result<(), Fail> {
-    let alloc = rt.alloc();
-    let scheme = keyed_twice(alloc, 4)?;
-    let mut round = round_twice(&rt, alloc, 4, true)?;
-    replaces_a_proposal(&rt, &mut round, &scheme, &finalization(alloc))
+    let (mut round, scheme) = fresh_twice(&rt, rt.alloc(), 4, true)?;
+    let certificate = finalization(rt.alloc());
+    let replaced = replaces_a_proposal(&rt, &mut round, &scheme, &certificate);
+    drop((round, scheme, certificate));
+    replaced
 }
 
 // Whether the round takes in a finalize of its own, and once more where memory was refused.
@@ -360,6 +358,7 @@ fn accepts(rt: &impl Abort, alloc: Global) -> Result<bool, AllocError> {
         Err(OwnFault::OutOfMemory) => round.accept_vote(vote),
         answer => answer,
     };
+    drop(round);
     Ok(answer.is_ok())
 }
 
@@ -377,7 +376,9 @@ fn run_once(rt: &impl Abort, alloc: Global) -> Result<usize, AllocError> {
     let scheme = Rc::new(alloc, Keyed::<true>::new(participants, ROOT))?;
     let round = Round::new(alloc, number(), scheme, true);
     let ran = run(alloc, round, &mut Counter::new(0), &[Call::Construct])?;
-    Ok(ran.answers.len())
+    let answers = ran.answers.len();
+    drop(ran);
+    Ok(answers)
 }
 
 #[test]

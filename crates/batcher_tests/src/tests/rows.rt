@@ -39,30 +39,41 @@ fn sets_are_ordered_and_hold_no_key_twice(rt: HostRuntime) -> Result<(), Fail> {
     Ok(())
 }
 
-#[test]
-fn maps_keep_the_first_item_of_each_signer(rt: HostRuntime) -> Result<(), Fail> {
-    let scheme = keyed(rt.alloc(), 6)?;
-    let mut map = AttributableMap::new(rt.alloc(), 5);
+fn keeps_the_first_items(
+    rt: &impl Abort,
+    alloc: Global,
+    map: &mut AttributableMap<Nullify<[u8; 32]>>,
+    scheme: &Keyed<true>,
+) -> Result<(), Fail> {
     assert!(rt; map.is_empty());
-    let first = nullify(&scheme, 1, true);
-    assert!(rt; map.insert(nullify(&scheme, 3, true))?);
+    let first = nullify(scheme, 1, true);
+    assert!(rt; map.insert(nullify(scheme, 3, true))?);
     assert!(rt; map.insert(first)?);
-    assert!(rt; map.insert(nullify(&scheme, 4, true))?);
-    assert!(rt; !map.insert(nullify(&scheme, 1, false))?);
-    assert!(rt; !map.insert(nullify(&scheme, 5, true))?);
+    assert!(rt; map.insert(nullify(scheme, 4, true))?);
+    assert!(rt; !map.insert(nullify(scheme, 1, false))?);
+    assert!(rt; !map.insert(nullify(scheme, 5, true))?);
     assert_eq!(rt; map.len(), 3);
     assert_eq!(rt; map.get(Participant::new(1)).copied(), Some(first));
-    let mut signers = Vec::new(rt.alloc());
+    let mut signers = Vec::new(alloc);
     for item in map.iter() {
         signers.push(item.signer().get())?;
     }
     assert_eq!(rt; signers.as_slice(), [1, 3, 4].as_slice());
-    let second = nullify(&scheme, 3, false);
-    assert_eq!(rt; map.replace(second), Some(nullify(&scheme, 3, true)));
-    assert_eq!(rt; map.replace(nullify(&scheme, 0, true)), None);
+    let second = nullify(scheme, 3, false);
+    assert_eq!(rt; map.replace(second), Some(nullify(scheme, 3, true)));
+    assert_eq!(rt; map.replace(nullify(scheme, 0, true)), None);
     assert_eq!(rt; map.at(1).copied(), Some(second));
     assert_eq!(rt; map.at(3).copied(), None);
     Ok(())
+}
+
+#[test]
+fn maps_keep_the_first_item_of_each_signer(rt: HostRuntime) -> Result<(), Fail> {
+    let scheme = keyed(rt.alloc(), 6)?;
+    let mut map = AttributableMap::new(rt.alloc(), 5);
+    let kept = keeps_the_first_items(&rt, rt.alloc(), &mut map, &scheme);
+    drop((map, scheme));
+    kept
 }
 
 // Whether 1's nullify is kept in full, a nullification is there, and 1 misses payload 1.
@@ -97,9 +108,10 @@ fn tells(rt: &impl Abort, round: &mut TestRound, scheme: &Keyed<true>) -> Result
 
 #[test]
 fn rounds_tell_what_they_have(rt: HostRuntime) -> Result<(), Fail> {
-    let scheme = keyed(rt.alloc(), 4)?;
-    let mut round = round(&rt, rt.alloc(), 4, false)?;
-    tells(&rt, &mut round, &scheme)
+    let (mut round, scheme) = fresh(&rt, rt.alloc(), 4, false)?;
+    let told = tells(&rt, &mut round, &scheme);
+    drop((round, scheme));
+    told
 }
 
 // What a run over no calls leaves of a fresh round, and how many answers it gives.
@@ -112,15 +124,25 @@ fn run_nothing(rt: &impl Abort, alloc: Global) -> Result<(TestRound, usize), All
     Ok((ran.round, ran.answers.len()))
 }
 
+fn goes_on(rt: &impl Abort, alloc: Global, round: &mut TestRound) -> Result<(), AllocError> {
+    assert_eq!(rt; told(round), [false, false, true]);
+    let vote = vote_of_four(alloc, Kind::Nullification, 1)?;
+    assert!(rt; bring(rt, round, vote)?);
+    Ok(())
+}
+
+// The vote of a kind by a signer among four.
+fn vote_of_four(alloc: Global, kind: Kind, signer: u32) -> Result<SignedVote, AllocError> {
+    Ok(vote(&keyed(alloc, 4)?, kind, signer))
+}
+
 #[test]
 fn a_run_over_no_calls_changes_nothing(rt: HostRuntime) -> Result<(), Fail> {
-    let alloc = rt.alloc();
-    let (mut round, answers) = run_nothing(&rt, alloc)?;
+    let (mut round, answers) = run_nothing(&rt, rt.alloc())?;
     assert_eq!(rt; answers, 0);
-    assert_eq!(rt; told(&round), [false, false, true]);
-    let scheme = keyed(alloc, 4)?;
-    assert!(rt; bring(&rt, &mut round, vote(&scheme, Kind::Nullification, 1))?);
-    Ok(())
+    let went_on = goes_on(&rt, rt.alloc(), &mut round);
+    drop(round);
+    Ok(went_on?)
 }
 
 // Whether votes of each kind belong to the round, with this proposal or its round number.
@@ -173,17 +195,22 @@ fn blocked_senders_are_listed_once(rt: HostRuntime) -> Result<(), Fail> {
     Ok(())
 }
 
-#[test]
-fn votes_belong_by_their_round_alone(rt: HostRuntime) -> Result<(), Fail> {
-    let round = round(&rt, rt.alloc(), 4, true)?;
-    let attestation = nullify(&keyed(rt.alloc(), 4)?, 0, true).attestation;
+fn belongs_by_its_round(rt: &impl Abort, round: &TestRound, scheme: &Keyed<true>) {
+    let attestation = nullify(scheme, 0, true).attestation;
     let later = Proposal::new(number(), View::new(9), Sha256Digest([1; 32]));
     let other = Proposal {
         round: positions::Round::new(Epoch::new(1), View::new(1)),
         ..later
     };
-    assert_eq!(rt; belong(&round, later, attestation), [true; 3]);
-    assert_eq!(rt; belong(&round, other, attestation), [false; 3]);
+    assert_eq!(rt; belong(round, later, attestation), [true; 3]);
+    assert_eq!(rt; belong(round, other, attestation), [false; 3]);
+}
+
+#[test]
+fn votes_belong_by_their_round_alone(rt: HostRuntime) -> Result<(), Fail> {
+    let (round, scheme) = fresh(&rt, rt.alloc(), 4, true)?;
+    belongs_by_its_round(&rt, &round, &scheme);
+    drop((round, scheme));
     Ok(())
 }
 

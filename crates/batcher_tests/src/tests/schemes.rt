@@ -18,10 +18,7 @@ fn hex(alloc: Global, bytes: &[u8]) -> Result<String, Fail> {
 }
 
 // The expected bytes were hashed by another program, from the format alone.
-#[test]
-fn signatures_hash_what_the_format_says(rt: HostRuntime) -> Result<(), Fail> {
-    let alloc = rt.alloc();
-    let scheme = keyed(alloc, 4)?;
+fn hashes(rt: &impl Abort, alloc: Global, scheme: &Keyed<true>) -> Result<(), Fail> {
     let round = number();
     let nullify = scheme.sign(Participant::new(2), Subject::Nullify { round });
     assert_eq!(rt;
@@ -41,6 +38,14 @@ fn signatures_hash_what_the_format_says(rt: HostRuntime) -> Result<(), Fail> {
         "86470c46ac43b93614f623924a8be74607b7ce6f8c492c1760fabc97593bcfb1"
     );
     Ok(())
+}
+
+#[test]
+fn signatures_hash_what_the_format_says(rt: HostRuntime) -> Result<(), Fail> {
+    let scheme = keyed(rt.alloc(), 4)?;
+    let hashed = hashes(&rt, rt.alloc(), &scheme);
+    drop(scheme);
+    hashed
 }
 
 // What a round of any scheme makes of the attestations, each sent by its signer.
@@ -67,7 +72,9 @@ fn batch_of<S: Scheme<Digest, PublicKey = Name>>(
 ) -> Result<Batch<Certificate<S::Certificate, Digest>>, Fail> {
     assert!(rt; scheme.participants().len() >= 1);
     let mut round = Round::new(alloc, number(), scheme, true);
-    batch_in(rt, &mut round, attestations)
+    let batch = batch_in(rt, &mut round, attestations);
+    drop(round);
+    batch
 }
 
 // The content of a nullification.

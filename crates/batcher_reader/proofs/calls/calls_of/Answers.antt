@@ -2,7 +2,7 @@ use Rattle.std.proofs.Common.{◌<◌, ℕ, zero, suc, List, [], ◌∷◌, ◌+
 use Rattle.std.proofs.lemmas.Grind.{common_steps}
 use Rattle.std.specs.List.{AllZip}
 use Rattle.std.proofs.lemmas.List.Elements.{All-push}
-use Rattle.batcher.specs.Runs.{MayCall}
+use Rattle.batcher_histories.specs.Runs.{MayCall}
 use Rattle.batcher_reader.specs.Calls.{IsCallOf}
 use Rattle.batcher_reader.proofs.calls.calls_of.Goals as goal
 

@@ -3,9 +3,9 @@ use Rattle.std.specs.List.{IsDistinct}
 use Rattle.std.proofs.lemmas.Bool.Decides.{nat_tests}
 use Rattle.std.proofs.lemmas.Map.Keys.{IsDistinct-from_apart}
 use Rattle.std.proofs.lemmas.List.Sorted.{All-permutation, length_permutation}
-use Rattle.batcher.specs.scheme.keyed.Name.{Name}
-use Rattle.batcher.specs.positions.keys.SetFault.{SetFault}
-use Rattle.batcher.specs.positions.keys.SetFault.TheVariants.{Duplicate, TooMany}
+use Rattle.batcher_types.specs.declared.scheme.keyed.Name.{Name}
+use Rattle.batcher_types.specs.declared.positions.keys.SetFault.{SetFault}
+use Rattle.batcher_types.specs.declared.positions.keys.SetFault.TheVariants.{Duplicate, TooMany}
 use Rattle.batcher_reader.proofs.calls.names.Goals as goal
 
 -- names that are their own places are distinct

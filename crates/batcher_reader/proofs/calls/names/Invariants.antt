@@ -1,5 +1,5 @@
 use Rattle.std.proofs.Common.{◌≡◌, ◌<◌, ℕ, get_or, vec_len}
-use Rattle.batcher.specs.scheme.keyed.Name.{Name}
+use Rattle.batcher_types.specs.declared.scheme.keyed.Name.{Name}
 use Rattle.batcher_reader.proofs.calls.names.Given as goal
 
 abbrev pub invariant-loop-number : goal.invariant-loop-number

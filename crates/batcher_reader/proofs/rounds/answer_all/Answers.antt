@@ -1,3 +1,4 @@
+use Rattle.std.proofs.Common.{sym}
 use Rattle.batcher_reader.proofs.rounds.answer_all.Goals as goal
 
 pub run-requires-clause-calls : goal.run-requires-clause-calls
@@ -15,6 +16,8 @@ returns-clause-played g c =
       mode = c.fresh_round-round.result.mode;
       before = _;
       after = _;
-      held = c.in_ok-round.field-0.round.holds;
-      ran = rw (c.fresh_round-round.ensures.scheme, c.fresh_round-round.ensures.number, c.as_slice.ensures.value) at c.in_ok-round.ensures.ran;
+      held = _;
+      ran =
+          rw (c.fresh_round-round.ensures.scheme, c.fresh_round-round.ensures.number, c.as_slice.ensures.value, sym c.into_answers.ensures) at
+          c.in_ok-ran.ensures.ran;
     }

@@ -3,7 +3,7 @@ use Rattle.batcher_histories.specs.Judged.{judge}
 use Rattle.batcher_histories.specs.Steps.{own_result}
 use Rattle.batcher_promises.proofs.Runs.Histories.{named}
 use Rattle.batcher_histories.proofs.Shown.Named.{own_same}
-use Rattle.batcher.proofs.run.answer_own.Goals as goal
+use Rattle.batcher_run.proofs.run.answer_own.Goals as goal
 
 pub returns-in-Ok : goal.returns-in-Ok
 returns-in-Ok g c = record {

@@ -1,19 +1,19 @@
-use Rattle.std.proofs.Common.{refl, ap}
+use Rattle.std.proofs.Common.{ap}
 use Rattle.batcher_promises.proofs.Runs.Histories.{named}
-use Rattle.batcher.proofs.run.answer_certificate.Goals as goal
+use Rattle.batcher_run.proofs.run.answer_construct.Goals as goal
 
 pub returns-in-Ok : goal.returns-in-Ok
 returns-in-Ok g c = record {
-  steps = λ stream. (c.in-Ok.ensures.step, refl);
+  steps = c.in-Ok.ensures.step;
   meets = λ past stands. named _ (c.in-Ok.ensures.meets past stands);
-  same = c.record_certificate.ensures.same;
+  same = c.try_construct.ensures.same;
 }
 
 pub returns-in-Err : goal.returns-in-Err
 returns-in-Err g c =
     let stays = ap (λ r. r.holds) c.in-Err.ensures.refused in
     record {
-      steps = λ stream. (stays, refl);
+      steps = stays;
       meets = λ past stands. (stays, c.in-Err.ensures.needed past stands);
-      same = c.record_certificate.ensures.same;
+      same = c.try_construct.ensures.same;
     }

@@ -1,6 +1,6 @@
 use Rattle.std.proofs.Common.{refl}
 use Rattle.batcher_promises.proofs.Runs.Histories.{named}
-use Rattle.batcher.proofs.run.answer_missing.Goals as goal
+use Rattle.batcher_run.proofs.run.answer_missing.Goals as goal
 
 pub returns-in-Ok : goal.returns-in-Ok
 returns-in-Ok g c = record {

@@ -1,12 +1,12 @@
 use Rattle.std.proofs.Common.{refl, ap}
 use Rattle.batcher_promises.proofs.Runs.Histories.{named}
-use Rattle.batcher.proofs.run.answer_network.Goals as goal
+use Rattle.batcher_run.proofs.run.answer_certificate.Goals as goal
 
 pub returns-in-Ok : goal.returns-in-Ok
 returns-in-Ok g c = record {
   steps = λ stream. (c.in-Ok.ensures.step, refl);
   meets = λ past stands. named _ (c.in-Ok.ensures.meets past stands);
-  same = c.add_network.ensures.same;
+  same = c.record_certificate.ensures.same;
 }
 
 pub returns-in-Err : goal.returns-in-Err
@@ -15,5 +15,5 @@ returns-in-Err g c =
     record {
       steps = λ stream. (stays, refl);
       meets = λ past stands. (stays, c.in-Err.ensures.needed past stands);
-      same = c.add_network.ensures.same;
+      same = c.record_certificate.ensures.same;
     }

@@ -5,13 +5,14 @@ ghost use Rattle.std.specs.Prelude.{◌≡◌, true};
 ghost use Rattle.std.specs.List.{list_all};
 ghost use Rattle.batcher_reader.specs.Commands.{is_among};
 
-use super::memory::printed;
-use super::*;
+use super::printed;
+use batcher::messages::Sha256Digest;
 use batcher::round::Round;
-use batcher::run::{PairRan, run_pair};
-use batcher::scheme::Counter;
-use batcher_reader::calls::{calls_of, names};
-use std::alloc::AllocError;
+use batcher::run::{Answer, PairRan, run_pair};
+use batcher::scheme::{Counter, Keyed};
+use batcher_reader::calls::{TestScheme, calls_of, names};
+use batcher_reader::script::{Command, Opening, Script};
+use std::alloc::{AllocError, Global};
 use std::process::Abort;
 use std::rc::Rc;
 use std::test::Fail;
@@ -109,11 +110,17 @@ pub fn told(alloc: Global, text: &str) -> Result<PairTold, AllocError> {
     let Some(opening) = &script.lines.opening else {
         return Err(AllocError);
     };
-    let pair = ran(alloc, opening, script.lines.commands.as_slice())?;
+    let PairRan {
+        retaining,
+        releasing,
+        stopped,
+    } = ran(alloc, opening, script.lines.commands.as_slice())?;
+    let retaining = retaining.into_answers();
+    let releasing = releasing.into_answers();
     Ok(PairTold {
-        retaining: lines(alloc, pair.retaining.answers.as_slice())?,
-        releasing: lines(alloc, pair.releasing.answers.as_slice())?,
-        stopped: pair.stopped,
+        retaining: lines(alloc, retaining.as_slice())?,
+        releasing: lines(alloc, releasing.as_slice())?,
+        stopped,
     })
 }
 

@@ -7,7 +7,7 @@ use Rattle.std.proofs.lemmas.List.Kept.{IsStrictlySortedBy-dedup}
 use Rattle.std.proofs.lemmas.List.Sorted.{list_any-IsPermutation, All-permutation}
 use Rattle.batcher_histories.specs.History.{history}
 use Rattle.batcher_promises.specs.Blocked.{GaveCause}
-use Rattle.batcher.proofs.run.blocked.Goals as goal
+use Rattle.batcher_run.proofs.run.blocked.Goals as goal
 
 twice_or : (a b : Bool) → (a || b) ≡ (a || (a || b))
 twice_or true b = refl

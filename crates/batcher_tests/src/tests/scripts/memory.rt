@@ -1,12 +1,15 @@
 //! A call that is refused for memory changes nothing: the others are answered as in a run that
 //! never had it.
 //!
-//! As it stands this test refuses nothing. `tools/refuse` runs it with its first request for
-//! memory refused, then its second, and so on.
+//! As they stand these tests refuse nothing. `tools/refuse` runs them with their first request
+//! for memory refused, then their second, and so on.
 
 use super::pairs::told;
-use super::*;
-use std::alloc::AllocError;
+use super::printed;
+use batcher::scheme::Keyed;
+use batcher_reader::rounds::{answer_all, scheme_of};
+use batcher_reader::script::Script;
+use std::alloc::{AllocError, Global};
 use std::test::Fail;
 
 /// Scripts in which later calls show what earlier ones have changed.
@@ -54,21 +57,6 @@ net 3 3 notarize 1 ok
 construct
 ",
 ];
-
-/// What is printed for an answer, and nothing where memory was refused to its call.
-pub fn printed<G: Drop, C: Drop>(
-    alloc: Global,
-    answer: &Answer<G, C, Sha256Digest>,
-) -> Result<Vec<u8>, AllocError> {
-    let mut line = Vec::new(alloc);
-    if let Answer::OutOfMemory = answer {
-        return Ok(line);
-    }
-    let mut output = Output::new(alloc, &mut line);
-    let told = print_answer(answer, &mut output).is_ok() && output.flush().is_ok();
-    drop(output);
-    if told { Ok(line) } else { Err(AllocError) }
-}
 
 /// What the calls of a script are answered.
 fn answers(alloc: Global, text: &str) -> Result<Vec<Vec<u8>>, AllocError> {

@@ -5,7 +5,7 @@ use Rattle.batcher_histories.specs.Setting.{setting}
 use Rattle.batcher_histories.specs.History.{history}
 use Rattle.batcher_histories.proofs.History.Laws.{HasLaws}
 use Rattle.batcher_promises.proofs.Runs.Going.{Goes, goes_first, goes_more, goes_to}
-use Rattle.batcher.proofs.run.run.Goals as goal
+use Rattle.batcher_run.proofs.run.run.Goals as goal
 
 pub step-requires : goal.step-requires
 step-requires g c =

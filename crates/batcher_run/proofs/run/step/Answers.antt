@@ -1,6 +1,6 @@
 use Rattle.std.proofs.Common.{refl}
 use Rattle.batcher_promises.proofs.Runs.Histories.{named}
-use Rattle.batcher.proofs.run.step.Goals as goal
+use Rattle.batcher_run.proofs.run.step.Goals as goal
 
 pub returns-in-Network : goal.returns-in-Network
 returns-in-Network g c = record {

@@ -1,7 +1,7 @@
 use Rattle.std.proofs.Common.{◌≡◌, ◌≤◌, length, take, vec_capacity}
 use Rattle.batcher_histories.specs.Setting.{setting}
 use Rattle.batcher_promises.proofs.Runs.Going.{Goes}
-use Rattle.batcher.proofs.run.run.Given as goal
+use Rattle.batcher_run.proofs.run.run.Given as goal
 
 abbrev pub invariant-loop-call : goal.invariant-loop-call
 invariant-loop-call g l = record {
