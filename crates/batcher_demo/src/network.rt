@@ -2,11 +2,12 @@
 //! order and repeated.
 
 use crate::station::{AnyVote, Station, numbered};
-use crate::validator::{AHEAD, Message, Reason, VALIDATORS, VIEWS, Validator, letter_of, proposed};
+use crate::validator::{AHEAD, Message, VALIDATORS, VIEWS, Validator, letter_of, proposed};
 use anyhow::{Result, bail};
 use batcher::messages::{Attestation, Sha256Digest, Subject, Vote};
 use batcher::positions::{Participant, Set};
 use batcher::scheme::{Keyed, Name};
+use batcher_node::Cause;
 use rand_core::Rng;
 use rand_pcg::Pcg32;
 use std::alloc::{AllocError, Global};
@@ -111,7 +112,7 @@ fn scheme_of(alloc: Global) -> Result<Rc<Keyed<true>>> {
 fn validator_of(alloc: Global, scheme: &Rc<Keyed<true>>, me: u32) -> Result<Validator> {
     let signing = scheme.clone()?;
     let station = Station::new(alloc, signing, scheme.clone()?, me, AHEAD);
-    match station {
+    match station? {
         Some(station) => Validator::new(alloc, station, me),
         None => bail!("validator {me} has no key"),
     }
@@ -363,26 +364,19 @@ fn agrees(first: &Validator, validator: &Validator) -> bool {
     validator.current > VIEWS
 }
 
-// Whether each block is for what its peer does wrong, and the node's own blocks are those that its
+// Whether each block is for what its peer does wrong, and the node's blocks are those that its
 // answers told of.
 fn are_just(validator: &Validator) -> bool {
-    let mut by_node = 0usize;
     for block in validator.blocks.as_slice() {
-        match block.reason {
-            Reason::Node(_) => {
-                by_node = by_node.saturating_add(1);
-                if role_of(block.peer) != Role::Equivocates {
-                    return false;
-                }
-            }
-            Reason::Signature => {
-                if role_of(block.peer) != Role::SignsBadly {
-                    return false;
-                }
-            }
+        let role = match block.cause {
+            Cause::Signature => Role::SignsBadly,
+            Cause::Vote(_) | Cause::Certificate => Role::Equivocates,
+        };
+        if role_of(block.peer) != role {
+            return false;
         }
     }
-    by_node == validator.station.blocked()
+    validator.blocks.len() == validator.station.blocked()
 }
 
 fn spares(validator: &Validator) -> bool {

@@ -3,7 +3,7 @@
 
 use crate::network::{Checks, Network, Role, SLOWEST, role_of};
 use crate::validator::{
-    AHEAD, BEHIND, Counts, NOTHING, Reason, Seen, VALIDATORS, VIEWS, Validator, leader_of,
+    AHEAD, BEHIND, Counts, NOTHING, Seen, VALIDATORS, VIEWS, Validator, leader_of,
     letter_of,
 };
 use anyhow::Result;
@@ -147,26 +147,26 @@ fn draw_legend(rt: &impl Print) -> Result<()> {
 
 // By whom a faulty one is blocked, and anybody who is.
 fn draw_blocks(rt: &impl Print, network: &Network, peer: u32) -> Result<()> {
-    let mut reason = None;
+    let mut cause = None;
     for validator in network.validators.as_slice() {
-        reason = reason.or(validator.reason_against(peer));
+        cause = cause.or(validator.cause_against(peer));
     }
     let role = role_of(peer);
-    if role == Role::Honest && reason.is_none() {
+    if role == Role::Honest && cause.is_none() {
         return Ok(());
     }
     let word = word_of(role);
     print!(rt; "{peer:>2} {word:<12} blocked by")?;
-    match reason {
+    match cause {
         None => print!(rt; " nobody")?,
-        Some(reason) => {
+        Some(cause) => {
             for validator in network.validators.as_slice() {
                 if validator.has_blocked(peer) {
                     let me = validator.me;
                     print!(rt; " {me}")?;
                 }
             }
-            let why = reason_word(&reason);
+            let why = cause_word(&cause);
             print!(rt; ": {why}")?;
         }
     }
@@ -174,12 +174,12 @@ fn draw_blocks(rt: &impl Print, network: &Network, peer: u32) -> Result<()> {
     Ok(())
 }
 
-fn reason_word(reason: &Reason) -> &'static str {
-    match reason {
-        Reason::Signature => "a construction named its vote as bad",
-        Reason::Node(Cause::Certificate) => "forged certificate",
-        Reason::Node(Cause::Vote(BlockReason::ConflictingNotarize)) => "conflicting notarizes",
-        Reason::Node(Cause::Vote(_)) => "another vote",
+fn cause_word(cause: &Cause) -> &'static str {
+    match cause {
+        Cause::Signature => "a construction named its vote as bad",
+        Cause::Certificate => "forged certificate",
+        Cause::Vote(BlockReason::ConflictingNotarize) => "conflicting notarizes",
+        Cause::Vote(_) => "another vote",
     }
 }
 

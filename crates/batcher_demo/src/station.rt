@@ -9,7 +9,7 @@ use batcher::positions::{Epoch, Participant, Round, View};
 use batcher::round::Admission;
 use batcher::scheme::{AttestationList, Counter, Keyed, Name};
 use batcher::votes::Mode;
-use batcher_node::{Construction, EnterFault, Node, Receipt, Verdict};
+use batcher_node::{Cast, Construction, EnterFault, Node, Receipt, Verdict};
 use std::alloc::{AllocError, Global};
 use std::marker::Model;
 use std::rc::Rc;
@@ -56,18 +56,19 @@ impl Station {
         again: Rc<Keyed<true>>,
         me: u32,
         ahead: u64,
-    ) -> Option<Self>
+    ) -> Result<Option<Self>, AllocError>
         requires { again.value ≡ scheme.value }
     {
         if me as usize >= scheme.participants.len() {
-            return None;
+            return Ok(None);
         }
-        Some(Station {
-            node: Node::new(alloc, EPOCH, again, View(0), ahead, true),
+        let node = Node::new(alloc, EPOCH, again, View(0), ahead, true)?;
+        Ok(Some(Station {
+            node,
             scheme,
             me: Participant::new(me),
             rng: Counter::new(0),
-        })
+        }))
     }
 
     pub(crate) fn hear_vote(
@@ -86,12 +87,12 @@ impl Station {
         self.node.receive_certificate(peer, certificate)
     }
 
-    // Signs a vote and casts it. There is none where its view is outside of the window.
+    // Signs a vote and casts it. There is none where it isn't to be sent.
     pub(crate) fn cast(&mut self, subject: Subject<Sha256Digest>) -> Result<Option<AnyVote>> {
         let vote = Vote::new(subject, self.scheme.sign(self.me, subject));
         match self.node.cast_vote(vote) {
-            Ok(Some(_)) => Ok(Some(vote)),
-            Ok(None) => Ok(None),
+            Ok(Cast::ToSend(_)) => Ok(Some(vote)),
+            Ok(Cast::Known | Cast::Outside) => Ok(None),
             Err(fault) => Err(fault.into()),
         }
     }
@@ -114,9 +115,13 @@ impl Station {
         self.node.rounds_kept()
     }
 
-    // How many peers the node has blocked by itself.
+    // How many peers the node has blocked.
     pub(crate) fn blocked(&self) -> usize {
-        self.node.blocked().len()
+        let mut blocked = 0usize;
+        for cause in self.node.blocked() {
+            blocked = blocked.saturating_add(usize::from(cause.is_some()));
+        }
+        blocked
     }
 
     // Whether votes of the view are kept as evidence.

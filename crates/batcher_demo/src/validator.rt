@@ -85,21 +85,12 @@ const UNSEEN: Seen = Seen {
     finalized: None,
 };
 
-/// Why a validator has blocked a peer.
-#[derive(Clone, Copy, Debug, PartialEq, Eq)]
-pub(crate) enum Reason {
-    /// The node did.
-    Node(Cause),
-    /// A construction found a vote of its that doesn't attest.
-    Signature,
-}
-
 /// That a validator has blocked a peer, by what it sent in a view.
 #[derive(Clone, Copy, Debug)]
 pub(crate) struct Block {
     pub(crate) peer: u32,
     pub(crate) view: u64,
-    pub(crate) reason: Reason,
+    pub(crate) cause: Cause,
 }
 
 /// How many messages there were of each fate, and how many rounds were kept at once.
@@ -197,9 +188,9 @@ impl Validator {
     }
 
     /// Why it has blocked a peer, if it has.
-    pub(crate) fn reason_against(&self, peer: u32) -> Option<Reason> {
+    pub(crate) fn cause_against(&self, peer: u32) -> Option<Cause> {
         match self.blocks.iter().find(|b| b.peer == peer) {
-            Some(block) => Some(block.reason),
+            Some(block) => Some(block.cause),
             None => None,
         }
     }
@@ -210,8 +201,8 @@ impl Validator {
         }
     }
 
-    fn block(&mut self, peer: u32, view: u64, reason: Reason) -> Result<(), AllocError> {
-        self.blocks.push(Block { peer, view, reason })?;
+    fn block(&mut self, peer: u32, view: u64, cause: Cause) -> Result<(), AllocError> {
+        self.blocks.push(Block { peer, view, cause })?;
         Ok(())
     }
 
@@ -238,11 +229,13 @@ impl Validator {
                     self.note_proposal(peer, &vote);
                 }
                 if let Some(reason) = admission.block {
-                    self.block(peer, view, Reason::Node(Cause::Vote(reason)))?;
+                    self.block(peer, view, Cause::Vote(reason))?;
                 }
             }
             Receipt::Outside => self.counts.outside = self.counts.outside.saturating_add(1),
-            Receipt::Dropped => self.counts.dropped = self.counts.dropped.saturating_add(1),
+            Receipt::Dropped | Receipt::Unknown => {
+                self.counts.dropped = self.counts.dropped.saturating_add(1);
+            }
         }
         Ok(())
     }
@@ -273,9 +266,12 @@ impl Validator {
         match self.station.hear_certificate(name, certificate)? {
             Receipt::Answered(Verdict::Recorded(_)) => self.keep(certificate.clone()?),
             Receipt::Answered(Verdict::Forged) => {
-                self.block(peer, view, Reason::Node(Cause::Certificate))
+                self.block(peer, view, Cause::Certificate)
             }
-            Receipt::Outside | Receipt::Dropped => Ok(()),
+            Receipt::Answered(Verdict::Known)
+            | Receipt::Outside
+            | Receipt::Dropped
+            | Receipt::Unknown => Ok(()),
         }
     }
 
@@ -315,7 +311,7 @@ impl Validator {
         self.go_on(now)
     }
 
-    // Casts a vote and sends it, where its view is in the window.
+    // Casts a vote and sends it, where it is to be sent.
     fn cast(&mut self, subject: Subject<Sha256Digest>) -> Result<bool> {
         match self.station.cast(subject)? {
             Some(vote) => {
@@ -375,11 +371,11 @@ impl Validator {
         Ok(())
     }
 
-    // The node leaves it to its caller to block whose votes don't attest.
+    // The node has blocked whose votes don't attest. It is noted of whom it wasn't before.
     fn block_signers(&mut self, view: u64, signers: &[Participant]) -> Result<(), AllocError> {
         for signer in signers {
             if !self.has_blocked(signer.get()) {
-                self.block(signer.get(), view, Reason::Signature)?;
+                self.block(signer.get(), view, Cause::Signature)?;
             }
         }
         Ok(())

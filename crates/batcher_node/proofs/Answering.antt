@@ -1,9 +1,21 @@
 -- Each sort of event, told to the round of its view.
-use Rattle.std.proofs.Common.{◌≡◌, ◌≢◌, ◌≤◌, ℕ, Bool, true, false, not, cond, ◌&&◌, List, [], ◌∷◌, ◌++◌, Option, Some, None, Ok, refl, sym, ap, ◌∙◌, subst, arith, eqb, append-nil, is_some, inl}
+use Rattle.std.proofs.Common.{◌≡◌, ◌≢◌, ◌≤◌, ◌<◌, ℕ, Bool, true, false, not, cond, ◌&&◌, ◌==◌, List, [], ◌∷◌, Option, Some, None, Ok, refl, sym, ap, ◌∙◌, subst, arith, eqb, is_some, inl, length}
 use Rattle.std.specs.Prelude.{MatchOption, IfSome}
-use Rattle.std.specs.Option.{option_map_or}
+use Rattle.std.specs.List.{list_any}
+use Rattle.std.specs.Option.{option_map, option_or}
+use Rattle.batcher.specs.Lists.{is_some_and}
+use Rattle.batcher.specs.answers.OwnFault.{OwnFault}
+use Rattle.batcher.specs.Votes.{kind_certified}
+use Rattle.batcher.specs.Steps.{fault_or_memory, unopposed_result}
+use Rattle.batcher.specs.Selection.{is_certified, is_released}
+use Rattle.batcher.specs.messages.Kind.{Kind}
+use Rattle.batcher.specs.messages.Kind.TheVariants.{Notarization, Nullification, Finalization}
+use Rattle.batcher.specs.votes.Outcome.TheVariants.{Added}
+use Rattle.batcher.specs.answers.OwnFault.TheVariants.{OutOfMemory as OutOfMemoryFault}
+use Rattle.batcher.specs.Answers.{own_answer}
+use Rattle.batcher.specs.Judged.{WhereverItStands}
 use Rattle.std.specs.declared.cmp.Ordering.{Ordering}
-use Rattle.std.proofs.lemmas.Bool.{eq-eqb, cases_eq, false≢true}
+use Rattle.std.proofs.lemmas.Bool.{eq-eqb, false≢true}
 use Rattle.batcher.specs.messages.Vote.{Vote}
 use Rattle.batcher.specs.messages.Certificate.{Certificate}
 use Rattle.batcher.specs.answers.Admission.{Admission}
@@ -11,28 +23,30 @@ use Rattle.batcher.specs.calls.Call.TheVariants.{Network as NetworkCall, Certifi
 use Rattle.batcher.specs.answers.Answer.TheVariants.{Network as NetworkAnswer, Certificate as CertificateAnswer, Own as OwnAnswer, Leader as LeaderAnswer, Construct as ConstructAnswer}
 use Rattle.batcher.specs.positions.Round.{Round}
 use Rattle.batcher.specs.Meaning.{Meaning}
-use Rattle.batcher.specs.Votes.{subject_of, subject_certified, round_in}
+use Rattle.batcher.specs.Votes.{subject_of, subject_certified, round_in, kind_of}
+use Rattle.batcher.specs.Stands.{Stands}
 use Rattle.batcher.specs.Held.{RoundView}
-use Rattle.batcher.specs.History.{Event, History}
+use Rattle.batcher.specs.History.{Event}
 use Rattle.batcher.specs.messages.Activity.{Activity}
 use Rattle.batcher.specs.votes.Outcome.{Outcome}
 use Rattle.batcher.specs.verifier.Batch.{Batch}
 use Rattle.batcher.specs.positions.Participant.{Participant}
 use Rattle.batcher.specs.Judged.{judge}
-use Rattle.batcher_node.specs.declared.answers.Receipt.{Receipt}
-use Rattle.batcher_node.specs.declared.answers.Receipt.TheVariants.{Answered, Outside, Dropped}
-use Rattle.batcher_node.specs.declared.answers.Cause.TheVariants.{Vote as ForVote, Certificate as ForCertificate}
-use Rattle.batcher_node.specs.declared.answers.Verdict.TheVariants.{Recorded, Forged}
+use Rattle.batcher_node.specs.declared.answers.Receipt.TheVariants.{Answered, Outside, Dropped, Unknown}
+use Rattle.batcher_node.specs.declared.answers.Cause.{Cause}
+use Rattle.batcher_node.specs.declared.answers.Cause.TheVariants.{Vote as ForVote, Certificate as ForCertificate, Signature as ForSignature}
+use Rattle.batcher_node.specs.declared.answers.Verdict.TheVariants.{Recorded, Forged, Known}
+use Rattle.batcher_node.specs.declared.answers.Cast.{Cast}
 use Rattle.batcher.specs.Verifiers.{certifies_itself}
 use Rattle.batcher.specs.Answers.{certificate_answer}
 use Rattle.batcher_node.specs.declared.window.Window.{Window}
 use Rattle.batcher_node.specs.Windows.{contains, numbered, is_of, entered, finalized}
 use Rattle.batcher_node.specs.declared.slot.Slot.{Slot}
 use Rattle.batcher.specs.positions.Epoch.{Epoch}
-use Rattle.batcher_node.specs.Events.{NodeEvent, vote_came, certificate_came, vote_cast, view_entered, view_finalized, constructed, NodeHistory, told, at_view, blocked_in, window_in, is_blocked, told_by, blocked_by}
-use Rattle.batcher_node.specs.Nodes.{NodeView, slot_at, fresh_round, Tells, TellsThere, IsTended, HasChanged}
-use Rattle.batcher_node.specs.Stands.{NodeSetting, NodeStands, judge_node, receipt, is_within, setting_of, is_due, ViewStands}
-use Rattle.batcher_node.proofs.Standing.{told_one, told_none}
+use Rattle.batcher_node.specs.Events.{NodeEvent, vote_came, certificate_came, vote_cast, view_entered, view_finalized, constructed, NodeHistory, told, at_view, told_by, window_after, peer_in, is_peer, cause_by, invalid_in}
+use Rattle.batcher_node.specs.Nodes.{NodeView, NodeSetting, judge_node, cause_at, slot_at, fresh_round, Tells, TellsThere, IsTended, HasChanged, NamesFault}
+use Rattle.batcher_node.specs.Stands.{NodeStands, receipt, receipt_from, is_within, setting_of, is_due, ViewStands, IsNamed, MeetsCast, cast_by}
+use Rattle.batcher_node.proofs.Standing.{told_one, told_none, judged}
 
 -- a test that fails
 not_eqb : (a b : ℕ) → a ≢ b → eqb a b ≡ false
@@ -42,6 +56,14 @@ not_eqb a b apart = grind (arith, apart)
 pub above_finalized : (epoch : Epoch) (w : Window) (number : Round) → is_of epoch w number ≡ true
     → w.finalized ≤ number.view.0
 above_finalized epoch w number within = grind (arith, within)
+
+-- it is in the window
+pub not_far : (epoch : Epoch) (w : Window) (number : Round) → is_of epoch w number ≡ true
+    → contains w number.view.0 ≡ true
+not_far epoch w number within = and_right (number.epoch.0 == epoch.0) within where
+  and_right : {b : Bool} (a : Bool) → (a && b) ≡ true → b ≡ true
+  and_right true h = h
+  and_right false h = absurd (false≢true h)
 
 at_most : {a b : ℕ} → a ≡ b → b ≤ a
 at_most is = grind (arith, is)
@@ -87,115 +109,259 @@ module _ {D K G C : Type 0} where
   at_other other view event apart =
       ap (λ b. cond b (event ∷ []) []) (not_eqb view other (λ same. apart (sym same)))
 
+-- what blocks nobody more
+pub or_none : {X : Type 0} (c : Option X) → c ≡ option_or c None
+or_none None = refl
+or_none (Some a) = refl
+
 module _ {S D K G C : Type 0} (meaning : S → Meaning D K G C) (compare_keys : K → K → Ordering)
-    (same_key : K → K → Bool) (same_signature : G → G → Bool) (same_digest : D → D → Bool)
-    (past : NodeHistory D K G C) (old new : NodeView S K G D) where
+    (same_signature : G → G → Bool) (same_digest : D → D → Bool)
+    (past : NodeHistory D K G C) (old new : NodeView S G D) where
   abbrev x : NodeSetting D K G C
-  x = judge_node meaning compare_keys same_key same_signature same_digest old
+  x = judge_node meaning compare_keys same_signature same_digest old
+
+  -- Nobody more is blocked.
+  none_more : (event : NodeEvent D K G C) → ((i : ℕ) → cause_by x event i ≡ None)
+      → new.blocked ≡ old.blocked → (i : ℕ) → i < length x.meaning.participants
+      → cause_at new.blocked i ≡ option_or (cause_at old.blocked i) (cause_by x event i)
+  none_more event none same i within =
+      ap (λ b. cause_at b i) same ∙ or_none (cause_at old.blocked i)
+      ∙ ap (option_or (cause_at old.blocked i)) (sym (none i))
+
+  -- Where a peer is blocked, that is the participant with its key.
+  peer_blocked : (peer : K) (p : Participant) (why : Option Cause) → peer_in x peer ≡ Some p
+      → (i : ℕ) → cond (p.0 == i) why None ≡ cond (is_peer x peer i) why None
+  peer_blocked peer p why sender i =
+      ap (λ s. cond (is_some_and s (λ p. p.0 == i)) why None) (sym sender)
 
   -- a message that isn't dropped, and is of the window, is answered
-  routed : (h : NodeStands x past old) (peer : K) (number : Round) {A : Type 0} (answer : A)
-      → is_blocked same_key old.blocked peer ≡ false → is_of old.epoch old.window number ≡ true
+  routed : (h : NodeStands x past old) (peer : K) (p : Participant) (number : Round) {A : Type 0}
+      (answer : A) → peer_in x peer ≡ Some p → p.0 < length x.meaning.participants
+      → is_some (cause_at old.blocked p.0) ≡ false → is_of old.epoch old.window number ≡ true
       → Answered answer ≡ receipt x past peer number answer
-  routed h peer number answer free within =
-      sym (ap (λ b. cond (is_blocked same_key b peer) Dropped
-      (cond (is_within x past number) (Answered answer) Outside)) (sym h.blocked_are)
+  routed h peer p number answer sender in_range free within =
+      sym (ap (λ s. receipt_from x past s number answer) sender
+      ∙ ap (λ c. cond (is_some c) Dropped (cond (is_within x past number) (Answered answer) Outside))
+      (sym (h.blocked_are p.0 in_range))
       ∙ ap (λ b. cond b Dropped (cond (is_within x past number) (Answered answer) Outside)) free
       ∙ ap (λ w. cond (is_of old.epoch w number) (Answered answer) Outside) (sym h.window_is)
       ∙ ap (λ b. cond b (Answered answer) Outside) within)
 
+  -- a message that is dropped
+  dropped : (h : NodeStands x past old) (peer : K) (p : Participant) (number : Round) {A : Type 0}
+      (answer : A) → peer_in x peer ≡ Some p → p.0 < length x.meaning.participants
+      → is_some (cause_at old.blocked p.0) ≡ true → Dropped ≡ receipt x past peer number answer
+  dropped h peer p number answer sender in_range blocked =
+      sym (ap (λ s. receipt_from x past s number answer) sender
+      ∙ ap (λ c. cond (is_some c) Dropped (cond (is_within x past number) (Answered answer) Outside))
+      (sym (h.blocked_are p.0 in_range))
+      ∙ ap (λ b. cond b Dropped (cond (is_within x past number) (Answered answer) Outside)) blocked)
+
+  -- a message that is of no view in the window
+  outside : (h : NodeStands x past old) (peer : K) (p : Participant) (number : Round) {A : Type 0}
+      (answer : A) → peer_in x peer ≡ Some p → p.0 < length x.meaning.participants
+      → is_some (cause_at old.blocked p.0) ≡ false → is_of old.epoch old.window number ≡ false
+      → Outside ≡ receipt x past peer number answer
+  outside h peer p number answer sender in_range free within =
+      sym (ap (λ s. receipt_from x past s number answer) sender
+      ∙ ap (λ c. cond (is_some c) Dropped (cond (is_within x past number) (Answered answer) Outside))
+      (sym (h.blocked_are p.0 in_range))
+      ∙ ap (λ b. cond b Dropped (cond (is_within x past number) (Answered answer) Outside)) free
+      ∙ ap (λ w. cond (is_of old.epoch w number) (Answered answer) Outside) (sym h.window_is)
+      ∙ ap (λ b. cond b (Answered answer) Outside) within)
+
+  -- a message of somebody who takes no part
+  unknown : (peer : K) (number : Round) {A : Type 0} (answer : A) → peer_in x peer ≡ None
+      → Unknown ≡ receipt x past peer number answer
+  unknown peer number answer sender =
+      sym (ap (λ s. receipt_from x past s number answer) sender)
+
+  -- An event that tells no view anything, and changes nothing.
+  still : (event : NodeEvent D K G C) → ((view : ℕ) → told_by view event ≡ [])
+      → ((i : ℕ) → cause_by x event i ≡ None) → window_after old.window event ≡ old.window
+      → new ≡ old → IsNamed x past event → NodeStands x past old → NodeStands x (event ∷ past) new
+  still event none causes window same named h =
+      told_none x past event old new none (ap (λ n. n.window) same ∙ sym window)
+      (at_most (ap (λ n. n.window.finalized) same))
+      (none_more event causes (ap (λ n. n.blocked) same))
+      (λ view within. ap (λ n. slot_at n.rounds view) same) named h
+
+  pub vote_dropped : (peer : K) (vote : Vote G D) (p : Participant) → peer_in x peer ≡ Some p
+      → p.0 < length x.meaning.participants → is_some (cause_at old.blocked p.0) ≡ true → new ≡ old
+      → NodeStands x past old → NodeStands x (vote_came peer vote Dropped ∷ past) new
+  vote_dropped peer vote p sender in_range blocked same h =
+      still (vote_came peer vote Dropped) (λ view. refl) (λ i. refl) refl same
+      (dropped h peer p _ _ sender in_range blocked) h
+
+  pub vote_outside : (peer : K) (vote : Vote G D) (p : Participant) → peer_in x peer ≡ Some p
+      → p.0 < length x.meaning.participants → is_some (cause_at old.blocked p.0) ≡ false
+      → is_of old.epoch old.window (round_in (subject_of vote)) ≡ false → new ≡ old
+      → NodeStands x past old → NodeStands x (vote_came peer vote Outside ∷ past) new
+  vote_outside peer vote p sender in_range free within same h =
+      still (vote_came peer vote Outside) (λ view. refl) (λ i. refl) refl same
+      (outside h peer p _ _ sender in_range free within) h
+
+  pub vote_unknown : (peer : K) (vote : Vote G D) → peer_in x peer ≡ None → new ≡ old
+      → NodeStands x past old → NodeStands x (vote_came peer vote Unknown ∷ past) new
+  vote_unknown peer vote sender same h =
+      still (vote_came peer vote Unknown) (λ view. refl) (λ i. refl) refl same
+      (unknown peer _ _ sender) h
+
   pub vote_told : (peer : K) (vote : Vote G D) (admission : Admission G D) (participants : ℕ)
+      (p : Participant)
       → let number = round_in (subject_of vote) in let view = number.view.0 in
       IsTended participants old.scheme old.epoch old.window old.rounds
-      → is_blocked same_key old.blocked peer ≡ false → is_of old.epoch old.window number ≡ true
+      → peer_in x peer ≡ Some p → p.0 < length x.meaning.participants
+      → is_some (cause_at old.blocked p.0) ≡ false → is_of old.epoch old.window number ≡ true
       → Tells (judge meaning compare_keys same_signature same_digest)
       (slot_at old.rounds) (slot_at new.rounds) view
       (fresh_round old.scheme old.epoch old.retains old.window view)
-      (NetworkCall peer vote) (NetworkAnswer admission) true
+      (NetworkCall peer vote) (NetworkAnswer admission)
       → new.window ≡ old.window
-      → new.blocked ≡ old.blocked
-      ++ option_map_or (λ why. record { peer = peer; cause = ForVote why } ∷ []) admission.block []
+      → ((i : ℕ) → i < length x.meaning.participants → cause_at new.blocked i
+      ≡ option_or (cause_at old.blocked i) (cond (p.0 == i) (option_map ForVote admission.block) None))
       → NodeStands x past old → NodeStands x (vote_came peer vote (Answered admission) ∷ past) new
-  vote_told peer vote admission participants tended free within tells window blocked h =
+  vote_told peer vote admission participants p tended sender in_range free within tells window blocked h =
       let number = round_in (subject_of vote) in
       let view = number.view.0 in
       let event : Event D K G C = (NetworkCall peer vote, NetworkAnswer admission) in
-      told_one meaning compare_keys same_key same_signature same_digest past
-      (vote_came peer vote (Answered admission)) view event.0 event.1 true old new
+      told_one meaning compare_keys same_signature same_digest past
+      (vote_came peer vote (Answered admission)) view event.0 event.1 old new
       (at_here view event) (λ other apart. at_other other view event apart)
       tells (own_round participants old.scheme old.epoch old.window old.rounds tended view)
       (above_finalized old.epoch old.window number within) window (ap (λ w. w.finalized) window)
-      blocked refl
-      (λ h may. routed h peer number admission free within
+      (λ i ranged. blocked i ranged ∙ ap (option_or (cause_at old.blocked i))
+      (peer_blocked peer p (option_map ForVote admission.block) sender i))
+      (λ h may. routed h peer p number admission sender in_range free within
       ∙ ap (λ a. receipt x past peer number a) may)
       h
 
+  -- what a view's round has is what its history says
+  pub certified_there : (view : ℕ) (kind : Kind) (there : Bool) (participants : ℕ)
+      → IsTended participants old.scheme old.epoch old.window old.rounds
+      → contains old.window view ≡ true
+      → MatchOption (slot_at old.rounds view) (there ≡ false) (λ slot.
+      WhereverItStands (judge meaning compare_keys same_signature same_digest) slot.round
+      (λ _ past. there ≡ is_certified past kind))
+      → NodeStands x past old → there ≡ is_certified (told view past) kind
+  certified_there view kind there participants tended within is h =
+      by_slot (slot_at old.rounds view)
+      (own_round participants old.scheme old.epoch old.window old.rounds tended view)
+      is (h.views view (not_before old.window view within)) where
+        by_slot : (o : Option (Slot (RoundView S G D)))
+            → IfSome o (λ slot. (slot.round.scheme ≡ old.scheme)
+            × (slot.round.number ≡ numbered old.epoch view))
+            → MatchOption o (there ≡ false) (λ slot.
+            WhereverItStands (judge meaning compare_keys same_signature same_digest) slot.round
+            (λ _ past. there ≡ is_certified past kind))
+            → MatchOption o (told view past ≡ []) (ViewStands x past view)
+            → there ≡ is_certified (told view past) kind
+        by_slot None own is none = is ∙ sym (ap (λ t. is_certified t kind) none)
+        by_slot (Some slot) own is stands =
+            is (told view past)
+            (subst (λ y. Stands y (told view past) slot.round.holds)
+            (sym (judged meaning compare_keys same_signature same_digest past old view slot.round
+            own.0 own.1 stands.mode_is)) stands.stands)
+
   pub certificate_told : (peer : K) (certificate : Certificate C D) (changed : Bool)
-      (participants : ℕ)
+      (participants : ℕ) (p : Participant)
       → let number = round_in (subject_certified certificate) in let view = number.view.0 in
       IsTended participants old.scheme old.epoch old.window old.rounds
-      → is_blocked same_key old.blocked peer ≡ false → is_of old.epoch old.window number ≡ true
+      → peer_in x peer ≡ Some p → p.0 < length x.meaning.participants
+      → is_some (cause_at old.blocked p.0) ≡ false → is_of old.epoch old.window number ≡ true
+      → (NodeStands x past old → false ≡ is_certified (told view past) (kind_certified certificate))
       → certifies_itself (meaning old.scheme) certificate ≡ true
       → Tells (judge meaning compare_keys same_signature same_digest)
       (slot_at old.rounds) (slot_at new.rounds) view
       (fresh_round old.scheme old.epoch old.retains old.window view)
-      (CertificateCall certificate) (CertificateAnswer changed) true
+      (CertificateCall certificate) (CertificateAnswer changed)
       → new.window ≡ old.window → new.blocked ≡ old.blocked
       → NodeStands x past old
       → NodeStands x (certificate_came peer certificate (Answered (Recorded changed)) ∷ past) new
-  certificate_told peer certificate changed participants tended free within good tells window blocked h =
+  certificate_told peer certificate changed participants p tended sender in_range free within absent good tells window blocked h =
       let number = round_in (subject_certified certificate) in
       let view = number.view.0 in
       let event : Event D K G C = (CertificateCall certificate, CertificateAnswer changed) in
-      told_one meaning compare_keys same_key same_signature same_digest past
-      (certificate_came peer certificate (Answered (Recorded changed))) view event.0 event.1 true
+      let name = certificate_came peer certificate (Answered (Recorded changed)) in
+      told_one meaning compare_keys same_signature same_digest past
+      name view event.0 event.1
       old new (at_here view event) (λ other apart. at_other other view event apart)
       tells (own_round participants old.scheme old.epoch old.window old.rounds tended view)
       (above_finalized old.epoch old.window number within) window (ap (λ w. w.finalized) window)
-      (blocked ∙ sym (append-nil old.blocked)) refl
-      (λ h may. routed h peer number (Recorded changed) free within
+      (none_more name (λ i. refl) blocked)
+      (λ h may. routed h peer p number (Recorded changed) sender in_range free within
       ∙ ap (λ a. receipt x past peer number a) (ap Recorded may
-      ∙ sym (ap (λ b. cond b (Recorded (certificate_answer (setting_of x past view) (told view past) certificate)) Forged) good)))
+      ∙ sym (ap (λ b. cond b (Recorded (certificate_answer (setting_of x past view) (told view past) certificate)) Forged) good)
+      ∙ ap (λ b. cond b Known (cond (certifies_itself (meaning old.scheme) certificate)
+      (Recorded (certificate_answer (setting_of x past view) (told view past) certificate)) Forged)) (absent h)))
       h
 
-  pub certificate_forged : (peer : K) (certificate : Certificate C D)
-      → let number = round_in (subject_certified certificate) in
-      is_blocked same_key old.blocked peer ≡ false → is_of old.epoch old.window number ≡ true
+  pub certificate_forged : (peer : K) (certificate : Certificate C D) (p : Participant)
+      → let number = round_in (subject_certified certificate) in let view = number.view.0 in
+      peer_in x peer ≡ Some p → p.0 < length x.meaning.participants
+      → is_some (cause_at old.blocked p.0) ≡ false → is_of old.epoch old.window number ≡ true
+      → (NodeStands x past old → false ≡ is_certified (told view past) (kind_certified certificate))
       → certifies_itself (meaning old.scheme) certificate ≡ false
       → new.window ≡ old.window → new.rounds ≡ old.rounds
-      → new.blocked ≡ old.blocked ++ record { peer = peer; cause = ForCertificate } ∷ []
+      → ((i : ℕ) → i < length x.meaning.participants → cause_at new.blocked i
+      ≡ option_or (cause_at old.blocked i) (cond (p.0 == i) (Some ForCertificate) None))
       → NodeStands x past old
       → NodeStands x (certificate_came peer certificate (Answered Forged) ∷ past) new
-  certificate_forged peer certificate free within bad window rounds blocked h =
+  certificate_forged peer certificate p sender in_range free within absent bad window rounds blocked h =
       let number = round_in (subject_certified certificate) in
       let view = number.view.0 in
       told_none x past (certificate_came peer certificate (Answered Forged)) old new (λ view. refl)
-      window (at_most (ap (λ w. w.finalized) window)) blocked
+      window (at_most (ap (λ w. w.finalized) window))
+      (λ i ranged. blocked i ranged ∙ ap (option_or (cause_at old.blocked i))
+      (peer_blocked peer p (Some ForCertificate) sender i))
       (λ view within. ap (λ r. slot_at r view) rounds)
-      (routed h peer number Forged free within
+      (routed h peer p number Forged sender in_range free within
       ∙ ap (λ a. receipt x past peer number a)
-      (sym (ap (λ b. cond b (Recorded (certificate_answer (setting_of x past view) (told view past) certificate)) Forged) bad)))
+      (sym (ap (λ b. cond b (Recorded (certificate_answer (setting_of x past view) (told view past) certificate)) Forged) bad)
+      ∙ ap (λ b. cond b Known (cond (certifies_itself (meaning old.scheme) certificate)
+      (Recorded (certificate_answer (setting_of x past view) (told view past) certificate)) Forged)) (absent h)))
       h
 
-  -- a message that is dropped
-  dropped : (h : NodeStands x past old) (peer : K) (number : Round) {A : Type 0} (answer : A)
-      → is_blocked same_key old.blocked peer ≡ true
-      → Dropped ≡ receipt x past peer number answer
-  dropped h peer number answer blocked =
-      sym (ap (λ b. cond (is_blocked same_key b peer) Dropped
-      (cond (is_within x past number) (Answered answer) Outside)) (sym h.blocked_are)
-      ∙ ap (λ b. cond b Dropped (cond (is_within x past number) (Answered answer) Outside)) blocked)
+  pub certificate_known : (peer : K) (certificate : Certificate C D) (p : Participant)
+      → let number = round_in (subject_certified certificate) in let view = number.view.0 in
+      peer_in x peer ≡ Some p → p.0 < length x.meaning.participants
+      → is_some (cause_at old.blocked p.0) ≡ false → is_of old.epoch old.window number ≡ true
+      → (NodeStands x past old → true ≡ is_certified (told view past) (kind_certified certificate))
+      → new ≡ old → NodeStands x past old
+      → NodeStands x (certificate_came peer certificate (Answered Known) ∷ past) new
+  certificate_known peer certificate p sender in_range free within there same h =
+      let number = round_in (subject_certified certificate) in
+      let view = number.view.0 in
+      still (certificate_came peer certificate (Answered Known)) (λ view. refl) (λ i. refl) refl same
+      (routed h peer p number Known sender in_range free within
+      ∙ ap (λ a. receipt x past peer number a)
+      (ap (λ b. cond b Known (cond (certifies_itself (meaning old.scheme) certificate)
+      (Recorded (certificate_answer (setting_of x past view) (told view past) certificate)) Forged)) (there h)))
+      h
 
-  -- a message that is of no view in the window
-  outside : (h : NodeStands x past old) (peer : K) (number : Round) {A : Type 0} (answer : A)
-      → is_blocked same_key old.blocked peer ≡ false → is_of old.epoch old.window number ≡ false
-      → Outside ≡ receipt x past peer number answer
-  outside h peer number answer free within =
-      sym (ap (λ b. cond (is_blocked same_key b peer) Dropped
-      (cond (is_within x past number) (Answered answer) Outside)) (sym h.blocked_are)
-      ∙ ap (λ b. cond b Dropped (cond (is_within x past number) (Answered answer) Outside)) free
-      ∙ ap (λ w. cond (is_of old.epoch w number) (Answered answer) Outside) (sym h.window_is)
-      ∙ ap (λ b. cond b (Answered answer) Outside) within)
+  pub certificate_dropped : (peer : K) (certificate : Certificate C D) (p : Participant)
+      → peer_in x peer ≡ Some p
+      → p.0 < length x.meaning.participants → is_some (cause_at old.blocked p.0) ≡ true → new ≡ old
+      → NodeStands x past old → NodeStands x (certificate_came peer certificate Dropped ∷ past) new
+  certificate_dropped peer certificate p sender in_range blocked same h =
+      still (certificate_came peer certificate Dropped) (λ view. refl) (λ i. refl) refl same
+      (dropped h peer p _ _ sender in_range blocked) h
+
+  pub certificate_outside : (peer : K) (certificate : Certificate C D) (p : Participant)
+      → peer_in x peer ≡ Some p
+      → p.0 < length x.meaning.participants → is_some (cause_at old.blocked p.0) ≡ false
+      → is_of old.epoch old.window (round_in (subject_certified certificate)) ≡ false → new ≡ old
+      → NodeStands x past old → NodeStands x (certificate_came peer certificate Outside ∷ past) new
+  certificate_outside peer certificate p sender in_range free within same h =
+      still (certificate_came peer certificate Outside) (λ view. refl) (λ i. refl) refl same
+      (outside h peer p _ _ sender in_range free within) h
+
+  pub certificate_unknown : (peer : K) (certificate : Certificate C D) → peer_in x peer ≡ None
+      → new ≡ old
+      → NodeStands x past old → NodeStands x (certificate_came peer certificate Unknown ∷ past) new
+  certificate_unknown peer certificate sender same h =
+      still (certificate_came peer certificate Unknown) (λ view. refl) (λ i. refl) refl same
+      (unknown peer _ _ sender) h
 
   pub own_told : (vote : Vote G D) (outcome : Outcome) (report : Option (Activity G D))
       (participants : ℕ)
@@ -205,21 +371,58 @@ module _ {S D K G C : Type 0} (meaning : S → Meaning D K G C) (compare_keys : 
       → Tells (judge meaning compare_keys same_signature same_digest)
       (slot_at old.rounds) (slot_at new.rounds) view
       (fresh_round old.scheme old.epoch old.retains old.window view)
-      (OwnCall vote) (OwnAnswer outcome report) true
+      (OwnCall vote) (OwnAnswer outcome report)
       → new.window ≡ old.window → new.blocked ≡ old.blocked
       → NodeStands x past old → NodeStands x (vote_cast vote outcome report ∷ past) new
   own_told vote outcome report participants tended within tells window blocked h =
       let number = round_in (subject_of vote) in
       let view = number.view.0 in
       let event : Event D K G C = (OwnCall vote, OwnAnswer outcome report) in
-      told_one meaning compare_keys same_key same_signature same_digest past
-      (vote_cast vote outcome report) view event.0 event.1 true old new
+      told_one meaning compare_keys same_signature same_digest past
+      (vote_cast vote outcome report) view event.0 event.1 old new
       (at_here view event) (λ other apart. at_other other view event apart)
       tells (own_round participants old.scheme old.epoch old.window old.rounds tended view)
       (above_finalized old.epoch old.window number within) window (ap (λ w. w.finalized) window)
-      (blocked ∙ sym (append-nil old.blocked)) refl
+      (none_more (vote_cast vote outcome report) (λ i. refl) blocked)
       (λ h may. (ap (λ w. is_of old.epoch w number) (sym h.window_is) ∙ within, (may.0, may.1)))
       h
+
+  -- a fault of an own vote is the one that the history of its view names
+  pub own_named : (vote : Vote G D) (fault : OwnFault) (participants : ℕ)
+      → let number = round_in (subject_of vote) in let view = number.view.0 in
+      IsTended participants old.scheme old.epoch old.window old.rounds
+      → is_of old.epoch old.window number ≡ true
+      → NamesFault (judge meaning compare_keys same_signature same_digest)
+      (slot_at old.rounds view) vote fault
+      → NodeStands x past old
+      → fault ≡ fault_or_memory (own_answer (setting_of x past view) (told view past) vote)
+  own_named vote fault participants tended within named h =
+      let number = round_in (subject_of vote) in
+      let view = number.view.0 in
+      by_slot (slot_at old.rounds view)
+      (own_round participants old.scheme old.epoch old.window old.rounds tended view)
+      named (h.views view (above_finalized old.epoch old.window number within)) where
+        first : (kind : Kind) (released : Bool)
+            → OutOfMemoryFault ≡ fault_or_memory (unopposed_result kind (Added released))
+        first Notarization released = refl
+        first Nullification released = refl
+        first Finalization released = refl
+
+        by_slot : (o : Option (Slot (RoundView S G D)))
+            → IfSome o (λ slot. (slot.round.scheme ≡ old.scheme)
+            × (slot.round.number ≡ numbered old.epoch (round_in (subject_of vote)).view.0))
+            → NamesFault (judge meaning compare_keys same_signature same_digest) o vote fault
+            → MatchOption o (told (round_in (subject_of vote)).view.0 past ≡ []) (ViewStands x past (round_in (subject_of vote)).view.0)
+            → fault ≡ fault_or_memory (own_answer (setting_of x past (round_in (subject_of vote)).view.0) (told (round_in (subject_of vote)).view.0 past) vote)
+        by_slot None own is none =
+            is ∙ first (kind_of vote) (not (is_released (setting_of x past (round_in (subject_of vote)).view.0) [] (kind_of vote)))
+            ∙ sym (ap (λ t. fault_or_memory (own_answer (setting_of x past (round_in (subject_of vote)).view.0) t vote)) none)
+        by_slot (Some slot) own is stands =
+            let same = judged meaning compare_keys same_signature same_digest past old (round_in (subject_of vote)).view.0 slot.round
+            own.0 own.1 stands.mode_is in
+            is (told (round_in (subject_of vote)).view.0 past)
+            (subst (λ y. Stands y (told (round_in (subject_of vote)).view.0 past) slot.round.holds) (sym same) stands.stands)
+            ∙ ap (λ y. fault_or_memory (own_answer y (told (round_in (subject_of vote)).view.0 past) vote)) same
 
   pub entered_told : (view : ℕ) (leader : Participant) (participants : ℕ)
       → IsTended participants old.scheme old.epoch old.window old.rounds
@@ -227,23 +430,18 @@ module _ {S D K G C : Type 0} (meaning : S → Meaning D K G C) (compare_keys : 
       → Tells (judge meaning compare_keys same_signature same_digest)
       (slot_at old.rounds) (slot_at new.rounds) view
       (fresh_round old.scheme old.epoch old.retains old.window view)
-      (LeaderCall leader) (LeaderAnswer (Ok tt)) true
+      (LeaderCall leader) (LeaderAnswer (Ok tt))
       → new.window ≡ entered old.window view → new.blocked ≡ old.blocked
       → NodeStands x past old → NodeStands x (view_entered view leader ∷ past) new
   entered_told view leader participants tended within tells window blocked h =
       let event : Event D K G C = (LeaderCall leader, LeaderAnswer (Ok tt)) in
-      told_one meaning compare_keys same_key same_signature same_digest past
-      (view_entered view leader) view event.0 event.1 true old new
+      told_one meaning compare_keys same_signature same_digest past
+      (view_entered view leader) view event.0 event.1 old new
       (at_here view event) (λ other apart. at_other other view event apart)
       tells (own_round participants old.scheme old.epoch old.window old.rounds tended view)
       within window (ap (λ w. w.finalized) window)
-      (blocked ∙ sym (append-nil old.blocked)) refl (λ h may. tt) h
-
-  -- a construction gives a batch, or its round rests
-  due_after : (given : Option (Batch (Certificate C D))) (told : History D K G C)
-      → is_due ((ConstructCall, ConstructAnswer given) ∷ told) ≡ is_some given
-  due_after None told = refl
-  due_after (Some batch) told = refl
+      (none_more (view_entered view leader) (λ i. refl) blocked)
+      (λ h may. (subst (λ w. w.finalized ≤ view) h.window_is within, sym may)) h
 
   -- the round of a view that has changed is due
   due_if_changed : (h : NodeStands x past old) (view : ℕ) → old.window.finalized ≤ view
@@ -252,24 +450,44 @@ module _ {S D K G C : Type 0} (meaning : S → Meaning D K G C) (compare_keys : 
       sym (subst (λ o. MatchOption o (told view past ≡ []) (ViewStands x past view)) t.there
       (h.views view within)).changed_is ∙ t.changed
 
+  -- one that hasn't isn't
+  pub rests_if_unchanged : (h : NodeStands x past old) (view : ℕ) → old.window.finalized ≤ view
+      → IfSome (slot_at old.rounds view) (λ slot. slot.changed ≡ false)
+      → is_due (told view past) ≡ false
+  rests_if_unchanged h view within unchanged =
+      by_slot (slot_at old.rounds view) unchanged (h.views view within) where
+        by_slot : (o : Option (Slot (RoundView S G D))) → IfSome o (λ slot. slot.changed ≡ false)
+            → MatchOption o (told view past ≡ []) (ViewStands x past view)
+            → is_due (told view past) ≡ false
+        by_slot None unchanged none = ap is_due none
+        by_slot (Some slot) unchanged stands = sym stands.changed_is ∙ unchanged
+
   pub construction_told : (view : ℕ) (given : Option (Batch (Certificate C D))) (participants : ℕ)
       → IsTended participants old.scheme old.epoch old.window old.rounds
       → (t : HasChanged (slot_at old.rounds view))
+      → ((lower : ℕ) → lower < view
+      → IfSome (slot_at old.rounds lower) (λ slot. slot.changed ≡ false))
       → TellsThere (judge meaning compare_keys same_signature same_digest)
       (slot_at old.rounds) (slot_at new.rounds) view
-      ConstructCall (ConstructAnswer given) (is_some given)
-      → new.window ≡ old.window → new.blocked ≡ old.blocked
+      ConstructCall (ConstructAnswer given)
+      → new.window ≡ old.window
+      → ((i : ℕ) → i < length x.meaning.participants → cause_at new.blocked i
+      ≡ option_or (cause_at old.blocked i)
+      (cond (list_any (λ p. p.0 == i) (invalid_in given)) (Some ForSignature) None))
       → NodeStands x past old → NodeStands x (constructed view given ∷ past) new
-  construction_told view given participants tended t tells window blocked h =
+  construction_told view given participants tended t lowest tells window blocked h =
       let event : Event D K G C = (ConstructCall, ConstructAnswer given) in
       let within = in_window participants old.scheme old.epoch old.window old.rounds tended view t in
-      told_one meaning compare_keys same_key same_signature same_digest past
-      (constructed view given) view event.0 event.1 (is_some given) old new
+      told_one meaning compare_keys same_signature same_digest past
+      (constructed view given) view event.0 event.1 old new
       (at_here view event) (λ other apart. at_other other view event apart)
       (inl tells) (own_round participants old.scheme old.epoch old.window old.rounds tended view)
-      within window (ap (λ w. w.finalized) window)
-      (blocked ∙ sym (append-nil old.blocked)) (due_after given (told view past))
-      (λ h may. due_if_changed h view within t) h
+      within window (ap (λ w. w.finalized) window) blocked
+      (λ h may. (
+        due_if_changed h view within t,
+        λ lower above below. rests_if_unchanged h lower
+            (subst (λ w. w.finalized ≤ lower) (sym h.window_is) above) (lowest lower below),
+      )) h
 
   pub finalized_told : (view : ℕ)
       → new.window ≡ finalized old.window view → new.blocked ≡ old.blocked
@@ -279,4 +497,16 @@ module _ {S D K G C : Type 0} (meaning : S → Meaning D K G C) (compare_keys : 
   finalized_told view window blocked rounds h =
       told_none x past (view_finalized view) old new (λ view. refl) window
       (finalized_later old.window new.window view window)
-      (blocked ∙ sym (append-nil old.blocked)) rounds tt h
+      (none_more (view_finalized view) (λ i. refl) blocked) rounds tt h
+
+module _ {S D K G C : Type 0} (x : NodeSetting D K G C) (old new : NodeView S G D) where
+  -- an own vote is to be sent exactly where it is reported
+  pub cast_told : (vote : Vote G D) (outcome : Outcome) (report : Option (Activity G D))
+      (cast : Cast G D) → cast ≡ cast_by report
+      → ((past : NodeHistory D K G C) → NodeStands x past old
+      → NodeStands x (vote_cast vote outcome report ∷ past) new)
+      → MeetsCast x old vote cast new
+  cast_told vote outcome None cast is meets =
+      subst (λ c. MeetsCast x old vote c new) (sym is) (outcome, meets)
+  cast_told vote outcome (Some report) cast is meets =
+      subst (λ c. MeetsCast x old vote c new) (sym is) (outcome, meets)

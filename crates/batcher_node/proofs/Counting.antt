@@ -1,5 +1,5 @@
 -- How many rounds a window can have.
-use Rattle.std.proofs.Common.{◌≡◌, ◌≤◌, ◌<◌, ◌+◌, ℕ, Bool, true, false, cond, List, [], ◌∷◌, length, Option, Some, None, refl, sym, ap, ◌∙◌, subst, arith}
+use Rattle.std.proofs.Common.{◌≡◌, ◌≤◌, ◌<◌, ◌+◌, ℕ, Bool, true, false, cond, List, [], ◌∷◌, length, Option, Some, None, refl, ap, ◌∙◌, subst, arith}
 use Rattle.std.specs.Prelude.{IfSome, nat_lt}
 use Rattle.std.specs.Ordering.{nat_cmp, is_eq, is_gt}
 use Rattle.std.specs.declared.cmp.Ordering.TheVariants.{Less, Equal, Greater}
@@ -25,7 +25,7 @@ less_by k y false true is other less =
 less_by k y false false is other less =
     absurd (true≢false (ap is_eq (nat_cmp_is k y Equal (grind (arith, is, other)) ∙ less)))
 
-less_is : (k y : ℕ) → nat_cmp k y ≡ Less → k < y
+pub less_is : (k y : ℕ) → nat_cmp k y ≡ Less → k < y
 less_is k y less = less_by k y (nat_lt k y) (nat_lt y k) refl refl less
 
 -- the numbers above one that is no less than lo are above lo

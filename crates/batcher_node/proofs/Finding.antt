@@ -6,19 +6,19 @@ use Rattle.std.specs.Ordering.{nat_cmp, is_eq}
 use Rattle.std.specs.Cmp.{nat_cmp_is}
 use Rattle.std.specs.declared.cmp.Ordering.TheVariants.{Less, Equal}
 use Rattle.std.specs.BTreeMap.{is_at}
-use Rattle.std.specs.Map.{lookup, keys_of}
+use Rattle.std.specs.Map.{keys_of}
 use Rattle.std.specs.List.{AllByRecursion}
 use Rattle.std.specs.List.Sorted.{IsStrictlySortedBy}
-use Rattle.std.proofs.lemmas.Bool.{false≢true, true≢false}
+use Rattle.std.proofs.lemmas.Bool.{true≢false}
 use Rattle.std.proofs.lemmas.Map.Keys.{sorted_head, sorted_tail}
 use Rattle.batcher_node.specs.Nodes.{HasChanged, slot_at}
 use Rattle.batcher_node.specs.declared.slot.Slot.{Slot}
 use Rattle.batcher_node.proofs.Telling.{not_at}
 
-some_is : {X : Type 0} {x : X} → Some x ≢ None
+pub some_is : {X : Type 0} {x : X} → Some x ≢ None
 some_is h = true≢false (ap is_some h)
 
-some_same : {X : Type 0} {a b : X} → Some a ≡ Some b → a ≡ b
+pub some_same : {X : Type 0} {a b : X} → Some a ≡ Some b → a ≡ b
 some_same {a = a} h = ap (λ o. unwrap_or o a) h
 
 not_below_itself : (a b : ℕ) → nat_cmp a b ≡ Less → a ≢ b
@@ -32,14 +32,14 @@ module _ {R : Type 0} where
   abbrev pub changed_at : ℕ × Slot R → Bool
   changed_at e = e.1.changed
 
-  here : (slot : Slot R) (t : Bool) (rest : Option (Slot R)) → slot.changed ≡ false
+  pub here : (slot : Slot R) (t : Bool) (rest : Option (Slot R)) → slot.changed ≡ false
       → IfSome rest (λ slot. slot.changed ≡ false)
       → IfSome (cond t (Some slot) rest) (λ slot. slot.changed ≡ false)
   here slot true rest first h = first
   here slot false rest first h = h
 
   -- what is found among more entries, by whether the first has changed
-  found_more : (d : ℕ × Slot R) (es : List (ℕ × Slot R)) (b : Bool) → d.1.changed ≡ b
+  pub found_more : (d : ℕ × Slot R) (es : List (ℕ × Slot R)) (b : Bool) → d.1.changed ≡ b
       → find changed_at (d ∷ es) ≡ cond b (Some d) (find changed_at es)
   found_more d es b is = ap (λ t. cond t (Some d) (find changed_at es)) is
 

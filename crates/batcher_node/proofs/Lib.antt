@@ -5,3 +5,5 @@ pub mod Counting
 pub mod Standing
 pub mod Answering
 pub mod Promising
+mod Lowest
+mod Blocking

@@ -1,27 +1,29 @@
 -- From a node that stands to what is promised of it.
-use Rattle.std.proofs.Common.{◌≡◌, ℕ, Bool, true, false, cond, List, [], ◌∷◌, ◌++◌, refl, sym, ap, ◌∙◌, subst, ⊎_elim}
+use Rattle.std.proofs.Common.{◌≡◌, ℕ, Bool, true, false, cond, [], ◌∷◌, ◌++◌, refl, sym, ap, ◌∙◌, subst}
 use Rattle.std.specs.Prelude.{is_some, Option, Some, None}
-use Rattle.std.proofs.lemmas.Bool.{cases_Bool, false≢true}
-use Rattle.batcher.specs.messages.Vote.{Vote}
-use Rattle.batcher.specs.messages.Certificate.{Certificate}
-use Rattle.batcher.specs.answers.Admission.{Admission}
-use Rattle.batcher.specs.calls.Call.TheVariants.{Network as NetworkCall}
-use Rattle.batcher.specs.answers.Answer.TheVariants.{Network as NetworkAnswer}
+use Rattle.std.proofs.lemmas.Bool.{false≢true}
+use Rattle.batcher.specs.calls.Call.TheVariants.{Network as NetworkCall, Construct as ConstructCall}
+use Rattle.batcher.specs.answers.Answer.TheVariants.{Network as NetworkAnswer, Construct as ConstructAnswer}
+use Rattle.batcher.specs.positions.Round.{Round}
+use Rattle.std.specs.List.{AllPass}
+use Rattle.batcher.specs.Lists.{is_some_and}
+use Rattle.batcher.specs.Standing.{ready_kind}
+use Rattle.batcher.specs.Honest.{sent_bad_vote, NamesForOwnVotes}
 use Rattle.batcher.specs.positions.Participant.{Participant}
-use Rattle.batcher.specs.Setting.{Setting, sender_in}
+use Rattle.batcher.specs.Setting.{Setting}
 use Rattle.batcher.specs.Lists.{is_empty}
-use Rattle.batcher.specs.Votes.{subject_of, subject_certified, round_in}
-use Rattle.batcher.specs.Verifiers.{certifies_itself}
+use Rattle.batcher.specs.Votes.{subject_of, round_in}
 use Rattle.batcher.specs.History.{Event, History}
-use Rattle.batcher.specs.Answers.{IsPossible, certificate_answer}
-use Rattle.batcher.specs.Promises.{AtEachVote, IsBlockedForCause, gave_cause}
+use Rattle.batcher.specs.Answers.{IsPossible}
+use Rattle.batcher.specs.Promises.{AtEachVote, AtEachEvent, IsBlockedForCause, gave_cause}
 use Rattle.batcher.specs.Ran.{IsPromised}
 use Rattle.batcher_node.specs.declared.answers.Receipt.{Receipt}
-use Rattle.batcher_node.specs.declared.answers.Receipt.TheVariants.{Answered, Outside, Dropped}
+use Rattle.batcher_node.specs.declared.answers.Receipt.TheVariants.{Answered, Outside, Dropped, Unknown}
 use Rattle.batcher_node.specs.declared.answers.Verdict.{Verdict}
-use Rattle.batcher_node.specs.declared.answers.Verdict.TheVariants.{Recorded, Forged}
-use Rattle.batcher_node.specs.Events.{NodeEvent, started, vote_came, certificate_came, vote_cast, view_entered, view_finalized, constructed, NodeHistory, told, told_by, is_blocked, blocked_in}
-use Rattle.batcher_node.specs.Stands.{NodeSetting, setting_of, receipt, is_within, IsNamed, AreNamed}
+use Rattle.batcher_node.specs.declared.answers.Verdict.TheVariants.{Recorded, Forged, Known}
+use Rattle.batcher_node.specs.Events.{NodeEvent, started, vote_came, certificate_came, vote_cast, view_entered, view_finalized, constructed, NodeHistory, told, told_by, peer_in, cause_in}
+use Rattle.batcher_node.specs.Nodes.{NodeSetting}
+use Rattle.batcher_node.specs.Stands.{setting_of, receipt_from, is_within, IsNamed, AreNamed}
 use Rattle.batcher_node.specs.Promised.{IsForCause, AreForCause, IsNodePromised}
 use Rattle.batcher_node.proofs.Standing.{setting_stays}
 use Rattle.batcher_node.proofs.Answering.{at_here}
@@ -36,7 +38,9 @@ abbrev is_forged : Receipt Verdict → Bool
 is_forged (Answered Forged) = true
 is_forged (Answered (Recorded changed)) = false
 is_forged Outside = false
+is_forged (Answered Known) = false
 is_forged Dropped = false
+is_forged Unknown = false
 
 module _ {D K G C : Type 0} (x : NodeSetting D K G C)
     (promised : (past : NodeHistory D K G C) (view : ℕ)
@@ -57,19 +61,24 @@ module _ {D K G C : Type 0} (x : NodeSetting D K G C)
         still_begun (e ∷ more) some = refl
 
   -- A certificate that is answered as forged doesn't certify.
-  forged_is : (past : NodeHistory D K G C) (peer : K) (certificate : Certificate C D)
-      (a b : Bool) (recorded : Verdict) (c : Bool)
-      → is_forged (Answered recorded) ≡ false
-      → Answered Forged
-      ≡ cond a Dropped (cond b (Answered (cond c recorded Forged)) Outside)
-      → c ≡ false
-  forged_is past peer certificate a b recorded false good is = refl
-  forged_is past peer certificate true b recorded true good is =
-      absurd (false≢true (sym (ap is_forged is)))
-  forged_is past peer certificate false true recorded true good is =
-      absurd (false≢true (sym (ap is_forged is ∙ good)))
-  forged_is past peer certificate false false recorded true good is =
-      absurd (false≢true (sym (ap is_forged is)))
+  forged_is : (recorded : Verdict) (known c : Bool) → is_forged (Answered recorded) ≡ false
+      → is_forged (Answered (cond known Known (cond c recorded Forged))) ≡ true → c ≡ false
+  forged_is recorded true c good is = absurd (false≢true is)
+  forged_is recorded false true good is = absurd (false≢true (sym good ∙ is))
+  forged_is recorded false false good is = refl
+
+  forged_from : (past : NodeHistory D K G C) (sender : Option Participant) (number : Round)
+      (answer : Verdict) → Answered Forged ≡ receipt_from x past sender number answer
+      → is_forged (Answered answer) ≡ true
+  forged_from past None number answer is = absurd (false≢true (sym (ap is_forged is)))
+  forged_from past (Some i) number answer is =
+      routed (is_some (cause_in x past i.0)) (is_within x past number) (ap is_forged is) where
+        routed : (dropped within : Bool)
+            → true ≡ is_forged (cond dropped Dropped (cond within (Answered answer) Outside))
+            → is_forged (Answered answer) ≡ true
+        routed true within is = absurd (false≢true (sym is))
+        routed false true is = sym is
+        routed false false is = absurd (false≢true (sym is))
 
   for_cause : (past : NodeHistory D K G C) (event : NodeEvent D K G C) → IsNamed x past event
       → ((view : ℕ) → IsPossible (setting_of x (event ∷ past) view) (told view (event ∷ past)))
@@ -84,17 +93,30 @@ module _ {D K G C : Type 0} (x : NodeSetting D K G C)
       (promised (event ∷ past) view (possible view)).promises.honest_are_never_blocked in
       λ block i sender. ap (λ t. gave_cause y t i.0) more ∙ each.0 block i sender
   for_cause past (certificate_came peer certificate (Answered Forged)) named possible =
-      forged_is past peer certificate _ _ _ _ refl named
+      forged_is _ _ _ refl (forged_from past (peer_in x peer) _ _ named)
   for_cause past (started window) named possible = tt
   for_cause past (vote_came peer vote Outside) named possible = tt
   for_cause past (vote_came peer vote Dropped) named possible = tt
+  for_cause past (vote_came peer vote Unknown) named possible = tt
+  for_cause past (certificate_came peer certificate (Answered Known)) named possible = tt
+  for_cause past (certificate_came peer certificate Unknown) named possible = tt
   for_cause past (certificate_came peer certificate (Answered (Recorded changed))) named possible = tt
   for_cause past (certificate_came peer certificate Outside) named possible = tt
   for_cause past (certificate_came peer certificate Dropped) named possible = tt
   for_cause past (vote_cast vote outcome report) named possible = tt
   for_cause past (view_entered view leader) named possible = tt
   for_cause past (view_finalized view) named possible = tt
-  for_cause past (constructed view given) named possible = tt
+  for_cause past (constructed view None) named possible = tt
+  for_cause past (constructed view (Some batch)) named possible =
+      let event : NodeEvent D K G C = constructed view (Some batch) in
+      let one : Event D K G C = (ConstructCall, ConstructAnswer (Some batch)) in
+      let y = setting_of x (event ∷ past) view in
+      let more = ap (λ t. t ++ told view past) (at_here view one) in
+      let each = subst (AtEachEvent (NamesForOwnVotes y)) more
+      (promised (event ∷ past) view (possible view)).takes_in_honest.named_for_its_own_vote in
+      subst (λ y. AllPass (λ i. is_some_and (ready_kind y (told view past))
+      (λ kind. sent_bad_vote y (told view past) kind i.0)) batch.invalid)
+      (setting_stays x past event view (ap is_empty more)) each.0
 
   each_for_cause : (past : NodeHistory D K G C) → AreNamed x past
       → ((view : ℕ) → IsPossible (setting_of x past view) (told view past)) → AreForCause x past

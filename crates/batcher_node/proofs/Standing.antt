@@ -1,8 +1,9 @@
 -- How a node goes on standing: one view was told something, or none was.
-use Rattle.std.proofs.Common.{◌≡◌, ◌≢◌, ◌≤◌, ◌⊎◌, inl, inr, ℕ, Bool, true, false, cond, List, [], ◌∷◌, ◌++◌, Option, Some, None, refl, sym, ap, ◌∙◌, subst, arith, ⊎_elim}
+use Rattle.std.proofs.Common.{◌≡◌, ◌≢◌, ◌≤◌, ◌<◌, ◌⊎◌, length, inl, inr, ℕ, Bool, false, cond, [], ◌∷◌, ◌++◌, Option, Some, None, refl, sym, ap, ◌∙◌, subst, arith, ⊎_elim}
 use Rattle.std.specs.Prelude.{MatchOption, IfSome}
+use Rattle.std.specs.Option.{option_or}
 use Rattle.std.specs.declared.cmp.Ordering.{Ordering}
-use Rattle.std.proofs.lemmas.Bool.{cases_eq, false≢true}
+use Rattle.std.proofs.lemmas.Bool.{cases_eq}
 use Rattle.batcher.specs.calls.Call.{Call}
 use Rattle.batcher.specs.answers.Answer.{Answer}
 use Rattle.batcher.specs.Meaning.{Meaning}
@@ -15,9 +16,9 @@ use Rattle.batcher.specs.Judged.{judge}
 use Rattle.batcher.specs.Stands.{Stands}
 use Rattle.batcher_node.specs.declared.slot.Slot.{Slot}
 use Rattle.batcher_node.specs.Windows.{mode_now, numbered}
-use Rattle.batcher_node.specs.Events.{NodeEvent, NodeHistory, told, told_by, blocked_by, window_in, window_after}
-use Rattle.batcher_node.specs.Nodes.{NodeView, slot_at, fresh_round, Tells, TellsThere, TellsFresh, GoesOn}
-use Rattle.batcher_node.specs.Stands.{NodeSetting, mode_of, setting_of, is_due, IsNamed, ViewStands, NodeStands, judge_node}
+use Rattle.batcher_node.specs.Events.{NodeEvent, NodeHistory, told, told_by, window_in, window_after, cause_by}
+use Rattle.batcher_node.specs.Nodes.{NodeView, NodeSetting, judge_node, cause_at, due_after, slot_at, fresh_round, Tells, TellsThere, TellsFresh, GoesOn}
+use Rattle.batcher_node.specs.Stands.{mode_of, setting_of, is_due, IsNamed, ViewStands, NodeStands}
 
 module _ {D K G C : Type 0} (x : NodeSetting D K G C) where
   -- where nothing was said in a view, its round would be made now
@@ -89,16 +90,18 @@ module _ {D K G C : Type 0} (x : NodeSetting D K G C) where
 
   -- NO VIEW WAS TOLD ANYTHING
   module _ {S : Type 0} (past : NodeHistory D K G C) (event : NodeEvent D K G C)
-      (old new : NodeView S K G D) (none : (view : ℕ) → told_by view event ≡ [])
+      (old new : NodeView S G D) (none : (view : ℕ) → told_by view event ≡ [])
       (window : new.window ≡ window_after old.window event)
       (later : old.window.finalized ≤ new.window.finalized)
-      (blocked : new.blocked ≡ old.blocked ++ blocked_by event)
+      (blocked : (i : ℕ) → i < length x.meaning.participants
+      → cause_at new.blocked i ≡ option_or (cause_at old.blocked i) (cause_by x event i))
       (slots : (view : ℕ) → new.window.finalized ≤ view → slot_at new.rounds view ≡ slot_at old.rounds view) where
     pub told_none : IsNamed x past event → NodeStands x past old → NodeStands x (event ∷ past) new
     told_none named h =
         record {
           window_is = window ∙ ap (λ w. window_after w event) h.window_is;
-          blocked_are = blocked ∙ ap (λ b. b ++ blocked_by event) h.blocked_are;
+          blocked_are = λ i within.
+              blocked i within ∙ ap (λ c. option_or c (cause_by x event i)) (h.blocked_are i within);
           answered = (named, h.answered);
           possible = λ view. possible_still past event view (none view) (h.possible view);
           views = λ view within.
@@ -109,71 +112,80 @@ module _ {D K G C : Type 0} (x : NodeSetting D K G C) where
               (h.views view (omega (arith, later, within))));
         }
 
+-- what the round of a view is judged by
+pub judged : {S D K G C : Type 0} (meaning : S → Meaning D K G C) (compare_keys : K → K → Ordering)
+    (same_signature : G → G → Bool) (same_digest : D → D → Bool) (past : NodeHistory D K G C)
+    (old : NodeView S G D) (view : ℕ) (r : RoundView S G D) → r.scheme ≡ old.scheme
+    → r.number ≡ numbered old.epoch view
+    → r.mode ≡ mode_of (judge_node meaning compare_keys same_signature same_digest old) past view
+    → judge meaning compare_keys same_signature same_digest r
+    ≡ setting_of (judge_node meaning compare_keys same_signature same_digest old) past view
+judged meaning compare_keys same_signature same_digest past old view r scheme number mode =
+    ap (λ s. setting (meaning s) compare_keys same_signature same_digest r.number r.mode) scheme
+    ∙ ap (λ n. setting (meaning old.scheme) compare_keys same_signature same_digest n r.mode) number
+    ∙ ap (λ m. setting (meaning old.scheme) compare_keys same_signature same_digest
+    (numbered old.epoch view) m) mode
+
 -- ONE VIEW WAS TOLD SOMETHING
 module _ {S D K G C : Type 0} (meaning : S → Meaning D K G C) (compare_keys : K → K → Ordering)
-    (same_key : K → K → Bool) (same_signature : G → G → Bool) (same_digest : D → D → Bool)
+    (same_signature : G → G → Bool) (same_digest : D → D → Bool)
     (past : NodeHistory D K G C) (event : NodeEvent D K G C) (view : ℕ)
-    (call : Call K G C D) (answer : Answer G C D) (changed : Bool)
-    (old new : NodeView S K G D) where
+    (call : Call K G C D) (answer : Answer G C D)
+    (old new : NodeView S G D) where
   abbrev by : RoundView S G D → Setting D K G C
   by = judge meaning compare_keys same_signature same_digest
 
   abbrev x : NodeSetting D K G C
-  x = judge_node meaning compare_keys same_key same_signature same_digest old
-
-  judged : (r : RoundView S G D) → r.scheme ≡ old.scheme → r.number ≡ numbered old.epoch view
-      → r.mode ≡ mode_of x past view → by r ≡ setting_of x past view
-  judged r scheme number mode =
-      ap (λ s. setting (meaning s) compare_keys same_signature same_digest r.number r.mode) scheme
-      ∙ ap (λ n. setting (meaning old.scheme) compare_keys same_signature same_digest n r.mode) number
-      ∙ ap (λ m. setting (meaning old.scheme) compare_keys same_signature same_digest
-      (numbered old.epoch view) m) mode
+  x = judge_node meaning compare_keys same_signature same_digest old
 
   -- the round that is told it, which stands
   record Told : Type 0 where
-    round : RoundView S G D
-    is_by : by round ≡ setting_of x past view
-    mode_is : round.mode ≡ mode_of x past view
-    stands : Stands (setting_of x past view) (told view past) round.holds
-    goes_on : GoesOn by (slot_at old.rounds) (slot_at new.rounds) view round call answer changed
+    slot : Slot (RoundView S G D)
+    is_by : by slot.round ≡ setting_of x past view
+    mode_is : slot.round.mode ≡ mode_of x past view
+    changed_is : slot.changed ≡ is_due (told view past)
+    stands : Stands (setting_of x past view) (told view past) slot.round.holds
+    goes_on : GoesOn by (slot_at old.rounds) (slot_at new.rounds) view slot call answer
 
   module _ (h : NodeStands x past old) (within : old.window.finalized ≤ view)
       (tended : IfSome (slot_at old.rounds view) (λ slot. (slot.round.scheme ≡ old.scheme)
       × (slot.round.number ≡ numbered old.epoch view))) where
-    told_there : TellsThere by (slot_at old.rounds) (slot_at new.rounds) view call answer changed
-        → Told
+    told_there : TellsThere by (slot_at old.rounds) (slot_at new.rounds) view call answer → Told
     told_there t =
         let stands = subst (λ o. MatchOption o (told view past ≡ []) (ViewStands x past view)) t.there
         (h.views view within) in
         let own = subst (λ o. IfSome o (λ slot. (slot.round.scheme ≡ old.scheme)
         × (slot.round.number ≡ numbered old.epoch view))) t.there tended in
         record {
-          round = t.slot.round;
-          is_by = judged t.slot.round own.0 own.1 stands.mode_is;
+          slot = t.slot;
+          is_by = judged meaning compare_keys same_signature same_digest past old view t.slot.round
+              own.0 own.1 stands.mode_is;
           mode_is = stands.mode_is;
+          changed_is = stands.changed_is;
           stands = stands.stands;
           goes_on = t.goes_on;
         }
 
     told_anew : TellsFresh by (slot_at old.rounds) (slot_at new.rounds) view
-        (fresh_round old.scheme old.epoch old.retains old.window view) call answer changed → Told
+        (fresh_round old.scheme old.epoch old.retains old.window view) call answer → Told
     told_anew t =
         let fresh = fresh_round {G = G} {D = D} old.scheme old.epoch old.retains old.window view in
         let none = subst (λ o. MatchOption o (told view past ≡ []) (ViewStands x past view)) t.absent
         (h.views view within) in
         let mode = ap (λ w. mode_now old.retains w view) h.window_is ∙ sym (mode_unsaid x past view none) in
-        let is = judged fresh refl refl mode in
+        let is = judged meaning compare_keys same_signature same_digest past old view fresh refl refl mode in
         record {
-          round = fresh;
+          slot = record { round = fresh; changed = false };
           is_by = is;
           mode_is = mode;
+          changed_is = sym (ap is_due none);
           stands = subst (λ t. Stands (setting_of x past view) t fresh.holds) (sym none)
               (subst (λ y. Stands y [] fresh.holds) is t.fresh_stands);
           goes_on = t.goes_on;
         }
 
     told_either : Tells by (slot_at old.rounds) (slot_at new.rounds) view
-        (fresh_round old.scheme old.epoch old.retains old.window view) call answer changed → Told
+        (fresh_round old.scheme old.epoch old.retains old.window view) call answer → Told
     told_either t = ⊎_elim told_there told_anew t
 
   module _ (here : told_by view event ≡ (call, answer) ∷ [])
@@ -190,7 +202,7 @@ module _ {S D K G C : Type 0} (meaning : S → Meaning D K G C) (compare_keys : 
     stands_after t =
         subst (λ y. Stands y ((call, answer) ∷ told view past) t.goes_on.after.holds) t.is_by
         (t.goes_on.follows (told view past)
-        (subst (λ y. Stands y (told view past) t.round.holds) (sym t.is_by) t.stands)).stands
+        (subst (λ y. Stands y (told view past) t.slot.round.holds) (sym t.is_by) t.stands)).stands
 
     stands_now : (t : Told) → Stands (setting_of x (event ∷ past) view) (told view (event ∷ past))
         t.goes_on.after.holds
@@ -200,13 +212,13 @@ module _ {S D K G C : Type 0} (meaning : S → Meaning D K G C) (compare_keys : 
         (subst (λ h. Stands (setting_of x past view) h t.goes_on.after.holds) (sym told_more)
         (stands_after t))
 
-    view_now : is_due ((call, answer) ∷ told view past) ≡ changed → (t : Told)
-        → ViewStands x (event ∷ past) view (record { round = t.goes_on.after; changed = changed })
-    view_now due t =
+    view_now : (t : Told) → ViewStands x (event ∷ past) view
+        (record { round = t.goes_on.after; changed = due_after (call, answer) t.slot.changed })
+    view_now t =
         record {
           begun = begun_now;
           mode_is = t.goes_on.same.2 ∙ t.mode_is ∙ sym (mode_stays x past event view begun_now);
-          changed_is = sym due ∙ ap is_due (sym told_more);
+          changed_is = ap (due_after (call, answer)) t.changed_is ∙ ap is_due (sym told_more);
           stands = stands_now t;
         }
 
@@ -219,19 +231,17 @@ module _ {S D K G C : Type 0} (meaning : S → Meaning D K G C) (compare_keys : 
     possible_at t h other (inr apart) =
         possible_still x past event other (elsewhere other apart) (h.possible other)
 
-    views_at : (t : Told) (h : NodeStands x past old)
-        (due : is_due ((call, answer) ∷ told view past) ≡ changed)
-        (other : ℕ) → old.window.finalized ≤ other → (other ≡ view) ⊎ (other ≢ view)
+    views_at : (t : Told) (h : NodeStands x past old) (other : ℕ) → old.window.finalized ≤ other → (other ≡ view) ⊎ (other ≢ view)
         → MatchOption (slot_at new.rounds other) (told other (event ∷ past) ≡ [])
         (ViewStands x (event ∷ past) other)
-    views_at t h due other within (inl is) =
+    views_at t h other within (inl is) =
         subst
         (λ v. MatchOption (slot_at new.rounds v) (told v (event ∷ past) ≡ []) (ViewStands x (event ∷ past) v))
         (sym is)
         (subst
         (λ o. MatchOption o (told view (event ∷ past) ≡ []) (ViewStands x (event ∷ past) view))
-        (sym t.goes_on.here) (view_now due t))
-    views_at t h due other within (inr apart) =
+        (sym t.goes_on.here) (view_now t))
+    views_at t h other within (inr apart) =
         subst
         (λ o. MatchOption o (told other (event ∷ past) ≡ []) (ViewStands x (event ∷ past) other))
         (sym (t.goes_on.others other apart))
@@ -240,24 +250,25 @@ module _ {S D K G C : Type 0} (meaning : S → Meaning D K G C) (compare_keys : 
 
     pub told_one :
         Tells by (slot_at old.rounds) (slot_at new.rounds) view
-        (fresh_round old.scheme old.epoch old.retains old.window view) call answer changed
+        (fresh_round old.scheme old.epoch old.retains old.window view) call answer
         → IfSome (slot_at old.rounds view) (λ slot. (slot.round.scheme ≡ old.scheme)
         × (slot.round.number ≡ numbered old.epoch view))
         → old.window.finalized ≤ view
         → new.window ≡ window_after old.window event
         → new.window.finalized ≡ old.window.finalized
-        → new.blocked ≡ old.blocked ++ blocked_by event
-        → is_due ((call, answer) ∷ told view past) ≡ changed
+        → ((i : ℕ) → i < length x.meaning.participants
+        → cause_at new.blocked i ≡ option_or (cause_at old.blocked i) (cause_by x event i))
         → (NodeStands x past old → MayAnswer (setting_of x past view) (told view past) call answer
         → IsNamed x past event)
         → NodeStands x past old → NodeStands x (event ∷ past) new
-    told_one tells tended within window same blocked due named h =
+    told_one tells tended within window same blocked named h =
         let t = told_either h within tended tells in
         record {
           window_is = window ∙ ap (λ w. window_after w event) h.window_is;
-          blocked_are = blocked ∙ ap (λ b. b ++ blocked_by event) h.blocked_are;
+          blocked_are = λ i in_range.
+              blocked i in_range ∙ ap (λ c. option_or c (cause_by x event i)) (h.blocked_are i in_range);
           answered = (named h (stands_after t).possible.1.1.0, h.answered);
           possible = λ other. possible_at t h other (cases_eq other view);
           views = λ other in_old.
-              views_at t h due other (subst (λ n. n ≤ other) same in_old) (cases_eq other view);
+              views_at t h other (subst (λ n. n ≤ other) same in_old) (cases_eq other view);
         }

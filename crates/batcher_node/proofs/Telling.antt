@@ -1,20 +1,38 @@
 -- What a map of rounds has once one of them was told something.
-use Rattle.std.proofs.Common.{◌≡◌, ◌≢◌, ℕ, Bool, true, false, List, Option, Some, None, [], Result, Ok, Err, refl, sym, ap, ◌∙◌, subst, inr}
-use Rattle.std.specs.Prelude.{OnErr, IfNone}
+use Rattle.std.proofs.Common.{◌≡◌, ◌≢◌, ℕ, Bool, true, false, cond, not, ◌||◌, is_some, Option, Some, None, [], Result, Ok, Err, refl, sym, ap, ◌∙◌, subst, inr}
+use Rattle.std.specs.Prelude.{OnErr, IfErr, IsErrAnd, is_err, ◌==◌, IfNone, IfSome}
+use Rattle.std.proofs.lemmas.Bool.{true≢false}
+use Rattle.batcher.specs.positions.Participant.{Participant}
 use Rattle.std.specs.declared.cmp.Ordering.{Ordering}
 use Rattle.std.specs.declared.cmp.Ordering.TheVariants.{Less, Equal, Greater}
 use Rattle.std.specs.Ordering.{nat_cmp, is_eq}
 use Rattle.std.specs.BTreeMap.{BTreeMap, get}
 use Rattle.std.specs.Map.{lookup}
 use Rattle.std.proofs.lemmas.Map.Lookups.{exact_unsigned}
+use Rattle.batcher.specs.messages.Certificate.{Certificate}
+use Rattle.batcher.specs.messages.Kind.{Kind}
+use Rattle.batcher.specs.messages.Kind.TheVariants.{Notarization, Nullification, Finalization}
+use Rattle.batcher.specs.messages.Vote.{Vote}
+use Rattle.batcher.specs.verifier.Batch.{Batch}
+use Rattle.batcher.specs.verifier.LeaderFault.{LeaderFault}
+use Rattle.batcher.specs.verifier.LeaderFault.TheVariants.{LeaderChanged}
+use Rattle.batcher.specs.votes.Outcome.TheVariants.{Added}
 use Rattle.batcher.specs.calls.Call.{Call}
+use Rattle.batcher.specs.calls.Call.TheVariants.{Construct as ConstructCall}
 use Rattle.batcher.specs.answers.Answer.{Answer}
+use Rattle.batcher.specs.answers.Answer.TheVariants.{Construct as ConstructAnswer}
+use Rattle.batcher.specs.answers.OwnFault.{OwnFault}
+use Rattle.batcher.specs.answers.OwnFault.TheVariants.{OutOfMemory as OutOfMemoryFault}
 use Rattle.batcher.specs.Setting.{Setting}
+use Rattle.batcher.specs.Answers.{own_answer}
+use Rattle.batcher.specs.Selection.{is_released}
+use Rattle.batcher.specs.Steps.{fault_or_memory, unopposed_result, leader_set_answer}
+use Rattle.batcher.specs.Votes.{kind_of}
 use Rattle.batcher.specs.Held.{RoundView, SameRound}
-use Rattle.batcher.specs.Judged.{FollowsAlways}
+use Rattle.batcher.specs.Judged.{FollowsAlways, WhereverItStands}
 use Rattle.batcher.specs.Stands.{Stands}
 use Rattle.batcher_node.specs.declared.slot.Slot.{Slot}
-use Rattle.batcher_node.specs.Nodes.{Tells}
+use Rattle.batcher_node.specs.Nodes.{Tells, NamesFault, due_after}
 
 unequal_is : (o : Ordering) → (o ≡ Equal → ⊥) → is_eq o ≡ false
 unequal_is Less apart = refl
@@ -41,18 +59,89 @@ pub on_err : {A E P : Type 0} (r : Result A E) → P → OnErr r P
 on_err (Ok a) p = tt
 on_err (Err e) p = p
 
+-- what holds of what is there
+pub if_some : {T : Type 0} (P : T → Type 0) (o : Option T) (x : T) → o ≡ Some x → IfSome o P → P x
+if_some P o x is h = subst (λ o. IfSome o P) is h
+
+-- what holds at an error
+pub err_more : {A E : Type 0} (P Q : E → Type 0) → ((e : E) → P e → Q e) → (r : Result A E)
+    → IsErrAnd r P → IfErr r Q
+err_more P Q more (Ok a) h = absurd h
+err_more P Q more (Err e) h = more e h
+
+-- what holds of one that is known
+pub err_known : {A E : Type 0} (Q : E → Type 0) (known : E) → Q known → (r : Result A E)
+    → IsErrAnd r (λ e. e ≡ known) → IfErr r Q
+err_known Q known q r h = err_more (λ e. e ≡ known) Q (λ e is. subst Q (sym is) q) r h
+
+pub err_fact : {A E : Type 0} (Q : E → Type 0) (r : Result A E) → IfErr r Q → (e : E)
+    → r ≡ Err e → Q e
+err_fact Q r h e is = subst (λ r. IfErr r Q) is h
+
+by_same : (b : Bool) (e : LeaderFault) (done : Unit {0})
+    → Err e ≡ cond b (Ok done) (Err LeaderChanged)
+    → cond b (Ok done) (Err LeaderChanged) ≡ Err LeaderChanged
+by_same true e done is = absurd (true≢false (ap is_err is))
+by_same false e done is = refl
+
+-- a leader is refused where another was named
+pub is_another : (known : Option Participant) (leader : Participant) (e : LeaderFault)
+    → Err e ≡ leader_set_answer known leader → leader_set_answer known leader ≡ Err LeaderChanged
+is_another None leader e is = absurd (true≢false (ap is_err is))
+is_another (Some known) leader e is = by_same (known.0 == leader.0) e tt is
+
+-- a fresh round is due where the vote that it is told was added
+pub or_false : (added : Bool) → added ≡ (added || false)
+or_false true = refl
+or_false false = refl
+
+-- a round that constructs is due where it gives a batch
+pub due_given : {D C : Type 0} (K G : Type 0) (given : Option (Batch (Certificate C D))) (due : Bool)
+    → is_some given ≡ due_after {D = D} {K = K} {G = G} (ConstructCall, ConstructAnswer given) due
+due_given K G None due = refl
+due_given K G (Some batch) due = refl
+
+module _ {S D K G C : Type 0} (judge : RoundView S G D → Setting D K G C)
+    (o : Option (Slot (RoundView S G D))) (vote : Vote G D) where
+  -- why a vote is refused where its view has no round
+  pub none_named : (fault : OwnFault) → o ≡ None → fault ≡ OutOfMemoryFault
+      → NamesFault judge o vote fault
+  none_named fault none is = subst (λ o. NamesFault judge o vote fault) (sym none) is
+
+  first_named : (kind : Kind) (released : Bool)
+      → fault_or_memory (unopposed_result kind (Added released)) ≡ OutOfMemoryFault
+  first_named Notarization released = refl
+  first_named Nullification released = refl
+  first_named Finalization released = refl
+
+  pub fresh_named : (fault : OwnFault) → o ≡ None → (round : RoundView S G D)
+      → Stands (judge round) [] round.holds
+      → WhereverItStands judge round (λ x past. fault ≡ fault_or_memory (own_answer x past vote))
+      → NamesFault judge o vote fault
+  fresh_named fault none round stands named =
+      none_named fault none (named [] stands
+      ∙ first_named (kind_of vote) (not (is_released (judge round) [] (kind_of vote))))
+
+  -- why it is refused where there is one
+  pub there_named : (fault : OwnFault) (slot : Slot (RoundView S G D)) → o ≡ Some slot
+      → WhereverItStands judge slot.round
+      (λ x past. fault ≡ fault_or_memory (own_answer x past vote))
+      → NamesFault judge o vote fault
+  there_named fault slot there named = subst (λ o. NamesFault judge o vote fault) (sym there) named
+
 module _ {S D K G C : Type 0} (judge : RoundView S G D → Setting D K G C)
     (m middle n : BTreeMap ℕ (Slot (RoundView S G D))) (view : ℕ)
     (untold : middle.entries ≡ m.entries) (absent : get nat_cmp m view ≡ None) where
   -- a fresh round that was told something and then kept
   pub told_fresh : (fresh round : RoundView S G D) (call : Call K G C D) (answer : Answer G C D)
-      → round ≡ fresh → Stands (judge round) [] round.holds
+      (changed : Bool) → round ≡ fresh → Stands (judge round) [] round.holds
       → (after : RoundView S G D) → SameRound round after
       → FollowsAlways judge round (call, answer) after.holds
-      → get nat_cmp n view ≡ Some (record { round = after; changed = true })
+      → get nat_cmp n view ≡ Some (record { round = after; changed = changed })
+      → changed ≡ due_after (call, answer) false
       → ((other : ℕ) → other ≢ view → get nat_cmp n other ≡ get nat_cmp middle other)
-      → Tells judge (get nat_cmp m) (get nat_cmp n) view fresh call answer true
-  told_fresh fresh round call answer is stands after same follows here others =
+      → Tells judge (get nat_cmp m) (get nat_cmp n) view fresh call answer
+  told_fresh fresh round call answer changed is stands after same follows here due others =
       inr (record {
         absent = absent;
         fresh_stands = subst (λ r. Stands (judge r) [] r.holds) is stands;
@@ -60,7 +149,7 @@ module _ {S D K G C : Type 0} (judge : RoundView S G D → Setting D K G C)
           after = after;
           same = subst (λ r. SameRound r after) is same;
           follows = subst (λ r. FollowsAlways judge r (call, answer) after.holds) is follows;
-          here = here;
+          here = here ∙ ap (λ b. Some (record { round = after; changed = b })) due;
           others = λ other apart. others other apart ∙ same_get m middle untold other;
         };
       })

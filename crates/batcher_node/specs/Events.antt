@@ -1,9 +1,8 @@
 -- What happened to a node: its calls that were answered, the newest first.
-use Rattle.std.specs.Prelude.{ℕ, Bool, true, false, cond, ◌==◌, List, [], ◌∷◌, ◌++◌, Option, Some, None, max}
+use Rattle.std.specs.Prelude.{ℕ, Bool, cond, ◌==◌, List, [], ◌∷◌, ◌++◌, Option, Some, None, Ok}
 use Rattle.std.specs.List.{list_any}
-use Rattle.std.specs.Option.{option_map_or}
+use Rattle.std.specs.Option.{option_map, option_map_or, option_or}
 use Rattle.batcher.specs.positions.Participant.{Participant}
-use Rattle.batcher.specs.positions.Round.{Round}
 use Rattle.batcher.specs.messages.Vote.{Vote}
 use Rattle.batcher.specs.messages.Certificate.{Certificate}
 use Rattle.batcher.specs.messages.Activity.{Activity}
@@ -12,16 +11,18 @@ use Rattle.batcher.specs.votes.Outcome.{Outcome}
 use Rattle.batcher.specs.answers.Admission.{Admission}
 use Rattle.batcher.specs.calls.Call.TheVariants.{Network as NetworkCall, Own as OwnCall, Certificate as CertificateCall, Leader as LeaderCall, Construct as ConstructCall}
 use Rattle.batcher.specs.answers.Answer.TheVariants.{Network as NetworkAnswer, Own as OwnAnswer, Certificate as CertificateAnswer, Leader as LeaderAnswer, Construct as ConstructAnswer}
+use Rattle.batcher.specs.Lists.{is_some_and}
+use Rattle.batcher.specs.Keys.{index_of}
 use Rattle.batcher.specs.Votes.{subject_of, subject_certified, round_in}
 use Rattle.batcher.specs.History.{Event, History}
-use Rattle.std.specs.Prelude.{Ok}
 use Rattle.batcher_node.specs.declared.window.Window.{Window}
 use Rattle.batcher_node.specs.declared.answers.Receipt.{Receipt}
 use Rattle.batcher_node.specs.declared.answers.Receipt.TheVariants.{Answered}
 use Rattle.batcher_node.specs.declared.answers.Verdict.{Verdict}
 use Rattle.batcher_node.specs.declared.answers.Verdict.TheVariants.{Recorded, Forged}
-use Rattle.batcher_node.specs.declared.answers.Blocked.{Blocked}
-use Rattle.batcher_node.specs.declared.answers.Cause.TheVariants.{Vote as ForVote, Certificate as ForCertificate}
+use Rattle.batcher_node.specs.declared.answers.Cause.{Cause}
+use Rattle.batcher_node.specs.declared.answers.Cause.TheVariants.{Vote as ForVote, Certificate as ForCertificate, Signature as ForSignature}
+use Rattle.batcher_node.specs.Nodes.{NodeSetting}
 use Rattle.batcher_node.specs.Windows as windows
 
 -- A call with its answer. One that was refused isn't among them, since it changes nothing.
@@ -68,20 +69,6 @@ module _ {D K G C : Type 0} where
   told view [] = []
   told view (event ∷ past) = told_by view event ++ told view past
 
-  -- whom an event blocks
-  abbrev pub blocked_by : NodeEvent D K G C → List (Blocked K)
-  blocked_by (vote_came peer vote (Answered admission)) =
-      option_map_or (λ reason. record { peer = peer; cause = ForVote reason } ∷ [])
-      admission.block []
-  blocked_by (certificate_came peer certificate (Answered Forged)) =
-      record { peer = peer; cause = ForCertificate } ∷ []
-  blocked_by event = []
-
-  -- who is blocked, in the order in which that came about
-  abbrev pub blocked_in : NodeHistory D K G C → List (Blocked K)
-  blocked_in [] = []
-  blocked_in (event ∷ past) = blocked_in past ++ blocked_by event
-
   abbrev pub window_after : Window → NodeEvent D K G C → Window
   window_after window (started first) = first
   window_after window (view_entered view leader) = windows.entered window view
@@ -93,6 +80,31 @@ module _ {D K G C : Type 0} where
   window_in [] = record { finalized = 0; current = 0; ahead = 0 }
   window_in (event ∷ past) = window_after (window_in past) event
 
--- whether a peer is among those that are blocked
-abbrev pub is_blocked : {K : Type 0} → (K → K → Bool) → List (Blocked K) → K → Bool
-is_blocked same_key blocked peer = list_any (λ b. same_key b.peer peer) blocked
+-- whose votes a batch found not to attest, if one was given
+abbrev pub invalid_in : {C : Type 0} → Option (Batch C) → List Participant
+invalid_in given = option_map_or (λ batch. batch.invalid) given []
+
+module _ {D K G C : Type 0} (x : NodeSetting D K G C) where
+  -- the participant with the key
+  abbrev pub peer_in : K → Option Participant
+  peer_in key = index_of x.compare_keys x.meaning.participants key
+
+  -- whether the key is that of the participant of an index
+  abbrev pub is_peer : K → ℕ → Bool
+  is_peer key i = is_some_and (peer_in key) (λ p. p.0 == i)
+
+  -- For what an event blocks the participant of an index: for a vote or a certificate that it sent,
+  -- or since a batch found that its vote doesn't attest.
+  abbrev pub cause_by : NodeEvent D K G C → ℕ → Option Cause
+  cause_by (vote_came peer vote (Answered admission)) i =
+      cond (is_peer peer i) (option_map ForVote admission.block) None
+  cause_by (certificate_came peer certificate (Answered Forged)) i =
+      cond (is_peer peer i) (Some ForCertificate) None
+  cause_by (constructed view given) i =
+      cond (list_any (λ p. p.0 == i) (invalid_in given)) (Some ForSignature) None
+  cause_by event i = None
+
+  -- for what it is blocked: for the first of them
+  abbrev pub cause_in : NodeHistory D K G C → ℕ → Option Cause
+  cause_in [] i = None
+  cause_in (event ∷ past) i = option_or (cause_in past i) (cause_by event i)

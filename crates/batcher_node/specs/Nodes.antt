@@ -1,32 +1,84 @@
--- A node, as contracts see it, and what one call of a view's round changes.
-use Rattle.std.specs.Prelude.{◌≡◌, ◌≢◌, ◌≤◌, ◌⊎◌, ℕ, Bool, true, false, cond, List, [], Option, Some, None, IfSome, MatchOption}
+-- A node, as contracts see it, what it is judged by, and what one call of a view's round changes.
+use Rattle.std.specs.Prelude.{◌≡◌, ◌≢◌, ◌≤◌, ◌⊎◌, ◌||◌, ℕ, Bool, true, false, List, [], Option, Some, None, Err, IfSome, MatchOption, option_and_then}
+use Rattle.std.specs.List.{slice_get}
 use Rattle.std.specs.Ordering.{nat_cmp}
+use Rattle.std.specs.declared.cmp.Ordering.{Ordering}
+use Rattle.rand_core.specs.Stream.{Stream}
 use Rattle.std.specs.Map.{lookup}
 use Rattle.std.specs.BTreeMap.{is_at}
 use Rattle.batcher.specs.positions.Epoch.{Epoch}
+use Rattle.batcher.specs.positions.Participant.{Participant}
+use Rattle.batcher.specs.messages.Vote.{Vote}
+use Rattle.batcher.specs.verifier.LeaderFault.TheVariants.{LeaderChanged as RoundLeaderChanged}
+use Rattle.batcher.specs.answers.OwnFault.{OwnFault}
+use Rattle.batcher.specs.answers.OwnFault.TheVariants.{OutOfMemory as OutOfMemoryFault}
 use Rattle.batcher.specs.calls.Call.{Call}
+use Rattle.batcher.specs.calls.Call.TheVariants.{Network as NetworkCall, Construct as ConstructCall, Forward as ForwardCall}
 use Rattle.batcher.specs.answers.Answer.{Answer}
+use Rattle.batcher.specs.answers.Answer.TheVariants.{Network as NetworkAnswer, Construct as ConstructAnswer}
+use Rattle.batcher.specs.messages.Certificate.{Certificate}
+use Rattle.batcher.specs.verifier.Batch.{Batch}
 use Rattle.batcher.specs.Meaning.{Meaning}
 use Rattle.batcher.specs.Setting.{Setting}
-use Rattle.batcher.specs.Held.{Held, RoundView, SameRound}
-use Rattle.batcher.specs.Steps.{nothing_held}
-use Rattle.batcher.specs.History.{History}
-use Rattle.batcher.specs.Judged.{FollowsAlways}
+use Rattle.batcher.specs.Held.{RoundView, SameRound}
+use Rattle.batcher.specs.Steps.{nothing_held, leader_set_answer, fault_or_memory, AfterConstruct}
+use Rattle.batcher.specs.History.{Event}
+use Rattle.batcher.specs.Answers.{own_answer}
+use Rattle.batcher.specs.Judged.{FollowsAlways, WhereverItStands}
 use Rattle.batcher.specs.Stands.{Stands}
 use Rattle.batcher_node.specs.declared.window.Window.{Window}
-use Rattle.batcher_node.specs.declared.answers.Blocked.{Blocked}
+use Rattle.batcher_node.specs.declared.answers.Cause.{Cause}
+use Rattle.batcher_node.specs.declared.answers.EnterFault.{EnterFault}
+use Rattle.batcher_node.specs.declared.answers.EnterFault.TheVariants.{Passed, LeaderChanged, OutOfMemory}
 use Rattle.batcher_node.specs.declared.slot.Slot.{Slot}
 use Rattle.batcher_node.specs.Windows.{contains, mode_now, numbered}
 
--- With scheme S, keys K, signatures G and digests D. The rounds stand by their views' numbers,
--- ascending, each with whether it changed since it was found to rest.
-pub record NodeView (S K G D : Type 0) : Type 0 where
+-- With scheme S, signatures G and digests D. The rounds stand by their views' numbers, ascending,
+-- each with whether it changed since it was found to rest.
+pub record NodeView (S G D : Type 0) : Type 0 where
   pub scheme : S
   pub epoch : Epoch
   pub retains : Bool
   pub window : Window
   pub rounds : List (ℕ × Slot (RoundView S G D))
-  pub blocked : List (Blocked K)
+  -- why each participant is blocked, if it is, by its index
+  pub blocked : List (Option Cause)
+
+-- What a node is judged by: its scheme, which keys, signatures and digests are the same, its epoch,
+-- and whether its rounds retain their votes.
+pub record NodeSetting (D K G C : Type 0) : Type 0 where
+  pub meaning : Meaning D K G C
+  pub compare_keys : K → K → Ordering
+  pub same_signature : G → G → Bool
+  pub same_digest : D → D → Bool
+  pub epoch : Epoch
+  pub retains : Bool
+
+-- what a node is judged by, as `judge` of a round
+abbrev pub judge_node : {S D K G C : Type 0} → (S → Meaning D K G C) → (K → K → Ordering)
+    → (G → G → Bool) → (D → D → Bool) → NodeView S G D → NodeSetting D K G C
+judge_node meaning compare_keys same_signature same_digest node =
+    record {
+      meaning = meaning node.scheme;
+      compare_keys = compare_keys;
+      same_signature = same_signature;
+      same_digest = same_digest;
+      epoch = node.epoch;
+      retains = node.retains;
+    }
+
+-- why the participant of an index is blocked, if it is
+abbrev pub cause_at : List (Option Cause) → ℕ → Option Cause
+cause_at blocked i = option_and_then (λ cause. cause) (slice_get blocked i)
+
+-- Whether a round has to be looked at after an event, by whether it had to before: where it may
+-- have changed. A peer's vote that isn't added changes nothing, and nor does a proposal that is
+-- handed on. A construction without a batch leaves nothing to do.
+abbrev pub due_after : {D K G C : Type 0} → Event D K G C → Bool → Bool
+due_after (ConstructCall, ConstructAnswer None) due = false
+due_after (NetworkCall sender vote, NetworkAnswer admission) due = admission.added || due
+due_after (ForwardCall me, answer) due = due
+due_after event due = true
 
 -- what stands at a view
 abbrev pub slot_at : {X : Type 0} → List (ℕ × X) → ℕ → Option X
@@ -39,11 +91,11 @@ pub record HasChanged {R : Type 0} (at : Option (Slot R)) : Type 0 where
   pub changed : slot.changed ≡ true
 
 -- No view changed since it was found to rest.
-abbrev pub IsAtRest : {S K G D : Type 0} → NodeView S K G D → Type 0
+abbrev pub IsAtRest : {S G D : Type 0} → NodeView S G D → Type 0
 IsAtRest node = (view : ℕ) → IfSome (slot_at node.rounds view) (λ slot. slot.changed ≡ false)
 
 -- What a call doesn't change.
-abbrev pub SameNode : {S K G D : Type 0} → NodeView S K G D → NodeView S K G D → Type 0
+abbrev pub SameNode : {S G D : Type 0} → NodeView S G D → NodeView S G D → Type 0
 SameNode old new =
     (new.scheme ≡ old.scheme) × (new.epoch ≡ old.epoch) × (new.retains ≡ old.retains)
 
@@ -69,31 +121,63 @@ module _ {S G D : Type 0} where
         (view : ℕ) → IfSome (slot_at rounds view) (λ slot. (slot.round.scheme ≡ scheme)
         × ((slot.round.number ≡ numbered epoch view) × (contains window view ≡ true)))
 
+-- Another leader of the view was named before.
+pub record IsLedByAnother {S G D : Type 0} (at : Option (Slot (RoundView S G D)))
+    (leader : Participant) : Type 0 where
+  pub slot : Slot (RoundView S G D)
+  pub there : at ≡ Some slot
+  pub another : leader_set_answer slot.round.holds.buffered.leader leader ≡ Err RoundLeaderChanged
+
+-- Why a leader isn't named for a view in the window: another one was, or the view has no round and
+-- there is no memory for one.
+abbrev pub NamesEnterFault : {S G D : Type 0} → Option (Slot (RoundView S G D)) → Participant
+    → EnterFault → Type 0
+NamesEnterFault at leader LeaderChanged = IsLedByAnother at leader
+NamesEnterFault at leader OutOfMemory = at ≡ None
+NamesEnterFault at leader Passed = ⊥
+
+-- A vote of the node's own is refused for the fault that its view's history names; where the view
+-- has no round, for memory alone.
+abbrev pub NamesFault : {S D K G C : Type 0} → (RoundView S G D → Setting D K G C)
+    → Option (Slot (RoundView S G D)) → Vote G D → OwnFault → Type 0
+NamesFault judge at vote fault =
+    MatchOption at (fault ≡ OutOfMemoryFault) (λ slot. WhereverItStands judge slot.round
+    (λ x past. fault ≡ fault_or_memory (own_answer x past vote)))
+
 module _ {S D K G C : Type 0} (judge : RoundView S G D → Setting D K G C)
     (old new : ℕ → Option (Slot (RoundView S G D))) (view : ℕ) where
   -- A round was told a call: it goes on as its history says, and no other view has changed.
-  pub record GoesOn (before : RoundView S G D) (call : Call K G C D) (answer : Answer G C D)
-      (changed : Bool) : Type 0 where
+  pub record GoesOn (before : Slot (RoundView S G D)) (call : Call K G C D) (answer : Answer G C D)
+      : Type 0 where
     pub after : RoundView S G D
-    pub same : SameRound before after
-    pub follows : FollowsAlways judge before (call, answer) after.holds
-    pub here : new view ≡ Some (record { round = after; changed = changed })
+    pub same : SameRound before.round after
+    pub follows : FollowsAlways judge before.round (call, answer) after.holds
+    pub here : new view
+        ≡ Some (record { round = after; changed = due_after (call, answer) before.changed })
     pub others : (other : ℕ) → other ≢ view → new other ≡ old other
 
   -- The round of the view was told a call. It is one that was there,
-  pub record TellsThere (call : Call K G C D) (answer : Answer G C D) (changed : Bool) : Type 0
-    where
-      pub slot : Slot (RoundView S G D)
-      pub there : old view ≡ Some slot
-      pub goes_on : GoesOn slot.round call answer changed
+  pub record TellsThere (call : Call K G C D) (answer : Answer G C D) : Type 0 where
+    pub slot : Slot (RoundView S G D)
+    pub there : old view ≡ Some slot
+    pub goes_on : GoesOn slot call answer
 
   -- or there was none, and it is a fresh one.
   pub record TellsFresh (fresh : RoundView S G D) (call : Call K G C D) (answer : Answer G C D)
-      (changed : Bool) : Type 0 where
+      : Type 0 where
     pub absent : old view ≡ None
     pub fresh_stands : Stands (judge fresh) [] fresh.holds
-    pub goes_on : GoesOn fresh call answer changed
+    pub goes_on : GoesOn (record { round = fresh; changed = false }) call answer
 
-  abbrev pub Tells : RoundView S G D → Call K G C D → Answer G C D → Bool → Type 0
-  Tells fresh call answer changed =
-      TellsThere call answer changed ⊎ TellsFresh fresh call answer changed
+  abbrev pub Tells : RoundView S G D → Call K G C D → Answer G C D → Type 0
+  Tells fresh call answer = TellsThere call answer ⊎ TellsFresh fresh call answer
+
+  -- The round of the view made a construction, by the step of a round: what is drawn from the
+  -- generator, and what it gives for that, is up to the round.
+  pub record Draws (before : Stream) (given : Option (Batch (Certificate C D))) (after : Stream)
+      : Type 0 where
+    pub slot : Slot (RoundView S G D)
+    pub there : old view ≡ Some slot
+    pub left : Slot (RoundView S G D)
+    pub here : new view ≡ Some left
+    pub step : AfterConstruct (judge slot.round) slot.round.holds before given left.round.holds after

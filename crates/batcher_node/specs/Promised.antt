@@ -1,5 +1,9 @@
 -- What is promised of a node after any history of its calls.
-use Rattle.std.specs.Prelude.{◌≡◌, ⊤, ℕ, true, false, List, [], ◌∷◌, Some, is_some}
+use Rattle.std.specs.Prelude.{◌≡◌, ⊤, ℕ, true, false, [], ◌∷◌, Some, is_some}
+use Rattle.std.specs.List.{AllPass}
+use Rattle.batcher.specs.Lists.{is_some_and}
+use Rattle.batcher.specs.Standing.{ready_kind}
+use Rattle.batcher.specs.Honest.{sent_bad_vote}
 use Rattle.batcher.specs.positions.Participant.{Participant}
 use Rattle.batcher.specs.Setting.{sender_in}
 use Rattle.batcher.specs.Votes.{subject_of, round_in}
@@ -8,12 +12,14 @@ use Rattle.batcher.specs.Promises.{gave_cause}
 use Rattle.batcher.specs.Ran.{IsPromised}
 use Rattle.batcher_node.specs.declared.answers.Receipt.TheVariants.{Answered}
 use Rattle.batcher_node.specs.declared.answers.Verdict.TheVariants.{Forged}
-use Rattle.batcher_node.specs.Events.{NodeEvent, vote_came, certificate_came, NodeHistory, told}
-use Rattle.batcher_node.specs.Stands.{NodeSetting, setting_of}
+use Rattle.batcher_node.specs.Events.{NodeEvent, vote_came, certificate_came, constructed, NodeHistory, told}
+use Rattle.batcher_node.specs.Nodes.{NodeSetting}
+use Rattle.batcher_node.specs.Stands.{setting_of}
 
 module _ {D K G C : Type 0} (x : NodeSetting D K G C) where
   -- Whom an event blocks gave cause: by what it did itself in the view of its vote, with this vote
-  -- at the latest, or by sending a certificate that doesn't certify what it names.
+  -- at the latest; by sending a certificate that doesn't certify what it names; or by sending a vote
+  -- in its own name, of the view and the kind of a batch, that doesn't attest.
   abbrev pub IsForCause : NodeHistory D K G C → NodeEvent D K G C → Type 0
   IsForCause past (vote_came peer vote (Answered admission)) =
       let view = (round_in (subject_of vote)).view.0 in
@@ -23,6 +29,9 @@ module _ {D K G C : Type 0} (x : NodeSetting D K G C) where
       → gave_cause (setting_of x (event ∷ past) view) (told view (event ∷ past)) i.0 ≡ true
   IsForCause past (certificate_came peer certificate (Answered Forged)) =
       certifies_itself x.meaning certificate ≡ false
+  IsForCause past (constructed view (Some batch)) =
+      AllPass (λ i. is_some_and (ready_kind (setting_of x past view) (told view past))
+      (λ kind. sent_bad_vote (setting_of x past view) (told view past) kind i.0)) batch.invalid
   IsForCause past event = ⊤
 
   -- each event, by those before it

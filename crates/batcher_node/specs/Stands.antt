@@ -1,60 +1,42 @@
 -- When a node stands after a history of its calls, and how it goes on with one more.
-use Rattle.std.specs.Prelude.{◌≡◌, ◌≤◌, ⊤, ℕ, Bool, true, false, not, cond, ◌==◌, ◌&&◌, List, [], ◌∷◌, Option, Some, None, Ok, MatchOption}
-use Rattle.std.specs.declared.cmp.Ordering.{Ordering}
-use Rattle.batcher.specs.positions.Epoch.{Epoch}
+use Rattle.std.specs.Prelude.{◌≡◌, ◌≤◌, ◌<◌, ⊤, ℕ, Bool, true, false, cond, [], ◌∷◌, length, Option, Some, None, is_some, is_none, Ok, MatchOption}
+use Rattle.batcher.specs.positions.Participant.{Participant}
 use Rattle.batcher.specs.positions.Round.{Round}
+use Rattle.batcher.specs.messages.Vote.{Vote}
+use Rattle.batcher.specs.messages.Certificate.{Certificate}
+use Rattle.batcher.specs.messages.Activity.{Activity}
+use Rattle.batcher.specs.votes.Outcome.{Outcome}
 use Rattle.batcher.specs.votes.Mode.{Mode}
-use Rattle.batcher.specs.calls.Call.TheVariants.{Construct as ConstructCall}
-use Rattle.batcher.specs.answers.Answer.TheVariants.{Construct as ConstructAnswer}
-use Rattle.batcher.specs.Meaning.{Meaning}
 use Rattle.batcher.specs.Setting.{Setting, setting}
 use Rattle.batcher.specs.Lists.{is_empty}
-use Rattle.batcher.specs.Votes.{subject_of, subject_certified, round_in}
-use Rattle.batcher.specs.Steps.{report_by}
+use Rattle.batcher.specs.Votes.{subject_of, subject_certified, round_in, kind_certified}
+use Rattle.batcher.specs.Steps.{report_by, leader_set_answer}
+use Rattle.batcher.specs.Selection.{is_certified, leader_of}
 use Rattle.batcher.specs.Verifiers.{certifies_itself}
 use Rattle.batcher.specs.Held.{RoundView}
 use Rattle.batcher.specs.History.{History}
 use Rattle.batcher.specs.Answers.{IsPossible, network_answer, own_answer, certificate_answer}
 use Rattle.batcher.specs.Stands.{Stands}
 use Rattle.batcher_node.specs.declared.answers.Receipt.{Receipt}
-use Rattle.batcher_node.specs.declared.answers.Receipt.TheVariants.{Answered, Outside, Dropped}
+use Rattle.batcher_node.specs.declared.answers.Receipt.TheVariants.{Answered, Outside, Dropped, Unknown}
 use Rattle.batcher_node.specs.declared.answers.Verdict.{Verdict}
-use Rattle.batcher_node.specs.declared.answers.Verdict.TheVariants.{Recorded, Forged}
+use Rattle.batcher_node.specs.declared.answers.Verdict.TheVariants.{Recorded, Forged, Known}
+use Rattle.batcher_node.specs.declared.answers.Cast.{Cast}
+use Rattle.batcher_node.specs.declared.answers.Cast.TheVariants.{ToSend, Known as KnownVote, Outside as OutsideVote}
 use Rattle.batcher_node.specs.declared.slot.Slot.{Slot}
 use Rattle.batcher_node.specs.Windows.{is_of, mode_now, numbered}
-use Rattle.batcher_node.specs.Events.{NodeEvent, started, vote_came, certificate_came, vote_cast, view_entered, view_finalized, constructed, NodeHistory, told, blocked_in, is_blocked, window_in}
-use Rattle.batcher_node.specs.Nodes.{NodeView, slot_at}
+use Rattle.batcher_node.specs.Events.{NodeEvent, started, vote_came, certificate_came, vote_cast, view_entered, view_finalized, constructed, NodeHistory, told, peer_in, cause_in, window_in}
+use Rattle.batcher_node.specs.Nodes.{NodeView, NodeSetting, cause_at, due_after, slot_at}
 
--- What a node is judged by: its scheme, which keys, signatures and digests are the same, its epoch,
--- and whether its rounds retain their votes.
-pub record NodeSetting (D K G C : Type 0) : Type 0 where
-  pub meaning : Meaning D K G C
-  pub compare_keys : K → K → Ordering
-  pub same_key : K → K → Bool
-  pub same_signature : G → G → Bool
-  pub same_digest : D → D → Bool
-  pub epoch : Epoch
-  pub retains : Bool
-
--- what a node is judged by, as `judge` of a round
-abbrev pub judge_node : {S D K G C : Type 0} → (S → Meaning D K G C) → (K → K → Ordering)
-    → (K → K → Bool) → (G → G → Bool) → (D → D → Bool) → NodeView S K G D → NodeSetting D K G C
-judge_node meaning compare_keys same_key same_signature same_digest node =
-    record {
-      meaning = meaning node.scheme;
-      compare_keys = compare_keys;
-      same_key = same_key;
-      same_signature = same_signature;
-      same_digest = same_digest;
-      epoch = node.epoch;
-      retains = node.retains;
-    }
-
--- whether the round of a history has to be looked at: it was told something since it gave no batch
+-- whether the round of a history has to be looked at
 abbrev pub is_due : {D K G C : Type 0} → History D K G C → Bool
 is_due [] = false
-is_due ((ConstructCall, ConstructAnswer None) ∷ past) = false
-is_due (event ∷ past) = true
+is_due (event ∷ past) = due_after event (is_due past)
+
+-- An own vote is to be sent where it is reported.
+abbrev pub cast_by : {G D : Type 0} → Option (Activity G D) → Cast G D
+cast_by None = KnownVote
+cast_by (Some report) = ToSend report
 
 module _ {D K G C : Type 0} (x : NodeSetting D K G C) where
   -- The mode of a view's round: what it was when something was first said in the view.
@@ -74,11 +56,25 @@ module _ {D K G C : Type 0} (x : NodeSetting D K G C) where
   abbrev pub is_within : NodeHistory D K G C → Round → Bool
   is_within past number = is_of x.epoch (window_in past) number
 
-  -- what a message is answered, from its sender and of a number
-  abbrev pub receipt : {A : Type 0} → NodeHistory D K G C → K → Round → A → Receipt A
-  receipt past peer number answer =
-      cond (is_blocked x.same_key (blocked_in past) peer) Dropped
+  -- What a message is answered, from its sender and of a number: one of somebody who takes no part
+  -- isn't looked at, and nor is one of a peer that is blocked.
+  abbrev pub receipt_from : {A : Type 0} → NodeHistory D K G C → Option Participant → Round → A
+      → Receipt A
+  receipt_from past None number answer = Unknown
+  receipt_from past (Some i) number answer =
+      cond (is_some (cause_in x past i.0)) Dropped
       (cond (is_within past number) (Answered answer) Outside)
+
+  abbrev pub receipt : {A : Type 0} → NodeHistory D K G C → K → Round → A → Receipt A
+  receipt past peer number answer = receipt_from past (peer_in x peer) number answer
+
+  -- what is answered to a certificate: one of a kind that its view has isn't looked at either
+  abbrev pub verdict : NodeHistory D K G C → Certificate C D → Verdict
+  verdict past certificate =
+      let view = (round_in (subject_certified certificate)).view.0 in
+      cond (is_certified (told view past) (kind_certified certificate)) Known
+      (cond (certifies_itself x.meaning certificate)
+      (Recorded (certificate_answer (setting_of past view) (told view past) certificate)) Forged)
 
   -- What an event is answered, by those before it: as the history of its view names.
   abbrev pub IsNamed : NodeHistory D K G C → NodeEvent D K G C → Type 0
@@ -88,17 +84,21 @@ module _ {D K G C : Type 0} (x : NodeSetting D K G C) where
       (network_answer (setting_of past number.view.0) (told number.view.0 past) peer vote)
   IsNamed past (certificate_came peer certificate answer) =
       let number = round_in (subject_certified certificate) in
-      answer ≡ receipt past peer number
-      (cond (certifies_itself x.meaning certificate)
-      (Recorded (certificate_answer (setting_of past number.view.0) (told number.view.0 past)
-      certificate)) Forged)
+      answer ≡ receipt past peer number (verdict past certificate)
   IsNamed past (vote_cast vote outcome report) =
       let number = round_in (subject_of vote) in
       (is_within past number ≡ true)
       × ((own_answer (setting_of past number.view.0) (told number.view.0 past) vote ≡ Ok outcome)
       × (report ≡ report_by outcome vote))
-  IsNamed past (constructed view given) = is_due (told view past) ≡ true
-  IsNamed past event = ⊤
+  IsNamed past (view_entered view leader) =
+      ((window_in past).finalized ≤ view)
+      × (leader_set_answer (leader_of (told view past)) leader ≡ Ok tt)
+  IsNamed past (constructed view given) =
+      (is_due (told view past) ≡ true)
+      × ((lower : ℕ) → (window_in past).finalized ≤ lower → lower < view
+      → is_due (told lower past) ≡ false)
+  IsNamed past (started window) = past ≡ []
+  IsNamed past (view_finalized view) = ⊤
 
   -- each event, by those before it
   abbrev pub AreNamed : NodeHistory D K G C → Type 0
@@ -115,10 +115,12 @@ module _ {D K G C : Type 0} (x : NodeSetting D K G C) where
 
   -- A node stands after a history where each view does by itself. From the finalized view on, a
   -- view without a round was told nothing.
-  pub record NodeStands {S : Type 0} (past : NodeHistory D K G C) (node : NodeView S K G D) : Type 0
+  pub record NodeStands {S : Type 0} (past : NodeHistory D K G C) (node : NodeView S G D) : Type 0
     where
       pub window_is : node.window ≡ window_in past
-      pub blocked_are : node.blocked ≡ blocked_in past
+      pub blocked_are :
+          (i : ℕ) → i < length x.meaning.participants
+          → cause_at node.blocked i ≡ cause_in x past i
       pub answered : AreNamed past
       pub possible : (view : ℕ) → IsPossible (setting_of past view) (told view past)
       pub views :
@@ -126,6 +128,36 @@ module _ {D K G C : Type 0} (x : NodeSetting D K G C) where
           → MatchOption (slot_at node.rounds view) (told view past ≡ []) (ViewStands past view)
 
   -- A call that is answered leaves a node that stands, wherever it stood before.
-  abbrev pub Meets : {S : Type 0} → NodeView S K G D → NodeEvent D K G C → NodeView S K G D → Type 0
+  abbrev pub Meets : {S : Type 0} → NodeView S G D → NodeEvent D K G C → NodeView S G D → Type 0
   Meets old event new =
       (past : NodeHistory D K G C) → NodeStands past old → NodeStands (event ∷ past) new
+
+  -- What is said of each history after which a node stands.
+  abbrev pub WhereverNodeStands : {S : Type 0} → NodeView S G D → (NodeHistory D K G C → Type 0)
+      → Type 0
+  WhereverNodeStands node holds = (past : NodeHistory D K G C) → NodeStands past node → holds past
+
+  -- An own vote that is answered leaves a node that stands: one that is to be sent was reported as
+  -- the first of its kind and signer, and one that is known wasn't.
+  abbrev pub MeetsCast : {S : Type 0} → NodeView S G D → Vote G D → Cast G D → NodeView S G D
+      → Type 0
+  MeetsCast old vote (ToSend report) new =
+      (outcome : Outcome) × Meets old (vote_cast vote outcome (Some report)) new
+  MeetsCast old vote KnownVote new = (outcome : Outcome) × Meets old (vote_cast vote outcome None) new
+  MeetsCast old vote OutsideVote new =
+      (is_of x.epoch old.window (round_in (subject_of vote)) ≡ false) × (new ≡ old)
+
+  -- There is a history after which the node stands.
+  pub record HasHistory {S : Type 0} (node : NodeView S G D) : Type 0 where
+    pub past : NodeHistory D K G C
+    pub stands : NodeStands past node
+
+  -- whether a message is looked at: its sender takes part and isn't blocked, and it is of the epoch
+  -- and of a view in the window
+  abbrev pub is_free : {S : Type 0} → NodeView S G D → Option Participant → Bool
+  is_free node None = false
+  is_free node (Some i) = is_none (cause_at node.blocked i.0)
+
+  abbrev pub IsHeard : {S : Type 0} → NodeView S G D → K → Round → Type 0
+  IsHeard node peer number =
+      (is_free node (peer_in x peer) ≡ true) × (is_of x.epoch node.window number ≡ true)

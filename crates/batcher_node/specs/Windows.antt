@@ -1,5 +1,5 @@
 -- Which views a node keeps rounds of: from the finalized one to some beyond the current one.
-use Rattle.std.specs.Prelude.{◌≤◌, ◌+◌, ◌-◌, ◌&&◌, ◌==◌, ℕ, Bool, cond, nat_le, nat_lt, max}
+use Rattle.std.specs.Prelude.{◌+◌, ◌-◌, ◌&&◌, ◌==◌, ℕ, Bool, cond, nat_le, nat_lt, max}
 use Rattle.batcher.specs.positions.Epoch.{Epoch}
 use Rattle.batcher.specs.positions.Round.{Round}
 use Rattle.batcher.specs.votes.Mode.{Mode}

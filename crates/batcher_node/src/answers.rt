@@ -3,6 +3,7 @@
 ghost use Rattle.std.specs.Prelude.{◌≡◌};
 ghost use Rattle.batcher_node.specs.declared.answers.EnterFault.TheVariants.{OutOfMemory as OutOfMemoryFault, LeaderChanged as LeaderChangedFault};
 
+use batcher::messages::Activity;
 use batcher::round::BlockReason;
 use batcher::verifier::LeaderFault;
 use std::alloc::AllocError;
@@ -17,6 +18,8 @@ pub enum Receipt<A> {
     Outside,
     /// The peer was blocked before, so the message wasn't looked at.
     Dropped,
+    /// The peer takes no part, so the message wasn't looked at.
+    Unknown,
 }
 
 /// What became of a peer's certificate.
@@ -26,6 +29,20 @@ pub enum Verdict {
     Recorded(bool),
     /// It doesn't, and the peer is blocked.
     Forged,
+    /// Its view has one of its kind, so it wasn't verified.
+    Known,
+}
+
+/// What became of a vote of the node's own.
+#[derive(Clone, Copy, Debug, PartialEq, Eq)]
+pub enum Cast<G, D> {
+    /// It is the first of its kind and signer, and is to be sent to all. This is reported of it.
+    ToSend(Activity<G, D>),
+    /// There was one before, and nothing that is kept shows that the two differ. So it isn't to be
+    /// sent: who has the earlier one would block the sender of another.
+    Known,
+    /// It is of a view outside of the window, or of another epoch, and wasn't looked at.
+    Outside,
 }
 
 /// Why a peer is blocked.
@@ -34,13 +51,8 @@ pub enum Cause {
     Vote(BlockReason),
     /// It sent a certificate that doesn't certify what it names.
     Certificate,
-}
-
-/// A peer that is blocked.
-#[derive(Clone, Copy, Debug, PartialEq, Eq)]
-pub struct Blocked<P> {
-    pub peer: P,
-    pub cause: Cause,
+    /// A construction found that a vote that it sent doesn't attest.
+    Signature,
 }
 
 /// Why a view isn't entered. Nothing changes then.

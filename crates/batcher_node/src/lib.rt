@@ -9,7 +9,7 @@ mod slot;
 mod theorems;
 mod window;
 
-pub use answers::{Blocked, Cause, EnterFault, Receipt, Verdict};
+pub use answers::{Cast, Cause, EnterFault, Receipt, Verdict};
 pub use node::{Construction, Node, NodeJudge};
 pub use theorems::nodes_keep_their_promises;
 pub use window::Window;

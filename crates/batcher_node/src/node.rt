@@ -1,26 +1,32 @@
 //! A node: the rounds of a window of views, and the peers that are blocked in all of them.
 
-ghost use Rattle.std.specs.Prelude.{◌≡◌, ◌≤◌, ◌<◌, ◌++◌, ◌∷◌, [], true, false, ℕ, length, vec_len, IfOk, OnOk, OnErr, IfSome, IfNone, Some, None, Ok, Err, find};
-ghost use Rattle.std.specs.Option.{option_map, option_map_or, option_copied};
-ghost use Rattle.std.specs.Vec.{vec_capacity};
-ghost use Rattle.batcher.specs.Votes.{subject_of, attestation_of, round_in};
-ghost use Rattle.batcher_node.specs.declared.answers.Receipt.TheVariants.{Answered};
-ghost use Rattle.batcher_node.specs.declared.answers.Cause.TheVariants.{Vote as ForVote};
+ghost use Rattle.std.specs.Prelude.{◌≡◌, ◌≤◌, ◌<◌, ◌∷◌, [], true, false, cond, ◌==◌, ℕ, length, IfOk, IfErr, OnOk, OnErr, IfSome, IfNone, Some, None, Ok, Err, is_some, find};
+ghost use Rattle.std.specs.List.{list_any, range_with_len};
+ghost use Rattle.std.specs.Option.{option_map, option_copied, option_or};
+ghost use Rattle.std.specs.Map.{keys_of};
+ghost use Rattle.std.specs.Ordering.{nat_cmp};
+ghost use Rattle.std.specs.List.Sorted.{IsStrictlySortedBy};
+ghost use Rattle.batcher.specs.Votes.{subject_of, subject_certified, attestation_of, round_in};
+ghost use Rattle.batcher.specs.Verifiers.{certifies_itself};
+ghost use Rattle.batcher.specs.Answers.{own_answer};
+ghost use Rattle.batcher.specs.Steps.{fault_or_memory};
+ghost use Rattle.batcher_node.specs.declared.answers.Cause.TheVariants.{Vote as ForVote, Signature as ForSignature};
+ghost use Rattle.batcher_node.specs.declared.answers.EnterFault.TheVariants.{Passed as PassedFault, LeaderChanged as LeaderChangedFault, OutOfMemory as OutOfMemoryFault};
 ghost use Rattle.batcher_node.specs.Windows.{is_of, width};
-ghost use Rattle.batcher_node.specs.Events.{is_blocked, started, vote_came, certificate_came, vote_cast, view_entered, view_finalized, constructed};
-ghost use Rattle.batcher_node.specs.Nodes.{SameNode, IsAtRest, HasChanged, slot_at};
-ghost use Rattle.batcher_node.specs.Stands.{Meets, NodeStands};
+ghost use Rattle.batcher_node.specs.Events.{peer_in, invalid_in, started, vote_came, certificate_came, view_entered, view_finalized, constructed, told};
+ghost use Rattle.batcher_node.specs.Nodes.{SameNode, IsAtRest, HasChanged, Draws, IsLedByAnother, NamesEnterFault, cause_at, slot_at};
+ghost use Rattle.batcher_node.specs.Stands.{cast_by, Meets, MeetsCast, NodeStands, WhereverNodeStands, IsHeard, setting_of};
 
-use crate::answers::{Blocked, Cause, EnterFault, Receipt, Verdict};
+use crate::answers::{Cast, Cause, EnterFault, Receipt, Verdict};
 use crate::rounds::{
-    Frame, Slots, number_certified, number_of, tell_certificate, tell_leader, tell_own,
-    tell_to_construct, tell_vote, verifies,
+    Frame, Slots, has_certificate, number_certified, number_of, tell_certificate, tell_leader,
+    tell_own, tell_to_construct, tell_vote, verifies,
 };
 use crate::slot::Slot;
 use crate::window::Window;
 use batcher::messages::{Activity, Certificate, Digest, Vote};
 use batcher::positions::{self, Epoch, Participant, View};
-use batcher::round::{Admission, BlockReason, OwnFault, Round};
+use batcher::round::{Admission, BlockReason, Judge, OwnFault, Round};
 use batcher::scheme::Scheme;
 use batcher::verifier::Batch;
 use batcher::votes::Outcome;
@@ -33,17 +39,16 @@ use std::rc::Rc;
 /// What nodes over a scheme are judged by. Every scheme has it, and it says nothing of its own:
 /// contracts name by it the scheme and the epoch of a node, and whether its rounds retain votes.
 pub trait NodeJudge<D: Digest>: Scheme<D> {
-    ghost use Rattle.batcher_node.specs.Nodes.{NodeView};
-    ghost use Rattle.batcher_node.specs.Stands.{NodeSetting};
+    ghost use Rattle.batcher_node.specs.Nodes.{NodeView, NodeSetting};
 
-    ghost of: { NodeView Self Self.PublicKey Self.Signature D
+    ghost of: { NodeView Self Self.Signature D
         → NodeSetting D Self.PublicKey Self.Signature Self.Certificate };
 }
 
 impl<D: Digest, S: Scheme<D>> NodeJudge<D> for S {
-    ghost use Rattle.batcher_node.specs.Stands.{judge_node};
+    ghost use Rattle.batcher_node.specs.Nodes.{judge_node};
 
-    ghost of = { judge_node S.meaning S.PublicKey.cmp S.PublicKey.eq S.Signature.eq D.eq };
+    ghost of = { judge_node S.meaning S.PublicKey.cmp S.Signature.eq D.eq };
 }
 
 /// A validator's rounds, over the views of its window.
@@ -52,15 +57,16 @@ pub struct Node<S: Scheme<D>, D: Digest> {
     frame: Frame<S>,
     window: Window,
     slots: Slots<S, D>,
-    /// In the order in which they were blocked. A message is looked up among them by one pass.
-    blocked: Vec<Blocked<S::PublicKey>>,
+    /// Why each participant is blocked, if it is. So who is blocked later needs no memory.
+    blocked: Vec<Option<Cause>>,
 }
 
 impl<S: Scheme<D>, D: Digest> Model for Node<S, D> {
-    ghost use Rattle.std.specs.Prelude.{length};
-    ghost use Rattle.batcher_node.specs.Nodes.{NodeView, IsTended};
+    ghost use Rattle.std.specs.Prelude.{◌≡◌, length};
+    ghost use Rattle.batcher_node.specs.Nodes.{NodeView, IsTended, judge_node};
+    ghost use Rattle.batcher_node.specs.Stands.{HasHistory};
 
-    ghost Value = { NodeView S S.PublicKey S.Signature D };
+    ghost Value = { NodeView S S.Signature D };
 
     ghost view = { λ n. record {
       scheme = n.frame.scheme.value;
@@ -71,8 +77,9 @@ impl<S: Scheme<D>, D: Digest> Model for Node<S, D> {
       blocked = n.blocked.items;
     } };
 
-    ghost invariant = { λ n. IsTended (length (S.meaning n.frame.scheme.value).participants)
-        n.frame.scheme.value n.frame.epoch n.window n.slots.entries };
+    ghost invariant = { λ n. (IsTended (length (S.meaning n.frame.scheme.value).participants)
+        n.frame.scheme.value n.frame.epoch n.window n.slots.entries)
+        × (length n.blocked.items ≡ length (S.meaning n.frame.scheme.value).participants) };
 }
 
 /// A construction in a view.
@@ -83,7 +90,8 @@ pub struct Construction<C, D> {
 }
 
 impl<S: Scheme<D>, D: Digest> Node<S, D> {
-    /// A node that was told nothing, with `finalized` as its current view. It takes no memory.
+    /// A node that was told nothing, with `finalized` as its current view. It takes memory for why
+    /// each participant is blocked.
     ///
     /// The window goes from the finalized view to so many beyond the current one.
     pub fn new(
@@ -93,20 +101,21 @@ impl<S: Scheme<D>, D: Digest> Node<S, D> {
         finalized: View,
         ahead: u64,
         track_historical_votes: bool,
-    ) -> Self
+    ) -> Result<Self, AllocError>
         requires { 1 ≤ length (S.meaning scheme.value).participants }
-        ensures scheme { result.scheme ≡ scheme.value }
-        ensures epoch { result.epoch ≡ epoch }
-        ensures retains { result.retains ≡ track_historical_votes }
-        ensures window { result.window ≡ record {
+        ensures scheme { IfOk result (λ node. node.scheme ≡ scheme.value) }
+        ensures epoch { IfOk result (λ node. node.epoch ≡ epoch) }
+        ensures retains { IfOk result (λ node. node.retains ≡ track_historical_votes) }
+        ensures window { IfOk result (λ node. node.window ≡ record {
           finalized = finalized.0;
           current = finalized.0;
           ahead = ahead;
-        } }
-        ensures stands { NodeStands (⟦<S as NodeJudge<D>>⟧.of result)
-            (started result.window ∷ []) result }
+        }) }
+        ensures stands { IfOk result (λ node. NodeStands (⟦<S as NodeJudge<D>>⟧.of node)
+            (started node.window ∷ []) node) }
     {
-        Node {
+        let blocked = none_blocked(alloc, scheme.participants().len())?;
+        Ok(Node {
             frame: Frame {
                 alloc,
                 scheme,
@@ -119,8 +128,8 @@ impl<S: Scheme<D>, D: Digest> Node<S, D> {
                 ahead,
             },
             slots: BTreeMap::new(alloc),
-            blocked: Vec::new(alloc),
-        }
+            blocked,
+        })
     }
 
     /// Takes in a vote that a peer sent, in the round of its view.
@@ -136,28 +145,33 @@ impl<S: Scheme<D>, D: Digest> Node<S, D> {
             (vote_came peer vote receipt) self.new) }
         ensures outside_stays { result ≡ Ok Receipt.Outside → self.new ≡ self.old }
         ensures dropped_stays { result ≡ Ok Receipt.Dropped → self.new ≡ self.old }
+        ensures unknown_stays { result ≡ Ok Receipt.Unknown → self.new ≡ self.old }
+        ensures needed { OnErr result (IsHeard (⟦<S as NodeJudge<D>>⟧.of self.old) self.old peer
+            (round_in (subject_of vote))) }
         ensures refused { OnErr result (self.new ≡ self.old) }
         ensures same { SameNode self.old self.new }
     {
-        if is_blocked(self.blocked.as_slice(), &peer) {
+        let Some(sender) = self.sender(&peer) else {
+            return Ok(Receipt::Unknown);
+        };
+        if is_blocked(self.blocked.as_slice(), sender) {
             return Ok(Receipt::Dropped);
         }
         let number = number_of(&vote);
         if !is_within(self.frame.epoch, self.window, number) {
             return Ok(Receipt::Outside);
         }
-        self.blocked.reserve(1)?;
         let view = number.view.0;
         let admission = tell_vote(&mut self.slots, &self.frame, self.window, view, peer, vote)?;
-        block_for_vote(&mut self.blocked, peer, admission.block);
+        block_for_vote(&mut self.blocked, sender, admission.block);
         Ok(Receipt::Answered(admission))
     }
 
     /// Takes in a certificate that a peer sent: it is verified, and recorded in the round of its
-    /// view.
+    /// view. Where that has one of its kind, it isn't verified, and nothing changes.
     ///
-    /// Where it doesn't certify what it names, the peer is blocked from then on. A refusal for
-    /// memory leaves the node as it was.
+    /// Where it doesn't certify what it names, the peer is blocked from then on, which takes no
+    /// memory. A refusal for memory leaves the node as it was.
     pub fn receive_certificate(
         &mut self,
         peer: S::PublicKey,
@@ -167,22 +181,32 @@ impl<S: Scheme<D>, D: Digest> Node<S, D> {
             (certificate_came peer certificate.now receipt) self.new) }
         ensures outside_stays { result ≡ Ok Receipt.Outside → self.new ≡ self.old }
         ensures dropped_stays { result ≡ Ok Receipt.Dropped → self.new ≡ self.old }
+        ensures unknown_stays { result ≡ Ok Receipt.Unknown → self.new ≡ self.old }
+        ensures known_stays { result ≡ Ok (Receipt.Answered Verdict.Known) → self.new ≡ self.old }
+        ensures needed { OnErr result ((IsHeard (⟦<S as NodeJudge<D>>⟧.of self.old) self.old peer
+            (round_in (subject_certified certificate.now)))
+            × (certifies_itself (S.meaning self.old.scheme) certificate.now ≡ true)) }
         ensures refused { OnErr result (self.new ≡ self.old) }
         ensures same { SameNode self.old self.new }
     {
-        if is_blocked(self.blocked.as_slice(), &peer) {
+        let Some(sender) = self.sender(&peer) else {
+            return Ok(Receipt::Unknown);
+        };
+        if is_blocked(self.blocked.as_slice(), sender) {
             return Ok(Receipt::Dropped);
         }
         let number = number_certified(certificate);
         if !is_within(self.frame.epoch, self.window, number) {
             return Ok(Receipt::Outside);
         }
+        let view = number.view.0;
+        if has_certificate(&self.slots, view, certificate.kind()) {
+            return Ok(Receipt::Answered(Verdict::Known));
+        }
         if !verifies(&*self.frame.scheme, certificate) {
-            let cause = Cause::Certificate;
-            self.blocked.push(Blocked { peer, cause })?;
+            block(&mut self.blocked, sender, Cause::Certificate);
             return Ok(Receipt::Answered(Verdict::Forged));
         }
-        let view = number.view.0;
         let changed = tell_certificate(
             &mut self.slots,
             &self.frame,
@@ -193,31 +217,32 @@ impl<S: Scheme<D>, D: Digest> Node<S, D> {
         Ok(Receipt::Answered(Verdict::Recorded(changed)))
     }
 
-    /// Takes in a vote of the node's own, which attests. There is no answer where its view is
-    /// outside of the window, or it is of another epoch. A refusal, also one for memory, leaves
-    /// the node as it was.
+    /// Takes in a vote of the node's own, which attests, and says whether it is to be sent. A
+    /// refusal, also one for memory, leaves the node as it was.
     pub fn cast_vote(
         &mut self,
         vote: Vote<S::Signature, D>,
-    ) -> Result<Option<(Outcome, Option<Activity<S::Signature, D>>)>, OwnFault>
+    ) -> Result<Cast<S::Signature, D>, OwnFault>
         requires { (S.meaning self.old.scheme).attests (subject_of vote) (attestation_of vote)
             ≡ true }
-        ensures meets { IfOk result (λ cast. IfSome cast (λ answer.
-            Meets (⟦<S as NodeJudge<D>>⟧.of self.old) self.old
-            (vote_cast vote answer.0 answer.1) self.new)) }
-        ensures outside { result ≡ Ok None
-            → is_of self.old.epoch self.old.window (round_in (subject_of vote)) ≡ false }
-        ensures outside_stays { result ≡ Ok None → self.new ≡ self.old }
+        ensures meets { IfOk result (λ cast. MeetsCast (⟦<S as NodeJudge<D>>⟧.of self.old) self.old
+            vote cast self.new) }
+        ensures named { IfErr result (λ fault. WhereverNodeStands (⟦<S as NodeJudge<D>>⟧.of self.old)
+            self.old (λ past. let view = (round_in (subject_of vote)).view.0 in
+            fault ≡ fault_or_memory (own_answer (setting_of (⟦<S as NodeJudge<D>>⟧.of self.old)
+            past view) (told view past) vote))) }
+        ensures needed { OnErr result
+            (is_of self.old.epoch self.old.window (round_in (subject_of vote)) ≡ true) }
         ensures refused { OnErr result (self.new ≡ self.old) }
         ensures same { SameNode self.old self.new }
     {
         let number = number_of(&vote);
         if !is_within(self.frame.epoch, self.window, number) {
-            return Ok(None);
+            return Ok(Cast::Outside);
         }
         let view = number.view.0;
         let answer = tell_own(&mut self.slots, &self.frame, self.window, view, vote)?;
-        Ok(Some(answer))
+        Ok(cast_by(answer.1))
     }
 
     /// Enters a view with its leader. Views that are passed over by it, and in which nothing was
@@ -226,6 +251,11 @@ impl<S: Scheme<D>, D: Digest> Node<S, D> {
         ensures meets { OnOk result (Meets (⟦<S as NodeJudge<D>>⟧.of self.old) self.old
             (view_entered view.0 leader) self.new) }
         ensures passed { view.0 < self.old.window.finalized → result ≡ Err EnterFault.Passed }
+        ensures not_passed { result ≡ Err EnterFault.Passed → view.0 < self.old.window.finalized }
+        ensures led { result ≡ Err EnterFault.LeaderChanged
+            → IsLedByAnother (slot_at self.old.rounds view.0) leader }
+        ensures needed { result ≡ Err EnterFault.OutOfMemory
+            → slot_at self.old.rounds view.0 ≡ None }
         ensures refused { OnErr result (self.new ≡ self.old) }
         ensures same { SameNode self.old self.new }
     {
@@ -251,6 +281,7 @@ impl<S: Scheme<D>, D: Digest> Node<S, D> {
 
     /// Makes one construction, in the lowest view that changed since it was found to rest, and
     /// answers the view with its batch, if it gives one. It answers nothing where all views rest.
+    /// Whose votes the batch found not to attest is blocked from then on.
     ///
     /// A fourth construction in a row gives no batch, so a caller goes on until there is no
     /// answer. A refusal for memory leaves the node as it was; only the generator may have moved.
@@ -262,6 +293,11 @@ impl<S: Scheme<D>, D: Digest> Node<S, D> {
             Meets (⟦<S as NodeJudge<D>>⟧.of self.old) self.old
             (constructed one.view.0 one.batch) self.new)) }
         ensures rests { result ≡ Ok None → (self.new ≡ self.old) × (IsAtRest self.old) }
+        ensures draws { IfOk result (λ made. IfSome made (λ one. Draws ⟦<S as Judge<D>>⟧.of
+            (slot_at self.old.rounds) (slot_at self.new.rounds) one.view.0
+            (R.stream rng.old) one.batch (R.stream rng.new))) }
+        ensures draws_nothing { result ≡ Ok None → R.stream rng.new ≡ R.stream rng.old }
+        ensures needed { OnErr result ((view : ℕ) × (HasChanged (slot_at self.old.rounds view))) }
         ensures refused { OnErr result (self.new ≡ self.old) }
         ensures same { SameNode self.old self.new }
     {
@@ -271,6 +307,7 @@ impl<S: Scheme<D>, D: Digest> Node<S, D> {
         let Some(batch) = tell_to_construct(&mut self.slots, number, rng)? else {
             return Ok(None);
         };
+        block_named(&mut self.blocked, &batch);
         let view = View(number);
         Ok(Some(Construction { view, batch }))
     }
@@ -290,11 +327,19 @@ impl<S: Scheme<D>, D: Digest> Node<S, D> {
         self.slots.len()
     }
 
-    /// Who is blocked, and why, in the order in which that came about.
-    pub fn blocked(&self) -> &[Blocked<S::PublicKey>]
+    /// Why each participant is blocked, if it is, by its index.
+    pub fn blocked(&self) -> &[Option<Cause>]
         ensures { result.now ≡ self.now.blocked }
     {
         self.blocked.as_slice()
+    }
+
+    // The participant with the key.
+    fn sender(&self, peer: &S::PublicKey) -> Option<Participant>
+        ensures peer { result ≡ peer_in (⟦<S as NodeJudge<D>>⟧.of self.now) peer.now }
+        ensures in_range { IfSome result (λ p. p.0 < length self.now.blocked) }
+    {
+        self.frame.scheme.participants().index(peer)
     }
 
     /// The round of the view, if something was said in it.
@@ -316,6 +361,16 @@ fn is_within(epoch: Epoch, window: Window, number: positions::Round) -> bool
     number.epoch == epoch && window.contains(number.view.0)
 }
 
+// What became of an own vote, by what is reported of it.
+fn cast_by<G, D>(report: Option<Activity<G, D>>) -> Cast<G, D>
+    ensures { result ≡ cast_by report }
+{
+    match report {
+        Some(report) => Cast::ToSend(report),
+        None => Cast::Known,
+    }
+}
+
 // Drops the rounds of the views before this one.
 fn drop_before<R: Drop>(slots: &mut BTreeMap<u64, Slot<R>>, finalized: u64)
     ensures kept { (view : ℕ) → finalized ≤ view
@@ -328,6 +383,8 @@ fn drop_before<R: Drop>(slots: &mut BTreeMap<u64, Slot<R>>, finalized: u64)
 // The first view that changed since it was found to rest.
 fn first_due<R>(slots: &BTreeMap<u64, Slot<R>>) -> Option<u64>
     ensures found { IfSome result (λ view. HasChanged (slot_at slots.now.entries view)) }
+    ensures lowest { IfSome result (λ view. (lower : ℕ) → lower < view
+        → IfSome (slot_at slots.now.entries lower) (λ slot. slot.changed ≡ false)) }
     ensures none { IfNone result ((view : ℕ)
         → IfSome (slot_at slots.now.entries view) (λ slot. slot.changed ≡ false)) }
 {
@@ -346,21 +403,77 @@ fn first_changed<R>(slots: &BTreeMap<u64, Slot<R>>) -> Option<u64>
     }
 }
 
-// Whether the peer is among those that are blocked.
-fn is_blocked<P: Copy + Eq>(blocked: &[Blocked<P>], peer: &P) -> bool
-    ensures { result ≡ is_blocked P.eq blocked.now peer.now }
+// That none of so many participants is blocked.
+fn none_blocked(alloc: Global, participants: usize) -> Result<Vec<Option<Cause>>, AllocError>
+    ensures each { IfOk result (λ blocked. length blocked.items ≡ participants) }
+    ensures none { IfOk result (λ blocked. (i : ℕ) → cause_at blocked.items i ≡ None) }
 {
-    blocked.iter().any(|b| b.peer == *peer)
+    let mut blocked = Vec::new(alloc);
+    blocked.resize(participants, None)?;
+    Ok(blocked)
 }
 
-// Blocks the peer where there is a reason. Room for it was made.
-fn block_for_vote<P: Copy>(blocked: &mut Vec<Blocked<P>>, peer: P, reason: Option<BlockReason>)
-    requires { vec_len blocked.old < vec_capacity blocked.old }
-    ensures { blocked.new.items ≡ blocked.old.items
-        ++ option_map_or (λ why. record { peer = peer; cause = ForVote why } ∷ []) reason [] }
+// Whether the participant is blocked.
+fn is_blocked(blocked: &[Option<Cause>], participant: Participant) -> bool
+    ensures { result ≡ is_some (cause_at blocked.now participant.0) }
 {
-    if let Some(why) = reason {
-        let cause = Cause::Vote(why);
-        blocked.push_reserved(Blocked { peer, cause });
+    match blocked.get(participant.0 as usize) {
+        Some(cause) => cause.is_some(),
+        None => false,
+    }
+}
+
+// Blocks the participant, unless it is blocked.
+fn block(blocked: &mut Vec<Option<Cause>>, participant: Participant, cause: Cause)
+    ensures each { length blocked.new.items ≡ length blocked.old.items }
+    ensures blocks { (i : ℕ) → i < length blocked.old.items → cause_at blocked.new.items i
+        ≡ option_or (cause_at blocked.old.items i) (cond (participant.0 == i) (Some cause) None) }
+{
+    if is_blocked(blocked.as_slice(), participant) {
+        return;
+    }
+    let place = participant.0 as usize;
+    if place < blocked.len() {
+        blocked[place] = Some(cause);
+    }
+}
+
+// Blocks it where there is a reason.
+fn block_for_vote(
+    blocked: &mut Vec<Option<Cause>>,
+    participant: Participant,
+    reason: Option<BlockReason>,
+)
+    ensures each { length blocked.new.items ≡ length blocked.old.items }
+    ensures blocks { (i : ℕ) → i < length blocked.old.items → cause_at blocked.new.items i
+        ≡ option_or (cause_at blocked.old.items i)
+        (cond (participant.0 == i) (option_map ForVote reason) None) }
+{
+    if let Some(reason) = reason {
+        block(blocked, participant, Cause::Vote(reason));
+    }
+}
+
+// Blocks whom a batch names.
+fn block_named<C>(blocked: &mut Vec<Option<Cause>>, given: &Option<Batch<C>>)
+    ensures each { length blocked.new.items ≡ length blocked.old.items }
+    ensures blocks { (i : ℕ) → i < length blocked.old.items → cause_at blocked.new.items i
+        ≡ option_or (cause_at blocked.old.items i)
+        (cond (list_any (λ p. p.0 == i) (invalid_in given.now)) (Some ForSignature) None) }
+{
+    if let Some(batch) = given {
+        block_signers(blocked, batch.invalid.as_slice());
+    }
+}
+
+// Blocks each of the signers, unless it is blocked.
+fn block_signers(blocked: &mut Vec<Option<Cause>>, signers: &[Participant])
+    ensures each { length blocked.new.items ≡ length blocked.old.items }
+    ensures blocks { (i : ℕ) → i < length blocked.old.items → cause_at blocked.new.items i
+        ≡ option_or (cause_at blocked.old.items i)
+        (cond (list_any (λ p. p.0 == i) signers.now) (Some ForSignature) None) }
+{
+    for signer in signers {
+        block(blocked, *signer, Cause::Signature);
     }
 }

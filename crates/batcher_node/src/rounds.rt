@@ -1,6 +1,6 @@
 //! The rounds of views, each told what is said in its view.
 
-ghost use Rattle.std.specs.Prelude.{◌≡◌, ◌≢◌, ◌≤◌, ℕ, true, length, [], Some, None, Ok, is_some, IfOk, OnOk, OnErr, IfSome, IfNone};
+ghost use Rattle.std.specs.Prelude.{◌≡◌, ◌≢◌, ◌≤◌, ℕ, true, false, length, MatchOption, [], Some, None, Ok, IfOk, IfErr, OnOk, OnErr, IfSome, IfNone};
 ghost use Rattle.std.specs.Ordering.{nat_cmp};
 ghost use Rattle.std.specs.BTreeMap.{get};
 ghost use Rattle.batcher.specs.calls.Call.TheVariants.{Network as NetworkCall, Own as OwnCall, Certificate as CertificateCall, Leader as LeaderCall, Construct as ConstructCall};
@@ -8,14 +8,16 @@ ghost use Rattle.batcher.specs.answers.Answer.TheVariants.{Network as NetworkAns
 ghost use Rattle.batcher.specs.Votes.{subject_of, subject_certified, attestation_of, round_in};
 ghost use Rattle.batcher.specs.Runs.{MayCall};
 ghost use Rattle.batcher.specs.Stands.{Stands};
+ghost use Rattle.batcher.specs.Judged.{WhereverItStands};
+ghost use Rattle.batcher.specs.Selection.{is_certified};
 ghost use Rattle.batcher.specs.Verifiers.{certifies_itself};
 ghost use Rattle.batcher_node.specs.Windows.{numbered};
-ghost use Rattle.batcher_node.specs.Nodes.{fresh_round, Tells, TellsThere};
+ghost use Rattle.batcher_node.specs.Nodes.{fresh_round, Tells, TellsThere, Draws, NamesFault, IsLedByAnother, NamesEnterFault};
 
 use crate::answers::EnterFault;
 use crate::slot::Slot;
 use crate::window::Window;
-use batcher::messages::{Activity, Certificate, Digest, Subject, Vote};
+use batcher::messages::{Activity, Certificate, Digest, Kind, Subject, Vote};
 use batcher::positions::{self, Epoch, Participant, View};
 use batcher::round::{Admission, Judge, OwnFault, Round};
 use batcher::scheme::Scheme;
@@ -83,6 +85,22 @@ pub(crate) fn verifies<S: Scheme<D>, D: Digest>(
     }
 }
 
+// Whether the view has a certificate of the kind.
+pub(crate) fn has_certificate<S: Scheme<D>, D: Digest>(
+    slots: &Slots<S, D>,
+    view: u64,
+    kind: Kind,
+) -> bool
+    ensures { MatchOption (get nat_cmp slots.now view) (result ≡ false) (λ slot.
+        WhereverItStands ⟦<S as Judge<D>>⟧.of slot.round
+        (λ _ past. result ≡ is_certified past kind)) }
+{
+    match slots.get(&view) {
+        Some(slot) => slot.round.has_certificate(kind),
+        None => false,
+    }
+}
+
 // A round of a view in which nothing was said.
 fn fresh<S: Scheme<D>, D: Digest>(
     frame: &Frame<S>,
@@ -114,7 +132,7 @@ fn tell_vote_there<S: Scheme<D>, D: Digest>(
         (λ slot. round_in (subject_of vote) ≡ slot.round.number) }
     ensures tells { IfOk result (λ told. IfSome told (λ answer. TellsThere ⟦<S as Judge<D>>⟧.of
         (get nat_cmp slots.old) (get nat_cmp slots.new) view
-        (NetworkCall peer vote) (NetworkAnswer answer) true)) }
+        (NetworkCall peer vote) (NetworkAnswer answer))) }
     ensures absent { IfOk result (λ told. IfNone told (get nat_cmp slots.old view ≡ None)) }
     ensures untold { IfOk result (λ told. IfNone told (slots.new.entries ≡ slots.old.entries)) }
     ensures refused { OnErr result (slots.new.entries ≡ slots.old.entries) }
@@ -122,7 +140,8 @@ fn tell_vote_there<S: Scheme<D>, D: Digest>(
     match slots.get_mut(&view) {
         Some(slot) => {
             let admission = slot.round.add_network(peer, vote)?;
-            slot.changed = true;
+            let changed = admission.added | slot.changed;
+            slot.changed = changed;
             Ok(Some(admission))
         }
         None => Ok(None),
@@ -140,9 +159,10 @@ fn tell_own_there<S: Scheme<D>, D: Digest>(
         (OwnCall vote)) }
     ensures tells { IfOk result (λ told. IfSome told (λ answer. TellsThere ⟦<S as Judge<D>>⟧.of
         (get nat_cmp slots.old) (get nat_cmp slots.new) view
-        (OwnCall vote) (OwnAnswer answer.0 answer.1) true)) }
+        (OwnCall vote) (OwnAnswer answer.0 answer.1))) }
     ensures absent { IfOk result (λ told. IfNone told (get nat_cmp slots.old view ≡ None)) }
     ensures untold { IfOk result (λ told. IfNone told (slots.new.entries ≡ slots.old.entries)) }
+    ensures named { IfErr result (NamesFault ⟦<S as Judge<D>>⟧.of (get nat_cmp slots.old view) vote) }
     ensures refused { OnErr result (slots.new.entries ≡ slots.old.entries) }
 {
     match slots.get_mut(&view) {
@@ -165,7 +185,7 @@ fn tell_certificate_there<S: Scheme<D>, D: Digest>(
         (λ slot. round_in (subject_certified certificate.now) ≡ slot.round.number) }
     ensures tells { IfOk result (λ told. IfSome told (λ answer. TellsThere ⟦<S as Judge<D>>⟧.of
         (get nat_cmp slots.old) (get nat_cmp slots.new) view
-        (CertificateCall certificate.now) (CertificateAnswer answer) true)) }
+        (CertificateCall certificate.now) (CertificateAnswer answer))) }
     ensures absent { IfOk result (λ told. IfNone told (get nat_cmp slots.old view ≡ None)) }
     ensures untold { IfOk result (λ told. IfNone told (slots.new.entries ≡ slots.old.entries)) }
     ensures refused { OnErr result (slots.new.entries ≡ slots.old.entries) }
@@ -188,9 +208,10 @@ fn tell_leader_there<S: Scheme<D>, D: Digest>(
 ) -> Result<Option<()>, LeaderFault>
     ensures tells { IfOk result (λ told. IfSome told (λ answer. TellsThere ⟦<S as Judge<D>>⟧.of
         (get nat_cmp slots.old) (get nat_cmp slots.new) view
-        (LeaderCall leader) (LeaderAnswer (Ok answer)) true)) }
+        (LeaderCall leader) (LeaderAnswer (Ok answer)))) }
     ensures absent { IfOk result (λ told. IfNone told (get nat_cmp slots.old view ≡ None)) }
     ensures untold { IfOk result (λ told. IfNone told (slots.new.entries ≡ slots.old.entries)) }
+    ensures led { OnErr result (IsLedByAnother (get nat_cmp slots.old view) leader) }
     ensures refused { OnErr result (slots.new.entries ≡ slots.old.entries) }
 {
     match slots.get_mut(&view) {
@@ -211,7 +232,10 @@ pub(crate) fn tell_to_construct<S: Scheme<D>, D: Digest, R: CryptoRng>(
 ) -> Result<Option<Option<Batch<Certificate<S::Certificate, D>>>>, AllocError>
     ensures tells { IfOk result (λ told. IfSome told (λ answer. TellsThere ⟦<S as Judge<D>>⟧.of
         (get nat_cmp slots.old) (get nat_cmp slots.new) view
-        ConstructCall (ConstructAnswer answer) (is_some answer))) }
+        ConstructCall (ConstructAnswer answer))) }
+    ensures draws { IfOk result (λ told. IfSome told (λ answer. Draws ⟦<S as Judge<D>>⟧.of
+        (get nat_cmp slots.old) (get nat_cmp slots.new) view
+        (R.stream rng.old) answer (R.stream rng.new))) }
     ensures absent { IfOk result (λ told. IfNone told (get nat_cmp slots.old view ≡ None)) }
     ensures untold { IfOk result (λ told. IfNone told (slots.new.entries ≡ slots.old.entries)) }
     ensures refused { OnErr result (slots.new.entries ≡ slots.old.entries) }
@@ -232,14 +256,14 @@ fn keep<S: Scheme<D>, D: Digest>(
     slots: &mut Slots<S, D>,
     view: u64,
     round: Round<S, D>,
+    changed: bool,
 ) -> Result<(), AllocError>
     ensures here { OnOk result (get nat_cmp slots.new view
-        ≡ Some (record { round = round; changed = true })) }
+        ≡ Some (record { round = round; changed = changed })) }
     ensures others { OnOk result ((other : ℕ) → other ≢ view
         → get nat_cmp slots.new other ≡ get nat_cmp slots.old other) }
     ensures refused { OnErr result (slots.new.entries ≡ slots.old.entries) }
 {
-    let changed = true;
     drop(slots.insert(view, Slot { round, changed })?);
     Ok(())
 }
@@ -260,7 +284,7 @@ pub(crate) fn tell_vote<S: Scheme<D>, D: Digest>(
     ensures tells { IfOk result (λ answer. Tells ⟦<S as Judge<D>>⟧.of
         (get nat_cmp slots.old) (get nat_cmp slots.new) view
         (fresh_round frame.now.scheme.value frame.now.epoch frame.now.retains window view)
-        (NetworkCall peer vote) (NetworkAnswer answer) true) }
+        (NetworkCall peer vote) (NetworkAnswer answer)) }
     ensures refused { OnErr result (slots.new.entries ≡ slots.old.entries) }
 {
     match tell_vote_there(slots, view, peer, vote)? {
@@ -269,7 +293,7 @@ pub(crate) fn tell_vote<S: Scheme<D>, D: Digest>(
             let mut round = fresh(frame, window, view)?;
             match round.add_network(peer, vote) {
                 Ok(admission) => {
-                    keep(slots, view, round)?;
+                    keep(slots, view, round, admission.added)?;
                     Ok(admission)
                 }
                 Err(error) => {
@@ -299,7 +323,8 @@ pub(crate) fn tell_own<S: Scheme<D>, D: Digest>(
     ensures tells { IfOk result (λ answer. Tells ⟦<S as Judge<D>>⟧.of
         (get nat_cmp slots.old) (get nat_cmp slots.new) view
         (fresh_round frame.now.scheme.value frame.now.epoch frame.now.retains window view)
-        (OwnCall vote) (OwnAnswer answer.0 answer.1) true) }
+        (OwnCall vote) (OwnAnswer answer.0 answer.1)) }
+    ensures named { IfErr result (NamesFault ⟦<S as Judge<D>>⟧.of (get nat_cmp slots.old view) vote) }
     ensures refused { OnErr result (slots.new.entries ≡ slots.old.entries) }
 {
     match tell_own_there(slots, view, vote)? {
@@ -308,7 +333,7 @@ pub(crate) fn tell_own<S: Scheme<D>, D: Digest>(
             let mut round = fresh(frame, window, view)?;
             match round.accept_vote(vote) {
                 Ok(answer) => {
-                    keep(slots, view, round)?;
+                    keep(slots, view, round, true)?;
                     Ok(answer)
                 }
                 Err(fault) => {
@@ -336,7 +361,7 @@ pub(crate) fn tell_certificate<S: Scheme<D>, D: Digest>(
     ensures tells { IfOk result (λ answer. Tells ⟦<S as Judge<D>>⟧.of
         (get nat_cmp slots.old) (get nat_cmp slots.new) view
         (fresh_round frame.now.scheme.value frame.now.epoch frame.now.retains window view)
-        (CertificateCall certificate.now) (CertificateAnswer answer) true) }
+        (CertificateCall certificate.now) (CertificateAnswer answer)) }
     ensures refused { OnErr result (slots.new.entries ≡ slots.old.entries) }
 {
     match tell_certificate_there(slots, view, certificate)? {
@@ -345,7 +370,7 @@ pub(crate) fn tell_certificate<S: Scheme<D>, D: Digest>(
             let mut round = fresh(frame, window, view)?;
             match round.record_certificate(certificate) {
                 Ok(answer) => {
-                    keep(slots, view, round)?;
+                    keep(slots, view, round, true)?;
                     Ok(answer)
                 }
                 Err(error) => {
@@ -369,7 +394,8 @@ pub(crate) fn tell_leader<S: Scheme<D>, D: Digest>(
     ensures tells { IfOk result (λ answer. Tells ⟦<S as Judge<D>>⟧.of
         (get nat_cmp slots.old) (get nat_cmp slots.new) view
         (fresh_round frame.now.scheme.value frame.now.epoch frame.now.retains window view)
-        (LeaderCall leader) (LeaderAnswer (Ok answer)) true) }
+        (LeaderCall leader) (LeaderAnswer (Ok answer))) }
+    ensures fault { IfErr result (NamesEnterFault (get nat_cmp slots.old view) leader) }
     ensures refused { OnErr result (slots.new.entries ≡ slots.old.entries) }
 {
     match tell_leader_there(slots, view, leader)? {
@@ -378,7 +404,7 @@ pub(crate) fn tell_leader<S: Scheme<D>, D: Digest>(
             let mut round = fresh(frame, window, view)?;
             match round.set_leader(leader) {
                 Ok(()) => {
-                    keep(slots, view, round)?;
+                    keep(slots, view, round, true)?;
                     Ok(())
                 }
                 Err(fault) => {

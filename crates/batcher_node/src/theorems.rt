@@ -15,7 +15,7 @@ use batcher::scheme::Scheme;
 /// all that `run` promises of a round, and that who is blocked gave cause by what it did itself.
 /// So an honest peer is never blocked, whatever others send in any view.
 pub fn nodes_keep_their_promises<S: Scheme<D>, D: Digest>()
-    ensures { (node : TheNode S S.PublicKey S.Signature D)
+    ensures { (node : TheNode S S.Signature D)
         → 1 ≤ length (S.meaning node.scheme).participants
         → (past : TheHistory D S.PublicKey S.Signature S.Certificate)
         → NodeStands (⟦<S as NodeJudge<D>>⟧.of node) past node

@@ -1,9 +1,8 @@
-use Rattle.std.proofs.Common.{◌≡◌, ◌∙◌, ℕ, Option, Some, None, sym, refl}
-use Rattle.std.specs.Prelude.{IfSome, IfNone, List}
-use Rattle.std.specs.Option.{option_map}
-use Rattle.batcher_node.specs.Nodes.{HasChanged, slot_at}
-use Rattle.batcher_node.specs.declared.slot.Slot.{Slot}
+use Rattle.std.proofs.Common.{◌≡◌, ◌<◌, ◌∙◌, ℕ, false, Option, Some, None, sym, refl}
+use Rattle.std.specs.Prelude.{IfSome, IfNone}
+use Rattle.batcher_node.specs.Nodes.{slot_at}
 use Rattle.batcher_node.proofs.Finding.{view_found, view_none}
+use Rattle.batcher_node.proofs.Lowest.{view_lowest}
 use Rattle.batcher_node.proofs.node.first_due.Goals as goal
 
 some_case : {P : ℕ → Type 0} (o : Option ℕ) → ((view : ℕ) → o ≡ Some view → P view) → IfSome o P
@@ -19,6 +18,13 @@ returns-clause-found g c =
     some_case _ (λ view is.
     view_found c.args.slots.now.entries view _ c.len.ensures.ordered refl
     (sym c.first_changed-first.ensures ∙ is))
+
+pub returns-clause-lowest : goal.returns-clause-lowest
+returns-clause-lowest g c =
+    some_case {P = λ view. (lower : ℕ) → lower < view
+    → IfSome (slot_at c.args.slots.now.entries lower) (λ slot. slot.changed ≡ false)} _ (λ view is lower below.
+    view_lowest c.args.slots.now.entries view _ c.len.ensures.ordered refl
+    (sym c.first_changed-first.ensures ∙ is) lower below)
 
 pub returns-clause-none : goal.returns-clause-none
 returns-clause-none g c =

@@ -1,4 +1,4 @@
-use Rattle.std.proofs.Common.{◌≡◌, ◌∙◌, refl, sym, ap, true, Some, is_some, rules}
+use Rattle.std.proofs.Common.{◌∙◌, sym, ap, true, Some, rules}
 use Rattle.std.proofs.lemmas.Map.Steps.{set_value_same}
 use Rattle.batcher_node.proofs.Telling.{not_at, on_err}
 use Rattle.batcher_node.proofs.rounds.tell_certificate_there.Goals as goal

@@ -1,4 +1,4 @@
-use Rattle.std.proofs.Common.{◌≡◌, ◌∙◌, refl, sym, ap}
+use Rattle.std.proofs.Common.{refl}
 use Rattle.batcher_node.proofs.Telling.{told_fresh, if_none}
 use Rattle.batcher_node.proofs.rounds.tell_leader.Goals as goal
 
@@ -8,6 +8,6 @@ returns-in_ok-keep-in-Ok-clause-tells g c =
     told_fresh _ c.args.slots.now c.tell_leader_there.new.slots c.keep.new.slots c.args.view
     (if_none _ c.in-None.is c.in_ok-answer.ensures.untold)
     (if_none _ c.in-None.is c.in_ok-answer.ensures.absent)
-    _ c.in_ok-round-in-None.round _ _ made.made made.stands
+    _ c.in_ok-round-in-None.round _ _ _ made.made made.stands
     c.set_leader.new.self c.set_leader.ensures.same c.in-Ok.ensures.meets
-    c.in_ok-keep-in-Ok.ensures.here c.in_ok-keep-in-Ok.ensures.others
+    c.in_ok-keep-in-Ok.ensures.here refl c.in_ok-keep-in-Ok.ensures.others

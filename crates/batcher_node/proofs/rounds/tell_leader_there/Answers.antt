@@ -1,6 +1,9 @@
-use Rattle.std.proofs.Common.{◌≡◌, ◌∙◌, refl, sym, ap, true, Some, is_some, rules}
+use Rattle.std.proofs.Common.{◌∙◌, sym, ap, true, Some, rules}
 use Rattle.std.proofs.lemmas.Map.Steps.{set_value_same}
-use Rattle.batcher_node.proofs.Telling.{not_at, on_err}
+use Rattle.std.specs.Ordering.{nat_cmp}
+use Rattle.std.specs.BTreeMap.{get}
+use Rattle.batcher_node.specs.Nodes.{IsLedByAnother}
+use Rattle.batcher_node.proofs.Telling.{not_at, on_err, is_another}
 use Rattle.batcher_node.proofs.rounds.tell_leader_there.Goals as goal
 
 pub returns-in_err-set_leader-in-Some-clause-refused :
@@ -27,3 +30,11 @@ returns-in_ok-set_leader-in-Some-clause-tells g c =
         others = λ other apart. updates.2 other (not_at c.args.view other apart);
       };
     }
+
+pub returns-in_err-set_leader-in-Some-clause-led : goal.returns-in_err-set_leader-in-Some-clause-led
+returns-in_err-set_leader-in-Some-clause-led g c =
+    on_err {P = IsLedByAnother (get nat_cmp c.args.slots.now c.args.view) c.args.leader} _ (record {
+      slot = c.in-Some.slot.now;
+      there = sym c.in-Some.ensures.value;
+      another = is_another _ c.args.leader _ c.in_err-set_leader-in-Some.ensures.answer;
+    })

@@ -1,6 +1,6 @@
-use Rattle.std.proofs.Common.{◌≡◌, ◌∙◌, refl, sym, ap, true, Some, is_some, rules}
+use Rattle.std.proofs.Common.{◌∙◌, sym, ap, true, Some, rules}
 use Rattle.std.proofs.lemmas.Map.Steps.{set_value_same}
-use Rattle.batcher_node.proofs.Telling.{not_at, on_err}
+use Rattle.batcher_node.proofs.Telling.{not_at, on_err, there_named, err_known}
 use Rattle.batcher_node.proofs.rounds.tell_own_there.Goals as goal
 
 pub returns-in_err-answer-in-Some-clause-refused : goal.returns-in_err-answer-in-Some-clause-refused
@@ -25,3 +25,9 @@ returns-in_ok-answer-in-Some-clause-tells g c =
         others = λ other apart. updates.2 other (not_at c.args.view other apart);
       };
     }
+
+pub returns-in_err-answer-in-Some-clause-named : goal.returns-in_err-answer-in-Some-clause-named
+returns-in_err-answer-in-Some-clause-named g c =
+    err_known _ _
+    (there_named _ _ c.args.vote _ c.in-Some.slot.now (sym c.in-Some.ensures.value)
+    c.in_err-answer-in-Some.ensures.named) _ c.from_residual.ensures.1

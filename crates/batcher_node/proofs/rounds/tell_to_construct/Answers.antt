@@ -1,6 +1,6 @@
-use Rattle.std.proofs.Common.{◌≡◌, ◌∙◌, refl, sym, ap, true, Some, is_some, rules}
+use Rattle.std.proofs.Common.{◌∙◌, sym, ap, Some, rules}
 use Rattle.std.proofs.lemmas.Map.Steps.{set_value_same}
-use Rattle.batcher_node.proofs.Telling.{not_at, on_err}
+use Rattle.batcher_node.proofs.Telling.{not_at, on_err, due_given}
 use Rattle.batcher_node.proofs.rounds.tell_to_construct.Goals as goal
 
 pub returns-in_err-batch-in-Some-clause-refused : goal.returns-in_err-batch-in-Some-clause-refused
@@ -21,7 +21,21 @@ returns-in_ok-batch-in-Some-clause-tells g c =
         after = c.try_construct.new.self;
         same = c.try_construct.ensures.same;
         follows = c.in_ok-batch-in-Some.ensures.meets;
-        here = updates.1 ∙ ap (λ b. Some (record left { changed = b })) c.is_some-slot.ensures;
+        here = updates.1
+            ∙ ap (λ b. Some (record left { changed = b }))
+            (c.is_some-slot.ensures ∙ due_given g.row.S-PublicKey.Denot g.row.S-Signature.Denot _ c.in-Some.slot.now.changed);
         others = λ other apart. updates.2 other (not_at c.args.view other apart);
       };
+    }
+
+pub returns-in_ok-batch-in-Some-clause-draws : goal.returns-in_ok-batch-in-Some-clause-draws
+returns-in_ok-batch-in-Some-clause-draws g c =
+    let left = record c.in-Some.slot.now { round = c.try_construct.new.self; changed = c.is_some-slot.result } in
+    let updates = (c.get_mut.follows.holds left).3 (search rules) in
+    record {
+      slot = c.in-Some.slot.now;
+      there = sym c.in-Some.ensures.value;
+      left = left;
+      here = updates.1;
+      step = c.in_ok-batch-in-Some.ensures.step;
     }

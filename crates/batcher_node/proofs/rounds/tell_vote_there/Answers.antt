@@ -1,4 +1,4 @@
-use Rattle.std.proofs.Common.{◌≡◌, ◌∙◌, refl, sym, ap, true, Some, is_some, rules}
+use Rattle.std.proofs.Common.{◌∙◌, sym, ap, ◌||◌, Some, rules}
 use Rattle.std.proofs.lemmas.Map.Steps.{set_value_same}
 use Rattle.batcher_node.proofs.Telling.{not_at, on_err}
 use Rattle.batcher_node.proofs.rounds.tell_vote_there.Goals as goal
@@ -13,7 +13,10 @@ returns-in_err-admission-in-Some-clause-refused g c =
 
 pub returns-in_ok-admission-in-Some-clause-tells : goal.returns-in_ok-admission-in-Some-clause-tells
 returns-in_ok-admission-in-Some-clause-tells g c =
-    let left = record c.in-Some.slot.now { round = c.add_network.new.self; changed = true } in
+    let left = record c.in-Some.slot.now {
+      round = c.add_network.new.self;
+      changed = c.in_ok-admission-in-Some.admission.added || c.in-Some.slot.now.changed;
+    } in
     let updates = (c.get_mut.follows.holds left).3 (search rules) in
     record {
       slot = c.in-Some.slot.now;

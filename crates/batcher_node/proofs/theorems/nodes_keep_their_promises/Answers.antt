@@ -1,12 +1,13 @@
 use Rattle.batcher_node.proofs.Promising.{node_promised}
 use Rattle.batcher_node.specs.Windows.{numbered}
 use Rattle.batcher_node.specs.Events.{told}
-use Rattle.batcher_node.specs.Stands.{judge_node, mode_of}
+use Rattle.batcher_node.specs.Stands.{mode_of}
+use Rattle.batcher_node.specs.Nodes.{judge_node}
 use Rattle.batcher_node.proofs.theorems.nodes_keep_their_promises.Goals as goal
 
 pub returns : goal.returns
 returns g c = λ node some past h.
-    let x = judge_node g.S.Scheme.meaning g.S.PublicKey.Ord.cmp g.S.PublicKey.PartialEq.eq
+    let x = judge_node g.S.Scheme.meaning g.S.PublicKey.Ord.cmp
     g.S.Signature.PartialEq.eq g.D.PartialEq.eq node in
     node_promised x
     (λ before view possible.

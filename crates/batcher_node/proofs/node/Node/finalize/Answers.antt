@@ -1,10 +1,10 @@
-use Rattle.std.proofs.Common.{◌≡◌, ◌∙◌, sym, refl, rules}
+use Rattle.std.proofs.Common.{refl}
 use Rattle.batcher_node.proofs.Answering.{finalized_told}
 use Rattle.batcher_node.proofs.node.Node.finalize.Goals as goal
 
 pub returns-clause-meets : goal.returns-clause-meets
 returns-clause-meets g c = λ past.
     rw (← c.self.view_is)
-    (finalized_told g.S.Scheme.meaning g.S.PublicKey.Ord.cmp g.S.PublicKey.PartialEq.eq
+    (finalized_told g.S.Scheme.meaning g.S.PublicKey.Ord.cmp
     g.S.Signature.PartialEq.eq g.D.PartialEq.eq past _ _ c.args.view.0
     c.finalize.ensures refl c.drop_before.ensures.kept)

@@ -1,19 +1,21 @@
-use Rattle.std.proofs.Common.{◌≡◌, ◌∙◌, sym, ap, refl}
-use Rattle.batcher_node.specs.Events.{is_blocked}
-use Rattle.batcher_node.proofs.Answering.{certificate_told, certificate_forged}
+use Rattle.std.proofs.Common.{◌∙◌, sym, refl, rules}
+use Rattle.batcher_node.proofs.Answering.{not_far, certified_there, certificate_told}
 use Rattle.batcher_node.proofs.node.Node.receive_certificate.Goals as goal
 
 pub returns-clause-meets : goal.returns-clause-meets
 returns-clause-meets g c = λ past.
-    let same = g.S.PublicKey.PartialEq.eq in
     let number = c.number_certified-number.ensures in
     rw (← c.self.view_is)
-    (certificate_told g.S.Scheme.meaning g.S.PublicKey.Ord.cmp same g.S.Signature.PartialEq.eq
+    (certificate_told g.S.Scheme.meaning g.S.PublicKey.Ord.cmp g.S.Signature.PartialEq.eq
     g.D.PartialEq.eq past _ _ c.args.peer c.args.certificate.now c.in_ok-changed.changed _
-    c.self.invariant
-    (sym (c.is_blocked.ensures ∙ ap (λ b. is_blocked same b c.args.peer) c.as_slice.ensures.value)
-    ∙ c.if-is_blocked.false)
+    c.in-Some.sender
+    c.self.invariant.0 (search rules) (search rules) (search rules)
     (rw (← number) (sym c.is_within.ensures ∙ c.if-not-is_within.false))
+    (λ h. sym c.if-has_certificate.false
+    ∙ rw (← c.kind.ensures, ← number)
+    (certified_there g.S.Scheme.meaning g.S.PublicKey.Ord.cmp g.S.Signature.PartialEq.eq
+    g.D.PartialEq.eq past _ c.args.self.now _ _ _ _ c.self.invariant.0
+    (not_far c.self.inside.frame.epoch c.self.inside.window c.number_certified-number.result (sym c.is_within.ensures ∙ c.if-not-is_within.false)) c.has_certificate.ensures h))
     (rw (← c.deref.ensures) (sym c.verifies.ensures ∙ c.if-not-verifies.false))
     (rw (← number) c.in_ok-changed.ensures.tells)
     refl refl)

@@ -1,10 +1,16 @@
-use Rattle.std.proofs.Common.{◌≡◌, ◌∙◌, sym, refl, rules}
+use Rattle.std.proofs.Common.{refl, rules}
+use Rattle.batcher_node.proofs.Telling.{if_some}
 use Rattle.batcher_node.proofs.Answering.{construction_told}
 use Rattle.batcher_node.proofs.node.Node.try_construct.Goals as goal
 
 pub returns-clause-meets : goal.returns-clause-meets
 returns-clause-meets g c = λ past.
     rw (← c.self.view_is)
-    (construction_told g.S.Scheme.meaning g.S.PublicKey.Ord.cmp g.S.PublicKey.PartialEq.eq
+    (construction_told g.S.Scheme.meaning g.S.PublicKey.Ord.cmp
     g.S.Signature.PartialEq.eq g.D.PartialEq.eq past _ _ _ _ _
-    c.self.invariant (search rules) (search rules) refl refl)
+    c.self.invariant.0 (search rules) (search rules) (search rules) refl
+    (λ i within. c.block_named.ensures.blocks i (search rules)))
+
+pub returns-clause-draws : goal.returns-clause-draws
+returns-clause-draws g c =
+    rw (← c.self.view_is) (if_some _ _ _ c.in-Some-2.is c.in_ok-batch.ensures.draws)
