@@ -1,4 +1,4 @@
-//! One view: makes keys, a scheme and a round, names the leader, hears votes, prints the certificate.
+//! One view: makes keys, a scheme and a round, names the leader, hears votes, and certifies.
 #![tactic(auto)]
 
 use anyhow::{Result, bail};

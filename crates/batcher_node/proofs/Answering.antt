@@ -219,7 +219,8 @@ module _ {S D K G C : Type 0} (meaning : S → Meaning D K G C) (compare_keys : 
       (NetworkCall peer vote) (NetworkAnswer admission)
       → new.window ≡ old.window
       → ((i : ℕ) → i < length x.meaning.participants → cause_at new.blocked i
-      ≡ option_or (cause_at old.blocked i) (cond (p.0 == i) (option_map ForVote admission.block) None))
+      ≡ option_or (cause_at old.blocked i)
+      (cond (p.0 == i) (option_map ForVote admission.block) None))
       → NodeStands x past old → NodeStands x (vote_came peer vote (Answered admission) ∷ past) new
   vote_told peer vote admission participants p tended sender in_range free within tells window blocked h =
       let number = round_in (subject_of vote) in
@@ -412,8 +413,11 @@ module _ {S D K G C : Type 0} (meaning : S → Meaning D K G C) (compare_keys : 
             → IfSome o (λ slot. (slot.round.scheme ≡ old.scheme)
             × (slot.round.number ≡ numbered old.epoch (round_in (subject_of vote)).view.0))
             → NamesFault (judge meaning compare_keys same_signature same_digest) o vote fault
-            → MatchOption o (told (round_in (subject_of vote)).view.0 past ≡ []) (ViewStands x past (round_in (subject_of vote)).view.0)
-            → fault ≡ fault_or_memory (own_answer (setting_of x past (round_in (subject_of vote)).view.0) (told (round_in (subject_of vote)).view.0 past) vote)
+            → MatchOption o (told (round_in (subject_of vote)).view.0 past ≡ [])
+            (ViewStands x past (round_in (subject_of vote)).view.0)
+            → fault ≡ fault_or_memory (own_answer
+            (setting_of x past (round_in (subject_of vote)).view.0)
+            (told (round_in (subject_of vote)).view.0 past) vote)
         by_slot None own is none =
             is ∙ first (kind_of vote) (not (is_released (setting_of x past (round_in (subject_of vote)).view.0) [] (kind_of vote)))
             ∙ sym (ap (λ t. fault_or_memory (own_answer (setting_of x past (round_in (subject_of vote)).view.0) t vote)) none)

@@ -93,7 +93,8 @@ any_one test x = by_test (test x) where
   by_test false = refl
 
 -- one more of some signers is blocked
-pub more_signers : (old now new : List (Option Cause)) (done : List Participant) (next : Participant)
+pub more_signers : (old now new : List (Option Cause)) (done : List Participant)
+    (next : Participant)
     (i : ℕ) (more : Option Cause)
     → cause_at new i ≡ option_or (cause_at now i) (cond (next.0 == i) more None)
     → cause_at now i

@@ -231,7 +231,8 @@ module _ {S D K G C : Type 0} (meaning : S → Meaning D K G C) (compare_keys : 
     possible_at t h other (inr apart) =
         possible_still x past event other (elsewhere other apart) (h.possible other)
 
-    views_at : (t : Told) (h : NodeStands x past old) (other : ℕ) → old.window.finalized ≤ other → (other ≡ view) ⊎ (other ≢ view)
+    views_at : (t : Told) (h : NodeStands x past old) (other : ℕ) → old.window.finalized ≤ other
+        → (other ≡ view) ⊎ (other ≢ view)
         → MatchOption (slot_at new.rounds other) (told other (event ∷ past) ≡ [])
         (ViewStands x (event ∷ past) other)
     views_at t h other within (inl is) =

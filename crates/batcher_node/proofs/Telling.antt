@@ -96,7 +96,8 @@ or_false true = refl
 or_false false = refl
 
 -- a round that constructs is due where it gives a batch
-pub due_given : {D C : Type 0} (K G : Type 0) (given : Option (Batch (Certificate C D))) (due : Bool)
+pub due_given : {D C : Type 0} (K G : Type 0) (given : Option (Batch (Certificate C D)))
+    (due : Bool)
     → is_some given ≡ due_after {D = D} {K = K} {G = G} (ConstructCall, ConstructAnswer given) due
 due_given K G None due = refl
 due_given K G (Some batch) due = refl

@@ -180,4 +180,5 @@ module _ {S D K G C : Type 0} (judge : RoundView S G D → Setting D K G C)
     pub there : old view ≡ Some slot
     pub left : Slot (RoundView S G D)
     pub here : new view ≡ Some left
-    pub step : AfterConstruct (judge slot.round) slot.round.holds before given left.round.holds after
+    pub step :
+        AfterConstruct (judge slot.round) slot.round.holds before given left.round.holds after

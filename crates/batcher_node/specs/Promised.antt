@@ -18,8 +18,8 @@ use Rattle.batcher_node.specs.Stands.{setting_of}
 
 module _ {D K G C : Type 0} (x : NodeSetting D K G C) where
   -- Whom an event blocks gave cause: by what it did itself in the view of its vote, with this vote
-  -- at the latest; by sending a certificate that doesn't certify what it names; or by sending a vote
-  -- in its own name, of the view and the kind of a batch, that doesn't attest.
+  -- at the latest; by sending a certificate that doesn't certify what it names; or by sending a
+  -- vote in its own name, of the view and the kind of a batch, that doesn't attest.
   abbrev pub IsForCause : NodeHistory D K G C → NodeEvent D K G C → Type 0
   IsForCause past (vote_came peer vote (Answered admission)) =
       let view = (round_in (subject_of vote)).view.0 in

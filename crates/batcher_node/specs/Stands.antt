@@ -143,7 +143,8 @@ module _ {D K G C : Type 0} (x : NodeSetting D K G C) where
       → Type 0
   MeetsCast old vote (ToSend report) new =
       (outcome : Outcome) × Meets old (vote_cast vote outcome (Some report)) new
-  MeetsCast old vote KnownVote new = (outcome : Outcome) × Meets old (vote_cast vote outcome None) new
+  MeetsCast old vote KnownVote new =
+      (outcome : Outcome) × Meets old (vote_cast vote outcome None) new
   MeetsCast old vote OutsideVote new =
       (is_of x.epoch old.window (round_in (subject_of vote)) ≡ false) × (new ≡ old)
 

@@ -227,8 +227,9 @@ impl<S: Scheme<D>, D: Digest> Node<S, D> {
             ≡ true }
         ensures meets { IfOk result (λ cast. MeetsCast (⟦<S as NodeJudge<D>>⟧.of self.old) self.old
             vote cast self.new) }
-        ensures named { IfErr result (λ fault. WhereverNodeStands (⟦<S as NodeJudge<D>>⟧.of self.old)
-            self.old (λ past. let view = (round_in (subject_of vote)).view.0 in
+        ensures named { IfErr result (λ fault. WhereverNodeStands
+            (⟦<S as NodeJudge<D>>⟧.of self.old) self.old (λ past.
+            let view = (round_in (subject_of vote)).view.0 in
             fault ≡ fault_or_memory (own_answer (setting_of (⟦<S as NodeJudge<D>>⟧.of self.old)
             past view) (told view past) vote))) }
         ensures needed { OnErr result

@@ -162,7 +162,8 @@ fn tell_own_there<S: Scheme<D>, D: Digest>(
         (OwnCall vote) (OwnAnswer answer.0 answer.1))) }
     ensures absent { IfOk result (λ told. IfNone told (get nat_cmp slots.old view ≡ None)) }
     ensures untold { IfOk result (λ told. IfNone told (slots.new.entries ≡ slots.old.entries)) }
-    ensures named { IfErr result (NamesFault ⟦<S as Judge<D>>⟧.of (get nat_cmp slots.old view) vote) }
+    ensures named { IfErr result
+        (NamesFault ⟦<S as Judge<D>>⟧.of (get nat_cmp slots.old view) vote) }
     ensures refused { OnErr result (slots.new.entries ≡ slots.old.entries) }
 {
     match slots.get_mut(&view) {
@@ -324,7 +325,8 @@ pub(crate) fn tell_own<S: Scheme<D>, D: Digest>(
         (get nat_cmp slots.old) (get nat_cmp slots.new) view
         (fresh_round frame.now.scheme.value frame.now.epoch frame.now.retains window view)
         (OwnCall vote) (OwnAnswer answer.0 answer.1)) }
-    ensures named { IfErr result (NamesFault ⟦<S as Judge<D>>⟧.of (get nat_cmp slots.old view) vote) }
+    ensures named { IfErr result
+        (NamesFault ⟦<S as Judge<D>>⟧.of (get nat_cmp slots.old view) vote) }
     ensures refused { OnErr result (slots.new.entries ≡ slots.old.entries) }
 {
     match tell_own_there(slots, view, vote)? {

@@ -46,7 +46,8 @@ module _ {D K G C : Type 0} (x : Setting D K G C) where
           (list_any-append (contradicts x v) new old
           ∙ or_right (list_any (contradicts x v) new) (list_any (contradicts x v) old) parts.1)
 
-  cause_grows : (past : History D K G C) (event : Event D K G C) (i : ℕ) → gave_cause x past i ≡ true
+  cause_grows : (past : History D K G C) (event : Event D K G C) (i : ℕ)
+      → gave_cause x past i ≡ true
       → gave_cause x (event ∷ past) i ≡ true
   cause_grows past event i h =
       ⊎_elim
@@ -62,7 +63,8 @@ module _ {D K G C : Type 0} (x : Setting D K G C) where
       by_made true = cause_grows past (call, answer) i h
       by_made false = h
 
-  cause_stays : (past : History D K G C) (calls : List (Call K G C D)) (answers : List (Answer G C D))
+  cause_stays : (past : History D K G C) (calls : List (Call K G C D))
+      (answers : List (Answer G C D))
       (i : ℕ) → gave_cause x past i ≡ true → gave_cause x (history_from past calls answers) i ≡ true
   cause_stays past [] answers i h = h
   cause_stays past (call ∷ calls) [] i h = h

@@ -24,7 +24,8 @@ module _ {D K G C : Type 0} where
   abbrev AreFew : History D K G C → Type 0
   AreFew past = constructions_made past + more_at (is_at_rest past) ≤ batches_given past + others_made past
 
-  constructed_few : (past : History D K G C) (given : Option (Batch (Certificate C D))) → AreFew past
+  constructed_few : (past : History D K G C) (given : Option (Batch (Certificate C D)))
+      → AreFew past
       → is_at_rest past ≡ false → AreFew ((ConstructCall, ConstructAnswer given) ∷ past)
   constructed_few past None few awake = omega (arith, few, ap more_at awake)
   constructed_few past (Some batch) few awake = omega (arith, few, ap more_at awake)

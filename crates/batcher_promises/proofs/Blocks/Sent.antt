@@ -30,7 +30,8 @@ half_of true true = omega arith
 half_of true false = omega arith
 half_of false b = omega arith
 
-halves : {X : Type 0} (a b : X → Bool) (xs : List X) → count (λ v. a v && b v) xs + count (λ v. a v && not (b v)) xs ≤ count a xs
+halves : {X : Type 0} (a b : X → Bool) (xs : List X)
+    → count (λ v. a v && b v) xs + count (λ v. a v && not (b v)) xs ≤ count a xs
 halves a b [] = omega arith
 halves a b (x ∷ xs) = omega (arith, half_of (a x) (b x), halves a b xs)
 
@@ -64,7 +65,8 @@ module _ {D K G C : Type 0} (x : Setting D K G C) (mine : History D K G C) (i : 
   of_it test v = (signer_of v == i) && test v
 
   -- WHAT IT CAST
-  is_of : (o : Option Participant) (signer : ℕ) → signer ≡ i → is_some_and o (λ p. p.0 == signer) ≡ true
+  is_of : (o : Option Participant) (signer : ℕ) → signer ≡ i
+      → is_some_and o (λ p. p.0 == signer) ≡ true
       → is_some_and o (λ p. p.0 == i) ≡ true
   is_of o signer same h = subst (λ j. is_some_and o (λ p. p.0 == j) ≡ true) same h
 
@@ -100,7 +102,8 @@ module _ {D K G C : Type 0} (x : Setting D K G C) (mine : History D K G C) (i : 
   cast_is_sent test past (ForwardCall me, answer) sends h = absurd (false≢true h)
   cast_is_sent test past (MissingCall p, answer) sends h = absurd (false≢true h)
 
-  all_sent : (test : Vote G D → Bool) (past : History D K G C) → AtEachEvent (SendsAdded x mine i) past
+  all_sent : (test : Vote G D → Bool) (past : History D K G C)
+      → AtEachEvent (SendsAdded x mine i) past
       → list_any (of_it test) (votes_cast x past) ≡ true → list_any test sent ≡ true
   all_sent test [] sends h = absurd (false≢true h)
   all_sent test (event ∷ past) sends h =
@@ -138,7 +141,8 @@ module _ {D K G C : Type 0} (x : Setting D K G C) (mine : History D K G C) (i : 
         (all_sent (contradicts x v.0) past sends
         (any_more (contradicts x v.0) (of_it (contradicts x v.0)) (λ w h. and_from _ _ (signed_alike v.0 w parts.0 h) h) votes parts.1)))
       where
-        signed_alike : (v w : Vote G D) → (signer_of v == i) ≡ true → contradicts x v w ≡ true → (signer_of w == i) ≡ true
+        signed_alike : (v w : Vote G D) → (signer_of v == i) ≡ true → contradicts x v w ≡ true
+            → (signer_of w == i) ≡ true
         signed_alike v w is h =
             eq-eqb (signer_of w) i
             (sym (eqb-true (signer_of v) (signer_of w) (and_parts _ _ (and_parts (excludes v w) _ h).0).0) ∙ eqb-true (signer_of v) i is)
@@ -169,7 +173,8 @@ module _ {D K G C : Type 0} (x : Setting D K G C) (mine : History D K G C) (i : 
   names_none (event ∷ past) sends = rw (names_it past event sends.0, names_none past sends.1) refl
 
 module _ {D K G C : Type 0} (x : Setting D K G C) where
-  pub senders_of_added : ((a : D) → x.same_digest a a ≡ true) → ((a : G) → x.same_signature a a ≡ true)
+  pub senders_of_added : ((a : D) → x.same_digest a a ≡ true)
+      → ((a : G) → x.same_signature a a ≡ true)
       → SendersOfAddedGiveNoCause x
   senders_of_added same_is equal_is y mine past i promised sends =
       rw (names_none x mine i past sends) (never_itself x mine i promised.takes_in_honest.own_added_agree same_is equal_is past sends)

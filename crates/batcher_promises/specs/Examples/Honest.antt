@@ -19,7 +19,8 @@ use Rattle.batcher_promises.specs.Honest.{own_votes_added, OwnAddedAgree, IsAdde
 use Rattle.batcher_promises.specs.Sent.{SendsAdded}
 use Rattle.batcher_promises.specs.Composed.{votes_added}
 use Rattle.batcher_promises.specs.Flood.{batches_given, constructions_made, others_made, TakesFewConstructions}
-use Rattle.batcher_promises.specs.Examples.Answers.{TinySetting, TinyVote, TinyCall, TinyHistory, listing, is_good, round_of, four, one_by_one, notarize, bad_notarize, nullify, bad_nullify, finalize, notarization, nullification, net, own, lead}
+use Rattle.batcher_promises.specs.Examples.Answers.{TinySetting, TinyVote, TinyCall, TinyHistory, listing, is_good, round_of, four, one_by_one}
+use Rattle.batcher_promises.specs.Examples.Answers.{notarize, bad_notarize, nullify, bad_nullify, finalize, notarization, nullification, net, own, lead}
 use Rattle.batcher_promises.specs.Examples.Answers.{construct, cert, own_round}
 use Rattle.batcher_promises.specs.Examples.Answers.{added, refused, blocked, own_added, own_duplicate, batch, no_batch, answers, played, with_cause}
 

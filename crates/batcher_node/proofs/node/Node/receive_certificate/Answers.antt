@@ -15,7 +15,8 @@ returns-clause-meets g c = λ past.
     ∙ rw (← c.kind.ensures, ← number)
     (certified_there g.S.Scheme.meaning g.S.PublicKey.Ord.cmp g.S.Signature.PartialEq.eq
     g.D.PartialEq.eq past _ c.args.self.now _ _ _ _ c.self.invariant.0
-    (not_far c.self.inside.frame.epoch c.self.inside.window c.number_certified-number.result (sym c.is_within.ensures ∙ c.if-not-is_within.false)) c.has_certificate.ensures h))
+    (not_far c.self.inside.frame.epoch c.self.inside.window c.number_certified-number.result
+    (sym c.is_within.ensures ∙ c.if-not-is_within.false)) c.has_certificate.ensures h))
     (rw (← c.deref.ensures) (sym c.verifies.ensures ∙ c.if-not-verifies.false))
     (rw (← number) c.in_ok-changed.ensures.tells)
     refl refl)
