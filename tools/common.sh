@@ -17,10 +17,10 @@ need() {
   return "$missing"
 }
 
-# A sum of all that is proved, which is another after an edit.
+# A sum of all that is proved and tried, which is another after an edit.
 sources() {
   find "$top/crates" "$top/crates.txt" -path '*/out' -prune -o -type f \
-    \( -name '*.rt' -o -name '*.antt' -o -name crates.txt \) -print0 | LC_ALL=C sort -z | xargs -0 sha256sum | sha256sum
+    \( -name '*.rt' -o -name '*.antt' -o -name '*.edit' -o -name crates.txt \) -print0 | LC_ALL=C sort -z | xargs -0 sha256sum | sha256sum
 }
 
 # Runs a command whose last line is 'N passed, M failed', and adds up what it counts.
