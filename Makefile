@@ -1,6 +1,8 @@
+# make hello               plays one view, from its leader's proposal to a certificate
 # make run [SCRIPT=file]   plays a script; without one, the first
 # make audit [SCRIPT=file] names who voted both ways in the scripts of one or two nodes; without any, in a fork
 # make demo [SEED=n]       plays a network of validators, four of them faulty, and draws it; without a seed, of 1
+# make prove               proves and builds these programs, which are played unproved until then
 # make bench               plays the rows of the benchmark and takes their time
 # make quick               proves what has changed, and plays all scripts
 # make test                proves everything and runs every test
@@ -18,19 +20,25 @@ unexport SCRIPT SEED
 # make begins its list of files with a space.
 TOP = "$$(dirname "$${MAKEFILE_NAMED\# }")"
 
-.PHONY: run audit demo bench quick test clean
+.PHONY: run hello audit demo prove bench quick test clean
 
 run:
 	@$(TOP)/tools/run "$$SCRIPT_NAMED"
+
+hello:
+	@$(TOP)/tools/play batcher_hello < /dev/null
 
 audit:
 	@$(TOP)/tools/run "$$SCRIPT_NAMED" batcher_audit
 
 demo:
-	@$(TOP)/tools/build batcher_demo && $(TOP)/crates/batcher_demo/out/batcher_demo "$${SEED_NAMED:-1}"
+	@$(TOP)/tools/demo "$$SEED_NAMED"
+
+prove:
+	@$(TOP)/tools/prove
 
 bench:
-	@$(TOP)/tools/build batcher_bench && $(TOP)/crates/batcher_bench/out/batcher_bench time
+	@$(TOP)/tools/prove batcher_bench && $(TOP)/crates/batcher_bench/out/batcher_bench time
 
 quick:
 	@$(TOP)/tools/quick

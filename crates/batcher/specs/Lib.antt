@@ -47,6 +47,7 @@ pub use Rattle.batcher_promises.specs.Backed
 pub use Rattle.batcher_promises.specs.Prompt
 pub use Rattle.batcher_promises.specs.Blocked
 pub use Rattle.batcher_promises.specs.Honest
+pub use Rattle.batcher_promises.specs.Sent
 pub use Rattle.batcher_promises.specs.Flood
 pub use Rattle.batcher_promises.specs.Converge
 pub use Rattle.batcher_promises.specs.Replay

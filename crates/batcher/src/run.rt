@@ -1,13 +1,16 @@
 //! Calls of a round as values, and whole lists of them.
 
-ghost use Rattle.std.specs.Prelude.{◌≡◌, ◌≤◌, All, IfOk, OnErr, [], true, vec_capacity};
+ghost use Rattle.std.specs.Prelude.{◌≡◌, All, IfOk, OnErr, true};
 ghost use Rattle.std.specs.List.{list_any};
 ghost use Rattle.std.specs.List.Sorted.{IsStrictlySortedBy};
-ghost use Rattle.batcher_votes.specs.Held.{SameRound};
+ghost use Rattle.batcher_votes.specs.Held.{Held as TheHeld, SameRound};
+ghost use Rattle.batcher_histories.specs.Setting.{Setting as TheSetting};
+ghost use Rattle.batcher_histories.specs.History.{history};
 ghost use Rattle.batcher_histories.specs.Judged.{WhereverItStands};
 ghost use Rattle.batcher_histories.specs.Steps.{nothing_held};
 ghost use Rattle.batcher_histories.specs.Answers.{IsAnswered};
 ghost use Rattle.batcher_histories.specs.Stands.{Meets};
+ghost use Rattle.batcher_promises.specs.Blocked.{GaveCause};
 ghost use Rattle.batcher_promises.specs.Ran.{IsRun};
 ghost use Rattle.batcher_histories.specs.Runs.{MayCall, Steps, StepsNetwork, StepsOwn, StepsCertificate, StepsConstruct, StepsMissing, blocked_sender, blocked_senders};
 ghost use Rattle.batcher_histories.specs.declared.calls.Call.TheVariants.{Network as NetworkCall, Own as OwnCall, Certificate as CertificateCall, Construct as ConstructCall, Missing as MissingCall};
@@ -25,7 +28,10 @@ pub use batcher_histories::calls::Call;
 pub use pair::{PairRan, run_pair};
 use rand_core::CryptoRng;
 use std::alloc::{AllocError, Global};
-pub use theorems::{order_is_free, possible_histories_are_promised, replays, worked_examples};
+pub use theorems::{
+    order_is_free, possible_histories_are_promised, replays, senders_of_added_give_no_cause,
+    worked_examples,
+};
 
 /// A round after its calls, with the answers in their order.
 #[derive(Drop)]
@@ -53,27 +59,19 @@ pub fn run<S: Scheme<D>, D: Digest, R: CryptoRng>(
 {
     // For what it says of every round: that it has participants.
     let _ = round.number();
-    let mut answers = Vec::with_capacity(alloc, calls.len())?;
-    for call in calls {
-        answers.push_reserved(step(&mut round, rng, call));
+    match Vec::with_capacity(alloc, calls.len()) {
+        Ok(mut answers) => {
+            for call in calls {
+                answers.push_reserved(step(&mut round, rng, call));
+            }
+            Ok(Ran { round, answers })
+        }
+        // Handed over, since a drop by `?` would be proved anew here, field by field.
+        Err(error) => {
+            drop(round);
+            Err(error)
+        }
     }
-    Ok(Ran { round, answers })
-}
-
-// The round before its calls, with room for as many answers.
-fn with_room<S: Scheme<D>, D: Digest>(
-    alloc: Global,
-    round: Round<S, D>,
-    calls: usize,
-) -> Result<Ran<S, D>, AllocError>
-    ensures round { IfOk result (λ ran. ran.round ≡ round) }
-    ensures answers { IfOk result (λ ran. ran.answers.items ≡ []) }
-    ensures room { IfOk result (λ ran. calls ≤ vec_capacity ran.answers) }
-{
-    Ok(Ran {
-        round,
-        answers: Vec::with_capacity(alloc, calls)?,
-    })
 }
 
 // Makes one call.
@@ -203,7 +201,8 @@ fn answer_missing<S: Scheme<D>, D: Digest>(
 /// The senders that the answers block, each once, in ascending order of keys.
 ///
 /// Each answer is that to the call at its place, and a call without an answer blocks no one. Of
-/// keys that compare as equal one is listed, and which one is left open.
+/// keys that compare as equal one is listed, and which one is left open. Of the answers of a run
+/// all who are listed and take part gave cause.
 pub fn blocked<P: Copy + Ord, G, C, D>(
     alloc: Global,
     calls: &[Call<P, G, C, D>],
@@ -212,6 +211,9 @@ pub fn blocked<P: Copy + Ord, G, C, D>(
     ensures ascending { IfOk result (λ keys. IsStrictlySortedBy P.cmp keys.items) }
     ensures senders { IfOk result (λ keys. (key : P) → list_any (P.eq key) keys.items
         ≡ list_any (P.eq key) (blocked_senders calls.now answers.now)) }
+    ensures cause { IfOk result (λ keys. (x : TheSetting D P G C) (before after : Stream)
+        (held : TheHeld G D) → IsRun x before calls.now answers.now held after
+        → All (GaveCause x (history calls.now answers.now)) keys.items) }
 {
     let mut senders = blocked_in_order(alloc, calls, answers)?;
     senders.sort_unstable();

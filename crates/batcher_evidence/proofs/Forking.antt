@@ -253,11 +253,11 @@ module _ {D K G C : Type 0} (m : Meaning D K G C) (compare_keys : K → K → Or
           )
 
   pub take_contradicting : TakeContradictingVotes m compare_keys same_signature same
-  take_contradicting number mode other_mode before after left right calls others answers replies
-      held holds run other_run a b given_a given_b contradict =
+  take_contradicting number mode other_mode past other_past some run other_run a b given_a given_b
+      contradict =
       let x = round_of m compare_keys same_signature same number mode in
       let y = round_of m compare_keys same_signature same number other_mode in
-      let first = given_behind x _ a run.promised.gives_safely.given_are_backed given_a in
-      let second = given_behind y _ b other_run.promised.gives_safely.given_are_backed given_b in
+      let first = given_behind x _ a run.gives_safely.given_are_backed given_a in
+      let second = given_behind y _ b other_run.gives_safely.given_are_backed given_b in
       contradicting_behind number mode other_mode _ _ a b first.0 second.0
-      run.some_participant first.1 second.1 contradict
+      some first.1 second.1 contradict

@@ -7,7 +7,7 @@ use Rattle.batcher.specs.Meaning.{Meaning}
 use Rattle.batcher.specs.Setting.{Setting}
 use Rattle.batcher.specs.Votes.{signer_of, subject_of, attestation_of}
 use Rattle.batcher.specs.Reported.{subjects_contradict, evidence_in, AreContrary, ReportsContrary}
-use Rattle.batcher.specs.History.{History, history, names_sender}
+use Rattle.batcher.specs.History.{History, names_sender}
 use Rattle.batcher.specs.Promises.{AtEachVote, votes_cast}
 use Rattle.batcher.specs.positions.Participant.{Participant}
 use Rattle.batcher.specs.messages.Vote.{Vote}
@@ -88,7 +88,7 @@ pub reports_that_convict :
     {D K G C : Type 0} (m : Meaning D K G C) (compare_keys : K → K → Ordering)
     (same_signature : G → G → Bool) (same_digest : D → D → Bool)
     → ReportsConvict m compare_keys same_signature same_digest
-reports_that_convict m compare same_signature same number mode before after calls answers held run =
+reports_that_convict m compare same_signature same number mode past run =
     let x = round_of m compare same_signature same number mode in
     at_each_more (ReportsContrary x) (ConvictsIfAttested m same) (convicts_then x)
-    (history calls answers) run.promised.reports_truly.evidence_is_contrary
+    past run.reports_truly.evidence_is_contrary

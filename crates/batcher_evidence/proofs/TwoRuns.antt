@@ -65,9 +65,9 @@ module _ {D K G C : Type 0} (m : Meaning D K G C) where
         (compare_keys : K → K → Ordering) (same_signature : G → G → Bool) (same : D → D → Bool)
         → AreAccountable m compare_keys same_signature same shown
     are_accountable compare_keys same_signature same number other mode other_mode
-        before after left right calls others answers replies held holds
+        past other_past
         run other_run a b given_a given_b contradict =
         found_of same a b
-        (given_certifies _ a run.promised.promises.certificates_verify given_a)
-        (given_certifies _ b other_run.promised.promises.certificates_verify given_b)
+        (given_certifies _ a run.promises.certificates_verify given_a)
+        (given_certifies _ b other_run.promises.certificates_verify given_b)
         contradict

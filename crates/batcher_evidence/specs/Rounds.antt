@@ -1,26 +1,23 @@
--- What holds of the reports and certificates of all rounds.
+-- What holds of the reports and certificates of all rounds: of each history that is promised, as is
+-- that of a run, and that of each view of a node.
 use Rattle.std.specs.Prelude.{◌≡◌, ◌<◌, ◌≤◌, ◌+◌, ◌-◌, ◌/◌, ◌==◌, ◌&&◌, ℕ, zero, suc, Bool, true, cond, List, length, Some, IfSome, IsSomeAnd}
 use Rattle.std.specs.List.{list_any}
 use Rattle.std.specs.declared.cmp.Ordering.{Ordering}
-use Rattle.rand_core.specs.Stream.{Stream}
 use Rattle.batcher.specs.positions.Round.{Round}
 use Rattle.batcher.specs.messages.Attestation.{Attestation}
 use Rattle.batcher.specs.messages.Vote.{Vote}
 use Rattle.batcher.specs.messages.Certificate.{Certificate}
 use Rattle.batcher.specs.votes.Mode.{Mode}
 use Rattle.batcher.specs.answers.Admission.{Admission}
-use Rattle.batcher.specs.calls.Call.{Call}
-use Rattle.batcher.specs.answers.Answer.{Answer}
 use Rattle.batcher.specs.Quorum.{quorum_of}
 use Rattle.batcher.specs.Meaning.{Meaning}
 use Rattle.batcher.specs.Setting.{Setting, setting}
-use Rattle.batcher.specs.Held.{Held}
 use Rattle.batcher.specs.Votes.{signer_of, subject_of, attestation_of}
-use Rattle.batcher.specs.History.{History, history}
+use Rattle.batcher.specs.History.{History}
 use Rattle.batcher.specs.Promises.{AtEachVote, votes_cast}
 use Rattle.batcher.specs.Reported.{subjects_contradict, evidence_in}
 use Rattle.batcher.specs.Backed.{IsGiven}
-use Rattle.batcher.specs.Ran.{IsRun}
+use Rattle.batcher.specs.Ran.{IsPromised}
 use Rattle.batcher_evidence.specs.Culprits.{AreCulprits, certificates_contradict, culprits_of}
 use Rattle.batcher_evidence.specs.Convicted.{both_attest, convicted_by}
 
@@ -55,7 +52,7 @@ module _ {D K G C : Type 0} (m : Meaning D K G C) where
         < count_below (length m.participants)
         (votes_contradict same (votes_cast x past) (votes_cast y other_past))
 
-  -- A report of a run whose two votes attest convicts the sender of the vote that it is of.
+  -- A report whose two votes attest convicts the sender of the vote that it is of.
   abbrev pub ConvictsIfAttested :
       (D → D → Bool) → History D K G C → K → Vote G D → Admission G D → Type 0
   ConvictsIfAttested same past sender vote admission =
@@ -72,38 +69,35 @@ module _ {D K G C : Type 0} (m : Meaning D K G C) where
 
       abbrev pub ReportsConvict : Type 0
       ReportsConvict =
-          (number : Round) (mode : Mode) (before after : Stream)
-          (calls : List (Call K G C D)) (answers : List (Answer G C D)) (held : Held G D)
-          → IsRun (round_of number mode) before calls answers held after
-          → AtEachVote (ConvictsIfAttested same_digest) (history calls answers)
+          (number : Round) (mode : Mode) (past : History D K G C)
+          → IsPromised (round_of number mode) past
+          → AtEachVote (ConvictsIfAttested same_digest) past
 
-      -- Two rounds of one scheme, whoever holds them, of any numbers, whatever was called and in
-      -- what modes: where certificates that they gave contradict each other, there are culprits.
+      -- Histories of two rounds of one scheme, whoever holds the rounds, of any numbers, whatever
+      -- was called and in what modes: where certificates that they gave contradict each other,
+      -- there are culprits.
       abbrev pub AreAccountable : (C → List (Attestation G)) → Type 0
       AreAccountable shown =
-          (number other : Round) (mode other_mode : Mode) (before after left right : Stream)
-          (calls others : List (Call K G C D)) (answers replies : List (Answer G C D))
-          (held holds : Held G D)
-          → IsRun (round_of number mode) before calls answers held after
-          → IsRun (round_of other other_mode) left others replies holds right
+          (number other : Round) (mode other_mode : Mode) (past other_past : History D K G C)
+          → IsPromised (round_of number mode) past
+          → IsPromised (round_of other other_mode) other_past
           → (a b : Certificate C D)
-          → IsGiven (history calls answers) a → IsGiven (history others replies) b
+          → IsGiven past a → IsGiven other_past b
           → certificates_contradict same_digest a b ≡ true
           → IsSomeAnd (culprits_of m shown same_digest a b) (AreCulprits m shown a b)
 
-      -- Two rounds of one scheme and one number, whoever holds them, whatever was called and in
-      -- what modes: certificates that they gave contradict each other only where more participants
-      -- than may be faulty cast votes that do.
+      -- Histories of two rounds of one scheme and one number, whoever holds the rounds, whatever
+      -- was called and in what modes: certificates that they gave contradict each other only where
+      -- more participants than may be faulty cast votes that do.
       abbrev pub TakeContradictingVotes : Type 0
       TakeContradictingVotes =
-          (number : Round) (mode other_mode : Mode) (before after left right : Stream)
-          (calls others : List (Call K G C D)) (answers replies : List (Answer G C D))
-          (held holds : Held G D)
-          → IsRun (round_of number mode) before calls answers held after
-          → IsRun (round_of number other_mode) left others replies holds right
+          (number : Round) (mode other_mode : Mode) (past other_past : History D K G C)
+          → 1 ≤ length m.participants
+          → IsPromised (round_of number mode) past
+          → IsPromised (round_of number other_mode) other_past
           → (a b : Certificate C D)
-          → IsGiven (history calls answers) a → IsGiven (history others replies) b
+          → IsGiven past a → IsGiven other_past b
           → certificates_contradict same_digest a b ≡ true
           → TakesContradicting same_digest
           (round_of number mode) (round_of number other_mode)
-          (history calls answers) (history others replies)
+          past other_past

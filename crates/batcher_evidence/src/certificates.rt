@@ -1,6 +1,6 @@
 //! Who signed what each of two certificates certifies.
 
-ghost use Rattle.std.specs.Prelude.{◌≡◌, true, IfOk, IfSome};
+ghost use Rattle.std.specs.Prelude.{◌≡◌, true, IfOk, IfSome, OnErr, is_some};
 ghost use Rattle.std.specs.Option.{option_map};
 ghost use Rattle.batcher.specs.Ascending.{IsAscending};
 ghost use Rattle.batcher.specs.Attestations.{index_of_signer};
@@ -28,7 +28,8 @@ pub struct Culprit<G> {
 /// contradict each other; else `None`.
 ///
 /// Two quorums are together more than all participants, by more than may be faulty: at least so
-/// many are named. Nothing is asked of who made the certificates, or how they came.
+/// many are named. Nothing is asked of who made the certificates, or how they came. Where there are
+/// none to name it takes no memory.
 pub fn culprits<S: Accountable<D>, D: Digest>(
     alloc: Global,
     scheme: &S,
@@ -39,6 +40,8 @@ pub fn culprits<S: Accountable<D>, D: Digest>(
         ≡ culprits_of (S.meaning scheme.now) S.shown D.eq a.now b.now) }
     ensures proof { IfOk result (λ found. IfSome found (λ list.
         AreCulprits (S.meaning scheme.now) S.shown a.now b.now list.items)) }
+    ensures needed { OnErr result (is_some (culprits_of (S.meaning scheme.now) S.shown D.eq
+        a.now b.now) ≡ true) }
 {
     if !certifies(scheme, a) || !certifies(scheme, b) || !certificates_contradict(a, b) {
         return Ok(None);

@@ -1,8 +1,8 @@
 //! Whom a report of a round convicts.
 
-ghost use Rattle.std.specs.Prelude.{◌≡◌, cond, IfOk, IfSome, Some, None};
+ghost use Rattle.std.specs.Prelude.{◌≡◌, cond, true, IfOk, IfSome, OnOk, OnErr, Some, None};
 ghost use Rattle.batcher.specs.Votes.{subject_of, attestation_of};
-ghost use Rattle.batcher_evidence.specs.Convicted.{IsProof, convicts, convicted_by};
+ghost use Rattle.batcher_evidence.specs.Convicted.{IsProof, convicts, convicted_by, may_convict, has_to_verify, left_by, left_by_both, left_by_convicting};
 
 use crate::subjects::contradict;
 use batcher::messages::{Activity, Digest, Vote};
@@ -16,7 +16,9 @@ use std::alloc::{AllocError, Global};
 ///
 /// A round reports conflicts of votes that nobody has verified, so only this makes evidence of a
 /// report. It takes no one's word: who knows the scheme can ask it again. A report of one vote
-/// convicts nobody.
+/// convicts nobody, and takes no memory.
+///
+/// Nothing is drawn but by the scheme, which verifies each of two such votes by itself.
 pub fn convicted<S: Scheme<D>, D: Digest, R: CryptoRng>(
     alloc: Global,
     scheme: &S,
@@ -27,19 +29,25 @@ pub fn convicted<S: Scheme<D>, D: Digest, R: CryptoRng>(
         ≡ convicted_by (S.meaning scheme.now) D.eq report.now) }
     ensures proof { IfOk result (λ found.
         IfSome found (IsProof (S.meaning scheme.now) D.eq report.now)) }
+    ensures drawn { OnOk result (R.stream rng.new
+        ≡ left_by_convicting (S.meaning scheme.now) D.eq report.now (R.stream rng.old)) }
+    ensures needed { OnErr result (has_to_verify D.eq report.now ≡ true) }
 {
     convicted_exactly(alloc, scheme, rng, report)
 }
 
-// The same, by the first clause alone.
+// The same, but for the proof.
 fn convicted_exactly<S: Scheme<D>, D: Digest, R: CryptoRng>(
     alloc: Global,
     scheme: &S,
     rng: &mut R,
     report: &Activity<S::Signature, D>,
 ) -> Result<Option<Participant>, AllocError>
-    ensures { IfOk result (λ found. found
+    ensures exact { IfOk result (λ found. found
         ≡ convicted_by (S.meaning scheme.now) D.eq report.now) }
+    ensures drawn { OnOk result (R.stream rng.new
+        ≡ left_by_convicting (S.meaning scheme.now) D.eq report.now (R.stream rng.old)) }
+    ensures needed { OnErr result (has_to_verify D.eq report.now ≡ true) }
 {
     match *report {
         Activity::ConflictingNotarize(a, b) => {
@@ -63,9 +71,12 @@ fn convicted_of<S: Scheme<D>, D: Digest, R: CryptoRng>(
     a: &Vote<S::Signature, D>,
     b: &Vote<S::Signature, D>,
 ) -> Result<Option<Participant>, AllocError>
-    ensures { IfOk result (λ found. found
+    ensures exact { IfOk result (λ found. found
         ≡ cond (convicts (S.meaning scheme.now) D.eq a.now b.now)
         (Some (attestation_of a.now).signer) None) }
+    ensures drawn { OnOk result (R.stream rng.new ≡ cond (may_convict D.eq a.now b.now)
+        (left_by_both (S.meaning scheme.now) a.now b.now (R.stream rng.old)) (R.stream rng.old)) }
+    ensures needed { OnErr result (may_convict D.eq a.now b.now ≡ true) }
 {
     if convicts(alloc, scheme, rng, a, b)? {
         Ok(Some(a.signer()))
@@ -82,7 +93,10 @@ fn convicts<S: Scheme<D>, D: Digest, R: CryptoRng>(
     a: &Vote<S::Signature, D>,
     b: &Vote<S::Signature, D>,
 ) -> Result<bool, AllocError>
-    ensures { IfOk result (λ yes. yes ≡ convicts (S.meaning scheme.now) D.eq a.now b.now) }
+    ensures exact { IfOk result (λ yes. yes ≡ convicts (S.meaning scheme.now) D.eq a.now b.now) }
+    ensures drawn { OnOk result (R.stream rng.new ≡ cond (may_convict D.eq a.now b.now)
+        (left_by_both (S.meaning scheme.now) a.now b.now (R.stream rng.old)) (R.stream rng.old)) }
+    ensures needed { OnErr result (may_convict D.eq a.now b.now ≡ true) }
 {
     if a.signer().0 != b.signer().0 || !contradict(a.subject(), b.subject()) {
         return Ok(false);
@@ -100,8 +114,10 @@ fn attests<S: Scheme<D>, D: Digest, R: CryptoRng>(
     rng: &mut R,
     vote: &Vote<S::Signature, D>,
 ) -> Result<bool, AllocError>
-    ensures { IfOk result (λ yes. yes
+    ensures exact { IfOk result (λ yes. yes
         ≡ (S.meaning scheme.now).attests (subject_of vote.now) (attestation_of vote.now)) }
+    ensures drawn { OnOk result (R.stream rng.new
+        ≡ left_by (S.meaning scheme.now) vote.now (R.stream rng.old)) }
 {
     let mut pending = Vec::new(alloc);
     pending.push(vote.attestation())?;

@@ -13,26 +13,28 @@ pub fn worked_examples()
     ensures { EvidenceExamples }
 {}
 
-/// Does nothing. Its contract says of every run of a round that a report of a conflict whose two
+/// Does nothing. Its contract says of every history of a round for which what `run` promises holds,
+/// as it does for that of a run and of a view of a node, that a report of a conflict whose two
 /// votes attest convicts their signer, who is the sender of the later one.
 pub fn reports_convict<S: Scheme<D>, D: Digest>()
     ensures { (scheme : S)
         → ReportsConvict (S.meaning scheme) S.PublicKey.cmp S.Signature.eq D.eq }
 {}
 
-/// Does nothing. Its contract says of any two runs over an accountable scheme, whoever makes them
-/// and whatever is called, that of certificates which they give and which contradict each other
-/// `culprits` gives a list.
+/// Does nothing. Its contract says of any two such histories over an accountable scheme, whoever
+/// holds the rounds and whatever was called, that of certificates which were given in them and
+/// which contradict each other `culprits` gives a list.
 pub fn rounds_are_accountable<S: Accountable<D>, D: Digest>()
     ensures { (scheme : S)
         → AreAccountable (S.meaning scheme) S.PublicKey.cmp S.Signature.eq D.eq S.shown }
 {}
 
-/// Does nothing. Its contract says of any two runs of rounds of one number, whatever the scheme's
-/// certificates show, what it takes that they give certificates which contradict each other: more
-/// participants than may be faulty have cast votes in the two that contradict each other.
+/// Does nothing. Its contract says of any two such histories of rounds of one number, whatever the
+/// scheme's certificates show, what it takes that certificates were given in them which contradict
+/// each other: more participants than may be faulty have cast votes in the two that contradict each
+/// other.
 ///
-/// So with fewer such participants two nodes never give certificates that contradict each other.
+/// So with fewer such participants no two rounds of one number give such certificates.
 pub fn forks_take_contradicting_votes<S: Scheme<D>, D: Digest>()
     ensures { (scheme : S)
         → TakeContradictingVotes (S.meaning scheme) S.PublicKey.cmp S.Signature.eq D.eq }

@@ -1,15 +1,16 @@
 -- Whom a vote blocks, and for what.
-use Rattle.std.specs.Prelude.{◌≡◌, Bool, true, false, not, ◌||◌, List, is_some}
+use Rattle.std.specs.Prelude.{◌≡◌, Bool, true, false, not, ◌||◌, List, Some, is_some}
 use Rattle.std.specs.List.{list_any}
+use Rattle.batcher_types.specs.declared.positions.Participant.{Participant}
 use Rattle.batcher_types.specs.declared.messages.Vote.{Vote}
 use Rattle.batcher_histories.specs.declared.answers.Admission.{Admission}
 use Rattle.batcher_votes.specs.declared.votes.Mode.TheVariants.{Retaining}
-use Rattle.batcher_histories.specs.Setting.{Setting}
+use Rattle.batcher_histories.specs.Setting.{Setting, sender_in}
 use Rattle.batcher_types.specs.Votes.{kind_of, opposes}
 use Rattle.batcher_histories.specs.History.{History, names_sender}
 use Rattle.batcher_histories.specs.FirstVotes.{first_votes, contradicts}
 use Rattle.batcher_histories.specs.Selection.{is_released}
-use Rattle.batcher_promises.specs.Promises.{AtEachVote, votes_cast}
+use Rattle.batcher_promises.specs.Promises.{AtEachVote, votes_cast, gave_cause}
 
 module _ {D K G C : Type 0} (x : Setting D K G C) where
   -- A vote gives cause to block its sender where it doesn't name it, or contradicts one of some
@@ -41,6 +42,10 @@ module _ {D K G C : Type 0} (x : Setting D K G C) where
   abbrev pub IsBlockedExactlyIfRetaining : History D K G C → K → Vote G D → Admission G D → Type 0
   IsBlockedExactlyIfRetaining past sender vote admission =
       x.mode ≡ Retaining → is_some admission.block ≡ gives_cause (first_votes x past) sender vote
+
+  -- The participant with the key gave cause to be blocked, where the key is one's.
+  abbrev pub GaveCause : History D K G C → K → Type 0
+  GaveCause past key = (i : Participant) → sender_in x key ≡ Some i → gave_cause x past i.0 ≡ true
 
   -- Whom the network votes of a history block: each whom they have to, and nobody without cause.
   pub record BlocksJustly (past : History D K G C) : Type 0 where

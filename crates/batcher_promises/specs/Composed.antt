@@ -19,7 +19,7 @@ use Rattle.batcher_histories.specs.Setting.{Setting}
 use Rattle.batcher_types.specs.Lists.{count, is_some_and, SameElements}
 use Rattle.batcher_types.specs.Votes.{kind_of, signer_of, subject_of, proposal_in, is_vote_of, same_proposal, subject_certified}
 use Rattle.batcher_histories.specs.Steps.{is_added}
-use Rattle.batcher_histories.specs.History.{Event, History, history, history_after, batch_given, certificate_given, cast_votes}
+use Rattle.batcher_histories.specs.History.{Event, History, history_after, batch_given, certificate_given, cast_votes}
 use Rattle.batcher_histories.specs.FirstVotes.{first_vote, first_votes}
 use Rattle.batcher_histories.specs.Selection.{forwards, selection, selected_proposal}
 use Rattle.batcher_histories.specs.Standing.{is_valid, was_invalid, standing_votes, trials, proven_votes, fresh_votes, ready_kind}
@@ -95,6 +95,10 @@ module _ {D K G C : Type 0} (x : Setting D K G C) where
       (λ v. is_vote_of (kind_of vote) (signer_of vote) v && carry_different x.same_digest v vote)
       (votes_cast x past) ≡ true))
 
+  -- the same of a call that was made: no refused one is in a history
+  abbrev pub ConflictAnswered : History D K G C → Event D K G C → Type 0
+  ConflictAnswered past event = ConflictsWithAnother past event.0 event.1
+
   -- A certificate that is given with a proposal is for the selected one, if there is any.
   abbrev pub GivesSelected : History D K G C → Event D K G C → Type 0
   GivesSelected past event =
@@ -120,17 +124,15 @@ module _ {D K G C : Type 0} (x : Setting D K G C) where
         → SameElements (usable_votes past kind)
         (filter (λ v. not (was_invalid (trials x past) v)) (standing_votes x past kind))
 
-  -- What holds of a list of calls on a fresh round with its answers.
-  pub record HoldsThroughout (calls : List (Call K G C D)) (answers : List (Answer G C D)) : Type 0
-    where
-      pub conflicts_have_cause : AtEachCall ConflictsWithAnother [] calls answers
-      pub at_each_time : AtEachTime HoldsThen (history calls answers)
-      -- The votes that are answered as added are those that no earlier one excludes, in order.
-      pub added_are_first : votes_added (history calls answers)
-          ≡ first_votes x (history calls answers)
-      pub named_signers_are_bad : AtEachEvent NamesBadSigners (history calls answers)
-      pub given_are_selected : AtEachEvent GivesSelected (history calls answers)
-      pub forwarded_are_selected : AtEachEvent ForwardsSelected (history calls answers)
-      pub fixed_are_not_changed : AtEachEvent ChangesNoFixed (history calls answers)
-      -- One forward call at most answers a proposal.
-      pub forwarded_at_most_once : count (λ event. forwards event.1) (history calls answers) ≤ 1
+  -- What holds of every list of calls on a fresh round, over its history.
+  pub record HoldsThroughout (past : History D K G C) : Type 0 where
+    pub at_each_time : AtEachTime HoldsThen past
+    pub conflicts_have_cause : AtEachEvent ConflictAnswered past
+    -- The votes that are answered as added are those that no earlier one excludes, in order.
+    pub added_are_first : votes_added past ≡ first_votes x past
+    pub named_signers_are_bad : AtEachEvent NamesBadSigners past
+    pub given_are_selected : AtEachEvent GivesSelected past
+    pub forwarded_are_selected : AtEachEvent ForwardsSelected past
+    pub fixed_are_not_changed : AtEachEvent ChangesNoFixed past
+    -- One forward call at most answers a proposal.
+    pub forwarded_at_most_once : count (λ event. forwards event.1) past ≤ 1

@@ -1,19 +1,20 @@
 -- What an honest participant can rely on.
-use Rattle.std.specs.Prelude.{◌≡◌, ◌≤◌, ◌+◌, ◌&&◌, ◌||◌, ◌==◌, ℕ, Bool, true, false, not, cond, List, [], ◌∷◌, ◌++◌}
+use Rattle.std.specs.Prelude.{◌≡◌, ◌≤◌, ◌+◌, ◌&&◌, ◌||◌, ◌==◌, ⊤, ℕ, Bool, true, false, not, cond, List, [], ◌∷◌, ◌++◌, None}
 use Rattle.std.specs.List.{list_any, AllPass, range_with_len}
 use Rattle.std.specs.Option.{option_map_or}
 use Rattle.batcher_types.specs.declared.positions.Participant.{Participant}
 use Rattle.batcher_types.specs.declared.messages.Vote.{Vote}
 use Rattle.batcher_types.specs.declared.messages.Kind.{Kind}
 use Rattle.batcher_histories.specs.declared.answers.Admission.{Admission}
-use Rattle.batcher_histories.specs.declared.calls.Call.TheVariants.{Network as NetworkCall}
+use Rattle.batcher_histories.specs.declared.calls.Call.TheVariants.{Network as NetworkCall, Own as OwnCall, Construct as ConstructCall}
 use Rattle.batcher_histories.specs.declared.answers.Answer.{Answer}
-use Rattle.batcher_histories.specs.declared.answers.Answer.TheVariants.{Network as NetworkAnswer}
+use Rattle.batcher_histories.specs.declared.answers.Answer.TheVariants.{Network as NetworkAnswer, Own as OwnAnswer, Construct as ConstructAnswer}
 use Rattle.batcher_histories.specs.Setting.{Setting, participants_in, quorum_in}
 use Rattle.batcher_types.specs.Lists.{count, is_some_and}
-use Rattle.batcher_types.specs.Votes.{signer_of, is_vote_of}
+use Rattle.batcher_types.specs.Votes.{signer_of, is_vote_of, excludes}
 use Rattle.batcher_votes.specs.Tracking.{is_skipped}
 use Rattle.batcher_histories.specs.Admissions.{same_vote}
+use Rattle.batcher_histories.specs.Steps.{is_added}
 use Rattle.batcher_histories.specs.History.{Event, History, batch_given, names_sender, sent_votes}
 use Rattle.batcher_histories.specs.Selection.{selected_proposal, is_certified}
 use Rattle.batcher_histories.specs.Standing.{is_valid, is_counted, ready_kind}
@@ -23,6 +24,22 @@ use Rattle.batcher_promises.specs.Promises.{AtEachVote, AtEachEvent, AtEachTime,
 -- whom the batch of an answer names invalid, if one was given
 abbrev pub named_invalid : {G C D : Type 0} → Answer G C D → List Participant
 named_invalid answer = option_map_or (λ batch. batch.invalid) (batch_given answer) []
+
+module _ {D K G C : Type 0} where
+  -- the own vote that is answered as added
+  abbrev pub own_added_by : Event D K G C → List (Vote G D)
+  own_added_by (OwnCall vote, OwnAnswer outcome report) = cond (is_added outcome) (vote ∷ []) []
+  own_added_by event = []
+
+  -- all own votes that were answered as added, the newest first
+  abbrev pub own_votes_added : History D K G C → List (Vote G D)
+  own_votes_added [] = []
+  own_votes_added (event ∷ past) = own_added_by event ++ own_votes_added past
+
+  -- No two of them exclude each other, equal ones neither: they have one notarize of a signer at
+  -- most, and one nullify or finalize. So no two contradict each other, and they may all be sent.
+  abbrev pub OwnAddedAgree : History D K G C → Type 0
+  OwnAddedAgree past = (v : Vote G D) → count (excludes v) (own_votes_added past) ≤ 1
 
 module _ {D K G C : Type 0} (x : Setting D K G C) where
   -- A vote that names its sender is added, or equals one that its signer cast before, unless its
@@ -78,10 +95,20 @@ module _ {D K G C : Type 0} (x : Setting D K G C) where
       is_skipped x.mode ≡ false → ends_in_constructions 3 past ≡ true
       → (kind : Kind) → quorum_in x ≤ honest_voters past kind → is_certified past kind ≡ true
 
+  -- Nor is such a kind left by a construction that gives no batch: it is certified by then.
+  abbrev pub LeavesNoHonestQuorum : History D K G C → Event D K G C → Type 0
+  LeavesNoHonestQuorum past (ConstructCall, ConstructAnswer None) =
+      is_skipped x.mode ≡ false → (kind : Kind) → quorum_in x ≤ honest_voters past kind
+      → is_certified past kind ≡ true
+  LeavesNoHonestQuorum past event = ⊤
+
   -- What holds of every list of calls on a fresh round, over its history.
   pub record TakesInHonest (past : History D K G C) : Type 0 where
     pub votes_are_added : AtEachVote IsAddedWithoutCause past
+    -- Who sends just those own votes that were added contradicts nothing that it sent.
+    pub own_added_agree : OwnAddedAgree past
     -- All batches of a kind together name a signer once at most.
     pub named_once : (kind : Kind) (i : ℕ) → times_named past kind i ≤ 1
     pub named_for_its_own_vote : AtEachEvent NamesForOwnVotes past
     pub honest_quorums_complete : AtEachTime CompletesHonestQuorums past
+    pub no_honest_quorum_left : AtEachEvent LeavesNoHonestQuorum past

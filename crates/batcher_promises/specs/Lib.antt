@@ -10,6 +10,7 @@ pub mod Backed
 pub mod Prompt
 pub mod Blocked
 pub mod Honest
+pub mod Sent
 pub mod Flood
 pub mod Converge
 pub mod Replay

@@ -1,9 +1,10 @@
 -- How soon certificates come.
-use Rattle.std.specs.Prelude.{◌≡◌, ◌≤◌, ◌-◌, ⊤, ℕ, Bool, true, false, not, ◌&&◌, nat_le, nat_lt, [], ◌∷◌, length, filter, Some, is_some, IfSome}
+use Rattle.std.specs.Prelude.{◌≡◌, ◌≤◌, ◌-◌, ⊤, ℕ, Bool, true, false, not, ◌&&◌, nat_le, nat_lt, [], ◌∷◌, length, filter, Some, None, is_some, IfSome}
 use Rattle.std.specs.List.{AllPass}
 use Rattle.batcher_types.specs.declared.messages.Kind.{Kind}
 use Rattle.batcher_types.specs.declared.messages.Kind.TheVariants.{Notarization, Nullification, Finalization}
 use Rattle.batcher_histories.specs.declared.calls.Call.TheVariants.{Construct as ConstructCall}
+use Rattle.batcher_histories.specs.declared.answers.Answer.TheVariants.{Construct as ConstructAnswer}
 use Rattle.batcher_histories.specs.Setting.{Setting, quorum_in}
 use Rattle.batcher_types.specs.Lists.{count}
 use Rattle.batcher_histories.specs.History.{Event, History, batch_given}
@@ -60,8 +61,16 @@ module _ {D K G C : Type 0} (x : Setting D K G C) where
       → gives_kind kind answer ≡ true
   GivesDespiteBadVotes past event = ⊤
 
+  -- A construction that gives no batch leaves no kind due: each of which a quorum is valid is
+  -- certified by then, whatever bad votes there are.
+  abbrev pub LeavesNoneDue : History D K G C → Event D K G C → Type 0
+  LeavesNoneDue past (ConstructCall, ConstructAnswer None) =
+      (kind : Kind) → is_due past kind ≡ false
+  LeavesNoneDue past event = ⊤
+
   -- What holds of the constructions of a list of calls on a fresh round.
   pub record GivesPromptly (past : History D K G C) : Type 0 where
     pub gives_at_once : AtEachEvent GivesAtOnce past
     pub takes_one : AtEachEvent TakesOne past
     pub gives_despite_bad_votes : AtEachEvent GivesDespiteBadVotes past
+    pub none_left_due : AtEachEvent LeavesNoneDue past

@@ -1,20 +1,20 @@
 -- What a list of calls on a fresh round leaves.
-use Rattle.std.specs.Prelude.{◌≤◌, List, []}
+use Rattle.std.specs.Prelude.{◌≤◌, List, [], All}
 use Rattle.rand_core.specs.Stream.{Stream}
 use Rattle.batcher_histories.specs.declared.calls.Call.{Call}
 use Rattle.batcher_histories.specs.declared.answers.Answer.{Answer}
 use Rattle.batcher_histories.specs.Setting.{Setting, participants_in}
 use Rattle.batcher_votes.specs.Held.{Held}
 use Rattle.batcher_histories.specs.Steps.{nothing_held}
-use Rattle.batcher_histories.specs.Runs.{Runs}
+use Rattle.batcher_histories.specs.Runs.{Runs, blocked_senders}
 use Rattle.batcher_histories.specs.History.{History, history}
 use Rattle.batcher_histories.specs.Answers.{AreAnswered}
 use Rattle.batcher_histories.specs.Stands.{Stands}
 use Rattle.batcher_promises.specs.Promises.{Promises}
-use Rattle.batcher_promises.specs.Composed.{HoldsThroughout}
+use Rattle.batcher_promises.specs.Composed.{AtEachCall, ConflictsWithAnother, HoldsThroughout}
 use Rattle.batcher_promises.specs.Backed.{GivesSafely}
 use Rattle.batcher_promises.specs.Prompt.{GivesPromptly}
-use Rattle.batcher_promises.specs.Blocked.{BlocksJustly}
+use Rattle.batcher_promises.specs.Blocked.{BlocksJustly, GaveCause}
 use Rattle.batcher_promises.specs.Reported.{ReportsTruly}
 use Rattle.batcher_promises.specs.Honest.{TakesInHonest}
 use Rattle.batcher_promises.specs.Flood.{IsFloodBounded}
@@ -34,9 +34,12 @@ pub record IsPromised {D K G C : Type 0} (x : Setting D K G C) (past : History D
     pub takes_in_honest : TakesInHonest x past
     -- work: what a flood of messages can cost
     pub flood_bounded : IsFloodBounded x past
+    -- answers: what else holds of them, and what follows from the definitions alone
+    pub throughout : HoldsThroughout x past
+    pub follows : FollowsByDefinition x past
 
 -- Each call is its step from what those before left, what is held stands after all of them, each is
--- answered as those before it name, and what is promised holds, and what else holds throughout.
+-- answered as those before it name, and what is promised holds.
 pub record IsRun {D K G C : Type 0} (x : Setting D K G C) (before : Stream)
     (calls : List (Call K G C D)) (answers : List (Answer G C D)) (held : Held G D) (after : Stream)
     : Type 0 where
@@ -44,7 +47,10 @@ pub record IsRun {D K G C : Type 0} (x : Setting D K G C) (before : Stream)
   pub stands : Stands x (history calls answers) held
   pub answered : AreAnswered x [] calls answers
   pub promised : IsPromised x (history calls answers)
-  pub throughout : HoldsThroughout x calls answers
-  pub follows : FollowsByDefinition x (history calls answers)
+  -- A call that is answered as a conflict has a cause, also one that is refused as such and so is
+  -- not in the history.
+  pub conflicts_have_cause : AtEachCall (ConflictsWithAnother x) [] calls answers
+  -- All whom the answers block gave cause.
+  pub blocked_gave_cause : All (GaveCause x (history calls answers)) (blocked_senders calls answers)
   -- Somebody takes part, so that a quorum is at least one vote.
   pub some_participant : 1 ≤ participants_in x

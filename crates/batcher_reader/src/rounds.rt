@@ -52,7 +52,8 @@ pub fn answer_all<S: TestScheme>(
 {
     let calls = calls_of(alloc, &*scheme, opening.round, commands)?;
     let round = fresh_round(alloc, opening, scheme);
-    let Ran { round: _, answers } = run(alloc, round, &mut Counter::new(0), calls.as_slice())?;
+    let Ran { round, answers } = run(alloc, round, &mut Counter::new(0), calls.as_slice())?;
+    drop(round);
     Ok(Answered { calls, answers })
 }
 

@@ -103,6 +103,9 @@ impl<S: Scheme<D>, D: Digest> Model for Round<S, D> {
 impl<S: Scheme<D>, D: Digest> Round<S, D> {
     /// A round in which nothing has happened. It takes no memory. Where historical votes are
     /// tracked, votes are kept in full to its end, else until their kind is certified.
+    ///
+    /// Notarizes and finalizes wait until a proposal is selected: by the notarize of the leader,
+    /// once `set_leader` names it, by a certificate, or by an own finalize.
     pub fn new(
         alloc: Global,
         round: positions::Round,

@@ -7,7 +7,7 @@ ghost use Rattle.batcher_histories.specs.Steps.{nothing_held};
 ghost use Rattle.batcher_histories.specs.Runs.{MayCall};
 ghost use Rattle.batcher_promises.specs.Pairs.{IsPairRun, ends_pair};
 
-use super::{Answer, Call, Ran, step, with_room};
+use super::{Answer, Call, Ran, step};
 use crate::messages::Digest;
 use crate::round::Round;
 use crate::scheme::Scheme;
@@ -57,22 +57,51 @@ pub fn run_pair<S: Scheme<D>, D: Digest, R: CryptoRng>(
         (pair.retaining.round ≡ record retaining { holds = pair.retaining.round.holds })
         × (pair.releasing.round ≡ record releasing { holds = pair.releasing.round.holds })) }
 {
-    let mut retaining = with_room(alloc, retaining, calls.len())?;
-    let mut releasing = with_room(alloc, releasing, calls.len())?;
-    let stopped = step_both(
-        &mut retaining.round,
-        &mut releasing.round,
-        rng_a,
-        rng_b,
-        calls,
-        &mut retaining.answers,
-        &mut releasing.answers,
-    );
-    Ok(PairRan {
-        retaining,
-        releasing,
-        stopped,
-    })
+    match rooms(alloc, calls.len()) {
+        Ok((retained, released)) => {
+            let mut retaining = Ran {
+                round: retaining,
+                answers: retained,
+            };
+            let mut releasing = Ran {
+                round: releasing,
+                answers: released,
+            };
+            let stopped = step_both(
+                &mut retaining.round,
+                &mut releasing.round,
+                rng_a,
+                rng_b,
+                calls,
+                &mut retaining.answers,
+                &mut releasing.answers,
+            );
+            Ok(PairRan {
+                retaining,
+                releasing,
+                stopped,
+            })
+        }
+        Err(error) => {
+            drop(retaining);
+            drop(releasing);
+            Err(error)
+        }
+    }
+}
+
+// Room for so many answers, twice.
+fn rooms<G: Drop, C: Drop, D: Drop>(
+    alloc: Global,
+    calls: usize,
+) -> Result<(Vec<Answer<G, C, D>>, Vec<Answer<G, C, D>>), AllocError>
+    ensures empty { IfOk result (λ lists. (lists.0.items ≡ []) × (lists.1.items ≡ [])) }
+    ensures room { IfOk result (λ lists. (calls ≤ vec_capacity lists.0)
+        × (calls ≤ vec_capacity lists.1)) }
+{
+    let retained = Vec::with_capacity(alloc, calls)?;
+    let released = Vec::with_capacity(alloc, calls)?;
+    Ok((retained, released))
 }
 
 // Makes the calls up to the first that is refused, and gives its place.

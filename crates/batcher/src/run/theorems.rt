@@ -12,6 +12,7 @@ ghost use Rattle.batcher_promises.specs.Examples.Honest.{HonestExamples};
 ghost use Rattle.batcher_promises.specs.Examples.Replays.{ReplayExamples};
 ghost use Rattle.batcher_promises.specs.Replay.{EqualRunsGoAlike};
 ghost use Rattle.batcher_promises.specs.Ran.{IsPromised};
+ghost use Rattle.batcher_promises.specs.Sent.{SendersOfAddedGiveNoCause};
 ghost use Rattle.batcher_histories.specs.History.{History as TheHistory};
 ghost use Rattle.batcher_histories.specs.Answers.{IsPossible};
 
@@ -47,6 +48,16 @@ pub fn possible_histories_are_promised<S: Scheme<D>, D: Digest>()
         (setting (S.meaning scheme) S.PublicKey.cmp S.Signature.eq D.eq number mode) past
         → IsPromised
         (setting (S.meaning scheme) S.PublicKey.cmp S.Signature.eq D.eq number mode) past }
+{}
+
+/// Does nothing. Its contract says, for every scheme, that a participant that sends just those own
+/// votes which its round answered as added gives no cause to be blocked, in the history of any
+/// other round of the number, in whatever mode. What it reads of its own history is promised
+/// (`possible_histories_are_promised`), and whoever gives no cause is never blocked.
+pub fn senders_of_added_give_no_cause<S: Scheme<D>, D: Digest>()
+    ensures { (scheme : S) (number : TheNumber) (mode : TheMode)
+        → SendersOfAddedGiveNoCause
+        (setting (S.meaning scheme) S.PublicKey.cmp S.Signature.eq D.eq number mode) }
 {}
 
 /// Does nothing. Its contract says that runs of equal calls on equal rounds, with equal generators,

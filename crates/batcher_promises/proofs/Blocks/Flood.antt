@@ -42,6 +42,7 @@ use Rattle.batcher_promises.proofs.Headline.Work.{counts_within, count_weaker, c
 use Rattle.batcher_promises.proofs.Certificates.Backed.{firsts_take_part}
 use Rattle.batcher_promises.proofs.Certificates.Agree.{is_either, one_at, either_once}
 use Rattle.batcher_promises.proofs.Throughout.Told.{added_are}
+use Rattle.batcher_promises.proofs.Blocks.Constructions.{constructions_few}
 
 -- NO MORE THAN TWO OF EACH
 -- numbers below n, each of which comes twice at most
@@ -393,6 +394,7 @@ module _ {D K G C : Type 0} (x : Setting D K G C) (laws : HasLaws x) where
         few_processed = omega (arith, processed, few);
         batches_by_added = omega (arith, batches, all);
         few_batches = omega (arith, batches, few);
+        few_constructions = λ unless. omega (arith, constructions_few x past possible unless, batches, all);
       }
     where
       added : votes_added past ≡ first_votes x past

@@ -4,7 +4,8 @@ use Rattle.std.proofs.Common.{◌≡◌, ◌≤◌, ◌+◌, ◌==◌, ℕ, zero
 use Rattle.std.specs.Prelude.{IfSome}
 use Rattle.std.specs.List.{list_any, range_with_len, AllPass}
 use Rattle.std.specs.Option.{option_map_or}
-use Rattle.std.proofs.lemmas.Bool.{cases_Bool, and_parts, and_from, and_right, or_from, or_parts, or_cases, or_left, or_right, false_from_ne_true, true≢false, false≢true, not-true, not-false, eqb-true, eq-eqb, lt-ltb, true_from_ne_false}
+use Rattle.std.proofs.lemmas.Bool.{cases_Bool, and_parts, and_from, and_right, or_from, or_parts, or_cases, or_left, or_right, false_from_ne_true, true≢false, false≢true, not-true, not-false, eqb-true, eq-eqb}
+use Rattle.std.proofs.lemmas.Bool.{lt-ltb, le-leb, true_from_ne_false}
 use Rattle.std.proofs.lemmas.Bool.Decides.{nat_tests}
 use Rattle.std.proofs.lemmas.List.Folds.{list_any-append}
 use Rattle.std.proofs.lemmas.List.Sums.{AllPass-from_list_all}
@@ -26,7 +27,7 @@ use Rattle.batcher_histories.specs.Admissions.{same_vote}
 use Rattle.batcher_histories.specs.History.{Event, History, batch_given, sent_votes, own_votes, cast_votes}
 use Rattle.batcher_histories.specs.FirstVotes.{first_votes, first_vote, is_free, contradicts}
 use Rattle.batcher_votes.specs.Tracking.{is_skipped}
-use Rattle.batcher_histories.specs.Selection.{selected_proposal}
+use Rattle.batcher_histories.specs.Selection.{selected_proposal, is_certified}
 use Rattle.batcher_histories.specs.Standing.{is_valid, is_trusted, is_among, is_counted, was_invalid, stood_before, trials, ready_kind, fresh_votes, proven_votes, counted_votes, valid_votes}
 use Rattle.batcher_histories.specs.Stands.{tries_kind}
 use Rattle.batcher_histories.specs.Trying.{AttemptAfter}
@@ -34,7 +35,7 @@ use Rattle.batcher_promises.specs.Composed.{has_bad_vote}
 use Rattle.batcher_histories.specs.Answers.{IsPossible, network_answer}
 use Rattle.batcher_promises.specs.Promises.{votes_cast, names_another, contradicts_itself, gave_cause}
 use Rattle.batcher_promises.specs.Reported.{IsAmong}
-use Rattle.batcher_promises.specs.Honest.{named_invalid, IsAddedWithoutCause, times_named, votes_sent, sent_bad_vote, NamesForOwnVotes, voted_well, honest_voters, CompletesHonestQuorums, TakesInHonest}
+use Rattle.batcher_promises.specs.Honest.{named_invalid, IsAddedWithoutCause, times_named, votes_sent, sent_bad_vote, NamesForOwnVotes, voted_well, honest_voters, CompletesHonestQuorums, LeavesNoHonestQuorum, TakesInHonest}
 use Rattle.batcher_histories.proofs.History.Laws.{HasLaws}
 use Rattle.batcher_promises.proofs.Runs.Finding.{any_more, any_other, any_filter, any_found}
 use Rattle.batcher_histories.proofs.History.Distinct.{any_count, any_is_found, is_kind-refl, is_kind-true, some_of, found_is_of, first_stays, where_holds}
@@ -45,15 +46,19 @@ use Rattle.batcher_promises.proofs.Headline.Attesting.{some_more, names_bad_sign
 use Rattle.batcher_promises.proofs.Certificates.Overlap.{count_covers}
 use Rattle.batcher_votes.proofs.Constructing.{subject_is}
 use Rattle.batcher_histories.proofs.Follow.Network.{added_is}
-use Rattle.batcher_promises.proofs.Quorums.Completed.{completes}
+use Rattle.batcher_promises.proofs.Quorums.Completed.{completes, construct_answered}
+use Rattle.batcher_promises.specs.Prompt.{has_valid_quorum}
+use Rattle.batcher_promises.proofs.Certificates.Prompt.{none_due}
+use Rattle.batcher_histories.proofs.Follow.Settled.{constructed}
 use Rattle.batcher_promises.proofs.Headline.Work.{count_implied}
 use Rattle.batcher_promises.proofs.Pairs.Compared.{any_in_filtered}
 use Rattle.batcher_promises.proofs.Order.Reordered.{excludes_same, excludes_itself}
+use Rattle.batcher_promises.proofs.Blocks.Own.{own_agree}
 use Rattle.batcher_promises.proofs.Headline.Promises.{first_is_cast, at_each_vote, at_each_event, at_each_time}
 
 -- LISTS
 -- what passes among some is among them
-some_among :
+pub some_among :
     {X : Type 0} (p : X → Bool) (vs : List X) → list_any p vs ≡ true
     → (v : X) × (p v ≡ true) × IsAmong v vs
 some_among p [] h = absurd (false≢true h)
@@ -526,6 +531,30 @@ module _ {D K G C : Type 0} (x : Setting D K G C) where
   completes_honest laws (event ∷ past) possible runs ends kind reached =
       completes x laws past event possible ends kind (omega (arith, reached, few_honest laws (event ∷ past) kind runs))
 
+  -- and where a construction gives no batch
+  certified_if : (c q : Bool) → (not c && q) ≡ false → q ≡ true → c ≡ true
+  certified_if true q none due = refl
+  certified_if false q none due = absurd (true≢false (sym due ∙ none))
+
+  leaves_honest :
+      HasLaws x → (past : History D K G C) (given : Option (Batch (Certificate C D)))
+      → IsPossible x (constructed x past given ∷ past)
+      → LeavesNoHonestQuorum x past (constructed x past given)
+  leaves_honest laws past None possible = λ runs kind reached.
+      certified_if (is_certified past kind) (has_valid_quorum x past kind)
+      (none_due x laws past possible.1.1.1 possible.1.1.0 kind)
+      (le-leb _ _ (omega (arith, reached, few_honest laws past kind runs)))
+  leaves_honest laws past (Some batch) possible = tt
+
+  leaves_no_honest :
+      HasLaws x → (past : History D K G C) (event : Event D K G C) → IsPossible x (event ∷ past)
+      → LeavesNoHonestQuorum x past event
+  leaves_no_honest laws past (ConstructCall, answer) possible =
+      construct_answered x past answer possible.1.1.0
+      (λ a. IsPossible x ((ConstructCall, a) ∷ past) → LeavesNoHonestQuorum x past (ConstructCall, a))
+      (λ given may. leaves_honest laws past given) possible
+  leaves_no_honest laws past event possible = tt
+
   -- ALL OF IT
   -- An honest participant can rely on it.
   pub takes_in_honest :
@@ -533,7 +562,9 @@ module _ {D K G C : Type 0} (x : Setting D K G C) where
   takes_in_honest laws past possible =
       record {
         votes_are_added = at_each_vote x (IsAddedWithoutCause x) added_or_same past possible;
+        own_added_agree = own_agree x past possible;
         named_once = named_at_most_once past possible;
         named_for_its_own_vote = at_each_event x (NamesForOwnVotes x) (names_for_own laws) past possible;
         honest_quorums_complete = at_each_time x (CompletesHonestQuorums x) (completes_honest laws) past possible;
+        no_honest_quorum_left = at_each_event x (LeavesNoHonestQuorum x) (leaves_no_honest laws) past possible;
       }

@@ -25,7 +25,7 @@ use Rattle.batcher_histories.specs.Standing.{is_valid, proven_votes, fresh_votes
 use Rattle.batcher_histories.specs.Trying.{AttemptAfter, bad_signers, votes_checked}
 use Rattle.batcher_histories.specs.Answers.{IsPossible}
 use Rattle.batcher_promises.specs.Composed.{usable_votes}
-use Rattle.batcher_promises.specs.Prompt.{HasNoBadVote, IsClean, GivesAtOnce, has_valid_quorum, is_due, kinds_due, TakesOne, GivesDespiteBadVotes, GivesPromptly}
+use Rattle.batcher_promises.specs.Prompt.{HasNoBadVote, IsClean, GivesAtOnce, has_valid_quorum, is_due, kinds_due, TakesOne, GivesDespiteBadVotes, LeavesNoneDue, GivesPromptly}
 use Rattle.batcher_histories.proofs.History.Laws.{HasLaws}
 use Rattle.batcher_votes.proofs.Counts.{count-append, length_same}
 use Rattle.batcher_histories.proofs.History.Distinct.{some_of, is_kind-refl}
@@ -177,7 +177,7 @@ now_due false c q = refl
 
 module _ {D K G C : Type 0} (x : Setting D K G C) (laws : HasLaws x) (past : History D K G C) where
   -- where no kind is ready, none is due
-  none_due : IsPossible x past → ready_kind x past ≡ None
+  pub none_due : IsPossible x past → ready_kind x past ≡ None
       → (kind : Kind) → is_due x past kind ≡ false
   none_due possible none kind =
       false_from_ne_true _ (λ due.
@@ -268,6 +268,12 @@ module _ {D K G C : Type 0} (x : Setting D K G C) (laws : HasLaws x) (past : His
       of_kind : kind_certified c.0 ≡ kind
       of_kind = same_Some _ _ (sym (gave x past (constructed x past (Some batch)) laws possible c.0 c.1).ready ∙ ready)
 
+  leaves_so : (given : Option (Batch (Certificate C D)))
+      → IsPossible x (constructed x past given ∷ past)
+      → LeavesNoneDue x past (constructed x past given)
+  leaves_so None possible = none_due possible.1.1.1 possible.1.1.0
+  leaves_so (Some batch) possible = tt
+
 -- AT EACH EVENT
 module _ {D K G C : Type 0} (x : Setting D K G C) (laws : HasLaws x)
     (past : History D K G C) where
@@ -293,6 +299,14 @@ module _ {D K G C : Type 0} (x : Setting D K G C) (laws : HasLaws x)
       (λ given may. gives_so x laws past given) possible
   gives_despite_bad_votes event possible = tt
 
+  leaves_none_due : (event : Event D K G C) → IsPossible x (event ∷ past)
+      → LeavesNoneDue x past event
+  leaves_none_due (ConstructCall, answer) possible =
+      construct_answered x past answer possible.1.1.0
+      (λ a. IsPossible x ((ConstructCall, a) ∷ past) → LeavesNoneDue x past (ConstructCall, a))
+      (λ given may. leaves_so x laws past given) possible
+  leaves_none_due event possible = tt
+
 module _ {D K G C : Type 0} (x : Setting D K G C) (laws : HasLaws x) where
   -- Certificates come promptly in each history that is possible.
   pub gives_promptly : (past : History D K G C) → IsPossible x past → GivesPromptly x past
@@ -301,4 +315,5 @@ module _ {D K G C : Type 0} (x : Setting D K G C) (laws : HasLaws x) where
         gives_at_once = at_each_event x (GivesAtOnce x) (gives_at_once x laws) past possible;
         takes_one = at_each_event x (TakesOne x) (takes_one x laws) past possible;
         gives_despite_bad_votes = at_each_event x (GivesDespiteBadVotes x) (gives_despite_bad_votes x laws) past possible;
+        none_left_due = at_each_event x (LeavesNoneDue x) (leaves_none_due x laws) past possible;
       }

@@ -105,5 +105,6 @@ worked =
       other_forward_is_refused = λ h. false≢true (ap (λ s. is_some_and s (same_proposal (λ a b. a == b) (p 2))) h.0);
       repeated_follows = follows_by_definition (four Skipped) (laws_of_four Skipped) (history repeated_calls repeated_answers);
       repeated_is_refused = λ h. false≢true h.1.1.0.1;
-      unadded_is_refused = λ (h : HoldsThroughout (four Retaining) (net 1 (nullify 1) ∷ []) (refused ∷ [])). absurd (none_added h.added_are_first);
+      repeated_block_is_refused = λ h. false≢true h.0.1;
+      unadded_is_refused = λ (h : HoldsThroughout (four Retaining) ((net 1 (nullify 1), refused) ∷ [])). absurd (none_added h.added_are_first);
     }

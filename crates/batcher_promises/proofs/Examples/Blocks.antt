@@ -1,9 +1,9 @@
 -- The examples of blocks and reports are computed, and the wrong answers refuted.
-use Rattle.std.proofs.Common.{◌≡◌, ◌==◌, Bool, true, false, Option, Some, None, refl, ap, sym, ◌∙◌}
+use Rattle.std.proofs.Common.{◌≡◌, ◌==◌, Bool, true, false, Option, Some, None, arith, refl, ap, sym, ◌∙◌}
 use Rattle.std.proofs.lemmas.Bool.{true≢false, false≢true}
 use Rattle.std.proofs.lemmas.Option.{same_Some}
 use Rattle.batcher_types.specs.declared.messages.Kind.TheVariants.{Finalization}
-use Rattle.batcher_types.specs.Keys.{index_of}
+use Rattle.batcher_types.specs.Keys.{index_of, participant}
 use Rattle.batcher_types.specs.Votes.{is_for}
 use Rattle.batcher_promises.specs.Examples.Answers.{TinyVote, p, finalize}
 use Rattle.batcher_promises.specs.Examples.Blocks.{BlockExamples}
@@ -49,6 +49,7 @@ just =
       lenient_before_the_release = λ holds. false≢true (holds.0 refl);
       strict_before_the_release = λ holds. true≢false (holds.0 refl);
       strict_where_votes_are_retained = λ holds. true≢false (holds.0 refl);
+      listed_without_cause = λ holds. false≢true (holds 0 0 (omega arith) (participant 1) refl);
       added_in_silence = λ holds. none_is_some _ holds.0;
       reported_though_refused = λ holds. none_is_some _ (sym holds.0);
       another_reported = λ holds. some_differ is_for_first _ _ refl refl holds.0;

@@ -8,7 +8,7 @@ use Rattle.batcher_histories.specs.FirstVotes.{first_votes}
 use Rattle.batcher_histories.specs.Standing.{is_valid, ready_kind, proven_votes}
 use Rattle.batcher_promises.specs.Composed.{has_bad_vote}
 use Rattle.batcher_promises.specs.Prompt.{HasNoBadVote}
-use Rattle.batcher_types.specs.declared.messages.Kind.TheVariants.{Notarization}
+use Rattle.batcher_types.specs.declared.messages.Kind.TheVariants.{Notarization, Nullification}
 use Rattle.batcher_types.specs.Keys.{index_of, participant}
 use Rattle.batcher_types.specs.Meaning.{IsLawful}
 use Rattle.batcher_types.specs.Lists.{is_some_and}
@@ -77,6 +77,9 @@ computed =
       late_is_refused = λ at_once. false≢true (at_once.0 (refl, good_votes three_notarizes refl)).0;
       left_due_is_refused = λ one. false≢true (one.0 (refl, good_votes three_notarizes refl) refl).0;
       held_back_is_refused = λ given. false≢true (given.0 Notarization refl (omega arith));
+      batch_before_the_quorum = refl;
+      quorum_left_is_refused = λ none. true≢false (none.0 Nullification);
+      honest_quorum_left_is_refused = λ none. false≢true (none.0 refl Nullification (omega arith));
       good_one_is_not_named = λ named.
           false≢true
           (list_all-from_AllPass

@@ -8,9 +8,10 @@ use Rattle.batcher_types.specs.Meaning.{IsLawful}
 use Rattle.batcher_types.specs.declared.messages.Kind.TheVariants.{Nullification}
 use Rattle.batcher_votes.specs.declared.votes.Mode.TheVariants.{Retaining}
 use Rattle.batcher_types.specs.Lists.{is_some_and}
+use Rattle.batcher_types.specs.Votes.{is_for}
 use Rattle.batcher_histories.specs.Standing.{ready_kind}
 use Rattle.batcher_promises.specs.Honest.{sent_bad_vote}
-use Rattle.batcher_promises.specs.Examples.Answers.{is_good, four}
+use Rattle.batcher_promises.specs.Examples.Answers.{is_good, four, p, notarize, nullify}
 use Rattle.batcher_types.specs.Keys.{index_of, participant}
 use Rattle.batcher_promises.specs.Examples.Honest.{undiscerning, played_nullifies, HonestExamples}
 
@@ -62,6 +63,17 @@ honest_computed =
           named.0);
       left_incomplete_is_refused = λ completes. false≢true (completes.0 refl refl Nullification (omega arith));
       named_twice = refl;
+      other_of_skipped = refl;
+      added_of_skipped = refl;
+      other_after_release = refl;
+      added_after_release = refl;
+      nullify_signed_anew = refl;
+      added_signed_anew = refl;
+      added_once = refl;
+      both_sent_give_cause = refl;
+      both_sent_is_refused = λ sends. false≢true ((sends.0 refl).1 (is_for (λ a b. a == b) (p 2)) refl);
+      both_added_is_refused = λ agree. absurd (omega (arith, agree (notarize 1 1)));
+      finalize_after_nullify_is_refused = λ agree. absurd (omega (arith, agree (nullify 1)));
       added_thrice = refl;
       given_thrice = refl;
       processed_thrice = refl;
@@ -69,5 +81,8 @@ honest_computed =
       costs_of_four = refl;
       costs_again = refl;
       costs_of_own = refl;
+      constructions_of_one = refl;
+      endless_is_refused = λ few.
+          absurd (omega (arith, few ((λ h. refl), ((λ h. refl), ((λ h. refl), ((λ h. absurd (false≢true h)), tt))))));
       costs_against_law = refl;
     }

@@ -19,9 +19,11 @@ use Rattle.batcher_promises.proofs.Headline.Promises.{promised}
 use Rattle.batcher_promises.proofs.Certificates.Agree.{gives_safely}
 use Rattle.batcher_promises.proofs.Certificates.Prompt.{gives_promptly}
 use Rattle.batcher_promises.proofs.Blocks.Blocked.{blocks_justly}
+use Rattle.batcher_promises.proofs.Blocks.Caused.{blocked_for_cause_all}
 use Rattle.batcher_promises.proofs.Blocks.Reported.{reports_truly}
 use Rattle.batcher_promises.proofs.Blocks.Honest.{takes_in_honest}
 use Rattle.batcher_promises.proofs.Blocks.Flood.{flood_bounded}
+use Rattle.batcher_promises.proofs.Throughout.Told.{answered_conflicts}
 use Rattle.batcher_promises.proofs.Throughout.Composed.{holds_throughout}
 use Rattle.batcher_promises.proofs.Throughout.ByDefinition.{follows_by_definition}
 
@@ -64,6 +66,8 @@ module _ {D K G C : Type 0} (x : Setting D K G C) where
         reports_truly = reports_truly x past possible;
         takes_in_honest = takes_in_honest x laws past possible;
         flood_bounded = flood_bounded x laws past possible;
+        throughout = holds_throughout x laws past possible;
+        follows = follows_by_definition x laws past;
       }
 
   pub goes_to : HasLaws x → (before : Stream) (calls : List (Call K G C D))
@@ -75,7 +79,7 @@ module _ {D K G C : Type 0} (x : Setting D K G C) where
         stands = goes.stands;
         answered = goes.answered;
         promised = is_promised laws (history calls answers) goes.stands.possible;
-        throughout = holds_throughout x laws calls answers goes.answered goes.stands.possible;
-        follows = follows_by_definition x laws (history calls answers);
+        conflicts_have_cause = answered_conflicts x laws [] calls answers goes.answered;
+        blocked_gave_cause = blocked_for_cause_all x laws [] calls answers goes.answered;
         some_participant = laws.some_participant;
       }

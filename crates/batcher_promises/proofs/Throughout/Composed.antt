@@ -1,5 +1,5 @@
--- What holds throughout a list of calls that were answered as they may be.
-use Rattle.std.proofs.Common.{◌≡◌, ◌≤◌, Bool, true, false, cond, ◌||◌, List, [], ◌∷◌, Option, None, refl, ap, sym, ◌∙◌, arith, ⊎_elim}
+-- What holds throughout a possible history.
+use Rattle.std.proofs.Common.{◌≡◌, ◌≤◌, Bool, true, false, cond, ◌||◌, [], ◌∷◌, Option, None, refl, ap, sym, ◌∙◌, arith, ⊎_elim}
 use Rattle.std.specs.Prelude.{is_some}
 use Rattle.std.proofs.lemmas.Bool.{cases_Bool, false≢true}
 use Rattle.batcher_histories.specs.declared.calls.Call.{Call}
@@ -9,14 +9,14 @@ use Rattle.batcher_histories.specs.declared.answers.Answer.TheVariants.{OutOfMem
 use Rattle.batcher_histories.specs.declared.answers.Answer.TheVariants.{Forward as ForwardAnswer, Missing as MissingAnswer}
 use Rattle.batcher_histories.specs.Setting.{Setting}
 use Rattle.batcher_types.specs.Lists.{count}
-use Rattle.batcher_histories.specs.History.{History, history}
+use Rattle.batcher_histories.specs.History.{History}
 use Rattle.batcher_histories.specs.Selection.{selected_proposal, was_forwarded, forwards}
-use Rattle.batcher_histories.specs.Answers.{MayAnswer, IsPossible, AreAnswered}
-use Rattle.batcher_promises.specs.Composed.{NamesBadSigners, GivesSelected, ForwardsSelected, ChangesNoFixed, HoldsThen, HoldsThroughout}
+use Rattle.batcher_histories.specs.Answers.{MayAnswer, IsPossible}
+use Rattle.batcher_promises.specs.Composed.{ConflictAnswered, NamesBadSigners, GivesSelected, ForwardsSelected, ChangesNoFixed, HoldsThen, HoldsThroughout}
 use Rattle.batcher_votes.proofs.Soundness.{count_none}
 use Rattle.batcher_promises.proofs.Headline.Promises.{at_each_event, at_each_time}
 use Rattle.batcher_promises.proofs.Headline.Attesting.{proven_attest, names_bad_signers, usable_are}
-use Rattle.batcher_promises.proofs.Throughout.Told.{answered_conflicts, added_are, gives_selected, forwards_selected, changes_no_fixed}
+use Rattle.batcher_promises.proofs.Throughout.Told.{conflict_answered_so, added_are, gives_selected, forwards_selected, changes_no_fixed}
 use Rattle.batcher_histories.proofs.History.Laws.{HasLaws}
 
 -- ONE FORWARD CALL AT MOST ANSWERS A PROPOSAL
@@ -63,15 +63,12 @@ module _ {D K G C : Type 0} (x : Setting D K G C) (laws : HasLaws x) where
         usable_are_standing = usable_are x past possible;
       }
 
-  -- What holds throughout does so where each call is answered as it may be.
-  pub holds_throughout : (calls : List (Call K G C D)) (answers : List (Answer G C D))
-      → AreAnswered x [] calls answers → IsPossible x (history calls answers)
-      → HoldsThroughout x calls answers
-  holds_throughout calls answers answered possible =
-      let past = history calls answers in
+  -- What holds throughout does so of every possible history.
+  pub holds_throughout : (past : History D K G C) → IsPossible x past → HoldsThroughout x past
+  holds_throughout past possible =
       record {
-        conflicts_have_cause = answered_conflicts x laws [] calls answers answered;
         at_each_time = at_each_time x (HoldsThen x) holds_then past possible;
+        conflicts_have_cause = at_each_event x (ConflictAnswered x) (conflict_answered_so x laws) past possible;
         added_are_first = added_are x past possible;
         named_signers_are_bad = at_each_event x (NamesBadSigners x) (names_bad_signers x laws) past possible;
         given_are_selected = at_each_event x (GivesSelected x) (gives_selected x laws) past possible;

@@ -47,7 +47,7 @@ use Rattle.batcher_histories.specs.Answers.{network_answer, admission_sent_by, a
 use Rattle.batcher_histories.specs.Answers.{certificate_answer, MayAnswer, IsPossible, IsAnswered, AreAnswered}
 use Rattle.batcher_promises.specs.Promises.{votes_cast}
 use Rattle.batcher_promises.specs.Composed.{carry_different, is_conflict, AtEachCall, added_by, votes_added, proposal_forwarded}
-use Rattle.batcher_promises.specs.Composed.{ConflictsWithAnother, GivesSelected, ForwardsSelected, ChangesNoFixed}
+use Rattle.batcher_promises.specs.Composed.{ConflictsWithAnother, ConflictAnswered, GivesSelected, ForwardsSelected, ChangesNoFixed}
 use Rattle.batcher_histories.proofs.History.Laws.{HasLaws}
 use Rattle.batcher_histories.proofs.History.Distinct.{new_votes, found_is_of}
 use Rattle.batcher_promises.proofs.Runs.Finding.{any_found}
@@ -209,6 +209,18 @@ module _ {D K G C : Type 0} (x : Setting D K G C) (laws : HasLaws x) where
   own_conflicts past vote None h =
       conflict_has_other past vote
       (own_by_first (kind_of vote) (first_like x past vote) (is_released x past (kind_of vote)) (conflicts x past vote) h)
+
+  conflict_made : (past : History D K G C) (call : Call K G C D) (answer : Answer G C D)
+      → MayAnswer x past call answer → ConflictsWithAnother x past call answer
+  conflict_made past (NetworkCall sender vote) (NetworkAnswer admission) may =
+      network_conflicts past sender vote admission may
+  conflict_made past (OwnCall vote) (OwnRefused ConflictingFault) may =
+      (refl, own_conflicts past vote (opposite_vote x past vote) may)
+  conflict_made past call answer may = tt
+
+  pub conflict_answered_so : (past : History D K G C) (event : Event D K G C)
+      → IsPossible x (event ∷ past) → ConflictAnswered x past event
+  conflict_answered_so past event possible = conflict_made past event.0 event.1 possible.1.1.0
 
   conflicts_with_another : (past : History D K G C) (call : Call K G C D) (answer : Answer G C D)
       → IsAnswered x past call answer → ConflictsWithAnother x past call answer

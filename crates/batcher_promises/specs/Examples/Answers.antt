@@ -50,7 +50,7 @@ use Rattle.batcher_histories.specs.Standing.{counted_votes, valid_votes, proven_
 use Rattle.batcher_histories.specs.Stands.{pending_after, verified_after}
 use Rattle.batcher_promises.specs.Work.{processed_total, votes_accepted_open, own_notarizes_restored}
 use Rattle.batcher_promises.specs.Promises.{AtEachEvent, gave_cause}
-use Rattle.batcher_promises.specs.Composed.{AtEachCall, usable_votes, has_bad_vote, ConflictsWithAnother, ForwardsSelected, ChangesNoFixed, HoldsThroughout}
+use Rattle.batcher_promises.specs.Composed.{AtEachCall, usable_votes, has_bad_vote, ConflictsWithAnother, ConflictAnswered, ForwardsSelected, ChangesNoFixed, HoldsThroughout}
 use Rattle.batcher_promises.specs.Consequences.{replacements, FollowsByDefinition}
 use Rattle.batcher_promises.specs.Pairs.{blocks, tells_nothing}
 use Rattle.batcher_histories.specs.Answers.{network_answer, own_answer, certificate_answer, forward_after, missing_after, needs_memory}
@@ -564,6 +564,9 @@ pub record WorkedExamples : Type 0 where
       FollowsByDefinition (four Skipped) (history repeated_calls repeated_answers)
   pub repeated_is_refused :
       AtEachCall (ConflictsWithAnother (four Skipped)) [] repeated_calls repeated_answers → ⊥
-  -- What was told as added without being free, or the other way round, is refused too.
+  -- Of possible histories too such a block is refused,
+  pub repeated_block_is_refused :
+      AtEachEvent (ConflictAnswered (four Skipped)) (history repeated_calls repeated_answers) → ⊥
+  -- and what was told as added without being free, or the other way round.
   pub unadded_is_refused :
-      HoldsThroughout (four Retaining) (net 1 (nullify 1) ∷ []) (refused ∷ []) → ⊥
+      HoldsThroughout (four Retaining) ((net 1 (nullify 1), refused) ∷ []) → ⊥

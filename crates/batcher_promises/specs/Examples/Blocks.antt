@@ -1,5 +1,5 @@
 -- Small rounds that block and report, and wrong answers that the clauses on both refuse.
-use Rattle.std.specs.Prelude.{◌≡◌, ℕ, Bool, true, false, List, [], ◌∷◌, Option, Some, None, is_some, option_and_then}
+use Rattle.std.specs.Prelude.{◌≡◌, ℕ, Bool, true, false, List, All, [], ◌∷◌, Option, Some, None, is_some, option_and_then}
 use Rattle.batcher_types.specs.declared.messages.Activity.{Activity}
 use Rattle.batcher_types.specs.declared.messages.Activity.TheVariants.{ConflictingNotarize as ReportConflictingNotarize, NullifyFinalize as ReportNullifyFinalize}
 use Rattle.batcher_histories.specs.declared.answers.BlockReason.TheVariants.{NotarizeSignerMismatch, ConflictingNotarize, InvalidSignature, NullifyAfterFinalize, FinalizeAfterNullify}
@@ -8,11 +8,12 @@ use Rattle.batcher_votes.specs.declared.votes.Mode.TheVariants.{Retaining, Relea
 use Rattle.batcher_histories.specs.declared.answers.Answer.TheVariants.{Network as NetworkAnswer, Own as OwnAnswer, Certificate as CertificateAnswer}
 use Rattle.batcher_types.specs.Votes.{signer_of}
 use Rattle.batcher_histories.specs.Admissions.{addition, refusal, report_of}
+use Rattle.batcher_histories.specs.Runs.{blocked_senders}
 use Rattle.batcher_histories.specs.History.{history}
 use Rattle.batcher_histories.specs.FirstVotes.{first_votes}
 use Rattle.batcher_histories.specs.Answers.{network_answer}
 use Rattle.batcher_promises.specs.Promises.{AtEachVote, AtEachEvent, votes_cast}
-use Rattle.batcher_promises.specs.Blocked.{gives_cause, IsBlockedForItself, IsBlockedInEveryMode, IsBlockedExactlyUntilRelease, IsBlockedExactlyIfRetaining}
+use Rattle.batcher_promises.specs.Blocked.{gives_cause, IsBlockedForItself, IsBlockedInEveryMode, IsBlockedExactlyUntilRelease, IsBlockedExactlyIfRetaining, GaveCause}
 use Rattle.batcher_promises.specs.Reported.{evidence_in, ReportsAdded, ReportsEvidence, ReportsContrary, ReportsEachContrary}
 use Rattle.batcher_promises.specs.Examples.Answers.{TinySetting, TinyVote, TinyCall, four, the_round, p, signed, notarize, bad_notarize, nullify, finalize, notarization, nullification, finalization}
 use Rattle.batcher_promises.specs.Examples.Answers.{net, own, cert, added, refused, blocked, blocked_and_reported, own_added, answers, played, with_cause}
@@ -161,6 +162,13 @@ pub record BlockExamples : Type 0 where
       Fails (AtEachVote (IsBlockedExactlyIfRetaining (four Retaining))
       (history (net 1 (notarize 1 1) ∷ net 1 (notarize 1 2) ∷ net 1 (notarize 1 1) ∷ [])
       (added (notarize 1 1) ∷ blocked ConflictingNotarize ∷ blocked ConflictingNotarize ∷ [])))
+  -- Somebody is blocked for a repeat, and is listed though it gave no cause.
+  pub listed_without_cause :
+      Fails (All (GaveCause (four Retaining)
+      (history (net 1 (notarize 1 1) ∷ net 1 (notarize 1 1) ∷ [])
+      (added (notarize 1 1) ∷ blocked ConflictingNotarize ∷ [])))
+      (blocked_senders (net 1 (notarize 1 1) ∷ net 1 (notarize 1 1) ∷ [])
+      (added (notarize 1 1) ∷ blocked ConflictingNotarize ∷ [])))
   -- A vote is added in silence, or reported though it is refused, or another one is reported.
   -- An own duplicate is reported.
   pub added_in_silence :

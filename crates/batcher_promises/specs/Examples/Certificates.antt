@@ -18,7 +18,8 @@ use Rattle.batcher_promises.specs.Promises.{AtEachEvent, AtEachTime}
 use Rattle.batcher_promises.specs.Composed.{usable_votes, NamesBadSigners, GivesSelected, HoldsThen}
 use Rattle.batcher_promises.specs.Reported.{subjects_contradict}
 use Rattle.batcher_promises.specs.Backed.{was_given, gives_kind, votes_behind, GivesBacked, GivesOnce, GivesFixed, NoneContradict, AllNameOneProposal}
-use Rattle.batcher_promises.specs.Prompt.{has_valid_quorum, kinds_due, GivesAtOnce, TakesOne, GivesDespiteBadVotes}
+use Rattle.batcher_promises.specs.Prompt.{has_valid_quorum, kinds_due, GivesAtOnce, TakesOne, GivesDespiteBadVotes, LeavesNoneDue}
+use Rattle.batcher_promises.specs.Honest.{LeavesNoHonestQuorum}
 use Rattle.batcher_promises.specs.Examples.Answers.{TinySetting, TinyCall, TinyAnswer, listing, round_of, four, one_by_one, p, signed, notarize, bad_notarize, nullify, finalize, notarization, nullification, finalization}
 use Rattle.batcher_promises.specs.Examples.Answers.{net, own, cert, lead, construct, added, no_batch, batch, blocked_and_reported, answers_from, answers, played, selects, counts}
 
@@ -56,6 +57,12 @@ two_bad = lead 0 ∷ net 0 (notarize 0 1) ∷ net 1 (bad_notarize 1 1) ∷ net 2
 
 abbrev pub three_nullifies : List TinyCall
 three_nullifies = net 0 (nullify 0) ∷ net 1 (nullify 1) ∷ net 3 (nullify 3) ∷ []
+
+-- with a bad notarize beside two good ones, and the leader named last
+abbrev pub nullifies_beside_bad : List TinyCall
+nullifies_beside_bad =
+    net 1 (notarize 1 1) ∷ net 2 (bad_notarize 2 1) ∷ three_nullifies ++ net 0 (notarize 0 1)
+    ∷ lead 0 ∷ []
 
 abbrev pub three_finalizes : List TinyCall
 three_finalizes = net 1 (finalize 1 1) ∷ net 2 (finalize 2 1) ∷ net 3 (finalize 3 1) ∷ []
@@ -206,6 +213,17 @@ pub record CertificateExamples : Type 0 where
       AtEachEvent (GivesDespiteBadVotes tiny)
       ((construct, batch 4 (3 ∷ []) None true)
       ∷ played tiny (three_notarizes ++ net 3 (bad_notarize 3 1) ∷ [])) → ⊥
+  -- A batch without a certificate isn't the last: three nullifies are a quorum, and a construction
+  -- gives no batch only once they are certified.
+  pub batch_before_the_quorum :
+      then_three tiny nullifies_beside_bad
+      ≡ batch 3 (2 ∷ []) None true ∷ batch 3 [] (Some nullification) false ∷ no_batch ∷ []
+  pub quorum_left_is_refused :
+      AtEachEvent (LeavesNoneDue tiny)
+      ((construct, no_batch) ∷ played tiny (nullifies_beside_bad ++ construct ∷ [])) → ⊥
+  pub honest_quorum_left_is_refused :
+      AtEachEvent (LeavesNoHonestQuorum tiny)
+      ((construct, no_batch) ∷ played tiny (nullifies_beside_bad ++ construct ∷ [])) → ⊥
   -- A batch that names a good voter is refused, and one that leaves a bad vote among the proven.
   pub good_one_is_not_named :
       AtEachEvent (NamesBadSigners tiny)

@@ -4,7 +4,10 @@ use Rattle.std.specs.List.{list_any, range_with_len}
 use Rattle.batcher_types.specs.declared.messages.Kind.{Kind}
 use Rattle.batcher_types.specs.declared.messages.Kind.TheVariants.{Notarization, Nullification, Finalization}
 use Rattle.batcher_histories.specs.declared.answers.BlockReason.TheVariants.{ConflictingNullify, NullifySignerMismatch}
-use Rattle.batcher_votes.specs.declared.votes.Mode.TheVariants.{Retaining, Skipped}
+use Rattle.batcher_votes.specs.declared.votes.Mode.TheVariants.{Retaining, Releasing, Skipped}
+use Rattle.batcher_votes.specs.declared.votes.Outcome.TheVariants.{Added, Duplicate}
+use Rattle.batcher_histories.specs.declared.answers.Answer.TheVariants.{Own as OwnAnswer, Certificate as CertificateAnswer}
+use Rattle.batcher_histories.specs.Admissions.{report_of}
 use Rattle.batcher_types.specs.Meaning.{IsLawful}
 use Rattle.batcher_types.specs.Votes.{is_vote_of}
 use Rattle.batcher_histories.specs.Selection.{selected_proposal, is_certified}
@@ -12,12 +15,13 @@ use Rattle.batcher_histories.specs.Standing.{is_counted, is_valid}
 use Rattle.batcher_promises.specs.Work.{processed_total}
 use Rattle.batcher_histories.specs.History.{Event}
 use Rattle.batcher_promises.specs.Promises.{AtEachVote, AtEachEvent, AtEachTime, votes_cast, gave_cause}
-use Rattle.batcher_promises.specs.Honest.{IsAddedWithoutCause, NamesForOwnVotes, CompletesHonestQuorums, times_named, voted_well, honest_voters}
+use Rattle.batcher_promises.specs.Honest.{own_votes_added, OwnAddedAgree, IsAddedWithoutCause, NamesForOwnVotes, CompletesHonestQuorums, times_named, voted_well, honest_voters}
+use Rattle.batcher_promises.specs.Sent.{SendsAdded}
 use Rattle.batcher_promises.specs.Composed.{votes_added}
-use Rattle.batcher_promises.specs.Flood.{batches_given}
-use Rattle.batcher_promises.specs.Examples.Answers.{TinySetting, TinyVote, TinyCall, TinyHistory, listing, is_good, round_of, four, one_by_one, notarize, bad_notarize, nullify, bad_nullify, finalize, nullification, net, own, lead}
-use Rattle.batcher_promises.specs.Examples.Answers.{construct}
-use Rattle.batcher_promises.specs.Examples.Answers.{added, refused, blocked, batch, no_batch, answers, played, with_cause}
+use Rattle.batcher_promises.specs.Flood.{batches_given, constructions_made, others_made, TakesFewConstructions}
+use Rattle.batcher_promises.specs.Examples.Answers.{TinySetting, TinyVote, TinyCall, TinyHistory, listing, is_good, round_of, four, one_by_one, notarize, bad_notarize, nullify, bad_nullify, finalize, notarization, nullification, net, own, lead}
+use Rattle.batcher_promises.specs.Examples.Answers.{construct, cert, own_round}
+use Rattle.batcher_promises.specs.Examples.Answers.{added, refused, blocked, own_added, own_duplicate, batch, no_batch, answers, played, with_cause}
 
 -- All signatures count as the same, though not all attest.
 abbrev pub undiscerning : TinySetting
@@ -95,6 +99,26 @@ module _ (x : TinySetting) where
   costs calls =
       let past = played x calls in
       (length (votes_added past), processed_total past, batches_given past)
+
+  -- how many constructions were made, votes added and other calls made
+  abbrev pub constructions : List TinyCall → ℕ × ℕ × ℕ
+  constructions calls =
+      let past = played x calls in
+      (constructions_made past, length (votes_added past), others_made past)
+
+-- own votes of which the second contradicts the first: in a skipped round, after a release, and a
+-- nullify that is signed anew
+abbrev pub own_for_both : List TinyCall
+own_for_both = own (notarize 1 1) ∷ own (notarize 1 2) ∷ []
+
+abbrev pub both_sent : List TinyCall
+both_sent = net 1 (notarize 1 1) ∷ net 1 (notarize 1 2) ∷ []
+
+abbrev pub own_after_release : List TinyCall
+own_after_release = own (notarize 1 1) ∷ cert (notarization 3) ∷ own (notarize 1 2) ∷ []
+
+abbrev pub own_signed_anew : List TinyCall
+own_signed_anew = own (nullify 1) ∷ own (bad_nullify 1) ∷ []
 
 -- the history of the three nullifies, and events that are told after it, rightly or not
 abbrev pub played_nullifies : TinyHistory
@@ -180,6 +204,41 @@ pub record HonestExamples : Type 0 where
   pub named_twice :
       times_named (four Retaining)
       ((construct, batch 3 (1 ∷ 1 ∷ []) None true) ∷ played_nullifies) Nullification 1 ≡ 2
+  -- Own votes that contradict earlier ones may be no fault, but aren't added: in a skipped round,
+  pub other_of_skipped :
+      answers (four Skipped) own_for_both
+      ≡ OwnAnswer (Added false) (Some (report_of (notarize 1 1))) ∷ own_duplicate ∷ []
+  pub added_of_skipped : own_votes_added (played (four Skipped) own_for_both) ≡ notarize 1 1 ∷ []
+  -- after a release,
+  pub other_after_release :
+      answers (four Releasing) own_after_release
+      ≡ own_added (notarize 1 1) ∷ CertificateAnswer true ∷ own_duplicate ∷ []
+  pub added_after_release :
+      own_votes_added (played (four Releasing) own_after_release) ≡ notarize 1 1 ∷ []
+  -- and a nullify that is signed anew.
+  pub nullify_signed_anew :
+      answers (four Retaining) own_signed_anew
+      ≡ own_added (nullify 1) ∷ OwnAnswer (Duplicate true) None ∷ []
+  pub added_signed_anew :
+      own_votes_added (played (four Retaining) own_signed_anew) ≡ nullify 1 ∷ []
+  -- Those that are restored are added once.
+  pub added_once :
+      own_votes_added (played (four Retaining) own_round)
+      ≡ finalize 1 2 ∷ notarize 3 2 ∷ notarize 2 2 ∷ notarize 1 2 ∷ notarize 0 1 ∷ []
+  -- Who sends both gives cause, and sends another than those that were added.
+  pub both_sent_give_cause : with_cause (four Retaining) both_sent ≡ 1 ∷ []
+  pub both_sent_is_refused :
+      AtEachEvent (SendsAdded (four Retaining) (played (four Skipped) own_for_both) 1)
+      (played (four Retaining) both_sent) → ⊥
+  -- Answers by which both of two such votes are added are refused.
+  pub both_added_is_refused :
+      OwnAddedAgree
+      ((own (notarize 1 2), own_added (notarize 1 2))
+      ∷ (own (notarize 1 1), own_added (notarize 1 1)) ∷ []) → ⊥
+  pub finalize_after_nullify_is_refused :
+      OwnAddedAgree
+      ((own (finalize 1 1), own_added (finalize 1 1))
+      ∷ (own (nullify 1), own_added (nullify 1)) ∷ []) → ⊥
   -- Answers that add a participant's votes, or give batches, as often as they are asked are too
   -- many.
   pub added_thrice : length (votes_added (added_one ∷ added_one ∷ added_one ∷ [])) ≡ 3
@@ -197,6 +256,13 @@ pub record HonestExamples : Type 0 where
   -- An own vote is added, and tried in a batch, but not processed.
   pub costs_of_own :
       costs (round_of 1 Retaining) (own (notarize 0 1) ∷ construct ∷ []) ≡ (1, 0, 1)
+  -- Who constructs until no batch is given makes as many constructions as votes are added and other
+  -- calls made, and no more: answers that go on to give batches are refused.
+  pub constructions_of_one :
+      constructions (round_of 1 Retaining) (own (notarize 0 1) ∷ construct ∷ construct ∷ [])
+      ≡ (2, 1, 1)
+  pub endless_is_refused :
+      TakesFewConstructions (naming_one ∷ naming_one ∷ naming_one ∷ added_one ∷ []) → ⊥
   -- Where others than the participants attest, more own votes are added.
   pub costs_against_law :
       costs lawless (own (nullify 0) ∷ own (nullify 1) ∷ own (nullify 2) ∷ []) ≡ (3, 0, 0)

@@ -5,10 +5,11 @@
 //! for memory refused, then their second, and so on.
 
 use super::*;
-use batcher::messages::{AttributableMap, Finalization};
+use batcher::messages::{Activity, AttributableMap, Finalization, Notarization};
 use batcher::round::OwnFault;
 use batcher::run::{Call, run};
 use batcher::scheme::{Sealed, Verification};
+use batcher_evidence::{convicted, culprits};
 
 // What comes of a second try, where the first was refused.
 fn twice<T: Drop, E: Drop, F: Fn() -> Result<T, E>>(make: F) -> Result<T, E>
@@ -383,5 +384,75 @@ fn run_once(rt: &impl Abort, alloc: Global) -> Result<usize, AllocError> {
 fn runs(rt: HostRuntime) -> Result<(), Fail> {
     let alloc = rt.alloc();
     assert_eq!(rt; twice(|| run_once(&rt, alloc))?, 1);
+    Ok(())
+}
+
+// What all of 25 notarize, for a payload of equal bytes.
+fn notarized_by_all(
+    alloc: Global,
+    scheme: &Keyed<true>,
+    byte: u8,
+) -> Result<TestCertificate, AllocError> {
+    let proposal = proposal(byte);
+    let subject = Subject::Notarize { proposal };
+    let mut attestations = Vec::new(alloc);
+    for signer in 0..25 {
+        attestations.push(scheme.sign(Participant::new(signer), subject))?;
+    }
+    Ok(Certificate::Notarization(Notarization {
+        proposal,
+        certificate: AttestationList::new(attestations),
+    }))
+}
+
+// How many have signed both, if the two contradict each other.
+fn count_culprits(
+    alloc: Global,
+    scheme: &Keyed<true>,
+    a: &TestCertificate,
+    b: &TestCertificate,
+) -> Result<Option<usize>, AllocError> {
+    Ok(culprits(alloc, scheme, a, b)?.map(|found| found.len()))
+}
+
+// All 25 are named, so that the list grows more than once. Where nobody is, no memory is taken.
+#[test]
+fn all_culprits(rt: HostRuntime) -> Result<(), Fail> {
+    let alloc = rt.alloc();
+    let scheme = keyed_twice(alloc, 25)?;
+    let one = twice(|| notarized_by_all(alloc, &scheme, 1))?;
+    let other = twice(|| notarized_by_all(alloc, &scheme, 2))?;
+    assert_eq!(rt; count_culprits(alloc, &scheme, &one, &one)?, None);
+    assert_eq!(rt;
+        twice(|| count_culprits(alloc, &scheme, &one, &other))?,
+        Some(25)
+    );
+    Ok(())
+}
+
+// Whom a report convicts.
+fn convicts(
+    alloc: Global,
+    scheme: &Keyed<true>,
+    report: &Activity<[u8; 32], Digest>,
+) -> Result<Option<u32>, AllocError> {
+    let found = convicted(alloc, scheme, &mut Counter::new(0), report)?;
+    Ok(found.map(|participant| participant.get()))
+}
+
+// Two notarizes of one signer for the payloads 1 and 2.
+fn conflict(scheme: &Keyed<true>, signer: u32) -> Option<Activity<[u8; 32], Digest>> {
+    match (notarize(scheme, signer, 1), notarize(scheme, signer, 2)) {
+        (Vote::Notarize(a), Vote::Notarize(b)) => Some(Activity::ConflictingNotarize(a, b)),
+        _ => None,
+    }
+}
+
+#[test]
+fn convictions(rt: HostRuntime) -> Result<(), Fail> {
+    let alloc = rt.alloc();
+    let scheme = keyed_twice(alloc, 4)?;
+    let report = conflict(&scheme, 1).ok_or("a notarize is another vote")?;
+    assert_eq!(rt; twice(|| convicts(alloc, &scheme, &report))?, Some(1));
     Ok(())
 }

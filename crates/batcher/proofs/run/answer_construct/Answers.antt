@@ -1,4 +1,4 @@
-use Rattle.std.proofs.Common.{refl, ap}
+use Rattle.std.proofs.Common.{ap}
 use Rattle.batcher_promises.proofs.Runs.Histories.{named}
 use Rattle.batcher.proofs.run.answer_construct.Goals as goal
 

@@ -2,9 +2,11 @@ use Rattle.std.proofs.Common.{◌≡◌, ◌∙◌, ◌||◌, Bool, true, false,
 use Rattle.std.specs.Cmp.{IsEquivalence}
 use Rattle.std.specs.List.{list_any, dedup, dedup_from}
 use Rattle.std.proofs.lemmas.Bool.{cond_both}
-use Rattle.std.proofs.lemmas.List.Filters.{dedup_is}
+use Rattle.std.proofs.lemmas.List.Filters.{dedup_is, All-dedup}
 use Rattle.std.proofs.lemmas.List.Kept.{IsStrictlySortedBy-dedup}
-use Rattle.std.proofs.lemmas.List.Sorted.{list_any-IsPermutation}
+use Rattle.std.proofs.lemmas.List.Sorted.{list_any-IsPermutation, All-permutation}
+use Rattle.batcher_histories.specs.History.{history}
+use Rattle.batcher_promises.specs.Blocked.{GaveCause}
 use Rattle.batcher.proofs.run.blocked.Goals as goal
 
 twice_or : (a b : Bool) → (a || b) ≡ (a || (a || b))
@@ -38,3 +40,10 @@ returns-clause-senders g c key =
     ∙ list_any-dedup g.met.P.Eq.laws key c.sort_unstable.new.self.items
     ∙ sym (list_any-IsPermutation (g.P.PartialEq.eq key) _ _ c.sort_unstable.ensures.permutation)
     ∙ ap (list_any (g.P.PartialEq.eq key)) c.in_ok-senders.ensures
+
+pub returns-clause-cause : goal.returns-clause-cause
+returns-clause-cause g c = λ x before after held run.
+    let P = GaveCause x (history c.args.calls.now c.args.answers.now) in
+    rw (dedup_is g.P.PartialEq.eq _ _ c.dedup.ensures.filtered)
+    (All-dedup g.P.PartialEq.eq P c.sort_unstable.new.self.items
+    (All-permutation P _ _ c.sort_unstable.ensures.permutation (rw c.in_ok-senders.ensures run.blocked_gave_cause)))

@@ -17,9 +17,9 @@ loop-call-init g c =
     let x = setting (g.S.Scheme.meaning round.scheme) g.S.PublicKey.Ord.cmp g.S.Signature.PartialEq.eq g.D.PartialEq.eq round.number round.mode in
     let stream = g.R.Rng.stream c.args.rng.now in
     record {
-      goes = rw c.in_ok-answers.ensures.items (subst (λ held. Goes x stream [] [] held stream) (sym c.requires.fresh) (goes_first x stream));
-      told = rw c.in_ok-answers.ensures.items refl;
-      room = c.in_ok-answers.ensures.capacity;
+      goes = rw c.in-Ok.ensures.items (subst (λ held. Goes x stream [] [] held stream) (sym c.requires.fresh) (goes_first x stream));
+      told = rw c.in-Ok.ensures.items refl;
+      room = c.in-Ok.ensures.capacity;
       scheme = refl;
       number = refl;
       mode = refl;
@@ -49,8 +49,8 @@ loop-call-preserved g c =
       mode = c.step.ensures.same.2 ∙ c.loop-call.invariant.mode;
     }
 
-pub returns-clause-ran : goal.returns-clause-ran
-returns-clause-ran g c =
+pub returns-after-loop-call-clause-ran : goal.returns-after-loop-call-clause-ran
+returns-after-loop-call-clause-ran g c =
     let round = c.args.round in
     let x = setting (g.S.Scheme.meaning round.scheme) g.S.PublicKey.Ord.cmp g.S.Signature.PartialEq.eq g.D.PartialEq.eq round.number round.mode in
     let laws : HasLaws x = record {

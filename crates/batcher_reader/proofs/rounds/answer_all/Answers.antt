@@ -15,6 +15,6 @@ returns-clause-played g c =
       mode = c.fresh_round-round.result.mode;
       before = _;
       after = _;
-      held = c.in_ok-answers.field-0.round.holds;
-      ran = rw (c.fresh_round-round.ensures.scheme, c.fresh_round-round.ensures.number, c.as_slice.ensures.value) at c.in_ok-answers.ensures.ran;
+      held = c.in_ok-round.field-0.round.holds;
+      ran = rw (c.fresh_round-round.ensures.scheme, c.fresh_round-round.ensures.number, c.as_slice.ensures.value) at c.in_ok-round.ensures.ran;
     }

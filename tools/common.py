@@ -1,0 +1,116 @@
+"""What the tools in Python share: the crates, and whether one was proved as it is now."""
+import hashlib
+import os
+import shutil
+import sys
+
+TOP = os.path.dirname(os.path.dirname(os.path.realpath(__file__)))
+
+
+def say(text):
+    """Says a line to whoever called: standard output is the program's."""
+    if sys.stderr is not None:
+        try:
+            print(text, file=sys.stderr, flush=True)
+        except OSError:
+            pass
+
+
+def has_rt():
+    """Whether rt is on the path. It says so where it isn't."""
+    if shutil.which("rt"):
+        return True
+    say("rt is not on the path: it comes with the kit that README.md names; 'rt version' shows that it is there")
+    return False
+
+
+def folder_of(crate):
+    return f"{TOP}/crates/{crate}"
+
+
+def dependencies():
+    """Each crate with those of the repository that it lists in crates.txt."""
+    lines = {}
+    with open(f"{TOP}/crates.txt", encoding="utf-8") as file:
+        for line in file:
+            name, found, listed = line.partition("#")[0].partition(":")
+            if found:
+                lines[name.split()[0]] = listed.split()
+    return {name: [it for it in listed if it in lines] for name, listed in lines.items()}
+
+
+def with_libraries(crates):
+    """These crates and all that they use, each after what it uses."""
+    listed, ordered = dependencies(), []
+
+    def add(crate):
+        if crate not in ordered:
+            for it in sorted(listed[crate]):
+                add(it)
+            ordered.append(crate)
+
+    for crate in crates:
+        add(crate)
+    return ordered
+
+
+def is_program(crate):
+    return os.path.isfile(f"{folder_of(crate)}/src/main.rt")
+
+
+def program_of(crate):
+    return f"{folder_of(crate)}/out/{crate}"
+
+
+def sum_of_sources(crate):
+    """A sum of all that the crate is proved and built from: another after an edit of its sources, or of a library's
+    below it."""
+    found, listed = hashlib.sha256(), dependencies()
+    for name in with_libraries([crate]):
+        found.update(repr((name, sorted(listed[name]))).encode())
+        for part in ("src", "specs", "proofs"):
+            for folder, folders, names in os.walk(f"{folder_of(name)}/{part}"):
+                folders.sort()
+                for file in sorted(names):
+                    if file.endswith((".rt", ".antt")):
+                        path = os.path.join(folder, file)
+                        with open(path, "rb") as it:
+                            found.update(repr((os.path.relpath(path, TOP), it.read())).encode())
+    return found.hexdigest()
+
+
+def sum_of_program(crate):
+    """A sum of the program, or none of a library."""
+    if not is_program(crate):
+        return "library"
+    try:
+        with open(program_of(crate), "rb") as it:
+            return hashlib.sha256(it.read()).hexdigest()
+    except OSError:
+        return None
+
+
+def note_of(crate):
+    """The file that notes which sources the crate was proved from, and which program was built."""
+    return f"{folder_of(crate)}/out/proved"
+
+
+def is_proved(crate):
+    """Whether the crate was proved and built from its sources as they are now."""
+    try:
+        with open(note_of(crate), encoding="utf-8") as it:
+            noted = it.read()
+    except OSError:
+        return False
+    return noted == f"{sum_of_sources(crate)} {sum_of_program(crate)}\n"
+
+
+def note_proved(crate, sources):
+    """Notes that the crate was proved from sources of this sum, if they are still the same."""
+    if sources == sum_of_sources(crate):
+        with open(note_of(crate), "w", encoding="utf-8") as it:
+            it.write(f"{sources} {sum_of_program(crate)}\n")
+
+
+def processors():
+    return len(os.sched_getaffinity(0))
