@@ -7,3 +7,4 @@ pub mod Answering
 pub mod Promising
 mod Lowest
 mod Blocking
+pub mod Rested

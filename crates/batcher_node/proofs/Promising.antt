@@ -1,7 +1,11 @@
 -- From a node that stands to what is promised of it.
-use Rattle.std.proofs.Common.{◌≡◌, ℕ, Bool, true, false, cond, [], ◌∷◌, ◌++◌, refl, sym, ap, ◌∙◌, subst}
+use Rattle.std.proofs.Common.{◌≡◌, ◌≤◌, ◌==◌, ℕ, Bool, true, false, cond, [], ◌∷◌, ◌++◌, refl, sym, ap, ◌∙◌, subst, length, arith}
 use Rattle.std.specs.Prelude.{is_some, Option, Some, None}
 use Rattle.std.proofs.lemmas.Bool.{false≢true}
+use Rattle.batcher.specs.messages.Kind.{Kind}
+use Rattle.batcher.specs.Prompt.{is_due as is_kind_due}
+use Rattle.batcher.specs.calls.Call.{Call}
+use Rattle.batcher.specs.answers.Answer.{Answer}
 use Rattle.batcher.specs.calls.Call.TheVariants.{Network as NetworkCall, Construct as ConstructCall}
 use Rattle.batcher.specs.answers.Answer.TheVariants.{Network as NetworkAnswer, Construct as ConstructAnswer}
 use Rattle.batcher.specs.positions.Round.{Round}
@@ -15,18 +19,22 @@ use Rattle.batcher.specs.Lists.{is_empty}
 use Rattle.batcher.specs.Votes.{subject_of, round_in}
 use Rattle.batcher.specs.History.{Event, History}
 use Rattle.batcher.specs.Answers.{IsPossible}
-use Rattle.batcher.specs.Promises.{AtEachVote, AtEachEvent, IsBlockedForCause, gave_cause}
+use Rattle.batcher.specs.Promises.{AtEachVote, AtEachEvent, IsBlockedForCause, gave_cause, ends_in_constructions}
 use Rattle.batcher.specs.Ran.{IsPromised}
 use Rattle.batcher_node.specs.declared.answers.Receipt.{Receipt}
 use Rattle.batcher_node.specs.declared.answers.Receipt.TheVariants.{Answered, Outside, Dropped, Unknown}
 use Rattle.batcher_node.specs.declared.answers.Verdict.{Verdict}
 use Rattle.batcher_node.specs.declared.answers.Verdict.TheVariants.{Recorded, Forged, Known}
-use Rattle.batcher_node.specs.Events.{NodeEvent, started, vote_came, certificate_came, vote_cast, view_entered, view_finalized, constructed, NodeHistory, told, told_by, peer_in, cause_in}
+use Rattle.batcher_node.specs.Events.{NodeEvent, started, vote_came, certificate_came, vote_cast, view_entered, view_finalized, constructed, NodeHistory, at_view, told, told_by, peer_in, cause_in}
 use Rattle.batcher_node.specs.Nodes.{NodeSetting}
-use Rattle.batcher_node.specs.Stands.{setting_of, receipt_from, is_within, IsNamed, AreNamed}
+use Rattle.batcher_node.specs.Stands.{setting_of, is_due, receipt_from, is_within, IsNamed, AreNamed}
 use Rattle.batcher_node.specs.Promised.{IsForCause, AreForCause, IsNodePromised}
+use Rattle.batcher_node.proofs.Rested.{rested, few_before}
 use Rattle.batcher_node.proofs.Standing.{setting_stays}
 use Rattle.batcher_node.proofs.Answering.{at_here}
+
+same_number : (a b : ℕ) → (a == b) ≡ true → a ≡ b
+same_number a b same = grind (arith, same)
 
 -- what was possible before
 possible_rest : {D K G C : Type 0} (y : Setting D K G C) (more past : History D K G C)
@@ -126,11 +134,76 @@ module _ {D K G C : Type 0} (x : NodeSetting D K G C)
     each_for_cause past named.1 (λ view. possible_by past event view (told view past) refl (possible view)),
   )
 
-  pub node_promised : (past : NodeHistory D K G C) → AreNamed x past
+  -- the promises of the views before the last event
+  promised_before : (past : NodeHistory D K G C) (event : NodeEvent D K G C)
+      → ((view : ℕ) → IsPossible (setting_of x (event ∷ past) view) (told view (event ∷ past)))
+      → (view : ℕ) → IsPossible (setting_of x past view) (told view past)
+  promised_before past event possible view =
+      possible_by past event view (told view past) refl (possible view)
+
+  few_at : (number view : ℕ) (call : Call K G C D) (answer : Answer G C D) (past : History D K G C)
+      → ends_in_constructions 5 past ≡ false
+      → ((number == view) ≡ true → ends_in_constructions 5 ((call, answer) ∷ past) ≡ false)
+      → ends_in_constructions 5 (at_view view number (call, answer) ++ past) ≡ false
+  few_at number view call answer past before here = by_same (number == view) refl where
+    by_same : (b : Bool) → (number == view) ≡ b
+        → ends_in_constructions 5 (cond b ((call, answer) ∷ []) [] ++ past) ≡ false
+    by_same true same = here same
+    by_same false same = before
+
+  few_after : (past : NodeHistory D K G C) (event : NodeEvent D K G C) → IsNamed x past event
+      → ((view : ℕ) → IsPossible (setting_of x past view) (told view past)) → (view : ℕ)
+      → ends_in_constructions 5 (told view past) ≡ false
+      → ends_in_constructions 5 (told view (event ∷ past)) ≡ false
+  few_after past (vote_came peer vote (Answered admission)) named possible view before =
+      few_at _ view _ _ (told view past) before (λ same. refl)
+  few_after past (certificate_came peer certificate (Answered (Recorded changed))) named possible view before =
+      few_at _ view _ _ (told view past) before (λ same. refl)
+  few_after past (vote_cast vote outcome report) named possible view before =
+      few_at _ view _ _ (told view past) before (λ same. refl)
+  few_after past (view_entered number leader) named possible view before =
+      few_at number view _ _ (told view past) before (λ same. refl)
+  few_after past (constructed number given) named possible view before =
+      few_at number view _ _ (told view past) before
+      (λ same. few_before (told view past)
+      (promised past view (possible view)).promises.constructions_rest
+      (ap (λ v. is_due (told v past)) (sym (same_number number view same)) ∙ named.0))
+  few_after past (started window) named possible view before = before
+  few_after past (view_finalized number) named possible view before = before
+  few_after past (vote_came peer vote Outside) named possible view before = before
+  few_after past (vote_came peer vote Dropped) named possible view before = before
+  few_after past (vote_came peer vote Unknown) named possible view before = before
+  few_after past (certificate_came peer certificate (Answered Forged)) named possible view before = before
+  few_after past (certificate_came peer certificate (Answered Known)) named possible view before = before
+  few_after past (certificate_came peer certificate Outside) named possible view before = before
+  few_after past (certificate_came peer certificate Dropped) named possible view before = before
+  few_after past (certificate_came peer certificate Unknown) named possible view before = before
+
+  few_rows : (past : NodeHistory D K G C) → AreNamed x past
+      → ((view : ℕ) → IsPossible (setting_of x past view) (told view past)) → (view : ℕ)
+      → ends_in_constructions 5 (told view past) ≡ false
+  few_rows [] named possible view = refl
+  few_rows (event ∷ past) named possible view =
+      let before = promised_before past event possible in
+      few_after past event named.0 before view (few_rows past named.1 before view)
+
+  -- a view at rest is complete
+  rested_there : 1 ≤ length x.meaning.participants → (past : NodeHistory D K G C) (view : ℕ)
+      → IsPossible (setting_of x past view) (told view past) → is_due (told view past) ≡ false
+      → (kind : Kind) → is_kind_due (setting_of x past view) (told view past) kind ≡ false
+  rested_there some past view possible rests kind =
+      let p = promised past view possible in
+      rested (setting_of x past view) (told view past) kind some possible
+      p.promises.acceptance_is_exact p.gives_promptly.none_left_due rests
+
+  pub node_promised : 1 ≤ length x.meaning.participants → (past : NodeHistory D K G C)
+      → AreNamed x past
       → ((view : ℕ) → IsPossible (setting_of x past view) (told view past))
       → IsNodePromised x past
-  node_promised past named possible =
+  node_promised some past named possible =
       record {
         each_view = λ view. promised past view (possible view);
         blocked_for_cause = each_for_cause past named possible;
+        rested_are_complete = λ view. rested_there some past view (possible view);
+        few_in_a_row = few_rows past named possible;
       }

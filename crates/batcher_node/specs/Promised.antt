@@ -1,5 +1,5 @@
 -- What is promised of a node after any history of its calls.
-use Rattle.std.specs.Prelude.{◌≡◌, ⊤, ℕ, true, false, [], ◌∷◌, Some, is_some}
+use Rattle.std.specs.Prelude.{◌≡◌, ◌≤◌, ⊤, ℕ, true, false, [], ◌∷◌, Some, is_some}
 use Rattle.std.specs.List.{AllPass}
 use Rattle.batcher.specs.Lists.{is_some_and}
 use Rattle.batcher.specs.Standing.{ready_kind}
@@ -9,12 +9,15 @@ use Rattle.batcher.specs.Setting.{sender_in}
 use Rattle.batcher.specs.Votes.{subject_of, round_in}
 use Rattle.batcher.specs.Verifiers.{certifies_itself}
 use Rattle.batcher.specs.Promises.{gave_cause}
+use Rattle.batcher.specs.messages.Kind.{Kind}
+use Rattle.batcher.specs.Promises.{ends_in_constructions}
+use Rattle.batcher.specs.Prompt.{is_due as is_kind_due}
 use Rattle.batcher.specs.Ran.{IsPromised}
 use Rattle.batcher_node.specs.declared.answers.Receipt.TheVariants.{Answered}
 use Rattle.batcher_node.specs.declared.answers.Verdict.TheVariants.{Forged}
 use Rattle.batcher_node.specs.Events.{NodeEvent, vote_came, certificate_came, constructed, NodeHistory, told}
-use Rattle.batcher_node.specs.Nodes.{NodeSetting}
-use Rattle.batcher_node.specs.Stands.{setting_of}
+use Rattle.batcher_node.specs.Nodes.{NodeView, NodeSetting}
+use Rattle.batcher_node.specs.Stands.{setting_of, is_due}
 
 module _ {D K G C : Type 0} (x : NodeSetting D K G C) where
   -- Whom an event blocks gave cause: by what it did itself in the view of its vote, with this vote
@@ -44,3 +47,16 @@ module _ {D K G C : Type 0} (x : NodeSetting D K G C) where
   pub record IsNodePromised (past : NodeHistory D K G C) : Type 0 where
     pub each_view : (view : ℕ) → IsPromised (setting_of x past view) (told view past)
     pub blocked_for_cause : AreForCause past
+    -- A view that hasn't to be looked at has a certificate of each kind of which a quorum is valid.
+    pub rested_are_complete :
+        (view : ℕ) → is_due (told view past) ≡ false
+        → (kind : Kind) → is_kind_due (setting_of x past view) (told view past) kind ≡ false
+    -- No view is constructed five times in a row: it rests after four at most.
+    pub few_in_a_row : (view : ℕ) → ends_in_constructions 5 (told view past) ≡ false
+
+  -- Where a node rests, each view from the finalized one on has a certificate of each kind of which
+  -- a quorum is valid. A skipped view counts no vote towards a certificate.
+  abbrev pub IsComplete : {S : Type 0} → NodeHistory D K G C → NodeView S G D → Type 0
+  IsComplete past node =
+      (view : ℕ) → node.window.finalized ≤ view
+      → (kind : Kind) → is_kind_due (setting_of x past view) (told view past) kind ≡ false
