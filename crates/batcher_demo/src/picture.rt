@@ -3,8 +3,7 @@
 
 use crate::network::{Checks, Network, Role, SLOWEST, role_of};
 use crate::validator::{
-    AHEAD, BEHIND, Counts, NOTHING, Seen, VALIDATORS, VIEWS, Validator, leader_of,
-    letter_of,
+    AHEAD, BEHIND, Counts, NOTHING, Seen, VALIDATORS, VIEWS, Validator, leader_of, letter_of,
 };
 use anyhow::Result;
 use batcher::messages::Kind;

@@ -265,9 +265,7 @@ impl Validator {
         let name = Name(u64::from(peer));
         match self.station.hear_certificate(name, certificate)? {
             Receipt::Answered(Verdict::Recorded(_)) => self.keep(certificate.clone()?),
-            Receipt::Answered(Verdict::Forged) => {
-                self.block(peer, view, Cause::Certificate)
-            }
+            Receipt::Answered(Verdict::Forged) => { self.block(peer, view, Cause::Certificate) }
             Receipt::Answered(Verdict::Known)
             | Receipt::Outside
             | Receipt::Dropped

@@ -12,7 +12,8 @@ use Rattle.batcher.specs.calls.Call.{Call}
 use Rattle.batcher.specs.calls.Call.TheVariants.{Network as NetworkCall, Own as OwnCall, Certificate as CertificateCall, Leader as LeaderCall, Construct as ConstructCall, Forward as ForwardCall, Missing as MissingCall}
 use Rattle.batcher.specs.answers.Admission.{Admission}
 use Rattle.batcher.specs.answers.Answer.{Answer}
-use Rattle.batcher.specs.answers.Answer.TheVariants.{Network as NetworkAnswer, Own as OwnAnswer, OwnRefused, Certificate as CertificateAnswer, Leader as LeaderAnswer, Construct as ConstructAnswer, Forward as ForwardAnswer, Missing as MissingAnswer, OutOfMemory}
+use Rattle.batcher.specs.answers.Answer.TheVariants.{Network as NetworkAnswer, Own as OwnAnswer, OwnRefused, Certificate as CertificateAnswer, Leader as LeaderAnswer}
+use Rattle.batcher.specs.answers.Answer.TheVariants.{Construct as ConstructAnswer, Forward as ForwardAnswer, Missing as MissingAnswer, OutOfMemory}
 use Rattle.batcher.specs.Setting.{Setting, quorum_in, participants_in}
 use Rattle.batcher.specs.Quorum.{quorum_of}
 use Rattle.batcher.specs.Selected.{proposal_of}
@@ -58,7 +59,8 @@ module _ {D K G C : Type 0} (y : Setting D K G C) where
       (cond (is_skipped y.mode) [] (filter (λ v. is_of_kind kind v && is_counted y selected v) votes))))
 
   is_by : (past : History D K G C) (kind : Kind) → prompt.is_due y past kind
-      ≡ due_by (is_certified past kind) (fixed_proposal past) (leader_of past) (first_votes y past) kind
+      ≡ due_by (is_certified past kind) (fixed_proposal past) (leader_of past)
+      (first_votes y past) kind
   is_by past kind = refl
 
   -- An event that adds no vote, names no leader and brings no evidence leaves what is due.
@@ -149,7 +151,8 @@ module _ {D K G C : Type 0} (y : Setting D K G C) where
       rested_after event past kind possible exact none
       (rested past kind some possible.1.1.1 (exact_before event past exact) none.1) rests where
         exact_before : (event : Event D K G C) (past : History D K G C)
-            → AtEachVote (IsAcceptedExactly y) (event ∷ past) → AtEachVote (IsAcceptedExactly y) past
+            → AtEachVote (IsAcceptedExactly y) (event ∷ past)
+            → AtEachVote (IsAcceptedExactly y) past
         exact_before (NetworkCall sender vote, NetworkAnswer admission) past h = h.1
         exact_before event past h = h
 

@@ -13,8 +13,8 @@ use batcher::scheme::Scheme;
 
 /// Does nothing. Its contract says what is promised of a node, wherever it stands: in each view
 /// all that `run` promises of a round, and that who is blocked gave cause by what it did itself.
-/// So an honest peer is never blocked, whatever others send in any view. Where `try_construct` gives
-/// no answer, the node rests, and has lost no quorum.
+/// So an honest peer is never blocked, whatever others send in any view. Where `try_construct`
+/// gives no answer, the node rests, and has lost no quorum.
 pub fn nodes_keep_their_promises<S: Scheme<D>, D: Digest>()
     ensures promised { (node : TheNode S S.Signature D)
         → 1 ≤ length (S.meaning node.scheme).participants
