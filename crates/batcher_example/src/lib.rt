@@ -1,9 +1,9 @@
 //! For readers who begin: a user of the library, and a scheme that is written outside of it.
-//! README.md and docs/SCHEMES.md show them, word for word.
+//! docs/USE.md and docs/SCHEMES.md show them, word for word.
 #![tactic(auto)]
 
 mod scheme;
 mod user;
 
 pub use scheme::Trusting;
-pub use user::{Heard, hear};
+pub use user::{construct, hear};
