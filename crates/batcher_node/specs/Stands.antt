@@ -148,11 +148,6 @@ module _ {D K G C : Type 0} (x : NodeSetting D K G C) where
   MeetsCast old vote OutsideVote new =
       (is_of x.epoch old.window (round_in (subject_of vote)) ≡ false) × (new ≡ old)
 
-  -- There is a history after which the node stands.
-  pub record HasHistory {S : Type 0} (node : NodeView S G D) : Type 0 where
-    pub past : NodeHistory D K G C
-    pub stands : NodeStands past node
-
   -- whether a message is looked at: its sender takes part and isn't blocked, and it is of the epoch
   -- and of a view in the window
   abbrev pub is_free : {S : Type 0} → NodeView S G D → Option Participant → Bool

@@ -64,7 +64,6 @@ pub struct Node<S: Scheme<D>, D: Digest> {
 impl<S: Scheme<D>, D: Digest> Model for Node<S, D> {
     ghost use Rattle.std.specs.Prelude.{◌≡◌, length};
     ghost use Rattle.batcher_node.specs.Nodes.{NodeView, IsTended, judge_node};
-    ghost use Rattle.batcher_node.specs.Stands.{HasHistory};
 
     ghost Value = { NodeView S S.Signature D };
 
