@@ -47,7 +47,8 @@ module _ {D K G C : Type 0} (x : NodeSetting D K G C) where
   pub record IsNodePromised (past : NodeHistory D K G C) : Type 0 where
     pub each_view : (view : ℕ) → IsPromised (setting_of x past view) (told view past)
     pub blocked_for_cause : AreForCause past
-    -- A view that hasn't to be looked at has a certificate of each kind of which a quorum is valid.
+    -- A view that hasn't to be looked at has a certificate of each kind of which a quorum of votes
+    -- that count is valid.
     pub rested_are_complete :
         (view : ℕ) → is_due (told view past) ≡ false
         → (kind : Kind) → is_kind_due (setting_of x past view) (told view past) kind ≡ false
@@ -55,7 +56,7 @@ module _ {D K G C : Type 0} (x : NodeSetting D K G C) where
     pub few_in_a_row : (view : ℕ) → ends_in_constructions 5 (told view past) ≡ false
 
   -- Where a node rests, each view from the finalized one on has a certificate of each kind of which
-  -- a quorum is valid. A skipped view counts no vote towards a certificate.
+  -- a quorum of votes that count is valid. No vote of a skipped view counts.
   abbrev pub IsComplete : {S : Type 0} → NodeHistory D K G C → NodeView S G D → Type 0
   IsComplete past node =
       (view : ℕ) → node.window.finalized ≤ view

@@ -25,7 +25,8 @@ pub enum Receipt<A> {
 /// What became of a peer's certificate.
 #[derive(Clone, Copy, Debug, PartialEq, Eq)]
 pub enum Verdict {
-    /// It certifies what it names. It says whether another proposal is selected than before.
+    /// It certifies what it names. Of a notarization it says whether another proposal is selected
+    /// than before; of any other certificate it says false, also where it selects one.
     Recorded(bool),
     /// It doesn't, and the peer is blocked.
     Forged,
