@@ -3,7 +3,7 @@ use Rattle.std.proofs.Common.{◌≡◌, ◌≢◌, ◌≤◌, ◌<◌, ℕ, Boo
 use Rattle.std.specs.Prelude.{MatchOption, IfSome}
 use Rattle.std.specs.List.{list_any}
 use Rattle.std.specs.Option.{option_map, option_or}
-use Rattle.batcher.specs.Lists.{is_some_and}
+use Rattle.batcher.specs.Lists.{is_some_and, is_empty}
 use Rattle.batcher.specs.answers.OwnFault.{OwnFault}
 use Rattle.batcher.specs.Votes.{kind_certified}
 use Rattle.batcher.specs.Steps.{fault_or_memory, unopposed_result}
@@ -19,8 +19,8 @@ use Rattle.std.proofs.lemmas.Bool.{eq-eqb, false≢true}
 use Rattle.batcher.specs.messages.Vote.{Vote}
 use Rattle.batcher.specs.messages.Certificate.{Certificate}
 use Rattle.batcher.specs.answers.Admission.{Admission}
-use Rattle.batcher.specs.calls.Call.TheVariants.{Network as NetworkCall, Certificate as CertificateCall, Own as OwnCall, Leader as LeaderCall, Construct as ConstructCall}
-use Rattle.batcher.specs.answers.Answer.TheVariants.{Network as NetworkAnswer, Certificate as CertificateAnswer, Own as OwnAnswer, Leader as LeaderAnswer, Construct as ConstructAnswer}
+use Rattle.batcher.specs.calls.Call.TheVariants.{Network as NetworkCall, Certificate as CertificateCall, Own as OwnCall, Leader as LeaderCall, Construct as ConstructCall, Forward as ForwardCall}
+use Rattle.batcher.specs.answers.Answer.TheVariants.{Network as NetworkAnswer, Certificate as CertificateAnswer, Own as OwnAnswer, Leader as LeaderAnswer, Construct as ConstructAnswer, Forward as ForwardAnswer}
 use Rattle.batcher.specs.positions.Round.{Round}
 use Rattle.batcher.specs.Meaning.{Meaning}
 use Rattle.batcher.specs.Votes.{subject_of, subject_certified, round_in, kind_of}
@@ -28,6 +28,7 @@ use Rattle.batcher.specs.Stands.{Stands}
 use Rattle.batcher.specs.Held.{RoundView}
 use Rattle.batcher.specs.History.{Event}
 use Rattle.batcher.specs.messages.Activity.{Activity}
+use Rattle.batcher.specs.messages.Proposal.{Proposal}
 use Rattle.batcher.specs.votes.Outcome.{Outcome}
 use Rattle.batcher.specs.verifier.Batch.{Batch}
 use Rattle.batcher.specs.positions.Participant.{Participant}
@@ -43,9 +44,9 @@ use Rattle.batcher_node.specs.declared.window.Window.{Window}
 use Rattle.batcher_node.specs.Windows.{contains, numbered, is_of, entered, finalized}
 use Rattle.batcher_node.specs.declared.slot.Slot.{Slot}
 use Rattle.batcher.specs.positions.Epoch.{Epoch}
-use Rattle.batcher_node.specs.Events.{NodeEvent, vote_came, certificate_came, vote_cast, view_entered, view_finalized, constructed, NodeHistory, told, at_view, told_by, window_after, peer_in, is_peer, cause_by, invalid_in}
+use Rattle.batcher_node.specs.Events.{NodeEvent, vote_came, certificate_came, vote_cast, view_entered, view_finalized, constructed, proposal_forwarded, NodeHistory, told, at_view, told_by, window_after, peer_in, is_peer, cause_by, invalid_in}
 use Rattle.batcher_node.specs.Nodes.{NodeView, NodeSetting, judge_node, cause_at, slot_at, fresh_round, Tells, TellsThere, IsTended, HasChanged, NamesFault}
-use Rattle.batcher_node.specs.Stands.{NodeStands, receipt, receipt_from, is_within, setting_of, is_due, ViewStands, IsNamed, MeetsCast, cast_by}
+use Rattle.batcher_node.specs.Stands.{NodeStands, receipt, receipt_from, is_within, setting_of, is_due, ViewStands, IsNamed, Meets, MeetsCast, MeetsForward, cast_by}
 use Rattle.batcher_node.proofs.Standing.{told_one, told_none, judged}
 
 -- a test that fails
@@ -493,6 +494,42 @@ module _ {S D K G C : Type 0} (meaning : S → Meaning D K G C) (compare_keys : 
             (subst (λ w. w.finalized ≤ lower) (sym h.window_is) above) (lowest lower below),
       )) h
 
+  -- a round that is there is one of the window
+  slot_within : (view : ℕ) (participants : ℕ)
+      → IsTended participants old.scheme old.epoch old.window old.rounds
+      → (slot : Slot (RoundView S G D)) → slot_at old.rounds view ≡ Some slot
+      → old.window.finalized ≤ view
+  slot_within view participants tended slot there =
+      let own = subst (λ o. IfSome o (λ slot. (slot.round.scheme ≡ old.scheme)
+      × ((slot.round.number ≡ numbered old.epoch view)
+      × (contains old.window view ≡ true)))) there (tended.own view) in
+      not_before old.window view own.1.1
+
+  -- something was said in a view with a round
+  begun_there : (h : NodeStands x past old) (view : ℕ) (slot : Slot (RoundView S G D))
+      → slot_at old.rounds view ≡ Some slot → old.window.finalized ≤ view
+      → is_empty (told view past) ≡ false
+  begun_there h view slot there within =
+      (subst (λ o. MatchOption o (told view past ≡ []) (ViewStands x past view)) there
+      (h.views view within)).begun
+
+  pub forwarded_told : (view : ℕ) (me : Participant) (given : Option (Proposal D))
+      (participants : ℕ) → IsTended participants old.scheme old.epoch old.window old.rounds
+      → TellsThere (judge meaning compare_keys same_signature same_digest)
+      (slot_at old.rounds) (slot_at new.rounds) view (ForwardCall me) (ForwardAnswer given)
+      → new.window ≡ old.window → new.blocked ≡ old.blocked
+      → NodeStands x past old → NodeStands x (proposal_forwarded view me given ∷ past) new
+  forwarded_told view me given participants tended tells window blocked h =
+      let event : Event D K G C = (ForwardCall me, ForwardAnswer given) in
+      let within = slot_within view participants tended tells.slot tells.there in
+      told_one meaning compare_keys same_signature same_digest past
+      (proposal_forwarded view me given) view event.0 event.1 old new
+      (at_here view event) (λ other apart. at_other other view event apart)
+      (inl tells) (own_round participants old.scheme old.epoch old.window old.rounds tended view)
+      within window (ap (λ w. w.finalized) window)
+      (none_more (proposal_forwarded view me given) (λ i. refl) blocked)
+      (λ h may. begun_there h view tells.slot tells.there within) h
+
   pub finalized_told : (view : ℕ)
       → new.window ≡ finalized old.window view → new.blocked ≡ old.blocked
       → ((other : ℕ) → new.window.finalized ≤ other
@@ -514,3 +551,34 @@ module _ {S D K G C : Type 0} (x : NodeSetting D K G C) (old new : NodeView S G 
       subst (λ c. MeetsCast x old vote c new) (sym is) (outcome, meets)
   cast_told vote outcome (Some report) cast is meets =
       subst (λ c. MeetsCast x old vote c new) (sym is) (outcome, meets)
+
+module _ {S D K G C : Type 0} (meaning : S → Meaning D K G C) (compare_keys : K → K → Ordering)
+    (same_signature : G → G → Bool) (same_digest : D → D → Bool)
+    (old : NodeView S G D) (view : ℕ) (me : Participant) where
+  abbrev y : NodeSetting D K G C
+  y = judge_node meaning compare_keys same_signature same_digest old
+
+  -- what a view's round hands on
+  pub forwards_there : (given answer : Option (Proposal D)) → given ≡ answer
+      → (new : NodeView S G D) (participants : ℕ)
+      → IsTended participants old.scheme old.epoch old.window old.rounds
+      → TellsThere (judge meaning compare_keys same_signature same_digest)
+      (slot_at old.rounds) (slot_at new.rounds) view (ForwardCall me) (ForwardAnswer answer)
+      → new.window ≡ old.window → new.blocked ≡ old.blocked
+      → MeetsForward y old view me given new
+  forwards_there given answer is new participants tended tells window blocked =
+      subst (λ g. MeetsForward y old view me g new) (sym is)
+      (subst (λ o. MatchOption o ((answer ≡ None) × (new ≡ old))
+      (λ slot. Meets y old (proposal_forwarded view me answer) new)) (sym tells.there)
+      (λ past. forwarded_told meaning compare_keys same_signature same_digest past old new view me
+      answer participants tended tells window blocked))
+
+  -- a view without a round hands on nothing
+  pub forwards_nothing : (given : Option (Proposal D)) → given ≡ None
+      → slot_at old.rounds view ≡ None
+      → (rounds : List (ℕ × Slot (RoundView S G D))) → rounds ≡ old.rounds
+      → MeetsForward y old view me given (record old { rounds = rounds })
+  forwards_nothing given is absent rounds same =
+      subst (λ o. MatchOption o ((given ≡ None) × (record old { rounds = rounds } ≡ old))
+      (λ slot. Meets y old (proposal_forwarded view me given) (record old { rounds = rounds })))
+      (sym absent) (is, ap (λ r. record old { rounds = r }) same)

@@ -25,7 +25,7 @@ use Rattle.batcher_node.specs.declared.answers.Receipt.{Receipt}
 use Rattle.batcher_node.specs.declared.answers.Receipt.TheVariants.{Answered, Outside, Dropped, Unknown}
 use Rattle.batcher_node.specs.declared.answers.Verdict.{Verdict}
 use Rattle.batcher_node.specs.declared.answers.Verdict.TheVariants.{Recorded, Forged, Known}
-use Rattle.batcher_node.specs.Events.{NodeEvent, started, vote_came, certificate_came, vote_cast, view_entered, view_finalized, constructed, NodeHistory, at_view, told, told_by, peer_in, cause_in}
+use Rattle.batcher_node.specs.Events.{NodeEvent, started, vote_came, certificate_came, vote_cast, view_entered, view_finalized, constructed, proposal_forwarded, NodeHistory, at_view, told, told_by, peer_in, cause_in}
 use Rattle.batcher_node.specs.Nodes.{NodeSetting}
 use Rattle.batcher_node.specs.Stands.{setting_of, is_due, receipt_from, is_within, IsNamed, AreNamed}
 use Rattle.batcher_node.specs.Promised.{IsForCause, AreForCause, IsNodePromised}
@@ -114,6 +114,7 @@ module _ {D K G C : Type 0} (x : NodeSetting D K G C)
   for_cause past (vote_cast vote outcome report) named possible = tt
   for_cause past (view_entered view leader) named possible = tt
   for_cause past (view_finalized view) named possible = tt
+  for_cause past (proposal_forwarded view me given) named possible = tt
   for_cause past (constructed view None) named possible = tt
   for_cause past (constructed view (Some batch)) named possible =
       let event : NodeEvent D K G C = constructed view (Some batch) in
@@ -162,6 +163,8 @@ module _ {D K G C : Type 0} (x : NodeSetting D K G C)
   few_after past (vote_cast vote outcome report) named possible view before =
       few_at _ view _ _ (told view past) before (λ same. refl)
   few_after past (view_entered number leader) named possible view before =
+      few_at number view _ _ (told view past) before (λ same. refl)
+  few_after past (proposal_forwarded number me given) named possible view before =
       few_at number view _ _ (told view past) before (λ same. refl)
   few_after past (constructed number given) named possible view before =
       few_at number view _ _ (told view past) before

@@ -1,5 +1,5 @@
 -- A view at rest has lost no quorum.
-use Rattle.std.proofs.Common.{◌≡◌, ◌≤◌, ◌-◌, ◌/◌, ℕ, Bool, true, false, not, cond, ◌&&◌, ◌||◌, ◌==◌, List, [], ◌∷◌, ◌++◌, Option, Some, None, refl, sym, ap, ◌∙◌, subst, arith, length}
+use Rattle.std.proofs.Common.{◌≡◌, ◌≤◌, ◌-◌, ◌/◌, ℕ, Bool, true, false, not, cond, ◌&&◌, ◌||◌, List, [], ◌∷◌, ◌++◌, Option, Some, None, refl, sym, ap, ◌∙◌, arith, length}
 use Rattle.std.specs.Prelude.{nat_le, filter, find, option_and_then}
 use Rattle.std.specs.Option.{option_or}
 use Rattle.std.proofs.lemmas.Bool.{true≢false, false≢true}
@@ -10,12 +10,10 @@ use Rattle.batcher.specs.messages.Kind.{Kind}
 use Rattle.batcher.specs.messages.Kind.TheVariants.{Notarization}
 use Rattle.batcher.specs.calls.Call.{Call}
 use Rattle.batcher.specs.calls.Call.TheVariants.{Network as NetworkCall, Own as OwnCall, Certificate as CertificateCall, Leader as LeaderCall, Construct as ConstructCall, Forward as ForwardCall, Missing as MissingCall}
-use Rattle.batcher.specs.answers.Admission.{Admission}
 use Rattle.batcher.specs.answers.Answer.{Answer}
 use Rattle.batcher.specs.answers.Answer.TheVariants.{Network as NetworkAnswer, Own as OwnAnswer, OwnRefused, Certificate as CertificateAnswer, Leader as LeaderAnswer}
 use Rattle.batcher.specs.answers.Answer.TheVariants.{Construct as ConstructAnswer, Forward as ForwardAnswer, Missing as MissingAnswer, OutOfMemory}
 use Rattle.batcher.specs.Setting.{Setting, quorum_in, participants_in}
-use Rattle.batcher.specs.Quorum.{quorum_of}
 use Rattle.batcher.specs.Selected.{proposal_of}
 use Rattle.batcher.specs.Tracking.{is_skipped}
 use Rattle.batcher.specs.Votes.{is_of_kind, is_vote_of, subject_of, proposal_in}

@@ -6,11 +6,12 @@ use Rattle.batcher.specs.positions.Participant.{Participant}
 use Rattle.batcher.specs.messages.Vote.{Vote}
 use Rattle.batcher.specs.messages.Certificate.{Certificate}
 use Rattle.batcher.specs.messages.Activity.{Activity}
+use Rattle.batcher.specs.messages.Proposal.{Proposal}
 use Rattle.batcher.specs.verifier.Batch.{Batch}
 use Rattle.batcher.specs.votes.Outcome.{Outcome}
 use Rattle.batcher.specs.answers.Admission.{Admission}
-use Rattle.batcher.specs.calls.Call.TheVariants.{Network as NetworkCall, Own as OwnCall, Certificate as CertificateCall, Leader as LeaderCall, Construct as ConstructCall}
-use Rattle.batcher.specs.answers.Answer.TheVariants.{Network as NetworkAnswer, Own as OwnAnswer, Certificate as CertificateAnswer, Leader as LeaderAnswer, Construct as ConstructAnswer}
+use Rattle.batcher.specs.calls.Call.TheVariants.{Network as NetworkCall, Own as OwnCall, Certificate as CertificateCall, Leader as LeaderCall, Construct as ConstructCall, Forward as ForwardCall}
+use Rattle.batcher.specs.answers.Answer.TheVariants.{Network as NetworkAnswer, Own as OwnAnswer, Certificate as CertificateAnswer, Leader as LeaderAnswer, Construct as ConstructAnswer, Forward as ForwardAnswer}
 use Rattle.batcher.specs.Lists.{is_some_and}
 use Rattle.batcher.specs.Keys.{index_of}
 use Rattle.batcher.specs.Votes.{subject_of, subject_certified, round_in}
@@ -39,6 +40,8 @@ pub data NodeEvent (D K G C : Type 0) : Type 0 where
   view_finalized : ℕ → NodeEvent D K G C
   -- a construction in a view
   constructed : ℕ → Option (Batch (Certificate C D)) → NodeEvent D K G C
+  -- a participant asked a view with a round for its proposal, to hand it on
+  proposal_forwarded : ℕ → Participant → Option (Proposal D) → NodeEvent D K G C
 
 abbrev pub NodeHistory : Type 0 → Type 0 → Type 0 → Type 0 → Type 0
 NodeHistory D K G C = List (NodeEvent D K G C)
@@ -62,6 +65,8 @@ module _ {D K G C : Type 0} where
       at_view view number (LeaderCall leader, LeaderAnswer (Ok tt))
   told_by view (constructed number given) =
       at_view view number (ConstructCall, ConstructAnswer given)
+  told_by view (proposal_forwarded number me given) =
+      at_view view number (ForwardCall me, ForwardAnswer given)
   told_by view event = []
 
   -- All that the round of a view was told: its history.

@@ -5,6 +5,7 @@ use Rattle.batcher.specs.positions.Round.{Round}
 use Rattle.batcher.specs.messages.Vote.{Vote}
 use Rattle.batcher.specs.messages.Certificate.{Certificate}
 use Rattle.batcher.specs.messages.Activity.{Activity}
+use Rattle.batcher.specs.messages.Proposal.{Proposal}
 use Rattle.batcher.specs.votes.Outcome.{Outcome}
 use Rattle.batcher.specs.votes.Mode.{Mode}
 use Rattle.batcher.specs.Setting.{Setting, setting}
@@ -25,7 +26,7 @@ use Rattle.batcher_node.specs.declared.answers.Cast.{Cast}
 use Rattle.batcher_node.specs.declared.answers.Cast.TheVariants.{ToSend, Known as KnownVote, Outside as OutsideVote}
 use Rattle.batcher_node.specs.declared.slot.Slot.{Slot}
 use Rattle.batcher_node.specs.Windows.{is_of, mode_now, numbered}
-use Rattle.batcher_node.specs.Events.{NodeEvent, started, vote_came, certificate_came, vote_cast, view_entered, view_finalized, constructed, NodeHistory, told, peer_in, cause_in, window_in}
+use Rattle.batcher_node.specs.Events.{NodeEvent, started, vote_came, certificate_came, vote_cast, view_entered, view_finalized, constructed, proposal_forwarded, NodeHistory, told, peer_in, cause_in, window_in}
 use Rattle.batcher_node.specs.Nodes.{NodeView, NodeSetting, cause_at, due_after, slot_at}
 
 -- whether the round of a history has to be looked at
@@ -97,6 +98,7 @@ module _ {D K G C : Type 0} (x : NodeSetting D K G C) where
       (is_due (told view past) ≡ true)
       × ((lower : ℕ) → (window_in past).finalized ≤ lower → lower < view
       → is_due (told lower past) ≡ false)
+  IsNamed past (proposal_forwarded view me given) = is_empty (told view past) ≡ false
   IsNamed past (started window) = past ≡ []
   IsNamed past (view_finalized view) = ⊤
 
@@ -147,6 +149,14 @@ module _ {D K G C : Type 0} (x : NodeSetting D K G C) where
       (outcome : Outcome) × Meets old (vote_cast vote outcome None) new
   MeetsCast old vote OutsideVote new =
       (is_of x.epoch old.window (round_in (subject_of vote)) ≡ false) × (new ≡ old)
+
+  -- The proposal of a view is handed on by its round. Where the view has none, there is nothing to
+  -- hand on, and nothing changes.
+  abbrev pub MeetsForward : {S : Type 0} → NodeView S G D → ℕ → Participant → Option (Proposal D)
+      → NodeView S G D → Type 0
+  MeetsForward old view me given new =
+      MatchOption (slot_at old.rounds view) ((given ≡ None) × (new ≡ old))
+      (λ slot. Meets old (proposal_forwarded view me given) new)
 
   -- whether a message is looked at: its sender takes part and isn't blocked, and it is of the epoch
   -- and of a view in the window

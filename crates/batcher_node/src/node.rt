@@ -15,16 +15,16 @@ ghost use Rattle.batcher_node.specs.declared.answers.EnterFault.TheVariants.{Pas
 ghost use Rattle.batcher_node.specs.Windows.{is_of, width};
 ghost use Rattle.batcher_node.specs.Events.{peer_in, invalid_in, started, vote_came, certificate_came, view_entered, view_finalized, constructed, told};
 ghost use Rattle.batcher_node.specs.Nodes.{SameNode, IsAtRest, HasChanged, Draws, IsLedByAnother, NamesEnterFault, cause_at, slot_at};
-ghost use Rattle.batcher_node.specs.Stands.{cast_by, Meets, MeetsCast, NodeStands, WhereverNodeStands, IsHeard, setting_of};
+ghost use Rattle.batcher_node.specs.Stands.{cast_by, Meets, MeetsCast, MeetsForward, NodeStands, WhereverNodeStands, IsHeard, setting_of};
 
 use crate::answers::{Cast, Cause, EnterFault, Receipt, Verdict};
 use crate::rounds::{
-    Frame, Slots, has_certificate, number_certified, number_of, tell_certificate, tell_leader,
-    tell_own, tell_to_construct, tell_vote, verifies,
+    Frame, Slots, forward_there, has_certificate, number_certified, number_of, tell_certificate,
+    tell_leader, tell_own, tell_to_construct, tell_vote, verifies,
 };
 use crate::slot::Slot;
 use crate::window::Window;
-use batcher::messages::{Activity, Certificate, Digest, Vote};
+use batcher::messages::{Activity, Certificate, Digest, Proposal, Vote};
 use batcher::positions::{self, Epoch, Participant, View};
 use batcher::round::{Admission, BlockReason, Judge, OwnFault, Round};
 use batcher::scheme::Scheme;
@@ -310,6 +310,27 @@ impl<S: Scheme<D>, D: Digest> Node<S, D> {
         block_named(&mut self.blocked, &batch);
         let view = View(number);
         Ok(Some(Construction { view, batch }))
+    }
+
+    /// The selected proposal of a view, to be handed on by participant `me`: once at most, and not
+    /// where the leader of the view that was named is `me`. It takes no memory.
+    pub fn try_forward_proposal(&mut self, view: View, me: Participant) -> Option<Proposal<D>>
+        ensures meets { MeetsForward (⟦<S as NodeJudge<D>>⟧.of self.old) self.old view.0 me result
+            self.new }
+        ensures same { SameNode self.old self.new }
+    {
+        match forward_there(&mut self.slots, view.0, me) {
+            Some(proposal) => proposal,
+            None => None,
+        }
+    }
+
+    /// Whether the certificate certifies what it names, by the node's scheme: also of a view or an
+    /// epoch that the node doesn't look at, so that one who fell behind may learn what is final.
+    pub fn verifies(&self, certificate: &Certificate<S::Certificate, D>) -> bool
+        ensures { result ≡ certifies_itself (S.meaning self.now.scheme) certificate.now }
+    {
+        verifies(&*self.frame.scheme, certificate)
     }
 
     /// Which views it keeps rounds of.

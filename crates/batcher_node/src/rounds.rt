@@ -3,8 +3,8 @@
 ghost use Rattle.std.specs.Prelude.{◌≡◌, ◌≢◌, ◌≤◌, ℕ, true, false, length, MatchOption, [], Some, None, Ok, IfOk, IfErr, OnOk, OnErr, IfSome, IfNone};
 ghost use Rattle.std.specs.Ordering.{nat_cmp};
 ghost use Rattle.std.specs.BTreeMap.{get};
-ghost use Rattle.batcher.specs.calls.Call.TheVariants.{Network as NetworkCall, Own as OwnCall, Certificate as CertificateCall, Leader as LeaderCall, Construct as ConstructCall};
-ghost use Rattle.batcher.specs.answers.Answer.TheVariants.{Network as NetworkAnswer, Own as OwnAnswer, Certificate as CertificateAnswer, Leader as LeaderAnswer, Construct as ConstructAnswer};
+ghost use Rattle.batcher.specs.calls.Call.TheVariants.{Network as NetworkCall, Own as OwnCall, Certificate as CertificateCall, Leader as LeaderCall, Construct as ConstructCall, Forward as ForwardCall};
+ghost use Rattle.batcher.specs.answers.Answer.TheVariants.{Network as NetworkAnswer, Own as OwnAnswer, Certificate as CertificateAnswer, Leader as LeaderAnswer, Construct as ConstructAnswer, Forward as ForwardAnswer};
 ghost use Rattle.batcher.specs.Votes.{subject_of, subject_certified, attestation_of, round_in};
 ghost use Rattle.batcher.specs.Runs.{MayCall};
 ghost use Rattle.batcher.specs.Stands.{Stands};
@@ -17,7 +17,7 @@ ghost use Rattle.batcher_node.specs.Nodes.{fresh_round, Tells, TellsThere, Draws
 use crate::answers::EnterFault;
 use crate::slot::Slot;
 use crate::window::Window;
-use batcher::messages::{Activity, Certificate, Digest, Kind, Subject, Vote};
+use batcher::messages::{Activity, Certificate, Digest, Kind, Proposal, Subject, Vote};
 use batcher::positions::{self, Epoch, Participant, View};
 use batcher::round::{Admission, Judge, OwnFault, Round};
 use batcher::scheme::Scheme;
@@ -248,6 +248,24 @@ pub(crate) fn tell_to_construct<S: Scheme<D>, D: Digest, R: CryptoRng>(
             Ok(Some(batch))
         }
         None => Ok(None),
+    }
+}
+
+// Asks it for the proposal that a participant is to hand on.
+pub(crate) fn forward_there<S: Scheme<D>, D: Digest>(
+    slots: &mut Slots<S, D>,
+    view: u64,
+    me: Participant,
+) -> Option<Option<Proposal<D>>>
+    ensures tells { IfSome result (λ answer. TellsThere ⟦<S as Judge<D>>⟧.of
+        (get nat_cmp slots.old) (get nat_cmp slots.new) view
+        (ForwardCall me) (ForwardAnswer answer)) }
+    ensures absent { IfNone result (get nat_cmp slots.old view ≡ None) }
+    ensures untold { IfNone result (slots.new.entries ≡ slots.old.entries) }
+{
+    match slots.get_mut(&view) {
+        Some(slot) => Some(slot.round.try_forward_proposal(me)),
+        None => None,
     }
 }
 
