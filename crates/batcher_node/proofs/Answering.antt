@@ -44,7 +44,8 @@ use Rattle.batcher_node.specs.declared.window.Window.{Window}
 use Rattle.batcher_node.specs.Windows.{contains, numbered, is_of, entered, finalized}
 use Rattle.batcher_node.specs.declared.slot.Slot.{Slot}
 use Rattle.batcher.specs.positions.Epoch.{Epoch}
-use Rattle.batcher_node.specs.Events.{NodeEvent, vote_came, certificate_came, vote_cast, view_entered, view_finalized, constructed, proposal_forwarded, NodeHistory, told, at_view, told_by, window_after, peer_in, is_peer, cause_by, invalid_in}
+use Rattle.batcher_node.specs.Events.{NodeEvent, vote_came, certificate_came, vote_cast, view_entered, view_finalized, constructed, proposal_forwarded}
+use Rattle.batcher_node.specs.Events.{NodeHistory, told, at_view, told_by, window_after, peer_in, is_peer, cause_by, invalid_in}
 use Rattle.batcher_node.specs.Nodes.{NodeView, NodeSetting, judge_node, cause_at, slot_at, fresh_round, Tells, TellsThere, IsTended, HasChanged, NamesFault}
 use Rattle.batcher_node.specs.Stands.{NodeStands, receipt, receipt_from, is_within, setting_of, is_due, ViewStands, IsNamed, Meets, MeetsCast, MeetsForward, cast_by}
 use Rattle.batcher_node.proofs.Standing.{told_one, told_none, judged}
