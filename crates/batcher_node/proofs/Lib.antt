@@ -7,4 +7,6 @@ pub mod Answering
 pub mod Promising
 mod Lowest
 mod Blocking
+mod Causing
+mod Tending
 pub mod Rested

@@ -1,5 +1,5 @@
 -- What is promised of a node after any history of its calls.
-use Rattle.std.specs.Prelude.{◌≡◌, ◌≤◌, ⊤, ℕ, true, false, [], ◌∷◌, Some, is_some}
+use Rattle.std.specs.Prelude.{◌≡◌, ◌≤◌, ⊤, ℕ, true, false, [], ◌∷◌, ◌++◌, Some, is_some, IfSome}
 use Rattle.std.specs.List.{AllPass}
 use Rattle.batcher.specs.Lists.{is_some_and}
 use Rattle.batcher.specs.Standing.{ready_kind}
@@ -9,15 +9,18 @@ use Rattle.batcher.specs.Setting.{sender_in}
 use Rattle.batcher.specs.Votes.{subject_of, round_in}
 use Rattle.batcher.specs.Verifiers.{certifies_itself}
 use Rattle.batcher.specs.Promises.{gave_cause}
+use Rattle.batcher.specs.messages.Certificate.{Certificate}
 use Rattle.batcher.specs.messages.Kind.{Kind}
 use Rattle.batcher.specs.Promises.{ends_in_constructions}
 use Rattle.batcher.specs.Prompt.{is_due as is_kind_due}
 use Rattle.batcher.specs.Ran.{IsPromised}
 use Rattle.batcher_node.specs.declared.answers.Receipt.TheVariants.{Answered}
 use Rattle.batcher_node.specs.declared.answers.Verdict.TheVariants.{Forged}
-use Rattle.batcher_node.specs.Events.{NodeEvent, vote_came, certificate_came, constructed, NodeHistory, told}
-use Rattle.batcher_node.specs.Nodes.{NodeView, NodeSetting}
-use Rattle.batcher_node.specs.Stands.{setting_of, is_due}
+use Rattle.batcher_node.specs.declared.answers.Cause.{Cause}
+use Rattle.batcher_node.specs.declared.answers.Cause.TheVariants.{Vote as ForVote, Certificate as ForCertificate, Signature as ForSignature}
+use Rattle.batcher_node.specs.Events.{NodeEvent, vote_came, certificate_came, constructed, NodeHistory, told, is_peer}
+use Rattle.batcher_node.specs.Nodes.{NodeView, NodeSetting, IsAtRest, cause_at}
+use Rattle.batcher_node.specs.Stands.{NodeStands, setting_of, is_due}
 
 module _ {D K G C : Type 0} (x : NodeSetting D K G C) where
   -- Whom an event blocks gave cause: by what it did itself in the view of its vote, with this vote
@@ -61,3 +64,45 @@ module _ {D K G C : Type 0} (x : NodeSetting D K G C) where
   IsComplete past node =
       (view : ℕ) → node.window.finalized ≤ view
       → (kind : Kind) → is_kind_due (setting_of x past view) (told view past) kind ≡ false
+
+  -- In a view the participant of an index named another one, or contradicted itself.
+  pub record VotedWithCause (past : NodeHistory D K G C) (i : ℕ) : Type 0 where
+    pub view : ℕ
+    pub gave : gave_cause (setting_of x past view) (told view past) i ≡ true
+
+  -- The last event is a certificate that it sent, and that doesn't certify what it names.
+  pub record SentForged (past : NodeHistory D K G C) (i : ℕ) : Type 0 where
+    pub key : K
+    pub is_sender : is_peer x key i ≡ true
+    pub certificate : Certificate C D
+    pub forged : certifies_itself x.meaning certificate ≡ false
+    pub before : NodeHistory D K G C
+    pub came : past ≡ certificate_came key certificate (Answered Forged) ∷ before
+
+  -- In a view it sent a vote in its own name that doesn't attest.
+  pub record SentBadVote (past : NodeHistory D K G C) (i : ℕ) : Type 0 where
+    pub view : ℕ
+    pub kind : Kind
+    pub sent : sent_bad_vote (setting_of x past view) (told view past) kind i ≡ true
+
+  -- What it did that it is blocked for.
+  abbrev pub GaveCauseFor : Cause → NodeHistory D K G C → ℕ → Type 0
+  GaveCauseFor (ForVote reason) past i = VotedWithCause past i
+  GaveCauseFor ForCertificate past i = SentForged past i
+  GaveCauseFor ForSignature past i = SentBadVote past i
+
+  -- It did so by some time of a history.
+  pub record HadGivenCause (past : NodeHistory D K G C) (i : ℕ) (cause : Cause) : Type 0 where
+    pub later : NodeHistory D K G C
+    pub earlier : NodeHistory D K G C
+    pub is_part : past ≡ later ++ earlier
+    pub gave : GaveCauseFor cause earlier i
+
+  -- There is a history after which a node stands, and of which all that is promised holds: whoever
+  -- is blocked had given cause, and no quorum is lost where the node rests.
+  pub record KeepsPromises {S : Type 0} (node : NodeView S G D) : Type 0 where
+    pub past : NodeHistory D K G C
+    pub stands : NodeStands x past node
+    pub promised : IsNodePromised past
+    pub blocked_gave_cause : (i : ℕ) → IfSome (cause_at node.blocked i) (HadGivenCause past i)
+    pub complete_at_rest : IsAtRest node → IsComplete past node

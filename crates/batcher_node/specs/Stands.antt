@@ -1,5 +1,6 @@
 -- When a node stands after a history of its calls, and how it goes on with one more.
 use Rattle.std.specs.Prelude.{◌≡◌, ◌≤◌, ◌<◌, ⊤, ℕ, Bool, true, false, cond, [], ◌∷◌, length, Option, Some, None, is_some, is_none, Ok, MatchOption}
+use Rattle.std.specs.declared.cmp.Ordering.{Ordering}
 use Rattle.batcher.specs.positions.Participant.{Participant}
 use Rattle.batcher.specs.positions.Round.{Round}
 use Rattle.batcher.specs.messages.Vote.{Vote}
@@ -8,6 +9,7 @@ use Rattle.batcher.specs.messages.Activity.{Activity}
 use Rattle.batcher.specs.messages.Proposal.{Proposal}
 use Rattle.batcher.specs.votes.Outcome.{Outcome}
 use Rattle.batcher.specs.votes.Mode.{Mode}
+use Rattle.batcher.specs.Meaning.{Meaning}
 use Rattle.batcher.specs.Setting.{Setting, setting}
 use Rattle.batcher.specs.Lists.{is_empty}
 use Rattle.batcher.specs.Votes.{subject_of, subject_certified, round_in, kind_certified}
@@ -27,7 +29,7 @@ use Rattle.batcher_node.specs.declared.answers.Cast.TheVariants.{ToSend, Known a
 use Rattle.batcher_node.specs.declared.slot.Slot.{Slot}
 use Rattle.batcher_node.specs.Windows.{is_of, mode_now, numbered}
 use Rattle.batcher_node.specs.Events.{NodeEvent, started, vote_came, certificate_came, vote_cast, view_entered, view_finalized, constructed, proposal_forwarded, NodeHistory, told, peer_in, cause_in, window_in}
-use Rattle.batcher_node.specs.Nodes.{NodeView, NodeSetting, cause_at, due_after, slot_at}
+use Rattle.batcher_node.specs.Nodes.{NodeView, NodeSetting, cause_at, due_after, slot_at, IsTended, judge_node}
 
 -- whether the round of a history has to be looked at
 abbrev pub is_due : {D K G C : Type 0} → History D K G C → Bool
@@ -129,6 +131,11 @@ module _ {D K G C : Type 0} (x : NodeSetting D K G C) where
           (view : ℕ) → node.window.finalized ≤ view
           → MatchOption (slot_at node.rounds view) (told view past ≡ []) (ViewStands past view)
 
+  -- There is a history after which the node stands.
+  pub record HasHistory {S : Type 0} (node : NodeView S G D) : Type 0 where
+    pub past : NodeHistory D K G C
+    pub stands : NodeStands past node
+
   -- A call that is answered leaves a node that stands, wherever it stood before.
   abbrev pub Meets : {S : Type 0} → NodeView S G D → NodeEvent D K G C → NodeView S G D → Type 0
   Meets old event new =
@@ -167,3 +174,14 @@ module _ {D K G C : Type 0} (x : NodeSetting D K G C) where
   abbrev pub IsHeard : {S : Type 0} → NodeView S G D → K → Round → Type 0
   IsHeard node peer number =
       (is_free node (peer_in x peer) ≡ true) × (is_of x.epoch node.window number ≡ true)
+
+-- What each node keeps true: its rounds are tended, each participant has a place for a cause, and
+-- there is a history after which it stands.
+pub record IsNode {S D K G C : Type 0} (meaning : S → Meaning D K G C)
+    (compare_keys : K → K → Ordering) (same_signature : G → G → Bool) (same_digest : D → D → Bool)
+    (node : NodeView S G D) : Type 0 where
+  pub tended :
+      IsTended (length (meaning node.scheme).participants) node.scheme node.epoch node.window
+      node.rounds
+  pub each : length node.blocked ≡ length (meaning node.scheme).participants
+  pub history : HasHistory (judge_node meaning compare_keys same_signature same_digest node) node

@@ -62,8 +62,8 @@ pub struct Node<S: Scheme<D>, D: Digest> {
 }
 
 impl<S: Scheme<D>, D: Digest> Model for Node<S, D> {
-    ghost use Rattle.std.specs.Prelude.{◌≡◌, length};
-    ghost use Rattle.batcher_node.specs.Nodes.{NodeView, IsTended, judge_node};
+    ghost use Rattle.batcher_node.specs.Nodes.{NodeView};
+    ghost use Rattle.batcher_node.specs.Stands.{IsNode};
 
     ghost Value = { NodeView S S.Signature D };
 
@@ -76,9 +76,14 @@ impl<S: Scheme<D>, D: Digest> Model for Node<S, D> {
       blocked = n.blocked.items;
     } };
 
-    ghost invariant = { λ n. (IsTended (length (S.meaning n.frame.scheme.value).participants)
-        n.frame.scheme.value n.frame.epoch n.window n.slots.entries)
-        × (length n.blocked.items ≡ length (S.meaning n.frame.scheme.value).participants) };
+    ghost invariant = { λ n. IsNode S.meaning S.PublicKey.cmp S.Signature.eq D.eq (record {
+      scheme = n.frame.scheme.value;
+      epoch = n.frame.epoch;
+      retains = n.frame.retains;
+      window = n.window;
+      rounds = n.slots.entries;
+      blocked = n.blocked.items;
+    }) };
 }
 
 /// A construction in a view.
@@ -409,14 +414,13 @@ fn first_due<R>(slots: &BTreeMap<u64, Slot<R>>) -> Option<u64>
     ensures none { IfNone result ((view : ℕ)
         → IfSome (slot_at slots.now.entries view) (λ slot. slot.changed ≡ false)) }
 {
-    let _ = slots.len();
-    let first = first_changed(slots);
-    first
+    first_changed(slots)
 }
 
-// The same as the first of the entries.
+// The same as the first of the entries, which ascend.
 fn first_changed<R>(slots: &BTreeMap<u64, Slot<R>>) -> Option<u64>
-    ensures { result ≡ option_map (λ e. e.0) (find (λ e. e.1.changed) slots.now.entries) }
+    ensures first { result ≡ option_map (λ e. e.0) (find (λ e. e.1.changed) slots.now.entries) }
+    ensures ascending { IsStrictlySortedBy nat_cmp (keys_of slots.now.entries) }
 {
     match slots.iter().find(|(_, slot)| slot.changed) {
         Some((view, _)) => Some(*view),

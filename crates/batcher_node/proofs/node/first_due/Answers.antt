@@ -16,17 +16,17 @@ none_case (Some view) h = tt
 pub returns-clause-found : goal.returns-clause-found
 returns-clause-found g c =
     some_case _ (λ view is.
-    view_found c.args.slots.now.entries view _ c.len.ensures.ordered refl
-    (sym c.first_changed-first.ensures ∙ is))
+    view_found c.args.slots.now.entries view _ c.first_changed.ensures.ascending refl
+    (sym c.first_changed.ensures.first ∙ is))
 
 pub returns-clause-lowest : goal.returns-clause-lowest
 returns-clause-lowest g c =
     some_case {P = λ view. (lower : ℕ) → lower < view
     → IfSome (slot_at c.args.slots.now.entries lower) (λ slot. slot.changed ≡ false)} _ (λ view is lower below.
-    view_lowest c.args.slots.now.entries view _ c.len.ensures.ordered refl
-    (sym c.first_changed-first.ensures ∙ is) lower below)
+    view_lowest c.args.slots.now.entries view _ c.first_changed.ensures.ascending refl
+    (sym c.first_changed.ensures.first ∙ is) lower below)
 
 pub returns-clause-none : goal.returns-clause-none
 returns-clause-none g c =
     none_case _ (λ is.
-    view_none c.args.slots.now.entries _ refl (sym c.first_changed-first.ensures ∙ is))
+    view_none c.args.slots.now.entries _ refl (sym c.first_changed.ensures.first ∙ is))

@@ -1,4 +1,5 @@
-use Rattle.std.proofs.Common.{refl}
+use Rattle.std.proofs.Common.{◌∷◌, refl, rules}
+use Rattle.batcher_node.specs.Events.{view_finalized}
 use Rattle.batcher_node.proofs.Answering.{finalized_told}
 use Rattle.batcher_node.proofs.node.Node.finalize.Goals as goal
 
@@ -8,3 +9,19 @@ returns-clause-meets g c = λ past.
     (finalized_told g.S.Scheme.meaning g.S.PublicKey.Ord.cmp
     g.S.Signature.PartialEq.eq g.D.PartialEq.eq past _ _ c.args.view.0
     c.finalize.ensures refl c.drop_before.ensures.kept)
+
+pub invariant_of-self : goal.invariant_of-self
+invariant_of-self g c =
+    let h = c.self.invariant.history in
+    record {
+      tended = search rules;
+      each = search rules;
+      history =
+          record {
+            past = view_finalized c.args.view.0 ∷ h.past;
+            stands =
+                finalized_told g.S.Scheme.meaning g.S.PublicKey.Ord.cmp g.S.Signature.PartialEq.eq
+                g.D.PartialEq.eq h.past _ _ c.args.view.0
+                c.finalize.ensures refl c.drop_before.ensures.kept h.stands;
+          };
+    }

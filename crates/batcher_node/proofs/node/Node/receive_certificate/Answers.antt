@@ -1,5 +1,8 @@
-use Rattle.std.proofs.Common.{◌∙◌, sym, refl, rules}
-use Rattle.batcher_node.proofs.Answering.{not_far, certified_there, certificate_told}
+use Rattle.std.proofs.Common.{◌∷◌, ◌∙◌, sym, refl, rules}
+use Rattle.batcher_node.specs.declared.answers.Receipt.TheVariants.{Answered}
+use Rattle.batcher_node.specs.declared.answers.Verdict.TheVariants.{Recorded, Forged}
+use Rattle.batcher_node.specs.Events.{certificate_came}
+use Rattle.batcher_node.proofs.Answering.{not_far, certified_there, certificate_told, certificate_forged}
 use Rattle.batcher_node.proofs.node.Node.receive_certificate.Goals as goal
 
 pub returns-clause-meets : goal.returns-clause-meets
@@ -9,14 +12,70 @@ returns-clause-meets g c = λ past.
     (certificate_told g.S.Scheme.meaning g.S.PublicKey.Ord.cmp g.S.Signature.PartialEq.eq
     g.D.PartialEq.eq past _ _ c.args.peer c.args.certificate.now c.in_ok-changed.changed _
     c.in-Some.sender
-    c.self.invariant.0 (search rules) (search rules) (search rules)
+    c.self.invariant.tended (search rules) (search rules) (search rules)
     (rw (← number) (sym c.is_within.ensures ∙ c.if-not-is_within.false))
     (λ h. sym c.if-has_certificate.false
     ∙ rw (← c.kind.ensures, ← number)
     (certified_there g.S.Scheme.meaning g.S.PublicKey.Ord.cmp g.S.Signature.PartialEq.eq
-    g.D.PartialEq.eq past _ c.args.self.now _ _ _ _ c.self.invariant.0
+    g.D.PartialEq.eq past _ c.args.self.now _ _ _ _ c.self.invariant.tended
     (not_far c.self.inside.frame.epoch c.self.inside.window c.number_certified-number.result
     (sym c.is_within.ensures ∙ c.if-not-is_within.false)) c.has_certificate.ensures h))
     (rw (← c.deref.ensures) (sym c.verifies.ensures ∙ c.if-not-verifies.false))
     (rw (← number) c.in_ok-changed.ensures.tells)
     refl refl)
+
+pub invariant_of-self-2 : goal.invariant_of-self-2
+invariant_of-self-2 g c =
+    let h = c.self.invariant.history in
+    let number = c.number_certified-number.ensures in
+    record {
+      tended = search rules;
+      each = search rules;
+      history =
+          record {
+            past =
+                certificate_came c.args.peer c.args.certificate.now
+                (Answered (Recorded c.in_ok-changed.changed)) ∷ h.past;
+            stands =
+                certificate_told g.S.Scheme.meaning g.S.PublicKey.Ord.cmp
+                g.S.Signature.PartialEq.eq g.D.PartialEq.eq h.past _ _ c.args.peer
+                c.args.certificate.now c.in_ok-changed.changed _ c.in-Some.sender
+                c.self.invariant.tended (search rules) (search rules) (search rules)
+                (rw (← number) (sym c.is_within.ensures ∙ c.if-not-is_within.false))
+                (λ stood. sym c.if-has_certificate.false ∙ rw (← c.kind.ensures, ← number)
+                (certified_there g.S.Scheme.meaning g.S.PublicKey.Ord.cmp
+                g.S.Signature.PartialEq.eq g.D.PartialEq.eq h.past _ c.args.self.now _ _ _ _
+                c.self.invariant.tended
+                (not_far c.self.inside.frame.epoch c.self.inside.window c.number_certified-number.result
+                (sym c.is_within.ensures ∙ c.if-not-is_within.false)) c.has_certificate.ensures stood))
+                (rw (← c.deref.ensures) (sym c.verifies.ensures ∙ c.if-not-verifies.false))
+                (rw (← number) c.in_ok-changed.ensures.tells) refl refl h.stands;
+          };
+    }
+
+pub invariant_of-self : goal.invariant_of-self
+invariant_of-self g c =
+    let h = c.self.invariant.history in
+    let number = c.number_certified-number.ensures in
+    record {
+      tended = search rules;
+      each = search rules;
+      history =
+          record {
+            past = certificate_came c.args.peer c.args.certificate.now (Answered Forged) ∷ h.past;
+            stands =
+                certificate_forged g.S.Scheme.meaning g.S.PublicKey.Ord.cmp
+                g.S.Signature.PartialEq.eq g.D.PartialEq.eq h.past _ _ c.args.peer
+                c.args.certificate.now c.in-Some.sender
+                (search rules) (search rules) (search rules)
+                (rw (← number) (sym c.is_within.ensures ∙ c.if-not-is_within.false))
+                (λ stood. sym c.if-has_certificate.false ∙ rw (← c.kind.ensures, ← number)
+                (certified_there g.S.Scheme.meaning g.S.PublicKey.Ord.cmp
+                g.S.Signature.PartialEq.eq g.D.PartialEq.eq h.past _ c.args.self.now _ _ _ _
+                c.self.invariant.tended
+                (not_far c.self.inside.frame.epoch c.self.inside.window c.number_certified-number.result
+                (sym c.is_within.ensures ∙ c.if-not-is_within.false)) c.has_certificate.ensures stood))
+                (rw (← c.deref.ensures) (sym c.verifies.ensures ∙ c.if-not-verifies.true))
+                refl refl (λ i within. c.block.ensures.blocks i (search rules)) h.stands;
+          };
+    }

@@ -1,4 +1,5 @@
-use Rattle.std.proofs.Common.{refl, rules}
+use Rattle.std.proofs.Common.{◌∷◌, refl, rules}
+use Rattle.batcher_node.specs.Events.{constructed}
 use Rattle.batcher_node.proofs.Telling.{if_some}
 use Rattle.batcher_node.proofs.Answering.{construction_told}
 use Rattle.batcher_node.proofs.node.Node.try_construct.Goals as goal
@@ -8,9 +9,26 @@ returns-clause-meets g c = λ past.
     rw (← c.self.view_is)
     (construction_told g.S.Scheme.meaning g.S.PublicKey.Ord.cmp
     g.S.Signature.PartialEq.eq g.D.PartialEq.eq past _ _ _ _ _
-    c.self.invariant.0 (search rules) (search rules) (search rules) refl
+    c.self.invariant.tended (search rules) (search rules) (search rules) refl
     (λ i within. c.block_named.ensures.blocks i (search rules)))
 
 pub returns-clause-draws : goal.returns-clause-draws
 returns-clause-draws g c =
     rw (← c.self.view_is) (if_some _ _ _ c.in-Some-2.is c.in_ok-batch.ensures.draws)
+
+pub invariant_of-self-2 : goal.invariant_of-self-2
+invariant_of-self-2 g c =
+    let h = c.self.invariant.history in
+    record {
+      tended = search rules;
+      each = search rules;
+      history =
+          record {
+            past = constructed c.in-Some.number c.in-Some-2.batch ∷ h.past;
+            stands =
+                construction_told g.S.Scheme.meaning g.S.PublicKey.Ord.cmp g.S.Signature.PartialEq.eq
+                g.D.PartialEq.eq h.past _ _ _ _ _
+                c.self.invariant.tended (search rules) (search rules) (search rules) refl
+                (λ i within. c.block_named.ensures.blocks i (search rules)) h.stands;
+          };
+    }

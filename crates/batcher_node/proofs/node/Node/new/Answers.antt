@@ -1,0 +1,11 @@
+use Rattle.std.proofs.Common.{rules}
+use Rattle.batcher_node.proofs.Causing.{starts}
+use Rattle.batcher_node.proofs.node.Node.new.Goals as goal
+
+pub invariant_of-result : goal.invariant_of-result
+invariant_of-result g c =
+    record {
+      tended = search rules;
+      each = search rules;
+      history = starts _ _ c.new.ensures.empty c.in_ok-blocked.ensures.none;
+    }
