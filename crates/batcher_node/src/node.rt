@@ -15,7 +15,8 @@ ghost use Rattle.batcher_node.specs.declared.answers.EnterFault.TheVariants.{Pas
 ghost use Rattle.batcher_node.specs.Windows.{is_of, width};
 ghost use Rattle.batcher_node.specs.Events.{peer_in, invalid_in, started, vote_came, certificate_came, view_entered, view_finalized, constructed, told};
 ghost use Rattle.batcher_node.specs.Nodes.{SameNode, IsAtRest, HasChanged, Draws, IsLedByAnother, NamesEnterFault, cause_at, slot_at};
-ghost use Rattle.batcher_node.specs.Stands.{cast_by, Meets, MeetsCast, MeetsForward, NodeStands, WhereverNodeStands, IsHeard, setting_of};
+ghost use Rattle.batcher_node.specs.Stands.{cast_by, Meets, MeetsCast, MeetsForward, NodeStands, WhereverNodeStands, IsHeard, setting_of, HasHistory};
+ghost use Rattle.batcher_node.specs.Promised.{HadGivenCause, IsComplete, KeepsPromises};
 
 use crate::answers::{Cast, Cause, EnterFault, Receipt, Verdict};
 use crate::rounds::{
@@ -23,6 +24,7 @@ use crate::rounds::{
     tell_leader, tell_own, tell_to_construct, tell_vote, verifies,
 };
 use crate::slot::Slot;
+use crate::theorems::nodes_keep_their_promises;
 use crate::window::Window;
 use batcher::messages::{Activity, Certificate, Digest, Proposal, Vote};
 use batcher::positions::{self, Epoch, Participant, View};
@@ -298,6 +300,9 @@ impl<S: Scheme<D>, D: Digest> Node<S, D> {
             Meets (⟦<S as NodeJudge<D>>⟧.of self.old) self.old
             (constructed one.view.0 one.batch) self.new)) }
         ensures rests { result ≡ Ok None → (self.new ≡ self.old) × (IsAtRest self.old) }
+        ensures complete { result ≡ Ok None
+            → (h : HasHistory (⟦<S as NodeJudge<D>>⟧.of self.new) self.new)
+            × (IsComplete (⟦<S as NodeJudge<D>>⟧.of self.new) h.past self.new) }
         ensures draws { IfOk result (λ made. IfSome made (λ one. Draws ⟦<S as Judge<D>>⟧.of
             (slot_at self.old.rounds) (slot_at self.new.rounds) one.view.0
             (R.stream rng.old) one.batch (R.stream rng.new))) }
@@ -307,6 +312,7 @@ impl<S: Scheme<D>, D: Digest> Node<S, D> {
         ensures same { SameNode self.old self.new }
     {
         let Some(number) = first_due(&self.slots) else {
+            self.promises();
             return Ok(None);
         };
         let Some(batch) = tell_to_construct(&mut self.slots, number, rng)? else {
@@ -353,11 +359,27 @@ impl<S: Scheme<D>, D: Digest> Node<S, D> {
         self.slots.len()
     }
 
-    /// Why each participant is blocked, if it is, by its index.
+    /// Why each participant is blocked, if it is, by its index: for what it did in a history after
+    /// which the node stands.
     pub fn blocked(&self) -> &[Option<Cause>]
-        ensures { result.now ≡ self.now.blocked }
+        ensures list { result.now ≡ self.now.blocked }
+        ensures cause { (h : HasHistory (⟦<S as NodeJudge<D>>⟧.of self.now) self.now)
+            × ((i : ℕ) → IfSome (cause_at result.now i)
+            (HadGivenCause (⟦<S as NodeJudge<D>>⟧.of self.now) h.past i)) }
     {
+        self.promises();
         self.blocked.as_slice()
+    }
+
+    /// Does nothing. Its contract says that there is a history after which the node stands, and that
+    /// all that is promised holds of it. So a caller has this by one call, and carries no history.
+    ///
+    /// Which history it is stays open. How it goes on with each call is said by that call's `meets`.
+    pub fn promises(&self)
+        ensures { KeepsPromises (⟦<S as NodeJudge<D>>⟧.of self.now) self.now }
+    {
+        let _ = &self.frame;
+        nodes_keep_their_promises::<S, D>();
     }
 
     // The participant with the key.

@@ -32,3 +32,8 @@ invariant_of-self-2 g c =
                 (λ i within. c.block_named.ensures.blocks i (search rules)) h.stands;
           };
     }
+
+pub returns-in_default-clause-complete : goal.returns-in_default-clause-complete
+returns-in_default-clause-complete g c = λ is.
+    let kept = c.promises.ensures in
+    (record { past = kept.past; stands = kept.stands }, kept.complete_at_rest (search rules))
