@@ -10,3 +10,8 @@ mod Blocking
 mod Causing
 mod Tending
 pub mod Rested
+pub mod SendingViews
+pub mod SendingBlocks
+pub mod SendingCertificates
+mod SendingWorked
+pub mod SendingKept

@@ -11,5 +11,7 @@ mod window;
 
 pub use answers::{Cast, Cause, EnterFault, Receipt, Verdict};
 pub use node::{Construction, Node, NodeJudge};
-pub use theorems::nodes_keep_their_promises;
+pub use theorems::{
+    nodes_keep_their_promises, senders_of_votes_to_send_are_never_blocked, worked_examples,
+};
 pub use window::Window;

@@ -1,0 +1,41 @@
+-- The examples of a participant that sends what is to be sent are computed.
+use Rattle.std.proofs.Common.{◌≡◌, ◌==◌, Bool, true, false, ◌||◌, refl, arith, ap}
+use Rattle.std.proofs.lemmas.List.Elements.{All-from_recursion}
+use Rattle.std.proofs.lemmas.List.Sums.{AllPass-from_list_all}
+use Rattle.batcher.specs.Keys.{index_of}
+use Rattle.batcher.specs.Votes.{signer_of}
+use Rattle.batcher_node.specs.Sending.{votes_to_send, HearsOnly}
+use Rattle.batcher_node.specs.SendingExamples.{of_four, sent, heard, SendingExamples}
+
+first_of : (a b : Bool) → a ≡ true → (a || b) ≡ true
+first_of a b h = ap (λ c. c || b) h
+
+second_of : (a b c : Bool) → b ≡ true → (a || (b || c)) ≡ true
+second_of true b c h = refl
+second_of false b c h = ap (λ d. d || c) h
+
+pub computed : SendingExamples
+unfolding index_of
+computed =
+    record {
+      two_to_send = refl;
+      answered_rightly = (
+        ((refl, (refl, refl)), ((refl, (refl, refl)), ((refl, (refl, refl)), ((omega arith, refl), (refl, tt))))),
+        (refl, (refl, (refl, ((refl, (refl, refl)), ((omega arith, refl), (refl, tt)))))),
+      );
+      keeps_to_it = record {
+        own_are_signed = AllPass-from_list_all (λ v. signer_of v == 1) (votes_to_send sent) refl;
+        heard_only = All-from_recursion (HearsOnly of_four (votes_to_send sent) 1) heard (
+          (λ is. refl),
+          (
+            (λ is test passes. second_of _ _ _ passes),
+            ((λ is test passes. first_of _ _ passes), (refl, (tt, (tt, tt)))),
+          ),
+        );
+      };
+      not_blocked = refl;
+      not_blocked_by_others = refl;
+      others_blocked = refl;
+      blocked_for_another = refl;
+      blocked_for_forgery = refl;
+    }
