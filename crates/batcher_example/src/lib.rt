@@ -2,8 +2,10 @@
 //! docs/USE.md and docs/SCHEMES.md show them, word for word.
 #![tactic(auto)]
 
+mod exchange;
 mod scheme;
 mod user;
 
+pub use exchange::cast_and_send;
 pub use scheme::Trusting;
 pub use user::{construct, hear};

@@ -1,0 +1,46 @@
+//! Two nodes, of which one hears what the other casts.
+
+ghost use Rattle.std.specs.Prelude.{◌≡◌, ◌<◌, true, length, None, OnErr};
+ghost use Rattle.batcher.specs.Votes.{subject_of, attestation_of, signer_of};
+ghost use Rattle.batcher_node.specs.Nodes.{SameNode, cause_at};
+ghost use Rattle.batcher_node.specs.Sending.{HearsWhatIsToSend};
+
+use batcher::messages::{Digest, Vote};
+use batcher::round::OwnFault;
+use batcher::scheme::Scheme;
+use batcher_node::{Cast, Node, NodeJudge, senders_of_votes_to_send_are_never_blocked};
+
+/// Casts a vote at its signer's own node, and where it is to be sent hands it to another's node,
+/// under the key that it came with. It says whether it did.
+///
+/// Where the other node had heard of the signer only what was to be sent, it goes on so, also where
+/// memory is refused to it, and the signer isn't blocked there.
+pub fn cast_and_send<S: Scheme<D>, D: Digest>(
+    own: &mut Node<S, D>,
+    other: &mut Node<S, D>,
+    key: S::PublicKey,
+    vote: Vote<S::Signature, D>,
+) -> Result<bool, OwnFault>
+    requires { (S.meaning own.old.scheme).attests (subject_of vote) (attestation_of vote) ≡ true }
+    ensures keeps { HearsWhatIsToSend (⟦<S as NodeJudge<D>>⟧.of own.old)
+        (⟦<S as NodeJudge<D>>⟧.of other.old) own.old other.old (signer_of vote)
+        → HearsWhatIsToSend (⟦<S as NodeJudge<D>>⟧.of own.old)
+        (⟦<S as NodeJudge<D>>⟧.of other.old) own.new other.new (signer_of vote) }
+    ensures not_blocked { S.meaning other.old.scheme ≡ S.meaning own.old.scheme
+        → signer_of vote < length (S.meaning own.old.scheme).participants
+        → HearsWhatIsToSend (⟦<S as NodeJudge<D>>⟧.of own.old)
+        (⟦<S as NodeJudge<D>>⟧.of other.old) own.old other.old (signer_of vote)
+        → cause_at other.new.blocked (signer_of vote) ≡ None }
+    ensures same { (SameNode own.old own.new) × (SameNode other.old other.new) }
+{
+    // It is called for its contract.
+    senders_of_votes_to_send_are_never_blocked::<S, D>();
+    let cast = own.cast_vote(vote)?;
+    match cast {
+        Cast::ToSend(_) => {
+            let _ = other.receive_vote(key, vote)?;
+            Ok(true)
+        }
+        Cast::Known | Cast::Outside => Ok(false),
+    }
+}
