@@ -371,10 +371,12 @@ impl<S: Scheme<D>, D: Digest> Node<S, D> {
         self.blocked.as_slice()
     }
 
-    /// Does nothing. Its contract says that there is a history after which the node stands, and that
-    /// all that is promised holds of it. So a caller has this by one call, and carries no history.
+    /// Does nothing. Its contract says that there is a history after which the node stands, and
+    /// that all that is promised holds of it. So a caller has this by one call, and carries no
+    /// history.
     ///
-    /// Which history it is stays open. How it goes on with each call is said by that call's `meets`.
+    /// Which history it is stays open, and so it needn't be that of the calls which were made. How
+    /// one goes on with a call is said by that call's `meets`.
     pub fn promises(&self)
         ensures { KeepsPromises (⟦<S as NodeJudge<D>>⟧.of self.now) self.now }
     {

@@ -1,4 +1,3 @@
-use Rattle.batcher_node.specs.Nodes.{judge_node}
 use Rattle.batcher_node.proofs.Causing.{each_gave_cause}
 use Rattle.batcher_node.proofs.node.Node.promises.Goals as goal
 
