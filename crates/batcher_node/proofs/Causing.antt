@@ -20,7 +20,7 @@ use Rattle.batcher_node.specs.declared.answers.Receipt.TheVariants.{Answered, Ou
 use Rattle.batcher_node.specs.declared.answers.Verdict.TheVariants.{Recorded, Forged, Known}
 use Rattle.batcher_node.specs.declared.answers.Cause.{Cause}
 use Rattle.batcher_node.specs.declared.answers.Cause.TheVariants.{Vote as ForVote, Certificate as ForCertificate, Signature as ForSignature}
-use Rattle.batcher_node.specs.Events.{NodeEvent, started, vote_came, certificate_came, vote_cast, view_entered, view_finalized, constructed, NodeHistory, told, peer_in, is_peer, cause_by, cause_in}
+use Rattle.batcher_node.specs.Events.{NodeEvent, started, vote_came, certificate_came, vote_cast, view_entered, view_finalized, constructed, proposal_forwarded, NodeHistory, told, peer_in, is_peer, cause_by, cause_in}
 use Rattle.batcher_node.specs.Nodes.{NodeView, NodeSetting, cause_at}
 use Rattle.batcher_node.specs.Stands.{NodeStands, HasHistory, setting_of}
 use Rattle.batcher_node.specs.Promised.{IsForCause, AreForCause, GaveCauseFor, HadGivenCause}
@@ -173,6 +173,7 @@ module _ {D K G C : Type 0} (x : NodeSetting D K G C) where
   by_event past (vote_cast vote outcome report) good i c is = absurd (some_is (sym is))
   by_event past (view_entered view leader) good i c is = absurd (some_is (sym is))
   by_event past (view_finalized view) good i c is = absurd (some_is (sym is))
+  by_event past (proposal_forwarded view me given) good i c is = absurd (some_is (sym is))
 
   had_given_cause : (past : NodeHistory D K G C) → AreForCause x past → (i : ℕ) (c : Cause)
       → cause_in x past i ≡ Some c → HadGivenCause x past i c

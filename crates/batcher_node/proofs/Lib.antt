@@ -4,6 +4,7 @@ pub mod Dropping
 pub mod Counting
 pub mod Standing
 pub mod Answering
+pub mod Forwarding
 pub mod Promising
 mod Lowest
 mod Blocking

@@ -15,8 +15,8 @@ use Rattle.batcher.specs.messages.Activity.{Activity}
 use Rattle.batcher.specs.votes.Outcome.{Outcome}
 use Rattle.batcher.specs.votes.Outcome.TheVariants.{Added, Duplicate, Conflicting}
 use Rattle.batcher.specs.votes.Mode.{Mode}
-use Rattle.batcher.specs.calls.Call.TheVariants.{Network as NetworkCall, Own as OwnCall, Certificate as CertificateCall, Leader as LeaderCall, Construct as ConstructCall}
-use Rattle.batcher.specs.answers.Answer.TheVariants.{Network as NetworkAnswer, Own as OwnAnswer, Certificate as CertificateAnswer, Leader as LeaderAnswer, Construct as ConstructAnswer}
+use Rattle.batcher.specs.calls.Call.TheVariants.{Network as NetworkCall, Own as OwnCall, Certificate as CertificateCall, Leader as LeaderCall, Construct as ConstructCall, Forward as ForwardCall}
+use Rattle.batcher.specs.answers.Answer.TheVariants.{Network as NetworkAnswer, Own as OwnAnswer, Certificate as CertificateAnswer, Leader as LeaderAnswer, Construct as ConstructAnswer, Forward as ForwardAnswer}
 use Rattle.batcher.specs.Lists.{is_some_and}
 use Rattle.batcher.specs.Votes.{signer_of, subject_of, round_in, is_kind, kind_of, is_vote_of}
 use Rattle.batcher.specs.Setting.{Setting, setting, sender_in}
@@ -31,7 +31,7 @@ use Rattle.batcher.specs.Honest.{own_added_by, own_votes_added, votes_sent, sent
 use Rattle.batcher.specs.Sent.{SendsAdded}
 use Rattle.batcher_node.specs.declared.answers.Receipt.TheVariants.{Answered}
 use Rattle.batcher_node.specs.declared.answers.Verdict.TheVariants.{Recorded}
-use Rattle.batcher_node.specs.Events.{NodeEvent, vote_came, certificate_came, vote_cast, view_entered, constructed, NodeHistory, at_view, told, told_by}
+use Rattle.batcher_node.specs.Events.{NodeEvent, vote_came, certificate_came, vote_cast, view_entered, constructed, proposal_forwarded, NodeHistory, at_view, told, told_by}
 use Rattle.batcher_node.specs.Nodes.{NodeSetting}
 use Rattle.batcher_node.specs.Stands.{IsNamed, AreNamed}
 use Rattle.batcher_node.specs.Sending.{to_send_by, votes_to_send, HearsOnly}
@@ -263,6 +263,8 @@ module _ {D K G C : Type 0} (x y : NodeSetting D K G C) (sent : NodeHistory D K 
         told_more at (LeaderCall leader, LeaderAnswer (Ok tt)) past (λ here. tt) before
     told_by_it (constructed at given) past hears before =
         told_more at (ConstructCall, ConstructAnswer given) past (λ here. tt) before
+    told_by_it (proposal_forwarded at me given) past hears before =
+        told_more at (ForwardCall me, ForwardAnswer given) past (λ here. tt) before
     told_by_it event past hears before = before
 
     -- Each view is told by the participant just what its own round of the view added.

@@ -1,0 +1,54 @@
+-- A node stays one where it was asked for a proposal to hand on.
+use Rattle.std.proofs.Common.{◌≡◌, ◌∷◌, ℕ, Bool, true, List, Option, Some, None, refl, sym, subst, inl, length}
+use Rattle.std.specs.Prelude.{IfSome, IfNone}
+use Rattle.std.specs.declared.cmp.Ordering.{Ordering}
+use Rattle.batcher.specs.positions.Participant.{Participant}
+use Rattle.batcher.specs.messages.Proposal.{Proposal}
+use Rattle.batcher.specs.calls.Call.TheVariants.{Forward as ForwardCall}
+use Rattle.batcher.specs.answers.Answer.TheVariants.{Forward as ForwardAnswer}
+use Rattle.batcher.specs.Meaning.{Meaning}
+use Rattle.batcher.specs.Held.{RoundView}
+use Rattle.batcher.specs.Judged.{judge}
+use Rattle.batcher_node.specs.declared.slot.Slot.{Slot}
+use Rattle.batcher_node.specs.Windows.{contains, numbered}
+use Rattle.batcher_node.specs.Events.{proposal_forwarded}
+use Rattle.batcher_node.specs.Nodes.{NodeView, IsTended, TellsThere, slot_at}
+use Rattle.batcher_node.specs.Stands.{IsNode}
+use Rattle.batcher_node.proofs.Telling.{if_some}
+use Rattle.batcher_node.proofs.Tending.{still_tended}
+use Rattle.batcher_node.proofs.Answering.{forwarded_told}
+
+module _ {S D K G C : Type 0} (meaning : S → Meaning D K G C) (compare_keys : K → K → Ordering)
+    (same_signature : G → G → Bool) (same_digest : D → D → Bool)
+    (old : NodeView S G D) (rounds : List (ℕ × Slot (RoundView S G D)))
+    (view : ℕ) (me : Participant) where
+  pub still_node : (o : Option (Option (Proposal D)))
+      → IfSome o (λ answer. TellsThere (judge meaning compare_keys same_signature same_digest)
+      (slot_at old.rounds) (slot_at rounds) view (ForwardCall me) (ForwardAnswer answer))
+      → IfNone o (rounds ≡ old.rounds)
+      → IsNode meaning compare_keys same_signature same_digest old
+      → IsNode meaning compare_keys same_signature same_digest (record old { rounds = rounds })
+  still_node None tells untold node =
+      subst (λ r. IsNode meaning compare_keys same_signature same_digest (record old { rounds = r }))
+      (sym untold) node
+  still_node (Some answer) tells untold node =
+      let own = if_some (λ slot. (slot.round.scheme ≡ old.scheme)
+      × ((slot.round.number ≡ numbered old.epoch view) × (contains old.window view ≡ true)))
+      (slot_at old.rounds view) tells.slot tells.there (node.tended.own view) in
+      record {
+        tended =
+            still_tended (judge meaning compare_keys same_signature same_digest)
+            (length (meaning old.scheme).participants) old.scheme old.epoch old.window old.rounds
+            rounds node.tended (ForwardCall me) (ForwardAnswer answer) old.retains view own.1.1
+            (inl tells);
+        each = node.each;
+        history =
+            record {
+              past = proposal_forwarded view me answer ∷ node.history.past;
+              stands =
+                  forwarded_told meaning compare_keys same_signature same_digest node.history.past
+                  old (record old { rounds = rounds }) view me answer
+                  (length (meaning old.scheme).participants) node.tended tells refl refl
+                  node.history.stands;
+            };
+      }
