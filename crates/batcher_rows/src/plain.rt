@@ -1,7 +1,7 @@
 //! A scheme whose signatures are cheap to make and to verify, and of any length, so that the time
 //! of a run is that of the batcher. It protects nothing.
 
-ghost use Rattle.std.specs.Prelude.{◌≡◌, true, length, IfOk, IfErr, OnOk};
+ghost use Rattle.std.specs.Prelude.{◌≡◌, ◌<◌, ℕ, true, length, IfOk, IfErr, OnOk};
 ghost use Rattle.std.specs.Result.{result_ok};
 ghost use Rattle.std.specs.List.{list_all};
 ghost use Rattle.batcher.specs.Attestations.{Sorts};
@@ -63,6 +63,7 @@ pub fn sign<P>(
 ) -> Attestation<Padded<P>>
     ensures signer { result.signer ≡ signer }
     ensures signature { result.signature.word ≡ signature_of subject signer.0 }
+    ensures attests { (n : ℕ) → signer.0 < n → is_signed n subject result ≡ true }
 {
     Attestation {
         signer,
