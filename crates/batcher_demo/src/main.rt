@@ -8,6 +8,7 @@ mod network;
 mod picture;
 mod station;
 mod validator;
+mod witness;
 
 use anyhow::{Result, bail};
 use std::env;

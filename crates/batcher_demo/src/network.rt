@@ -1,13 +1,15 @@
 //! The network: who is faulty in which way, and how messages are delayed, brought out of their
 //! order and repeated.
 
-use crate::station::{AnyVote, Station, numbered};
-use crate::validator::{AHEAD, Message, VALIDATORS, VIEWS, Validator, letter_of, proposed};
+use crate::station::{AnyCertificate, AnyVote, DemoScheme, Station, numbered};
+use crate::validator::{AHEAD, Message, VALIDATORS, VIEWS, Validator, proposed};
+use crate::witness::{Posted, Witness};
 use anyhow::{Result, bail};
-use batcher::messages::{Attestation, Sha256Digest, Subject, Vote};
+use batcher::messages::{Attestation, Certificate, Sha256Digest, Subject, Vote};
 use batcher::positions::{Participant, Set};
-use batcher::scheme::{Keyed, Name};
+use batcher::scheme::Name;
 use batcher_node::Cause;
+use batcher_rows::plain::{Plain, Tally, sign};
 use rand_core::Rng;
 use rand_pcg::Pcg32;
 use std::alloc::{AllocError, Global};
@@ -22,6 +24,17 @@ const STEPS: usize = 320;
 const REPEATED: u32 = 8;
 // So far beyond its own view are the views that a flood names.
 const FAR: u64 = 1000;
+// A forged certificate goes to one of so many validators.
+const SPARED: u32 = 8;
+// A repeated vote comes with so many of those before it.
+const EARLIER: usize = 8;
+// The honest validator that starts again in some networks, in one of so many steps, from the first
+// of them on.
+const RESTARTED: u32 = 7;
+
+const RESTARTS: u64 = 40;
+
+const FIRST_RESTART: u64 = 10;
 
 /// What a validator does wrong.
 #[derive(Clone, Copy, Debug, PartialEq, Eq)]
@@ -35,16 +48,34 @@ pub(crate) enum Role {
     Silent,
     /// Sends votes of far views beside its own.
     Floods,
+    /// Sends certificates that no quorum has made, beside its votes.
+    Forges,
+    /// Sends its votes again and again.
+    Repeats,
 }
 
-/// The role of a validator.
-pub(crate) fn role_of(validator: u32) -> Role {
-    match validator {
-        2 => Role::Equivocates,
-        5 => Role::SignsBadly,
-        8 => Role::Silent,
-        11 => Role::Floods,
-        _ => Role::Honest,
+/// The role of a validator in the network of a seed. The six that do something wrong go round, and
+/// four in a row of them are played: so each is played in four of six networks.
+pub(crate) fn role_of(seed: u64, validator: u32) -> Role {
+    if validator % 3 != 2 {
+        return Role::Honest;
+    }
+    match (seed % 6 + 5 + u64::from(validator / 3)) % 6 {
+        0 => Role::Equivocates,
+        1 => Role::SignsBadly,
+        2 => Role::Silent,
+        3 => Role::Floods,
+        4 => Role::Forges,
+        _ => Role::Repeats,
+    }
+}
+
+// In which step an honest validator starts again, in every second six of networks.
+fn restart_of(seed: u64) -> Option<usize> {
+    if seed / 6 % 2 == 1 {
+        Some((FIRST_RESTART + seed % RESTARTS) as usize)
+    } else {
+        None
     }
 }
 
@@ -55,13 +86,6 @@ struct Delivery {
     from: u32,
     // Where it stands among all that were posted.
     message: usize,
-}
-
-// What a validator has heard of the two proposals, while their votes were kept as evidence.
-#[derive(Clone, Copy)]
-struct Witness {
-    first: bool,
-    second: bool,
 }
 
 /// Whether what has to hold of a network holds.
@@ -75,22 +99,33 @@ pub(crate) struct Checks {
     pub(crate) caught: bool,
     /// No honest one is blocked by anybody.
     pub(crate) spared: bool,
+    /// No vote that came again had an honest one construct.
+    pub(crate) rested: bool,
+    /// Each quorum of votes that came to an honest one was certified there before it rested.
+    pub(crate) completed: bool,
 }
 
 impl Checks {
     /// Whether all hold, and something was finalized.
     pub(crate) fn hold(&self) -> bool {
-        self.agreed && self.caught && self.spared && self.finalized > 0
+        self.agreed
+            && self.caught
+            && self.spared
+            && self.rested
+            && self.completed
+            && self.finalized > 0
     }
 }
 
 #[derive(Drop)]
 pub(crate) struct Network {
     alloc: Global,
+    seed: u64,
     rng: Pcg32,
-    scheme: Rc<Keyed<true>>,
     pub(crate) validators: Vec<Validator>,
-    posted: Vec<Message>,
+    posted: Vec<Posted>,
+    // Where the votes stand that one validator repeats.
+    repeated: Vec<usize>,
     // What comes at each step.
     calendar: Vec<Vec<Delivery>>,
     witnesses: Vec<Witness>,
@@ -98,18 +133,27 @@ pub(crate) struct Network {
     pub(crate) steps: usize,
 }
 
-fn scheme_of(alloc: Global) -> Result<Rc<Keyed<true>>> {
+fn scheme_of(alloc: Global) -> Result<Rc<DemoScheme>> {
     let mut names = Vec::new(alloc);
     for number in 0..VALIDATORS {
         names.push(Name(u64::from(number)))?;
     }
     match Set::new(names) {
-        Ok(participants) => Ok(Rc::new(alloc, Keyed::new(participants, [7; 32]))?),
+        Ok(participants) => {
+            let padding = 0;
+            Ok(Rc::new(
+                alloc,
+                Plain {
+                    participants,
+                    padding,
+                },
+            )?)
+        }
         Err(fault) => Err(fault.into()),
     }
 }
 
-fn validator_of(alloc: Global, scheme: &Rc<Keyed<true>>, me: u32) -> Result<Validator> {
+fn validator_of(alloc: Global, scheme: &Rc<DemoScheme>, me: u32) -> Result<Validator> {
     let signing = scheme.clone()?;
     let station = Station::new(alloc, signing, scheme.clone()?, me, AHEAD);
     match station? {
@@ -131,10 +175,7 @@ fn begin(alloc: Global, seed: u64) -> Result<Network> {
     let mut witnesses = Vec::new(alloc);
     for me in 0..VALIDATORS {
         validators.push(validator_of(alloc, &scheme, me)?)?;
-        witnesses.push(Witness {
-            first: false,
-            second: false,
-        })?;
+        witnesses.push(Witness::new(alloc)?)?;
     }
     let mut calendar = Vec::new(alloc);
     for _ in 0..STEPS {
@@ -142,10 +183,11 @@ fn begin(alloc: Global, seed: u64) -> Result<Network> {
     }
     Ok(Network {
         alloc,
+        seed,
         rng: Pcg32::new(seed, 16),
-        scheme,
         validators,
         posted: Vec::new(alloc),
+        repeated: Vec::new(alloc),
         calendar,
         witnesses,
         steps: 0,
@@ -153,8 +195,16 @@ fn begin(alloc: Global, seed: u64) -> Result<Network> {
 }
 
 impl Network {
+    /// The role of a validator.
+    pub(crate) fn role(&self, validator: u32) -> Role {
+        role_of(self.seed, validator)
+    }
+
     fn run(&mut self) -> Result<()> {
         for now in 0..STEPS {
+            if restart_of(self.seed) == Some(now) {
+                self.restart(now)?;
+            }
             let mut due = self.take_due(now);
             if !due.is_empty() {
                 self.steps = now;
@@ -179,11 +229,11 @@ impl Network {
 
     fn deliver(&mut self, now: usize, delivery: Delivery) -> Result<()> {
         let to = delivery.to as usize;
-        if let Some(message) = self.posted.get(delivery.message) {
+        let role = self.role(delivery.from);
+        if let Some(posted) = self.posted.get_mut(delivery.message) {
             if let Some(validator) = self.validators.get_mut(to) {
-                validator.hear(now, delivery.from, message)?;
                 if let Some(witness) = self.witnesses.get_mut(to) {
-                    bear_witness(witness, validator, delivery.from, message);
+                    witness.attend(now, validator, delivery.from, role, posted)?;
                 }
             }
         }
@@ -193,15 +243,35 @@ impl Network {
     fn let_wait(&mut self, now: usize, me: u32) -> Result<()> {
         if let Some(validator) = self.validators.get_mut(me as usize) {
             validator.wait(now)?;
+            if let Some(witness) = self.witnesses.get_mut(me as usize) {
+                witness.look(validator);
+            }
         }
         self.post(now, me)
+    }
+
+    // A validator loses its node and starts again.
+    fn restart(&mut self, now: usize) -> Result<()> {
+        for posted in self.posted.as_mut_slice() {
+            posted.forget(RESTARTED);
+        }
+        if let Some(witness) = self.witnesses.get_mut(RESTARTED as usize) {
+            witness.forget();
+        }
+        if let Some(validator) = self.validators.get_mut(RESTARTED as usize) {
+            validator.restart(self.alloc, now)?;
+        }
+        self.post(now, RESTARTED)
     }
 
     // Sends what the validator has to send, as its role has it.
     fn post(&mut self, now: usize, me: u32) -> Result<()> {
         let outbox = self.take_outbox(me);
-        let role = role_of(me);
+        let role = self.role(me);
         for message in outbox {
+            if let Some(witness) = self.witnesses.get_mut(me as usize) {
+                witness.note(me, &message);
+            }
             match (role, message) {
                 (Role::Silent, _) => {}
                 (Role::SignsBadly, Message::Vote(vote)) => {
@@ -214,6 +284,15 @@ impl Network {
                 }
                 (Role::Equivocates, Message::Vote(vote)) => {
                     self.equivocate(now, me, vote)?;
+                }
+                (Role::Forges, Message::Vote(vote)) => {
+                    self.send_all(now, me, Message::Vote(vote))?;
+                    self.send_some(now, me, Message::Certificate(forged(&vote)))?;
+                }
+                (Role::Repeats, Message::Vote(vote)) => {
+                    self.repeated.push(self.posted.len())?;
+                    self.send_all(now, me, Message::Vote(vote))?;
+                    self.repeat(now, me)?;
                 }
                 (_, message) => self.send_all(now, me, message)?,
             }
@@ -230,10 +309,37 @@ impl Network {
 
     fn send_all(&mut self, now: usize, from: u32, message: Message) -> Result<(), AllocError> {
         let place = self.posted.len();
-        self.posted.push(message)?;
+        self.posted.push(Posted::new(message))?;
+        self.send_posted(now, from, place)
+    }
+
+    fn send_posted(&mut self, now: usize, from: u32, message: usize) -> Result<(), AllocError> {
         for to in 0..VALIDATORS {
             if to != from {
+                self.send(now, from, to, message)?;
+            }
+        }
+        Ok(())
+    }
+
+    // Sends a message to a few, so that it isn't seen by all at once.
+    fn send_some(&mut self, now: usize, from: u32, message: Message) -> Result<(), AllocError> {
+        let place = self.posted.len();
+        self.posted.push(Posted::new(message))?;
+        for to in 0..VALIDATORS {
+            if to != from && below(&mut self.rng, SPARED) == 0 {
                 self.send(now, from, to, place)?;
+            }
+        }
+        Ok(())
+    }
+
+    // Sends the last few votes again.
+    fn repeat(&mut self, now: usize, me: u32) -> Result<(), AllocError> {
+        let sent = self.repeated.len();
+        for place in sent.saturating_sub(EARLIER)..sent {
+            if let Some(message) = self.repeated.get(place).copied() {
+                self.send_posted(now, me, message)?;
             }
         }
         Ok(())
@@ -262,11 +368,7 @@ impl Network {
     fn far_vote(&mut self, me: u32, view: u64) -> AnyVote {
         let beyond = FAR.saturating_add(u64::from(below(&mut self.rng, VALIDATORS)));
         let round = numbered(view.saturating_add(beyond));
-        self.signed(me, Subject::Nullify { round })
-    }
-
-    fn signed(&self, me: u32, subject: Subject<Sha256Digest>) -> AnyVote {
-        Vote::new(subject, self.scheme.sign(Participant::new(me), subject))
+        signed(me, Subject::Nullify { round })
     }
 
     // In its own view it sends some validators its proposal, others another, and some both.
@@ -279,10 +381,10 @@ impl Network {
             return self.send_all(now, me, Message::Vote(vote));
         }
         let other = proposed(view, proposal.parent.0, b'b');
-        let second = self.signed(me, Subject::Notarize { proposal: other });
+        let second = signed(me, Subject::Notarize { proposal: other });
         let place = self.posted.len();
-        self.posted.push(Message::Vote(vote))?;
-        self.posted.push(Message::Vote(second))?;
+        self.posted.push(Posted::new(Message::Vote(vote)))?;
+        self.posted.push(Posted::new(Message::Vote(second)))?;
         for to in 0..VALIDATORS {
             if to != me {
                 let choice = below(&mut self.rng, 3);
@@ -304,6 +406,8 @@ impl Network {
             agreed: self.have_agreed(),
             caught: self.are_caught(),
             spared: self.are_spared(),
+            rested: self.have_rested(),
+            completed: self.have_completed(),
         }
     }
 
@@ -322,40 +426,78 @@ impl Network {
 
     fn have_agreed(&self) -> bool {
         match self.validators.first() {
-            Some(first) => self.validators.iter().all(|v| agrees(first, v)),
+            Some(first) => {
+                for validator in self.validators.as_slice() {
+                    if self.is_honest(validator) && !agrees(first, validator) {
+                        return false;
+                    }
+                }
+                true
+            }
             None => false,
         }
     }
 
+    fn is_honest(&self, validator: &Validator) -> bool {
+        self.role(validator.me) == Role::Honest
+    }
+
+    // Whether the honest ones treat each as it deserves, and have found whom they are sure to find.
     fn are_caught(&self) -> bool {
-        let mut named = 0usize;
-        for (validator, witness) in self.validators.iter().zip(self.witnesses.iter()) {
-            if role_of(validator.me) == Role::Honest {
-                let saw = witness.first && witness.second;
-                let told = validator.has_named(5);
-                if validator.has_blocked(2) != saw
-                    || validator.has_blocked(5) != told
-                    || !are_just(validator)
-                {
-                    return false;
+        for peer in 0..VALIDATORS {
+            let role = self.role(peer);
+            let mut caught = false;
+            for (validator, witness) in self.validators.iter().zip(self.witnesses.iter()) {
+                if self.is_honest(validator) {
+                    if !is_just(role, validator, witness, peer) {
+                        return false;
+                    }
+                    caught = caught || validator.has_blocked(peer);
                 }
-                named = named.saturating_add(usize::from(told));
+            }
+            if !caught && (role == Role::SignsBadly || role == Role::Forges) {
+                return false;
             }
         }
-        named > 0
+        self.validators.iter().all(tells_all)
     }
 
     fn are_spared(&self) -> bool {
-        self.validators.iter().all(spares)
+        for validator in self.validators.as_slice() {
+            for block in validator.blocks.as_slice() {
+                if self.role(block.peer) == Role::Honest {
+                    return false;
+                }
+            }
+        }
+        true
+    }
+
+    fn have_rested(&self) -> bool {
+        let mut repeats = 0usize;
+        for (validator, witness) in self.validators.iter().zip(self.witnesses.iter()) {
+            if self.is_honest(validator) {
+                if witness.was_woken {
+                    return false;
+                }
+                repeats = repeats.saturating_add(witness.repeats);
+            }
+        }
+        repeats > 0
+    }
+
+    fn have_completed(&self) -> bool {
+        for (validator, witness) in self.validators.iter().zip(self.witnesses.iter()) {
+            if self.is_honest(validator) && witness.left_quorum {
+                return false;
+            }
+        }
+        true
     }
 }
 
-// Whether it has finalized the same as the first one, and came to the end. Faulty ones may do
-// otherwise.
+// Whether it has finalized the same as the first one, and came to the end.
 fn agrees(first: &Validator, validator: &Validator) -> bool {
-    if role_of(validator.me) != Role::Honest {
-        return true;
-    }
     for view in 1..=VIEWS {
         if first.seen(view).finalized != validator.seen(view).finalized {
             return false;
@@ -364,49 +506,45 @@ fn agrees(first: &Validator, validator: &Validator) -> bool {
     validator.current > VIEWS
 }
 
-// Whether each block is for what its peer does wrong, and the node's blocks are those that its
-// answers told of.
-fn are_just(validator: &Validator) -> bool {
-    for block in validator.blocks.as_slice() {
-        let role = match block.cause {
-            Cause::Signature => Role::SignsBadly,
-            Cause::Vote(_) | Cause::Certificate => Role::Equivocates,
-        };
-        if role_of(block.peer) != role {
-            return false;
+// Whether an honest validator has blocked a peer of the role where it saw why, and for that alone.
+// One that started again keeps no evidence in views that it is beyond, but may know enough of them
+// to block the one that equivocates.
+fn is_just(role: Role, validator: &Validator, witness: &Witness, peer: u32) -> bool {
+    match (role, validator.cause_against(peer)) {
+        (Role::Equivocates, Some(Cause::Vote(_))) => {
+            witness.saw_both() || validator.restarted.is_some()
         }
+        (Role::SignsBadly, Some(Cause::Signature)) => validator.has_named(peer),
+        (Role::Forges, Some(Cause::Certificate)) => witness.saw_forged,
+        (_, Some(_)) => false,
+        (Role::Equivocates, None) => !witness.saw_both(),
+        (Role::SignsBadly, None) => !validator.has_named(peer),
+        (Role::Forges, None) => !witness.saw_forged,
+        (_, None) => true,
     }
+}
+
+// Whether the node's blocks are those that its answers told of.
+fn tells_all(validator: &Validator) -> bool {
     validator.blocks.len() == validator.station.blocked()
 }
 
-fn spares(validator: &Validator) -> bool {
-    validator
-        .blocks
-        .iter()
-        .all(|b| role_of(b.peer) != Role::Honest)
+// The certificate that the vote would make, if it were a quorum.
+fn forged(vote: &AnyVote) -> AnyCertificate {
+    let sum = vote.attestation().signature.word;
+    Certificate::new(vote.subject(), Tally { count: 1, sum })
 }
 
-// A message of the equivocator's two is heard by who keeps the votes of the view as evidence.
-fn bear_witness(witness: &mut Witness, validator: &Validator, from: u32, message: &Message) {
-    if let Message::Vote(vote) = message {
-        if let Subject::Notarize { proposal } = vote.subject() {
-            let view = proposal.round.view.0;
-            if from == 2 && view == 2 && validator.station.keeps_evidence(view) {
-                if letter_of(&proposal) == b'a' {
-                    witness.first = true;
-                } else {
-                    witness.second = true;
-                }
-            }
-        }
-    }
+// The vote of a validator. What is faulty numbers no signatures.
+fn signed(me: u32, subject: Subject<Sha256Digest>) -> AnyVote {
+    Vote::new(subject, sign(Participant::new(me), subject, 0))
 }
 
 // The vote with a bit of its signature turned.
 fn spoiled(vote: &AnyVote) -> AnyVote {
     let attestation = vote.attestation();
     let mut signature = attestation.signature;
-    signature[0] ^= 1;
+    signature.word ^= 1;
     Vote::new(
         vote.subject(),
         Attestation {

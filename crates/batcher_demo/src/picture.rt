@@ -1,7 +1,7 @@
 //! The picture of a network that was played: a row for each validator, a column for each view, and
 //! below it who was blocked, and what became of the votes.
 
-use crate::network::{Checks, Network, Role, SLOWEST, role_of};
+use crate::network::{Checks, Network, Role, SLOWEST};
 use crate::validator::{
     AHEAD, BEHIND, Counts, NOTHING, Seen, VALIDATORS, VIEWS, Validator, leader_of, letter_of,
 };
@@ -18,6 +18,8 @@ fn word_of(role: Role) -> &'static str {
         Role::SignsBadly => "signs badly",
         Role::Silent => "silent",
         Role::Floods => "floods",
+        Role::Forges => "forges",
+        Role::Repeats => "repeats",
     }
 }
 
@@ -30,7 +32,7 @@ pub(crate) fn draw(rt: &impl Print, seed: u64, network: &Network) -> Result<()> 
     println!(rt; "")?;
     draw_heading(rt)?;
     for validator in network.validators.as_slice() {
-        draw_row(rt, validator)?;
+        draw_row(rt, validator, network.role(validator.me))?;
     }
     draw_total(rt, network, Kind::Notarization, "notarized at")?;
     draw_total(rt, network, Kind::Nullification, "nullified at")?;
@@ -41,6 +43,7 @@ pub(crate) fn draw(rt: &impl Print, seed: u64, network: &Network) -> Result<()> 
     for peer in 0..VALIDATORS {
         draw_blocks(rt, network, peer)?;
     }
+    draw_restarts(rt, network)?;
     draw_votes(rt, network)?;
     println!(rt; "")?;
     draw_checks(rt, &network.checks())
@@ -55,9 +58,9 @@ fn draw_heading(rt: &impl Print) -> Result<()> {
     Ok(())
 }
 
-fn draw_row(rt: &impl Print, validator: &Validator) -> Result<()> {
+fn draw_row(rt: &impl Print, validator: &Validator, role: Role) -> Result<()> {
     let me = validator.me;
-    let role = word_of(role_of(me));
+    let role = word_of(role);
     print!(rt; "{me:>2} {role:<16}")?;
     for view in 1..=VIEWS {
         draw_cell(rt, validator, view)?;
@@ -150,7 +153,7 @@ fn draw_blocks(rt: &impl Print, network: &Network, peer: u32) -> Result<()> {
     for validator in network.validators.as_slice() {
         cause = cause.or(validator.cause_against(peer));
     }
-    let role = role_of(peer);
+    let role = network.role(peer);
     if role == Role::Honest && cause.is_none() {
         return Ok(());
     }
@@ -182,6 +185,16 @@ fn cause_word(cause: &Cause) -> &'static str {
     }
 }
 
+fn draw_restarts(rt: &impl Print, network: &Network) -> Result<()> {
+    for validator in network.validators.as_slice() {
+        if let Some(step) = validator.restarted {
+            let me = validator.me;
+            println!(rt; "{me:>2} lost its node in step {step} and started again")?;
+        }
+    }
+    Ok(())
+}
+
 fn draw_votes(rt: &impl Print, network: &Network) -> Result<()> {
     let mut all = NOTHING;
     for validator in network.validators.as_slice() {
@@ -207,9 +220,15 @@ fn draw_checks(rt: &impl Print, checks: &Checks) -> Result<()> {
     let agreed = yes_or_no(checks.agreed);
     let caught = yes_or_no(checks.caught);
     let spared = yes_or_no(checks.spared);
+    let rested = yes_or_no(checks.rested);
+    let completed = yes_or_no(checks.completed);
     println!(rt; "all honest validators finalized the same {finalized} views: {agreed}")?;
     println!(rt; "the faulty are blocked by the honest who saw why, and by no others: {caught}")?;
     println!(rt; "no honest one is blocked by anybody: {spared}")?;
+    println!(rt; "no vote that came again woke a view that was at rest: {rested}")?;
+    println!(rt;
+        "each quorum of votes that came to an honest one was certified there: {completed}"
+    )?;
     Ok(())
 }
 

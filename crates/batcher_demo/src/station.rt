@@ -4,19 +4,25 @@
 ghost use Rattle.std.specs.Prelude.{◌≡◌};
 
 use anyhow::Result;
-use batcher::messages::{Certificate, Sha256Digest, Subject, Vote};
+use batcher::messages::{Certificate, Proposal, Sha256Digest, Subject, Vote};
 use batcher::positions::{Epoch, Participant, Round, View};
 use batcher::round::Admission;
-use batcher::scheme::{AttestationList, Counter, Keyed, Name};
+use batcher::scheme::{Counter, Name};
 use batcher::votes::Mode;
 use batcher_node::{Cast, Construction, EnterFault, Node, Receipt, Verdict};
+use batcher_rows::plain::{Padded, Plain, Tally, sign};
 use std::alloc::{AllocError, Global};
 use std::marker::Model;
+use std::mem;
 use std::rc::Rc;
 
-pub(crate) type AnyVote = Vote<[u8; 32], Sha256Digest>;
+/// The scheme of the benchmark. A signature carries a number that isn't verified, so that the same
+/// vote can be signed anew, and is another one then.
+pub(crate) type DemoScheme = Plain<u64>;
 
-pub(crate) type AnyCertificate = Certificate<AttestationList, Sha256Digest>;
+pub(crate) type AnyVote = Vote<Padded<u64>, Sha256Digest>;
+
+pub(crate) type AnyCertificate = Certificate<Tally, Sha256Digest>;
 
 const EPOCH: Epoch = Epoch(16);
 
@@ -31,10 +37,12 @@ pub(crate) fn numbered(view: u64) -> Round {
 // The node of a participant. Contracts see it as the index.
 #[derive(Drop)]
 pub(crate) struct Station {
-    node: Node<Keyed<true>, Sha256Digest>,
-    scheme: Rc<Keyed<true>>,
+    node: Node<DemoScheme, Sha256Digest>,
+    scheme: Rc<DemoScheme>,
     me: Participant,
     rng: Counter,
+    /// How many constructions it has made.
+    pub(crate) constructions: usize,
 }
 
 impl Model for Station {
@@ -52,8 +60,8 @@ impl Station {
     // There is none for an index that is nobody's.
     pub(crate) fn new(
         alloc: Global,
-        scheme: Rc<Keyed<true>>,
-        again: Rc<Keyed<true>>,
+        scheme: Rc<DemoScheme>,
+        again: Rc<DemoScheme>,
         me: u32,
         ahead: u64,
     ) -> Result<Option<Self>, AllocError>
@@ -68,14 +76,25 @@ impl Station {
             scheme,
             me: Participant::new(me),
             rng: Counter::new(0),
+            constructions: 0,
         }))
+    }
+
+    // Takes a new node, which was told nothing. Its window begins where that of the lost one did.
+    pub(crate) fn restart(&mut self, alloc: Global) -> Result<(), AllocError> {
+        let window = self.node.window();
+        let again = Rc::clone(&self.scheme)?;
+        let finalized = View(window.finalized);
+        let node = Node::new(alloc, EPOCH, again, finalized, window.ahead, true)?;
+        mem::drop(mem::replace(&mut self.node, node));
+        Ok(())
     }
 
     pub(crate) fn hear_vote(
         &mut self,
         peer: Name,
         vote: AnyVote,
-    ) -> Result<Receipt<Admission<[u8; 32], Sha256Digest>>, AllocError> {
+    ) -> Result<Receipt<Admission<Padded<u64>, Sha256Digest>>, AllocError> {
         self.node.receive_vote(peer, vote)
     }
 
@@ -87,9 +106,14 @@ impl Station {
         self.node.receive_certificate(peer, certificate)
     }
 
-    // Signs a vote and casts it. There is none where it isn't to be sent.
-    pub(crate) fn cast(&mut self, subject: Subject<Sha256Digest>) -> Result<Option<AnyVote>> {
-        let vote = Vote::new(subject, self.scheme.sign(self.me, subject));
+    // Signs a vote by a signature of this number, and casts it. There is none where it isn't to be
+    // sent.
+    pub(crate) fn cast(
+        &mut self,
+        subject: Subject<Sha256Digest>,
+        number: u64,
+    ) -> Result<Option<AnyVote>> {
+        let vote = Vote::new(subject, sign(self.me, subject, number));
         match self.node.cast_vote(vote) {
             Ok(Cast::ToSend(_)) => Ok(Some(vote)),
             Ok(Cast::Known | Cast::Outside) => Ok(None),
@@ -107,8 +131,12 @@ impl Station {
 
     pub(crate) fn construct(
         &mut self,
-    ) -> Result<Option<Construction<AttestationList, Sha256Digest>>, AllocError> {
-        self.node.try_construct(&mut self.rng)
+    ) -> Result<Option<Construction<Tally, Sha256Digest>>, AllocError> {
+        let made = self.node.try_construct(&mut self.rng)?;
+        if made.is_some() {
+            self.constructions = self.constructions.saturating_add(1);
+        }
+        Ok(made)
     }
 
     pub(crate) fn rounds_kept(&self) -> usize {
@@ -124,7 +152,20 @@ impl Station {
         blocked
     }
 
-    // Whether votes of the view are kept as evidence.
+    // Whether messages of the view are looked at.
+    pub(crate) fn looks_at(&self, view: u64) -> bool {
+        self.node.window().contains(view)
+    }
+
+    // The proposal that is selected in the view.
+    pub(crate) fn selected(&self, view: u64) -> Option<Proposal<Sha256Digest>> {
+        match self.node.round(View(view)) {
+            Some(round) => round.proposal(),
+            None => None,
+        }
+    }
+
+    // Whether votes of the view are kept as evidence, and make certificates.
     pub(crate) fn keeps_evidence(&self, view: u64) -> bool {
         match self.node.round(View(view)) {
             Some(round) => round.mode() == Mode::Retaining,

@@ -5,9 +5,10 @@ use crate::station::{AnyCertificate, AnyVote, Station, numbered};
 use anyhow::Result;
 use batcher::messages::{Certificate, Kind, Proposal, Sha256Digest, Subject};
 use batcher::positions::Participant;
-use batcher::scheme::{AttestationList, Name};
+use batcher::scheme::Name;
 use batcher::verifier::Batch;
 use batcher_node::{Cause, Construction, Receipt, Verdict};
+use batcher_rows::plain::Tally;
 use std::alloc::{AllocError, Global};
 
 /// How many validators there are.
@@ -127,6 +128,13 @@ impl Counts {
     }
 }
 
+// A vote that it has sent: what it signed, and the number of its signature.
+#[derive(Clone, Copy, Debug)]
+struct Sent {
+    subject: Subject<Sha256Digest>,
+    number: u64,
+}
+
 #[derive(Drop)]
 pub(crate) struct Validator {
     pub(crate) station: Station,
@@ -138,6 +146,11 @@ pub(crate) struct Validator {
     pub(crate) blocks: Vec<Block>,
     // Whose votes constructions have named as bad.
     named: Vec<u32>,
+    sent: Vec<Sent>,
+    // How often it has signed. Each signature has a number of its own.
+    signed: u64,
+    /// When it lost its node and started again, if it did.
+    pub(crate) restarted: Option<usize>,
     pub(crate) counts: Counts,
     /// What it is about to send.
     pub(crate) outbox: Vec<Message>,
@@ -159,6 +172,9 @@ impl Validator {
             views,
             blocks: Vec::new(alloc),
             named: Vec::new(alloc),
+            sent: Vec::new(alloc),
+            signed: 0,
+            restarted: None,
             counts: NOTHING,
             outbox: Vec::new(alloc),
         })
@@ -273,7 +289,8 @@ impl Validator {
         }
     }
 
-    fn holds(&self, certificate: &AnyCertificate) -> bool {
+    /// Whether it has a certificate of that kind and view.
+    pub(crate) fn holds(&self, certificate: &AnyCertificate) -> bool {
         let seen = self.seen(certificate.round().view.0);
         seen.has(certificate.kind())
     }
@@ -292,26 +309,82 @@ impl Validator {
         Ok(())
     }
 
-    /// Gives the current view up when it has taken too long.
+    /// Gives the current view up when it has taken too long, and again at each step from then on.
     pub(crate) fn wait(&mut self, now: usize) -> Result<()> {
         let view = self.current;
-        if view <= VIEWS
-            && now.saturating_sub(self.entered) >= PATIENCE
-            && !self.seen(view).gave_up
-        {
-            let round = numbered(view);
-            if self.cast(Subject::Nullify { round })? {
-                let mut seen = self.seen(view);
-                seen.gave_up = true;
-                self.note(view, seen);
-            }
+        if view <= VIEWS && now.saturating_sub(self.entered) >= PATIENCE {
+            self.give_up(view)?;
         }
         self.go_on(now)
     }
 
-    // Casts a vote and sends it, where it is to be sent.
+    // Each time its nullify is signed anew, and only the first is to be sent: peers have that one,
+    // and would block whoever sends them another.
+    fn give_up(&mut self, view: u64) -> Result<()> {
+        let round = numbered(view);
+        if self.cast(Subject::Nullify { round })? {
+            let mut seen = self.seen(view);
+            seen.gave_up = true;
+            self.note(view, seen);
+        }
+        Ok(())
+    }
+
+    /// Starts again with a node that was told nothing, but with all that it knows of the views.
+    ///
+    /// What it has sent in views of the window it casts again as it was, before any other vote: so
+    /// its new node refuses what stands against that. Whom it had blocked is blocked again only for
+    /// another cause.
+    pub(crate) fn restart(&mut self, alloc: Global, now: usize) -> Result<()> {
+        self.station.restart(alloc)?;
+        self.restarted = Some(now);
+        self.blocks.clear();
+        self.named.clear();
+        self.station.enter(self.current, leader_of(self.current))?;
+        let sent = self.sent.len();
+        for place in 0..sent {
+            self.cast_as_sent(place)?;
+        }
+        for place in 0..sent {
+            self.cast_anew(place)?;
+        }
+        self.go_on(now)
+    }
+
+    fn cast_as_sent(&mut self, place: usize) -> Result<()> {
+        if let Some(sent) = self.sent.get(place) {
+            let Sent { subject, number } = *sent;
+            let _ = self.cast_by(subject, number)?;
+        }
+        Ok(())
+    }
+
+    // Signs anew what it has sent in a view that it is beyond. The node knows it, so nothing is
+    // sent.
+    fn cast_anew(&mut self, place: usize) -> Result<()> {
+        if let Some(sent) = self.sent.get(place) {
+            let subject = sent.subject;
+            if subject.round().view.0 < self.current {
+                let _ = self.cast(subject)?;
+            }
+        }
+        Ok(())
+    }
+
+    // Signs a vote, and sends it where it is to be sent.
     fn cast(&mut self, subject: Subject<Sha256Digest>) -> Result<bool> {
-        match self.station.cast(subject)? {
+        let number = self.signed;
+        self.signed = number.saturating_add(1);
+        let is_sent = self.cast_by(subject, number)?;
+        if is_sent {
+            self.sent.push(Sent { subject, number })?;
+        }
+        Ok(is_sent)
+    }
+
+    // The same by a signature of this number.
+    fn cast_by(&mut self, subject: Subject<Sha256Digest>, number: u64) -> Result<bool> {
+        match self.station.cast(subject, number)? {
             Some(vote) => {
                 self.outbox.push(Message::Vote(vote))?;
                 Ok(true)
@@ -332,6 +405,8 @@ impl Validator {
                 break;
             }
         }
+        // A vote that the node knew was told to a view too, which is to rest.
+        self.construct()?;
         self.counts.rounds = self.counts.rounds.max(self.station.rounds_kept());
         Ok(())
     }
@@ -347,10 +422,7 @@ impl Validator {
         Ok(())
     }
 
-    fn take(
-        &mut self,
-        construction: Construction<AttestationList, Sha256Digest>,
-    ) -> Result<(), AllocError> {
+    fn take(&mut self, construction: Construction<Tally, Sha256Digest>) -> Result<(), AllocError> {
         let Construction { view, batch } = construction;
         if let Some(batch) = batch {
             let Batch {
