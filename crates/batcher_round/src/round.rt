@@ -1,6 +1,7 @@
 //! One round: what it answers to votes, and the certificates that it makes of them.
 
-ghost use Rattle.std.specs.Prelude.{◌≡◌, ◌≤◌, ◌<◌, ◌||◌, ◌↔◌, not, None, true, false, [], length, is_some, if◌then◌else◌, Ok, Err, IfOk, IfErr, OnOk, OnErr, IsTrue, IsOk};
+ghost use Rattle.std.specs.Prelude.{◌≡◌, ◌≤◌, ◌<◌, ◌||◌, ◌↔◌, not, None, true, false, [], length, is_some, if◌then◌else◌, Ok, Err, IfOk, IfErr, IfSome, OnOk, OnErr, IsTrue, IsOk};
+ghost use Rattle.std.specs.Option.{option_map};
 ghost use Rattle.batcher_types.specs.declared.messages.Kind.TheVariants.{Nullification as NullifyKind};
 ghost use Rattle.batcher_types.specs.declared.messages.Kind.{Kind as TheKind};
 ghost use Rattle.batcher_types.specs.declared.positions.Round.{Round as TheNumber};
@@ -8,6 +9,7 @@ ghost use Rattle.batcher_votes.specs.declared.votes.Mode.{Mode as TheMode};
 ghost use Rattle.batcher_types.specs.Items.{place_of};
 ghost use Rattle.batcher_types.specs.Meaning.{Meaning};
 ghost use Rattle.batcher_histories.specs.Setting.{setting};
+ghost use Rattle.batcher_round.specs.Next.{subject_next, pending_next};
 ghost use Rattle.batcher_types.specs.Votes.{kind_of, signer_of, attestation_of, subject_of, round_in, subject_certified};
 ghost use Rattle.batcher_votes.specs.Held.{of_kind, SameRound};
 ghost use Rattle.batcher_votes.specs.Tracking.{nothing_tracked, observed, observed_opposite, kept_vote};
@@ -40,7 +42,7 @@ pub use batcher_histories::answers::{Admission, BlockReason, OwnFault};
 use batcher_types::messages::{Activity, Certificate, Digest, Kind, Place, Proposal, Vote};
 use batcher_types::positions::{self, Participant, Participants, quorum};
 use batcher_types::scheme::Scheme;
-use batcher_votes::verifier::{Batch, LeaderFault, Verifier};
+use batcher_votes::verifier::{Batch, LeaderFault, NextAttempt, Verifier};
 use batcher_votes::votes::{Mode, ObservedVote, Outcome, VoteTracker};
 use both::{
     admit, fixed_by, is_first, make_room_to_accept, make_room_to_fix, may_fix, missing_among,
@@ -426,6 +428,25 @@ impl<S: Scheme<D>, D: Digest> Round<S, D> {
         let proposal = self.verifier.proposal().copied()?;
         self.forwarded = true;
         Some(proposal)
+    }
+
+    /// What the next construction looks at, where a kind is ready: of notarize, nullify and
+    /// finalize the first that is.
+    pub fn next_attempt(&self) -> Option<NextAttempt<'_, S::Signature, D>>
+        ensures ready { is_some result
+            ≡ is_some (kind_tried (⟦<S as Judge<D>>⟧.of self.now) self.now.holds) }
+        ensures subject { option_map (λ a. a.subject) result
+            ≡ subject_next (⟦<S as Judge<D>>⟧.of self.now) self.now.holds }
+        ensures pending { IfSome result (λ a. a.pending.now
+            ≡ pending_next (⟦<S as Judge<D>>⟧.of self.now) self.now.holds) }
+    {
+        if let Some(attempt) = self.verifier.next_attempt(Kind::Notarization) {
+            return Some(attempt);
+        }
+        if let Some(attempt) = self.verifier.next_attempt(Kind::Nullification) {
+            return Some(attempt);
+        }
+        self.verifier.next_attempt(Kind::Finalization)
     }
 
     /// Tries to make a certificate of the first kind that is ready, of notarize, nullify and

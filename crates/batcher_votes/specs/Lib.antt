@@ -7,3 +7,4 @@ pub mod Sound
 pub mod States
 pub mod Verifiers
 pub mod Entries
+pub mod Looked

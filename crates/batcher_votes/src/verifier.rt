@@ -14,6 +14,7 @@ ghost use Rattle.batcher_votes.specs.Selected.{proposal_of, updated, same_select
 ghost use Rattle.batcher_votes.specs.Held.{of_kind, SameVerifier};
 ghost use Rattle.batcher_types.specs.Attempts.{attempt_of};
 ghost use Rattle.batcher_votes.specs.Buffering.{attestations_of, nothing_buffered, is_buffered, is_dropped, leader_answer, is_ready, certificate_for, Buffers, TriesKind, AddsVote, SetsLeader, SetsProposal, CompletesKind};
+ghost use Rattle.batcher_votes.specs.Looked.{pending_tried};
 ghost use Rattle.batcher_votes.specs.Sound.{IsSound, KeepsAllRoom, KeepsOtherRoom, RestoresRoom};
 ghost use Rattle.batcher_votes.specs.Verifiers.{is_of_round, subject_ready, IfGiven, BatchCertifies, NamesSomebody};
 
@@ -22,10 +23,10 @@ mod buffer;
 mod state;
 
 use crate::votes::KeptVotes;
-use attempt::{Attempted, attempt};
+use attempt::{Attempted, attempt, looked_at};
 use batcher_types::messages::{
-    Certificate, Digest, Finalization, Kind, Notarization, Notarize, Nullification, Proposal,
-    Subject, Vote,
+    Attestation, Certificate, Digest, Finalization, Kind, Notarization, Notarize, Nullification,
+    Proposal, Subject, Vote,
 };
 use batcher_types::positions::{Participant, Participants, Round, Set};
 use batcher_types::scheme::Scheme;
@@ -60,6 +61,13 @@ pub struct Batch<C> {
     /// Whether the votes could have been a quorum, but the pending ones had to be verified one by
     /// one.
     pub fallback: bool,
+}
+
+/// What the next attempt at a certificate is about, and the pending attestations that it looks at.
+#[derive(Clone, Copy)]
+pub struct NextAttempt<'a, G, D> {
+    pub subject: Subject<D>,
+    pub pending: &'a [Attestation<G>],
 }
 
 /// Why a leader was refused.
@@ -428,6 +436,26 @@ impl<S: Scheme<D>, D: Digest> Verifier<S, D> {
             None => Ok(None),
             Some(subject) => Ok(Some(self.construct(kind, subject, rng)?)),
         }
+    }
+
+    /// What an attempt at a kind's certificate would look at, where the kind is ready.
+    pub fn next_attempt(&self, kind: Kind) -> Option<NextAttempt<'_, S::Signature, D>>
+        ensures ready { is_some result ≡ is_ready D.eq (S.meaning self.now.scheme).batchable
+            self.now.quorum self.now.holds kind }
+        ensures subject { option_map (λ a. a.subject) result
+            ≡ subject_ready D.eq (S.meaning self.now.scheme).batchable self.now.quorum
+            self.now.holds self.now.number kind }
+        ensures pending { IfSome result (λ a. a.pending.now
+            ≡ pending_tried self.now.quorum self.now.holds kind) }
+    {
+        let subject = self.subject_ready(kind)?;
+        let buffers = self.state.buffers(kind);
+        let pending = looked_at(
+            self.quorum,
+            buffers.verified.attestations(),
+            buffers.pending.attestations(),
+        );
+        Some(NextAttempt { subject, pending })
     }
 
     // What is to be tried of a kind, where it is ready.

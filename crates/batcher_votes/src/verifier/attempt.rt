@@ -22,9 +22,9 @@ pub(crate) struct Attempted<C, G> {
     pub(crate) joining: Vec<Attestation<G>>,
 }
 
-// The pending attestations that an attempt looks at: where the verified ones are a quorum by
-// themselves, to verify more of them would be work for nothing.
-fn looked_at<'a, G>(
+/// The pending attestations that an attempt looks at: where the verified ones are a quorum by
+/// themselves, to verify more of them would be work for nothing.
+pub(crate) fn looked_at<'a, G>(
     quorum: usize,
     verified: &[Attestation<G>],
     pending: &'a [Attestation<G>],

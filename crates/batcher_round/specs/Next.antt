@@ -1,0 +1,21 @@
+-- What the next construction looks at, by what the round holds.
+use Rattle.std.specs.Prelude.{List, [], Option, option_and_then}
+use Rattle.std.specs.Option.{option_map_or}
+use Rattle.batcher_types.specs.declared.messages.Attestation.{Attestation}
+use Rattle.batcher_types.specs.declared.messages.Subject.{Subject}
+use Rattle.batcher_votes.specs.Held.{Held}
+use Rattle.batcher_votes.specs.Buffering.{subject_tried}
+use Rattle.batcher_votes.specs.Looked.{pending_tried}
+use Rattle.batcher_histories.specs.Setting.{Setting, quorum_in}
+use Rattle.batcher_histories.specs.Steps.{kind_tried}
+
+module _ {D K G C : Type 0} (x : Setting D K G C) where
+  -- what it is about, where a kind is ready
+  abbrev pub subject_next : Held G D → Option (Subject D)
+  subject_next held =
+      option_and_then (subject_tried held.buffered x.number) (kind_tried x held)
+
+  -- the pending attestations that it looks at: none where no kind is ready
+  abbrev pub pending_next : Held G D → List (Attestation G)
+  pending_next held =
+      option_map_or (pending_tried (quorum_in x) held.buffered) (kind_tried x held) []

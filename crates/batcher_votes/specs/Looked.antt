@@ -1,0 +1,14 @@
+-- What an attempt at a certificate looks at.
+use Rattle.std.specs.Prelude.{ℕ, List}
+use Rattle.batcher_types.specs.declared.messages.Attestation.{Attestation}
+use Rattle.batcher_types.specs.declared.messages.Kind.{Kind}
+use Rattle.batcher_types.specs.Attempts.{checked}
+use Rattle.batcher_votes.specs.Held.{of_kind, Buffered}
+use Rattle.batcher_votes.specs.Buffering.{attestations_of}
+
+module _ {G D : Type 0} (q : ℕ) where
+  -- the pending attestations of a kind that an attempt looks at, with this quorum
+  abbrev pub pending_tried : Buffered G D → Kind → List (Attestation G)
+  pending_tried held kind =
+      checked q (attestations_of (of_kind held.verified kind))
+      (attestations_of (of_kind held.pending kind))
