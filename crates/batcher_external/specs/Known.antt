@@ -1,0 +1,27 @@
+-- What is known of attestations.
+use Rattle.std.specs.Prelude.{◌==◌, ◌&&◌, ℕ, Bool, cond, List, Option, Some, None, option_and_then}
+use Rattle.std.specs.Ordering.{nat_cmp}
+use Rattle.std.specs.Map.{lookup}
+use Rattle.std.specs.BTreeMap.{is_at}
+use Rattle.std.specs.Cmp.Lexicographic.{pointwise}
+use Rattle.batcher_types.specs.declared.messages.Attestation.{Attestation}
+use Rattle.batcher_external.specs.declared.truth.Truth.{Ghosts}
+use Rattle.batcher_external.specs.declared.truth.Verdict.{Verdict}
+use Rattle.batcher_external.specs.declared.truth.Whole.{Whole}
+
+-- whether two attestations are of the same signer and number
+abbrev pub same_attestation : Attestation ℕ → Attestation ℕ → Bool
+same_attestation a b = (a.signer.0 == b.signer.0) && (a.signature == b.signature)
+
+module _ {T : Type 0} {truth : Ghosts T} where
+  -- the verdict on the attestation of a number, where there is one
+  abbrev pub known_in : List (ℕ × Verdict T truth) → ℕ → Option Bool
+  known_in verdicts number =
+      option_and_then (λ v. cond (v.number == number) (Some v.attests) None)
+      (lookup (is_at (nat_cmp number)) verdicts)
+
+  -- the verdict on these attestations as a whole, where it is the last such verdict
+  abbrev pub known_of_whole : Option (Whole T truth) → List (Attestation ℕ) → Option Bool
+  known_of_whole whole attestations =
+      option_and_then (λ w. cond (pointwise same_attestation w.attestations.items attestations)
+      (Some w.passes) None) whole

@@ -1,0 +1,76 @@
+//! What is known of attestations and certificates, by their numbers.
+
+ghost use Rattle.std.specs.Prelude.{◌≡◌, ◌≢◌, ℕ, None, Some, IfOk, IfSome, OnOk, OnErr};
+ghost use Rattle.batcher_external.specs.Known.{known_in, known_of_whole};
+
+use crate::truth::{Truth, Verdict, Whole};
+use batcher_types::messages::Attestation;
+use std::alloc::{AllocError, Global};
+use std::collections::BTreeMap;
+
+/// The verdicts that were recorded.
+#[derive(Drop)]
+pub struct Verdicts<T: Truth> {
+    singles: BTreeMap<u64, Verdict<T>>,
+    whole: Option<Whole<T>>,
+}
+
+impl<T: Truth> Verdicts<T> {
+    /// No verdict. It takes no memory.
+    pub fn new(alloc: Global) -> Self
+        ensures none { (number : ℕ) → known_in result.singles.entries number ≡ None }
+    {
+        Verdicts {
+            singles: BTreeMap::new(alloc),
+            whole: None,
+        }
+    }
+
+    /// Records a verdict. A refusal for memory changes nothing.
+    pub fn record(&mut self, number: u64, attests: bool) -> Result<(), AllocError>
+        requires { T.attests number ≡ attests }
+        ensures recorded { OnOk result (known_in self.new.singles.entries number ≡ Some attests) }
+        ensures others { OnOk result ((other : ℕ) → other ≢ number
+            → known_in self.new.singles.entries other ≡ known_in self.old.singles.entries other) }
+        ensures refused { OnErr result (self.new.singles.entries ≡ self.old.singles.entries) }
+        ensures whole { self.new.whole ≡ self.old.whole }
+    {
+        match self.singles.insert(number, Verdict::new(number, attests)) {
+            Ok(_) => Ok(()),
+            Err(_) => Err(AllocError),
+        }
+    }
+
+    /// Records whether attestations pass as a whole, in place of those before.
+    pub fn record_whole(&mut self, attestations: Vec<Attestation<u64>>, passes: bool)
+        requires { T.passes attestations.items ≡ passes }
+        ensures recorded { known_of_whole self.new.whole attestations.items ≡ Some passes }
+        ensures singles { self.new.singles ≡ self.old.singles }
+    {
+        self.whole = Some(Whole::new(attestations, passes));
+    }
+
+    /// The verdict on the attestation of a number, where there is one.
+    pub fn single(&self, number: u64) -> Option<bool>
+        ensures known { result ≡ known_in self.now.singles.entries number }
+        ensures agrees { IfSome result (λ attests. attests ≡ T.attests number) }
+    {
+        let verdict = self.singles.get(&number)?;
+        if verdict.number != number {
+            return None;
+        }
+        Some(verdict.attests)
+    }
+
+    /// Whether these attestations pass as a whole, where that is known.
+    pub fn whole(&self, attestations: &[Attestation<u64>]) -> Option<bool>
+        ensures known { result ≡ known_of_whole self.now.whole attestations.now }
+        ensures agrees { IfSome result (λ passes. passes ≡ T.passes attestations.now) }
+    {
+        let whole = self.whole.as_ref()?;
+        if whole.attestations.as_slice() != attestations {
+            return None;
+        }
+        Some(whole.passes)
+    }
+}
