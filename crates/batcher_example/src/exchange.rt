@@ -1,9 +1,13 @@
 //! Two nodes, of which one hears what the other casts.
 
-ghost use Rattle.std.specs.Prelude.{◌≡◌, ◌<◌, true, length, None, OnErr};
+ghost use Rattle.std.specs.Prelude.{◌≡◌, ◌<◌, true, false, length, None, Ok};
 ghost use Rattle.batcher.specs.Votes.{subject_of, attestation_of, signer_of};
+ghost use Rattle.batcher.specs.answers.Admission.{Admission as TheAdmission};
+ghost use Rattle.batcher_node.specs.declared.answers.Receipt.{Receipt as TheReceipt};
+ghost use Rattle.batcher_node.specs.Events.{vote_came};
 ghost use Rattle.batcher_node.specs.Nodes.{SameNode, cause_at};
 ghost use Rattle.batcher_node.specs.Sending.{HearsWhatIsToSend};
+ghost use Rattle.batcher_node.specs.Stands.{Meets};
 
 use batcher::messages::{Digest, Vote};
 use batcher::round::OwnFault;
@@ -31,6 +35,10 @@ pub fn cast_and_send<S: Scheme<D>, D: Digest>(
         → HearsWhatIsToSend (⟦<S as NodeJudge<D>>⟧.of own.old)
         (⟦<S as NodeJudge<D>>⟧.of other.old) own.old other.old (signer_of vote)
         → cause_at other.new.blocked (signer_of vote) ≡ None }
+    ensures sent { result ≡ Ok true → (receipt : TheReceipt (TheAdmission S.Signature D))
+        × (Meets (⟦<S as NodeJudge<D>>⟧.of other.old) other.old
+        (vote_came key vote receipt) other.new) }
+    ensures not_sent { result ≡ Ok false → other.new ≡ other.old }
     ensures same { (SameNode own.old own.new) × (SameNode other.old other.new) }
 {
     // It is called for its contract.

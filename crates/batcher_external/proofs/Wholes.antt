@@ -1,5 +1,5 @@
 -- When two lists of attestations are the same.
-use Rattle.std.proofs.Common.{◌≡◌, ap, ◌==◌, ◌&&◌, ℕ, Bool, true, false, not, List, refl}
+use Rattle.std.proofs.Common.{◌≡◌, ap, ◌==◌, ℕ, Bool, true, false, not, List, refl}
 use Rattle.std.specs.Bool.{Decides}
 use Rattle.std.specs.Cmp.Lexicographic.{pointwise}
 use Rattle.std.proofs.lemmas.Bool.Decides.{Decides-and, Decides-eqb}

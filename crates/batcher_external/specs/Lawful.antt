@@ -1,10 +1,9 @@
 -- The laws of the scheme whose attestations are verified elsewhere.
-use Rattle.std.proofs.Common.{◌≡◌, ◌<◌, ◌≤◌, ◌++◌, ◌&&◌, ◌||◌, ℕ, Bool, true, false, cond, nat_le, nat_lt, List, length, Option, Some, None, is_some, arith, refl, subst}
+use Rattle.std.proofs.Common.{◌≡◌, ◌<◌, ◌++◌, ◌&&◌, ◌||◌, ℕ, Bool, true, false, cond, List, Some, None, is_some, arith, refl, subst}
 use Rattle.std.specs.List.{AllPass, list_all}
 use Rattle.std.proofs.lemmas.List.Sums.{list_all-from_AllPass}
 use Rattle.std.proofs.lemmas.Bool.Decides.{nat_tests}
 use Rattle.rand_core.specs.Stream.{Stream}
-use Rattle.batcher_types.specs.Quorum.{quorum_of}
 use Rattle.batcher_types.specs.Attestations.{IsQuorum}
 use Rattle.batcher_types.specs.declared.messages.Attestation.{Attestation}
 use Rattle.batcher_external.specs.declared.truth.Truth.{Ghosts}

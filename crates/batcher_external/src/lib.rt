@@ -1,5 +1,5 @@
-//! A scheme whose attestations are verified elsewhere: it knows them by numbers, and looks up the
-//! verdicts that were recorded. What is proved of it holds whatever the truth is.
+//! A scheme whose attestations are verified elsewhere: whoever verifies them records the verdicts,
+//! and the scheme looks them up.
 #![tactic(auto)]
 
 mod scheme;

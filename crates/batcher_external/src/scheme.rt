@@ -50,9 +50,7 @@ pub enum Content<T: Truth> {
     Received(CertificateVerdict<T>),
 }
 
-/// A scheme whose attestations are numbers, and whose verdicts are looked up. A call for which a
-/// verdict is lacking answers as if memory were refused: whoever constructs records what
-/// `Round::next_attempt` looks at first.
+/// A scheme whose attestations are numbers, and whose verdicts are looked up.
 #[derive(Drop)]
 pub struct External<T: Truth, const BATCHABLE: bool> {
     /// The participant of an index has this index as its name.
@@ -196,7 +194,11 @@ impl<T: Truth, const BATCHABLE: bool> Scheme<Sha256Digest> for External<T, BATCH
             ≡ listed_at_once T.Truth (length self.now.participants) self.now.aggregates
             pending.now verified.now (R.stream rng.old)) }
     {
-        if self.aggregates && self.passes(pending)? || self.all_attest(pending)? {
+        // Of no attestation nothing has to be known.
+        if pending.is_empty()
+            || self.aggregates && self.passes(pending)?
+            || self.all_attest(pending)?
+        {
             let certificate = self.assemble(alloc, subject, verified, pending)?;
             Ok(Ok(certificate))
         } else {

@@ -50,6 +50,15 @@ impl<T: Truth> Verdicts<T> {
         self.whole = Some(Whole::new(attestations, passes));
     }
 
+    /// Forgets all of them.
+    pub fn forget(&mut self)
+        ensures singles { (number : ℕ) → known_in self.new.singles.entries number ≡ None }
+        ensures whole { self.new.whole ≡ None }
+    {
+        self.singles.clear();
+        self.whole = None;
+    }
+
     /// The verdict on the attestation of a number, where there is one.
     pub fn single(&self, number: u64) -> Option<bool>
         ensures known { result ≡ known_in self.now.singles.entries number }

@@ -47,3 +47,10 @@ returns-in-Known-clause-keeps g c = λ h.
     c.args.vote (rw known at c.in_ok-cast.ensures.meets) _ h)
     (λ outside. rw (rw outside at c.in_ok-cast.ensures.meets).1 h)
     c.in-Known.is
+
+pub returns-in_ok-receive_vote-in-ToSend-clause-sent :
+    goal.returns-in_ok-receive_vote-in-ToSend-clause-sent
+returns-in_ok-receive_vote-in-ToSend-clause-sent g c = λ is. (
+  c.in_ok-receive_vote-in-ToSend.field-0,
+  c.in_ok-receive_vote-in-ToSend.ensures.meets,
+)

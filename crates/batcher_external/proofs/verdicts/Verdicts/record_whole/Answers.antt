@@ -1,4 +1,4 @@
-use Rattle.std.proofs.Common.{◌≡◌, ap, Some, refl}
+use Rattle.std.proofs.Common.{ap, Some, refl}
 use Rattle.batcher_external.proofs.Wholes.{lists_decide}
 use Rattle.batcher_external.proofs.verdicts.Verdicts.record_whole.Goals as goal
 

@@ -1,6 +1,6 @@
-use Rattle.std.proofs.Common.{rules, ◌≡◌, ◌∙◌, None, Some, Bool, true, false, sym, ap}
+use Rattle.std.proofs.Common.{rules, ◌≡◌, ◌∙◌, Some, true, false, sym, ap}
 use Rattle.std.specs.Cmp.Lexicographic.{pointwise}
-use Rattle.batcher_external.specs.Known.{known_of_whole, same_attestation}
+use Rattle.batcher_external.specs.Known.{same_attestation}
 use Rattle.batcher_external.proofs.Wholes.{not_true, not_false, lists_decide}
 use Rattle.batcher_external.proofs.verdicts.Verdicts.whole.Goals as goal
 
