@@ -5,7 +5,7 @@ use Rattle.batcher_types.specs.declared.messages.Attestation.{Attestation}
 use Rattle.batcher_types.specs.declared.messages.Subject.{Subject}
 use Rattle.batcher_votes.specs.Held.{Held}
 use Rattle.batcher_votes.specs.Buffering.{subject_tried}
-use Rattle.batcher_votes.specs.Looked.{pending_tried}
+use Rattle.batcher_votes.specs.Looked.{pending_tried, verified_tried}
 use Rattle.batcher_histories.specs.Setting.{Setting, quorum_in}
 use Rattle.batcher_histories.specs.Steps.{kind_tried}
 
@@ -19,3 +19,7 @@ module _ {D K G C : Type 0} (x : Setting D K G C) where
   abbrev pub pending_next : Held G D → List (Attestation G)
   pending_next held =
       option_map_or (pending_tried (quorum_in x) held.buffered) (kind_tried x held) []
+
+  -- those of its kind that are known to attest: none where no kind is ready
+  abbrev pub verified_next : Held G D → List (Attestation G)
+  verified_next held = option_map_or (verified_tried held.buffered) (kind_tried x held) []

@@ -9,7 +9,7 @@ ghost use Rattle.batcher_votes.specs.declared.votes.Mode.{Mode as TheMode};
 ghost use Rattle.batcher_types.specs.Items.{place_of};
 ghost use Rattle.batcher_types.specs.Meaning.{Meaning};
 ghost use Rattle.batcher_histories.specs.Setting.{setting};
-ghost use Rattle.batcher_round.specs.Next.{subject_next, pending_next};
+ghost use Rattle.batcher_round.specs.Next.{subject_next, pending_next, verified_next};
 ghost use Rattle.batcher_types.specs.Votes.{kind_of, signer_of, attestation_of, subject_of, round_in, subject_certified};
 ghost use Rattle.batcher_votes.specs.Held.{of_kind, SameRound};
 ghost use Rattle.batcher_votes.specs.Tracking.{nothing_tracked, observed, observed_opposite, kept_vote};
@@ -439,6 +439,8 @@ impl<S: Scheme<D>, D: Digest> Round<S, D> {
             ≡ subject_next (⟦<S as Judge<D>>⟧.of self.now) self.now.holds }
         ensures pending { IfSome result (λ a. a.pending.now
             ≡ pending_next (⟦<S as Judge<D>>⟧.of self.now) self.now.holds) }
+        ensures verified { IfSome result (λ a. a.verified.now
+            ≡ verified_next (⟦<S as Judge<D>>⟧.of self.now) self.now.holds) }
     {
         if let Some(attempt) = self.verifier.next_attempt(Kind::Notarization) {
             return Some(attempt);

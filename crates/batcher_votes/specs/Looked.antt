@@ -6,9 +6,13 @@ use Rattle.batcher_types.specs.Attempts.{checked}
 use Rattle.batcher_votes.specs.Held.{of_kind, Buffered}
 use Rattle.batcher_votes.specs.Buffering.{attestations_of}
 
-module _ {G D : Type 0} (q : ℕ) where
+module _ {G D : Type 0} where
   -- the pending attestations of a kind that an attempt looks at, with this quorum
-  abbrev pub pending_tried : Buffered G D → Kind → List (Attestation G)
-  pending_tried held kind =
+  abbrev pub pending_tried : ℕ → Buffered G D → Kind → List (Attestation G)
+  pending_tried q held kind =
       checked q (attestations_of (of_kind held.verified kind))
       (attestations_of (of_kind held.pending kind))
+
+  -- those of the kind that are known to attest
+  abbrev pub verified_tried : Buffered G D → Kind → List (Attestation G)
+  verified_tried held kind = attestations_of (of_kind held.verified kind)

@@ -14,7 +14,7 @@ ghost use Rattle.batcher_votes.specs.Selected.{proposal_of, updated, same_select
 ghost use Rattle.batcher_votes.specs.Held.{of_kind, SameVerifier};
 ghost use Rattle.batcher_types.specs.Attempts.{attempt_of};
 ghost use Rattle.batcher_votes.specs.Buffering.{attestations_of, nothing_buffered, is_buffered, is_dropped, leader_answer, is_ready, certificate_for, Buffers, TriesKind, AddsVote, SetsLeader, SetsProposal, CompletesKind};
-ghost use Rattle.batcher_votes.specs.Looked.{pending_tried};
+ghost use Rattle.batcher_votes.specs.Looked.{pending_tried, verified_tried};
 ghost use Rattle.batcher_votes.specs.Sound.{IsSound, KeepsAllRoom, KeepsOtherRoom, RestoresRoom};
 ghost use Rattle.batcher_votes.specs.Verifiers.{is_of_round, subject_ready, IfGiven, BatchCertifies, NamesSomebody};
 
@@ -63,11 +63,13 @@ pub struct Batch<C> {
     pub fallback: bool,
 }
 
-/// What the next attempt at a certificate is about, and the pending attestations that it looks at.
+/// What the next attempt at a certificate is about, the pending attestations that it looks at, and
+/// those that are known to attest.
 #[derive(Clone, Copy)]
 pub struct NextAttempt<'a, G, D> {
     pub subject: Subject<D>,
     pub pending: &'a [Attestation<G>],
+    pub verified: &'a [Attestation<G>],
 }
 
 /// Why a leader was refused.
@@ -447,15 +449,18 @@ impl<S: Scheme<D>, D: Digest> Verifier<S, D> {
             self.now.holds self.now.number kind }
         ensures pending { IfSome result (λ a. a.pending.now
             ≡ pending_tried self.now.quorum self.now.holds kind) }
+        ensures verified { IfSome result (λ a. a.verified.now
+            ≡ verified_tried self.now.holds kind) }
     {
         let subject = self.subject_ready(kind)?;
         let buffers = self.state.buffers(kind);
-        let pending = looked_at(
-            self.quorum,
-            buffers.verified.attestations(),
-            buffers.pending.attestations(),
-        );
-        Some(NextAttempt { subject, pending })
+        let verified = buffers.verified.attestations();
+        let pending = looked_at(self.quorum, verified, buffers.pending.attestations());
+        Some(NextAttempt {
+            subject,
+            pending,
+            verified,
+        })
     }
 
     // What is to be tried of a kind, where it is ready.
