@@ -18,12 +18,12 @@ module _ {T : Type 0} (truth : Ghosts T) (n : ℕ) where
   certifies (Listed attestations) = nat_le (quorum_of n) (length attestations)
   certifies (Received verdict) = truth.certifies verdict.number
 
-  -- the attestations, where the pending ones pass as a whole or all of them attest, and the
-  -- stream, which is left as it was
+  -- the attestations, where they pass as a whole or all the pending ones attest, and the stream,
+  -- which is left as it was
   abbrev pub listed_at_once : Bool → List (Attestation ℕ) → List (Attestation ℕ) → Stream
       → Option (Content T truth) × Stream
   listed_at_once aggregates pending verified stream = (
-    if (aggregates && truth.passes pending) || list_all attests pending
+    if (aggregates && truth.passes (verified ++ pending)) || list_all attests pending
         then Some (Listed (verified ++ pending)) else None,
     stream,
   )

@@ -1,5 +1,5 @@
 -- What is known of attestations.
-use Rattle.std.specs.Prelude.{◌==◌, ◌&&◌, ℕ, Bool, cond, List, Option, Some, None, option_and_then}
+use Rattle.std.specs.Prelude.{◌==◌, ◌&&◌, ℕ, Bool, cond, List, filter, Option, Some, None, is_none, option_and_then}
 use Rattle.std.specs.Ordering.{nat_cmp}
 use Rattle.std.specs.Map.{lookup}
 use Rattle.std.specs.BTreeMap.{is_at}
@@ -20,7 +20,15 @@ module _ {T : Type 0} {truth : Ghosts T} where
       option_and_then (λ v. cond (v.number == number) (Some v.attests) None)
       (lookup (is_at (nat_cmp number)) verdicts)
 
-  -- the verdict on these attestations as a whole, where it is the last such verdict
+  -- whether there is no verdict on it
+  abbrev pub is_unknown_in : List (ℕ × Verdict T truth) → Attestation ℕ → Bool
+  is_unknown_in verdicts a = is_none (known_in verdicts a.signature)
+
+  abbrev pub unknown_among : List (ℕ × Verdict T truth) → List (Attestation ℕ)
+      → List (Attestation ℕ)
+  unknown_among verdicts attestations = filter (is_unknown_in verdicts) attestations
+
+  -- the verdict on these attestations as a whole, where the last such verdict is on them
   abbrev pub known_of_whole : Option (Whole T truth) → List (Attestation ℕ) → Option Bool
   known_of_whole whole attestations =
       option_and_then (λ w. cond (pointwise same_attestation w.attestations.items attestations)

@@ -32,7 +32,8 @@ module _ {T : Type 0} (truth : Ghosts T) (n : ℕ) where
       → certifies truth n c ≡ true
   at_once_certifies aggregates pending verified stream c quorum e =
       given_certifies (verified ++ pending) c
-      ((aggregates && truth.passes pending) || list_all (attests truth n) pending) quorum e
+      ((aggregates && truth.passes (verified ++ pending)) || list_all (attests truth n) pending)
+      quorum e
 
   gives : (b all : Bool) (c : Content T truth) → all ≡ true
       → is_some (cond (b || all) (Some c) None) ≡ true
@@ -44,5 +45,5 @@ module _ {T : Type 0} (truth : Ghosts T) (n : ℕ) where
       (stream : Stream) → AllPass (attests truth n) pending
       → is_some (listed_at_once truth n aggregates pending verified stream).0 ≡ true
   at_once_gives aggregates pending verified stream pass =
-      gives (aggregates && truth.passes pending) (list_all (attests truth n) pending)
+      gives (aggregates && truth.passes (verified ++ pending)) (list_all (attests truth n) pending)
       (Listed (verified ++ pending)) (list_all-from_AllPass (attests truth n) pending pass)

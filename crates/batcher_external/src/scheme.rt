@@ -93,13 +93,17 @@ impl<T: Truth, const BATCHABLE: bool> External<T, BATCHABLE> {
     }
 
     // Whether they pass as a whole. An error where that isn't known.
-    fn passes(&self, attestations: &[Attestation<u64>]) -> Result<bool, AllocError>
-        ensures { IfOk result (λ passes. passes ≡ T.passes attestations.now) }
+    fn passes(
+        &self,
+        verified: &[Attestation<u64>],
+        pending: &[Attestation<u64>],
+    ) -> Result<bool, AllocError>
+        ensures { IfOk result (λ passes. passes ≡ T.passes (verified.now ++ pending.now)) }
     {
         let Ok(verdicts) = self.verdicts.try_borrow() else {
             return Err(AllocError);
         };
-        match verdicts.whole(attestations) {
+        match verdicts.whole(verified, pending) {
             Some(passes) => Ok(passes),
             None => Err(AllocError),
         }
@@ -196,7 +200,7 @@ impl<T: Truth, const BATCHABLE: bool> Scheme<Sha256Digest> for External<T, BATCH
     {
         // Of no attestation nothing has to be known.
         if pending.is_empty()
-            || self.aggregates && self.passes(pending)?
+            || self.aggregates && self.passes(verified, pending)?
             || self.all_attest(pending)?
         {
             let certificate = self.assemble(alloc, subject, verified, pending)?;

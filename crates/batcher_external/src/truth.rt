@@ -17,7 +17,7 @@ pub trait Truth {
     // whether the attestation of the number attests
     ghost attests: { ℕ → Bool };
 
-    // whether these attestations pass as a whole
+    // whether these attestations, a quorum, pass as a whole
     ghost passes: { List (Attestation ℕ) → Bool };
 
     // whether the certificate of the number certifies what it names
@@ -47,7 +47,7 @@ impl<T: Truth> Verdict<T> {
     }
 }
 
-/// Whether some attestations pass as a whole.
+/// Whether some attestations pass as a whole: all of a quorum, those that were verified before first.
 #[derive(Drop)]
 pub struct Whole<T: Truth> {
     pub attestations: Vec<Attestation<u64>>,

@@ -1,7 +1,8 @@
 //! What is known of attestations and certificates, by their numbers.
 
-ghost use Rattle.std.specs.Prelude.{◌≡◌, ◌≢◌, ℕ, None, Some, IfOk, IfSome, OnOk, OnErr};
-ghost use Rattle.batcher_external.specs.Known.{known_in, known_of_whole};
+ghost use Rattle.std.specs.Prelude.{◌≡◌, ◌≢◌, ◌++◌, ℕ, None, Some, IfOk, IfSome, OnOk, OnErr};
+ghost use Rattle.std.specs.Bool.{Decides};
+ghost use Rattle.batcher_external.specs.Known.{known_in, known_of_whole, is_unknown_in, unknown_among};
 
 use crate::truth::{Truth, Verdict, Whole};
 use batcher_types::messages::Attestation;
@@ -71,15 +72,59 @@ impl<T: Truth> Verdicts<T> {
         Some(verdict.attests)
     }
 
-    /// Whether these attestations pass as a whole, where that is known.
-    pub fn whole(&self, attestations: &[Attestation<u64>]) -> Option<bool>
-        ensures known { result ≡ known_of_whole self.now.whole attestations.now }
-        ensures agrees { IfSome result (λ passes. passes ≡ T.passes attestations.now) }
+    /// The attestations on which there is no verdict, in order.
+    pub fn unknown_among(
+        &self,
+        alloc: Global,
+        attestations: &[Attestation<u64>],
+    ) -> Result<Vec<Attestation<u64>>, AllocError>
+        ensures { IfOk result (λ list. list.items
+            ≡ unknown_among self.now.singles.entries attestations.now) }
+    {
+        let mut unknown = Vec::new(alloc);
+        for attestation in attestations {
+            if self.is_unknown(attestation) {
+                unknown.push(*attestation)?;
+            }
+        }
+        Ok(unknown)
+    }
+
+    // Whether there is no verdict on it.
+    fn is_unknown(&self, attestation: &Attestation<u64>) -> bool
+        ensures { result ≡ is_unknown_in self.now.singles.entries attestation.now }
+    {
+        self.single(attestation.signature).is_none()
+    }
+
+    /// Whether all of these attestations pass as a whole, where that is known.
+    pub fn whole(
+        &self,
+        verified: &[Attestation<u64>],
+        pending: &[Attestation<u64>],
+    ) -> Option<bool>
+        ensures known { result ≡ known_of_whole self.now.whole (verified.now ++ pending.now) }
+        ensures agrees { IfSome result (λ passes.
+            passes ≡ T.passes (verified.now ++ pending.now)) }
     {
         let whole = self.whole.as_ref()?;
-        if whole.attestations.as_slice() != attestations {
+        if !are_both(whole.attestations.as_slice(), verified, pending) {
             return None;
         }
         Some(whole.passes)
+    }
+}
+
+// Whether they are the first ones and then the rest.
+fn are_both(
+    all: &[Attestation<u64>],
+    first: &[Attestation<u64>],
+    rest: &[Attestation<u64>],
+) -> bool
+    ensures { Decides result (all.now ≡ first.now ++ rest.now) }
+{
+    match all.split_at_checked(first.len()) {
+        Some((before, after)) => before == first && after == rest,
+        None => false,
     }
 }
