@@ -47,7 +47,8 @@ impl<T: Truth> Verdict<T> {
     }
 }
 
-/// Whether some attestations pass as a whole: all of a quorum, those that were verified before first.
+/// Whether some attestations pass as a whole: all of a quorum, those that were verified before
+/// first.
 #[derive(Drop)]
 pub struct Whole<T: Truth> {
     pub attestations: Vec<Attestation<u64>>,

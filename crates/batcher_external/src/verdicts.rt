@@ -98,11 +98,7 @@ impl<T: Truth> Verdicts<T> {
     }
 
     /// Whether all of these attestations pass as a whole, where that is known.
-    pub fn whole(
-        &self,
-        verified: &[Attestation<u64>],
-        pending: &[Attestation<u64>],
-    ) -> Option<bool>
+    pub fn whole(&self, verified: &[Attestation<u64>], pending: &[Attestation<u64>]) -> Option<bool>
         ensures known { result ≡ known_of_whole self.now.whole (verified.now ++ pending.now) }
         ensures agrees { IfSome result (λ passes.
             passes ≡ T.passes (verified.now ++ pending.now)) }
@@ -116,11 +112,7 @@ impl<T: Truth> Verdicts<T> {
 }
 
 // Whether they are the first ones and then the rest.
-fn are_both(
-    all: &[Attestation<u64>],
-    first: &[Attestation<u64>],
-    rest: &[Attestation<u64>],
-) -> bool
+fn are_both(all: &[Attestation<u64>], first: &[Attestation<u64>], rest: &[Attestation<u64>]) -> bool
     ensures { Decides result (all.now ≡ first.now ++ rest.now) }
 {
     match all.split_at_checked(first.len()) {

@@ -10,9 +10,9 @@ returns-then-not-are_both-clause-known g c =
     let there : c.args.self.now.whole ≡ Some w = search rules in
     let all = c.args.verified.now ++ c.args.pending.now in
     let found = decided c.as_slice.result.now c.args.verified.now c.args.pending.now
-        c.are_both.result c.are_both.ensures in
+    c.are_both.result c.are_both.ensures in
     let other : pointwise same_attestation w.attestations.items all ≡ false =
-        rw c.as_slice.ensures.value at (sym found ∙ c.if-not-are_both.true) in
+    rw c.as_slice.ensures.value at (sym found ∙ c.if-not-are_both.true) in
     rw (there, other)
 
 pub returns-clause-known : goal.returns-clause-known
@@ -21,7 +21,7 @@ returns-clause-known g c =
     let there : c.args.self.now.whole ≡ Some w = search rules in
     let all = c.args.verified.now ++ c.args.pending.now in
     let found = decided c.as_slice.result.now c.args.verified.now c.args.pending.now
-        c.are_both.result c.are_both.ensures in
+    c.are_both.result c.are_both.ensures in
     let same : pointwise same_attestation w.attestations.items all ≡ true =
-        rw c.as_slice.ensures.value at (sym found ∙ c.if-not-are_both.false) in
+    rw c.as_slice.ensures.value at (sym found ∙ c.if-not-are_both.false) in
     rw (there, same)

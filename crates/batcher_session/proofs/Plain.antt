@@ -1,0 +1,58 @@
+-- Verdicts are known of the scheme's own and of their data alike.
+use Rattle.std.proofs.Common.{◌≡◌, ◌∙◌, ◌==◌, ℕ, Bool, true, false, cond, List, [], ◌∷◌, length, filter, arith, Option, Some, None, is_none, ap, refl, Result, Ok, Err}
+use Rattle.std.specs.Prelude.{OnOk}
+use Rattle.std.specs.Ordering.{nat_cmp}
+use Rattle.std.specs.Map.{lookup}
+use Rattle.std.specs.BTreeMap.{is_at}
+use Rattle.std.specs.Option.{option_map, option_and_then}
+use Rattle.std.proofs.lemmas.Bool.Decides.{nat_tests}
+use Rattle.std.proofs.lemmas.Map.Made.{lookup-map_values}
+use Rattle.batcher.specs.messages.Attestation.{Attestation}
+use Rattle.batcher_external.specs.declared.truth.Truth.{Ghosts}
+use Rattle.batcher_external.specs.declared.truth.Verdict.{Verdict}
+use Rattle.batcher_external.specs.declared.truth.Whole.{Whole}
+use Rattle.batcher_external.specs.Known.{known_of_whole}
+use Rattle.batcher_external.specs.Known as theirs
+use Rattle.batcher_session.specs.Ledgers.{Single, single_of, singles_of, together_of, known_in, known_together, unknown_among}
+use Rattle.batcher_session.specs.Wants.{asked_singly}
+
+module _ {T : Type 0} {truth : Ghosts T} where
+  found : (number : ℕ) (verdict : Option (Verdict T truth))
+      → option_and_then (λ v. cond (v.number == number) (Some v.attests) None)
+      (option_map single_of verdict)
+      ≡ option_and_then (λ v. cond (v.number == number) (Some v.attests) None) verdict
+  found number None = refl
+  found number (Some v) = refl
+
+  pub same_known : (singles : List (ℕ × Verdict T truth)) (number : ℕ)
+      → known_in (singles_of singles) number ≡ theirs.known_in singles number
+  same_known singles number =
+      ap (option_and_then (λ (v : Single). cond (v.number == number) (Some v.attests) None))
+      (lookup-map_values single_of (is_at (nat_cmp number)) singles)
+      ∙ found number (lookup (is_at (nat_cmp number)) singles)
+
+  pub same_unknown : (singles : List (ℕ × Verdict T truth)) (attestations : List (Attestation ℕ))
+      → unknown_among (singles_of singles) attestations
+      ≡ theirs.unknown_among singles attestations
+  same_unknown singles attestations =
+      ap (λ p. filter p attestations) (λ i. λ a. is_none (same_known singles a.signature i))
+
+  pub same_together : (whole : Option (Whole T truth)) (attestations : List (Attestation ℕ))
+      → known_together (together_of whole) attestations ≡ known_of_whole whole attestations
+  same_together None attestations = refl
+  same_together (Some w) attestations = refl
+
+pub on_ok : {A E P Q : Type 0} (result : Result A E) → (P → Q) → OnOk result P → OnOk result Q
+on_ok (Ok a) f p = f p
+on_ok (Err e) f p = tt
+
+pub none_asked : (unknown : List (Attestation ℕ)) (n : ℕ) → length unknown ≡ n → (n == 0) ≡ true
+    → None ≡ asked_singly unknown
+none_asked [] n e is = refl
+none_asked (a ∷ rest) n e is = absurd (Prim.grind (arith, nat_tests, e, is))
+
+pub each_asked : (unknown : List (Attestation ℕ)) (n : ℕ) → length unknown ≡ n → (n == 0) ≡ false
+    → Some (record { together = false; attestations = unknown; verified = 0 })
+    ≡ asked_singly unknown
+each_asked [] n e is = absurd (Prim.grind (arith, nat_tests, e, is))
+each_asked (a ∷ rest) n e is = refl

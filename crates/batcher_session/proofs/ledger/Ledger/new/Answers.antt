@@ -1,0 +1,5 @@
+use Rattle.batcher_session.proofs.Plain.{same_known}
+use Rattle.batcher_session.proofs.ledger.Ledger.new.Goals as goal
+
+pub returns-clause-none : goal.returns-clause-none
+returns-clause-none g c number = rw (same_known c.new-4.result.singles.entries number) (c.new-4.ensures.none number)

@@ -1,0 +1,19 @@
+use Rattle.std.proofs.Common.{◌∙◌, ap, sym}
+use Rattle.batcher_session.specs.Ledgers.{known_in}
+use Rattle.batcher_session.proofs.Plain.{same_known, on_ok}
+use Rattle.batcher_session.proofs.ledger.Ledger.record.Goals as goal
+
+pub returns-clause-recorded : goal.returns-clause-recorded
+returns-clause-recorded g c =
+    on_ok c.record.result
+    (λ e. same_known c.record.new.self.singles.entries c.args.number ∙ e)
+    c.record.ensures.recorded
+
+pub returns-clause-others : goal.returns-clause-others
+returns-clause-others g c =
+    on_ok c.record.result
+    (λ each. λ other differs. same_known c.record.new.self.singles.entries other
+    ∙ each other differs
+    ∙ sym (same_known c.self.inside.verdicts.singles.entries other)
+    ∙ ap (λ l. known_in l.singles other) c.self.view_is)
+    c.record.ensures.others
