@@ -1,0 +1,182 @@
+//! What a round answers.
+
+use crate::messages::{Activity, Certificate};
+use crate::positions::Participant;
+use std::fmt;
+
+/// How a round keeps its votes.
+#[derive(Clone, Copy, Debug, PartialEq, Eq, Hash)]
+pub enum Mode {
+    /// In full, as evidence, to its end.
+    Retaining,
+    /// In full until their kind is certified, and as facts of each signer from then on.
+    Releasing,
+    /// As facts from the start, since the view was skipped and makes no certificate.
+    Skipped,
+}
+
+/// Why the sender of a vote is to be blocked.
+#[derive(Clone, Copy, Debug, PartialEq, Eq, Hash)]
+pub enum BlockReason {
+    /// The sender is no participant of the round's scheme.
+    UnknownParticipant,
+    /// The notarize names another signer than its sender.
+    NotarizeSignerMismatch,
+    /// The nullify names another signer than its sender.
+    NullifySignerMismatch,
+    /// The finalize names another signer than its sender.
+    FinalizeSignerMismatch,
+    /// An earlier notarize of the signer was for another proposal.
+    ConflictingNotarize,
+    /// The nullify differs from the one that is kept, which can only be in its signature.
+    ConflictingNullify,
+    /// An earlier finalize of the signer was for another proposal.
+    ConflictingFinalize,
+    /// The vote differs from the one that is kept in its signature alone.
+    InvalidSignature,
+    /// The signer of the nullify has finalized before.
+    NullifyAfterFinalize,
+    /// The signer of the finalize has nullified before.
+    FinalizeAfterNullify,
+}
+
+impl fmt::Display for BlockReason {
+    fn fmt(&self, f: &mut fmt::Formatter<'_>) -> fmt::Result {
+        f.write_str(match self {
+            BlockReason::UnknownParticipant => "unknown participant",
+            BlockReason::NotarizeSignerMismatch => "notarize signer mismatch",
+            BlockReason::NullifySignerMismatch => "nullify signer mismatch",
+            BlockReason::FinalizeSignerMismatch => "finalize signer mismatch",
+            BlockReason::ConflictingNotarize => "conflicting notarize",
+            BlockReason::ConflictingNullify => "conflicting nullify",
+            BlockReason::ConflictingFinalize => "conflicting finalize",
+            BlockReason::InvalidSignature => "invalid signature",
+            BlockReason::NullifyAfterFinalize => "nullify after finalize",
+            BlockReason::FinalizeAfterNullify => "finalize after nullify",
+        })
+    }
+}
+
+/// The answer to a network vote.
+#[derive(Clone, Copy, Debug, PartialEq, Eq, Hash)]
+pub struct Admission<G> {
+    /// Whether it was taken as its signer's first of its kind.
+    pub added: bool,
+    /// Why its sender is to be blocked, if it is. It is the sender, also where the vote names
+    /// another signer.
+    pub block: Option<BlockReason>,
+    /// The vote, where it was added, or evidence of two that contradict each other.
+    pub report: Option<Activity<G>>,
+}
+
+/// What came of an own vote. `retained` says whether votes of its kind are kept in full.
+#[derive(Clone, Copy, Debug, PartialEq, Eq, Hash)]
+pub enum Outcome {
+    /// It is the first of its kind and signer, and **is to be sent**.
+    Added {
+        /// Whether votes of its kind are kept in full.
+        retained: bool,
+    },
+    /// There was one before, and nothing that is kept shows that the two differ. It isn't to be
+    /// sent: who has the earlier one would block the sender of another.
+    Duplicate {
+        /// Whether votes of its kind are kept in full.
+        retained: bool,
+    },
+}
+
+/// Why an own vote is refused. Nothing changes then.
+#[derive(Clone, Copy, Debug, PartialEq, Eq, Hash)]
+pub enum OwnFault {
+    /// A notarize of its index is kept, equal to this one or not.
+    DuplicateNotarize,
+    /// A finalize of its index is kept, equal to this one or not.
+    DuplicateFinalize,
+    /// An earlier vote of its kind and index isn't kept, and only one of the two is for the
+    /// selected proposal.
+    Conflicting,
+    /// A finalize of its index was seen: who finalizes a view doesn't give up on it.
+    NullifyAfterFinalize,
+    /// A nullify of its index was seen: who gave up on a view doesn't finalize it.
+    FinalizeAfterNullify,
+}
+
+impl fmt::Display for OwnFault {
+    fn fmt(&self, f: &mut fmt::Formatter<'_>) -> fmt::Result {
+        f.write_str(match self {
+            OwnFault::DuplicateNotarize => "duplicate notarize",
+            OwnFault::DuplicateFinalize => "duplicate finalize",
+            OwnFault::Conflicting => "conflicting constructed vote",
+            OwnFault::NullifyAfterFinalize => "nullify after finalize",
+            OwnFault::FinalizeAfterNullify => "finalize after nullify",
+        })
+    }
+}
+
+impl std::error::Error for OwnFault {}
+
+/// What one attempt at a certificate did.
+#[derive(Clone, Debug, PartialEq, Eq, Hash)]
+pub struct Batch<C> {
+    /// How many pending votes were looked at.
+    pub processed: usize,
+    /// The signers whose votes were found not to attest, in the order in which they were looked at.
+    /// They are to be blocked: a vote is taken in from its signer alone.
+    pub invalid: Vec<Participant>,
+    /// The certificate, if one was made. It is recorded already.
+    pub certificate: Option<Certificate<C>>,
+    /// Whether the votes could have been a quorum, but had to be sorted one by one.
+    pub fallback: bool,
+}
+
+/// Why a call was refused. The round is as it was.
+#[derive(Clone, Copy, Debug, PartialEq, Eq, Hash)]
+pub enum Error {
+    /// The scheme has no participant.
+    NoParticipants,
+    /// It is of another round.
+    Elsewhere,
+    /// Memory was refused. The same call may succeed later.
+    OutOfMemory,
+    /// Another leader of the round was named before.
+    LeaderChanged,
+    /// The own vote doesn't attest, as the scheme says.
+    NotVerified,
+    /// The own vote is refused beside an earlier one.
+    Own(OwnFault),
+    /// The thread on which the value lives has ended, or a job of it has panicked.
+    Gone,
+    /// The library answered a code that the call doesn't have, so it isn't the one that this crate
+    /// was written for.
+    Unknown(u8),
+}
+
+impl fmt::Display for Error {
+    fn fmt(&self, f: &mut fmt::Formatter<'_>) -> fmt::Result {
+        match self {
+            Error::NoParticipants => f.write_str("no participants"),
+            Error::Elsewhere => f.write_str("of another round"),
+            Error::OutOfMemory => f.write_str("out of memory"),
+            Error::LeaderChanged => f.write_str("leader changed within round"),
+            Error::NotVerified => f.write_str("own vote doesn't attest"),
+            Error::Own(fault) => fault.fmt(f),
+            Error::Gone => f.write_str("what lived on the thread is gone"),
+            Error::Unknown(code) => write!(f, "the library answered {code}, which isn't known"),
+        }
+    }
+}
+
+impl std::error::Error for Error {
+    fn source(&self) -> Option<&(dyn std::error::Error + 'static)> {
+        match self {
+            Error::Own(fault) => Some(fault),
+            _ => None,
+        }
+    }
+}
+
+impl From<OwnFault> for Error {
+    fn from(fault: OwnFault) -> Self {
+        Error::Own(fault)
+    }
+}

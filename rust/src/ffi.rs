@@ -1,0 +1,407 @@
+//! The one module with `unsafe`: the declarations of `include/batcher.h`, safe calls over them, and
+//! the heap that the static library takes its memory from. `tools/header` compares the declarations
+//! with the header.
+
+use std::alloc::{Layout, alloc, dealloc, realloc};
+use std::ffi::c_void;
+use std::ptr;
+
+/// Codes that calls answer.
+pub(crate) mod code {
+    pub(crate) const DONE: u8 = 0;
+    pub(crate) const ELSEWHERE: u8 = 3;
+    pub(crate) const OUT_OF_MEMORY: u8 = 4;
+    pub(crate) const LEADER_CHANGED: u8 = 5;
+    pub(crate) const NOT_VERIFIED: u8 = 6;
+    pub(crate) const DUPLICATE_NOTARIZE: u8 = 7;
+    pub(crate) const DUPLICATE_FINALIZE: u8 = 8;
+    pub(crate) const CONFLICTING: u8 = 9;
+    pub(crate) const NULLIFY_AFTER_FINALIZE: u8 = 10;
+    pub(crate) const FINALIZE_AFTER_NULLIFY: u8 = 11;
+    pub(crate) const IDLE: u8 = 12;
+    pub(crate) const VERIFY: u8 = 13;
+    pub(crate) const VERIFY_TOGETHER: u8 = 14;
+}
+
+/// `struct batcher_proposal`
+#[repr(C)]
+#[derive(Clone, Copy, Default)]
+pub(crate) struct Proposal {
+    pub(crate) epoch: u64,
+    pub(crate) view: u64,
+    pub(crate) parent: u64,
+    pub(crate) payload: [u8; 32],
+}
+
+/// `struct batcher_attestation`
+#[repr(C)]
+#[derive(Clone, Copy, Debug, Default)]
+pub(crate) struct Attestation {
+    pub(crate) number: u64,
+    pub(crate) signer: u32,
+}
+
+/// `struct batcher_vote`
+#[repr(C)]
+#[derive(Clone, Copy, Default)]
+pub(crate) struct Vote {
+    pub(crate) proposal: Proposal,
+    pub(crate) attestation: Attestation,
+    pub(crate) kind: u8,
+}
+
+/// `struct batcher_admission`
+#[repr(C)]
+#[derive(Clone, Copy, Default)]
+pub(crate) struct Admission {
+    pub(crate) first: Vote,
+    pub(crate) second: Vote,
+    pub(crate) report: u8,
+    pub(crate) block: u8,
+    pub(crate) added: bool,
+    pub(crate) retained: bool,
+}
+
+/// `struct batcher_step`
+#[repr(C)]
+#[derive(Clone, Copy, Default)]
+pub(crate) struct Step {
+    pub(crate) proposal: Proposal,
+    pub(crate) view: u64,
+    pub(crate) processed: u64,
+    pub(crate) listed: u64,
+    pub(crate) verified: u64,
+    pub(crate) invalid: u64,
+    pub(crate) kind: u8,
+    pub(crate) certified: bool,
+    pub(crate) fallback: bool,
+}
+
+/// `struct batcher_round`: what a round is in the library's memory. It owns that, and `Drop` gives
+/// it back.
+///
+/// It is neither `Send` nor `Sync`, by its pointer: the library counts references without atomics.
+#[repr(C)]
+pub(crate) struct Round {
+    at: *mut c_void,
+}
+
+// No function here unwinds: Rattle has no panics. A slice is a pointer and its length.
+unsafe extern "C" {
+    fn batcher_round_new(
+        round: *mut Round,
+        epoch: u64,
+        view: u64,
+        participants: u32,
+        mode: u8,
+        batchable: bool,
+        aggregates: bool,
+    ) -> u8;
+    fn batcher_round_free(round: *mut Round);
+    fn batcher_round_record_verdict(round: *mut Round, number: u64, attests: bool) -> u8;
+    fn batcher_round_record_verdict_together(
+        round: *mut Round,
+        list: *const Attestation,
+        length: usize,
+        passes: bool,
+    ) -> u8;
+    fn batcher_round_add_network(
+        round: *mut Round,
+        sender: u64,
+        vote: *const Vote,
+        admission: *mut Admission,
+    ) -> u8;
+    fn batcher_round_accept_vote(
+        round: *mut Round,
+        vote: *const Vote,
+        admission: *mut Admission,
+    ) -> u8;
+    fn batcher_round_record_certificate(
+        round: *mut Round,
+        kind: u8,
+        proposal: *const Proposal,
+        number: u64,
+        selected_anew: *mut bool,
+    ) -> u8;
+    fn batcher_round_set_leader(round: *mut Round, leader: u32) -> u8;
+    fn batcher_round_leader(round: *const Round, leader: *mut u32) -> u8;
+    fn batcher_round_proposal(round: *const Round, proposal: *mut Proposal) -> u8;
+    fn batcher_round_try_forward_proposal(
+        round: *mut Round,
+        me: u32,
+        proposal: *mut Proposal,
+    ) -> u8;
+    fn batcher_round_has_certificate(round: *const Round, kind: u8, has: *mut bool) -> u8;
+    fn batcher_round_has_nullify(round: *const Round, signer: u32, has: *mut bool) -> u8;
+    fn batcher_round_is_missing_voter(
+        round: *const Round,
+        proposal: *const Proposal,
+        participant: u32,
+        is_missing: *mut bool,
+    ) -> u8;
+    fn batcher_round_missing_voters(
+        round: *const Round,
+        proposal: *const Proposal,
+        list: *mut u32,
+        length: usize,
+        count: *mut u64,
+    ) -> u8;
+    fn batcher_round_try_construct(
+        round: *mut Round,
+        step: *mut Step,
+        list: *mut Attestation,
+        list_length: usize,
+        signers: *mut u32,
+        signers_length: usize,
+    ) -> u8;
+}
+
+impl Drop for Round {
+    fn drop(&mut self) {
+        // SAFETY: the handle is empty, or is one that `batcher_round_new` filled and nobody else
+        // has.
+        unsafe { batcher_round_free(self) }
+    }
+}
+
+// Each call is given a handle that is empty or was filled by `batcher_round_new`, and that nobody
+// else has meanwhile: a `Round` is never copied, and is borrowed for the call. Each other pointer
+// is to a live value of its type, which is the call's alone where it writes, and a length is that
+// of its slice. No call keeps a pointer.
+impl Round {
+    /// A round, or the code that was answered.
+    pub(crate) fn new(
+        epoch: u64,
+        view: u64,
+        participants: u32,
+        mode: u8,
+        batchable: bool,
+        aggregates: bool,
+    ) -> Result<Self, u8> {
+        let mut round = Round {
+            at: ptr::null_mut(),
+        };
+        // SAFETY: as above; an empty handle is a null pointer.
+        let answer = unsafe {
+            batcher_round_new(
+                &mut round,
+                epoch,
+                view,
+                participants,
+                mode,
+                batchable,
+                aggregates,
+            )
+        };
+        match answer {
+            code::DONE => Ok(round),
+            answer => Err(answer),
+        }
+    }
+
+    pub(crate) fn record_verdict(&mut self, number: u64, attests: bool) -> u8 {
+        // SAFETY: as above.
+        unsafe { batcher_round_record_verdict(self, number, attests) }
+    }
+
+    pub(crate) fn record_verdict_together(&mut self, list: &[Attestation], passes: bool) -> u8 {
+        // SAFETY: as above.
+        unsafe { batcher_round_record_verdict_together(self, list.as_ptr(), list.len(), passes) }
+    }
+
+    pub(crate) fn add_network(
+        &mut self,
+        sender: u64,
+        vote: &Vote,
+        admission: &mut Admission,
+    ) -> u8 {
+        // SAFETY: as above.
+        unsafe { batcher_round_add_network(self, sender, vote, admission) }
+    }
+
+    pub(crate) fn accept_vote(&mut self, vote: &Vote, admission: &mut Admission) -> u8 {
+        // SAFETY: as above.
+        unsafe { batcher_round_accept_vote(self, vote, admission) }
+    }
+
+    pub(crate) fn record_certificate(
+        &mut self,
+        kind: u8,
+        proposal: &Proposal,
+        number: u64,
+        selected_anew: &mut bool,
+    ) -> u8 {
+        // SAFETY: as above.
+        unsafe { batcher_round_record_certificate(self, kind, proposal, number, selected_anew) }
+    }
+
+    pub(crate) fn set_leader(&mut self, leader: u32) -> u8 {
+        // SAFETY: as above.
+        unsafe { batcher_round_set_leader(self, leader) }
+    }
+
+    pub(crate) fn leader(&self, leader: &mut u32) -> u8 {
+        // SAFETY: as above; the call only reads the handle.
+        unsafe { batcher_round_leader(self, leader) }
+    }
+
+    pub(crate) fn proposal(&self, proposal: &mut Proposal) -> u8 {
+        // SAFETY: as above; the call only reads the handle.
+        unsafe { batcher_round_proposal(self, proposal) }
+    }
+
+    pub(crate) fn try_forward_proposal(&mut self, me: u32, proposal: &mut Proposal) -> u8 {
+        // SAFETY: as above.
+        unsafe { batcher_round_try_forward_proposal(self, me, proposal) }
+    }
+
+    pub(crate) fn has_certificate(&self, kind: u8, has: &mut bool) -> u8 {
+        // SAFETY: as above; the call only reads the handle.
+        unsafe { batcher_round_has_certificate(self, kind, has) }
+    }
+
+    pub(crate) fn has_nullify(&self, signer: u32, has: &mut bool) -> u8 {
+        // SAFETY: as above; the call only reads the handle.
+        unsafe { batcher_round_has_nullify(self, signer, has) }
+    }
+
+    pub(crate) fn is_missing_voter(
+        &self,
+        proposal: &Proposal,
+        participant: u32,
+        is_missing: &mut bool,
+    ) -> u8 {
+        // SAFETY: as above; the call only reads the handle.
+        unsafe { batcher_round_is_missing_voter(self, proposal, participant, is_missing) }
+    }
+
+    pub(crate) fn missing_voters(
+        &self,
+        proposal: &Proposal,
+        list: &mut [u32],
+        count: &mut u64,
+    ) -> u8 {
+        // SAFETY: as above; the call only reads the handle.
+        unsafe {
+            batcher_round_missing_voters(self, proposal, list.as_mut_ptr(), list.len(), count)
+        }
+    }
+
+    pub(crate) fn try_construct(
+        &mut self,
+        step: &mut Step,
+        list: &mut [Attestation],
+        signers: &mut [u32],
+    ) -> u8 {
+        // SAFETY: as above.
+        unsafe {
+            batcher_round_try_construct(
+                self,
+                step,
+                list.as_mut_ptr(),
+                list.len(),
+                signers.as_mut_ptr(),
+                signers.len(),
+            )
+        }
+    }
+}
+
+// The library asks for memory by the three functions below. It names no size where it gives a block
+// back, which Rust's heap wants, so each block has 16 bytes before it in which its size is noted.
+// That keeps it aligned, since an alignment that is asked for divides 16.
+const BEFORE: usize = 16;
+
+/// A pointer to a block, where there is one, and else to a place that nobody uses.
+#[repr(C)]
+pub struct Tried {
+    ok: bool,
+    at: *mut c_void,
+}
+
+static NOWHERE: u128 = 0;
+
+fn layout(size: usize) -> Option<Layout> {
+    Layout::from_size_align(size.checked_add(BEFORE)?, BEFORE).ok()
+}
+
+/// # Safety
+///
+/// `block` is null, or a block of this layout that Rust's heap has just given.
+unsafe fn tried(block: *mut u8, layout: Layout) -> Tried {
+    if block.is_null() {
+        return refused();
+    }
+    // SAFETY: the block is of 16 bytes or more and aligned by 16, so a size fits at its start, and
+    // what is after the first 16 is still in the block or at its end.
+    unsafe {
+        block.cast::<usize>().write(layout.size());
+        Tried {
+            ok: true,
+            at: block.add(BEFORE).cast(),
+        }
+    }
+}
+
+fn refused() -> Tried {
+    Tried {
+        ok: false,
+        at: (&raw const NOWHERE).cast_mut().cast(),
+    }
+}
+
+/// # Safety
+///
+/// `at` is what `rattle_alloc` or `rattle_realloc` has answered with `ok`, and wasn't given back
+/// since.
+unsafe fn block_of(at: *mut c_void) -> (*mut u8, Layout) {
+    // SAFETY: 16 bytes before it its block begins, with the size that `tried` has noted, of a
+    // layout that was one.
+    unsafe {
+        let block = at.cast::<u8>().sub(BEFORE);
+        let size = block.cast::<usize>().read();
+        (block, Layout::from_size_align_unchecked(size, BEFORE))
+    }
+}
+
+#[unsafe(no_mangle)]
+extern "C" fn rattle_alloc(size: usize, _align: usize) -> Tried {
+    let Some(layout) = layout(size) else {
+        return refused();
+    };
+    // SAFETY: the layout has 16 bytes or more, and the block is handed on as it was given.
+    unsafe { tried(alloc(layout), layout) }
+}
+
+/// # Safety
+///
+/// As of `block_of`.
+#[unsafe(no_mangle)]
+unsafe extern "C" fn rattle_realloc(
+    at: *mut c_void,
+    _kept: usize,
+    size: usize,
+    _align: usize,
+) -> Tried {
+    let Some(layout) = layout(size) else {
+        return refused();
+    };
+    // SAFETY: the block is one of Rust's heap with the layout that it was given by, as the caller
+    // promises.
+    unsafe {
+        let (block, before) = block_of(at);
+        tried(realloc(block, before, layout.size()), layout)
+    }
+}
+
+/// # Safety
+///
+/// As of `block_of`.
+#[unsafe(no_mangle)]
+unsafe extern "C" fn rattle_dealloc(at: *mut c_void) {
+    // SAFETY: as of `rattle_realloc`.
+    unsafe {
+        let (block, layout) = block_of(at);
+        dealloc(block, layout);
+    }
+}

@@ -1,0 +1,124 @@
+//! The library's flat values, to and from this crate's.
+
+use crate::answers::{BlockReason, Error, OwnFault};
+use crate::ffi::{self, code};
+use crate::messages::{Kind, Proposal, Sha256Digest, Subject, Vote};
+use crate::positions::{Epoch, Round, View};
+
+pub(crate) fn flat_proposal(proposal: &Proposal) -> ffi::Proposal {
+    ffi::Proposal {
+        epoch: proposal.round.epoch.get(),
+        view: proposal.round.view.get(),
+        parent: proposal.parent.get(),
+        payload: proposal.payload.0,
+    }
+}
+
+/// The subject's proposal, or its round alone.
+pub(crate) fn flat_subject(subject: &Subject) -> ffi::Proposal {
+    match subject {
+        Subject::Notarize { proposal } | Subject::Finalize { proposal } => flat_proposal(proposal),
+        Subject::Nullify { round } => ffi::Proposal {
+            epoch: round.epoch.get(),
+            view: round.view.get(),
+            ..ffi::Proposal::default()
+        },
+    }
+}
+
+pub(crate) fn flat_vote<G>(vote: &Vote<G>, number: u64) -> ffi::Vote {
+    ffi::Vote {
+        proposal: flat_subject(&vote.subject()),
+        attestation: ffi::Attestation {
+            number,
+            signer: vote.signer().get(),
+        },
+        kind: vote.kind() as u8,
+    }
+}
+
+fn round_of(flat: &ffi::Proposal) -> Round {
+    Round::new(Epoch::new(flat.epoch), View::new(flat.view))
+}
+
+pub(crate) fn proposal_of(flat: &ffi::Proposal) -> Proposal {
+    Proposal::new(
+        round_of(flat),
+        View::new(flat.parent),
+        Sha256Digest(flat.payload),
+    )
+}
+
+pub(crate) fn kind_of(flat: u8) -> Result<Kind, Error> {
+    match flat {
+        0 => Ok(Kind::Notarization),
+        1 => Ok(Kind::Nullification),
+        2 => Ok(Kind::Finalization),
+        other => Err(Error::Unknown(other)),
+    }
+}
+
+/// The subject of a kind with its proposal, or with its round alone.
+pub(crate) fn subject_of(kind: Kind, flat: &ffi::Proposal) -> Subject {
+    match kind {
+        Kind::Notarization => Subject::Notarize {
+            proposal: proposal_of(flat),
+        },
+        Kind::Nullification => Subject::Nullify {
+            round: round_of(flat),
+        },
+        Kind::Finalization => Subject::Finalize {
+            proposal: proposal_of(flat),
+        },
+    }
+}
+
+pub(crate) fn block_of(flat: u8) -> Result<Option<BlockReason>, Error> {
+    Ok(Some(match flat {
+        0 => return Ok(None),
+        1 => BlockReason::UnknownParticipant,
+        2 => BlockReason::NotarizeSignerMismatch,
+        3 => BlockReason::NullifySignerMismatch,
+        4 => BlockReason::FinalizeSignerMismatch,
+        5 => BlockReason::ConflictingNotarize,
+        6 => BlockReason::ConflictingNullify,
+        7 => BlockReason::ConflictingFinalize,
+        8 => BlockReason::InvalidSignature,
+        9 => BlockReason::NullifyAfterFinalize,
+        10 => BlockReason::FinalizeAfterNullify,
+        other => return Err(Error::Unknown(other)),
+    }))
+}
+
+/// What a code says that isn't one of the answers of its call.
+pub(crate) fn error_of(answer: u8) -> Error {
+    match answer {
+        code::ELSEWHERE => Error::Elsewhere,
+        code::OUT_OF_MEMORY => Error::OutOfMemory,
+        code::LEADER_CHANGED => Error::LeaderChanged,
+        code::NOT_VERIFIED => Error::NotVerified,
+        code::DUPLICATE_NOTARIZE => Error::Own(OwnFault::DuplicateNotarize),
+        code::DUPLICATE_FINALIZE => Error::Own(OwnFault::DuplicateFinalize),
+        code::CONFLICTING => Error::Own(OwnFault::Conflicting),
+        code::NULLIFY_AFTER_FINALIZE => Error::Own(OwnFault::NullifyAfterFinalize),
+        code::FINALIZE_AFTER_NULLIFY => Error::Own(OwnFault::FinalizeAfterNullify),
+        other => Error::Unknown(other),
+    }
+}
+
+/// An error where the code isn't that all went well.
+pub(crate) fn done(answer: u8) -> Result<(), Error> {
+    match answer {
+        code::DONE => Ok(()),
+        answer => Err(error_of(answer)),
+    }
+}
+
+/// What an answer is that comes with a value, or with `IDLE` where there is none.
+pub(crate) fn some(answer: u8) -> Result<bool, Error> {
+    match answer {
+        code::DONE => Ok(true),
+        code::IDLE => Ok(false),
+        answer => Err(error_of(answer)),
+    }
+}

@@ -1,0 +1,59 @@
+//! A verified vote batcher for the simplex consensus, for schemes that live in Rust.
+//!
+//! A batcher takes in the votes of a view. It keeps the first vote of each kind per signer, names
+//! peers that equivocate, so that they can be blocked, and makes certificates out of quorums. What
+//! it answers is computed by a static library that is proved; this crate holds the signatures, has
+//! them verified, and hands the verdicts on. `docs/RUST.md` of its repository says what is proved,
+//! and what a caller owes.
+//!
+//! A [`Scheme`] says what signatures are worth, and a [`Round`] is one view: votes go in by
+//! [`Round::add_network`] and [`Round::accept_vote`], certificates come out of
+//! [`Round::try_construct`]. Who verifies elsewhere, as on other threads, takes [`Round::step`] in
+//! its place. A round stays on its thread; [`thread`] has a handle that doesn't.
+//!
+//! ```
+//! # include!(concat!(env!("CARGO_MANIFEST_DIR"), "/tests/toy/mod.rs"));
+//! use batcher::{BlockReason, Participant, Round};
+//! # fn main() -> Result<(), batcher::Error> {
+//! let mut round = Round::new(ROUND, Toy::new(4), true)?;
+//! round.set_leader(Participant::new(2))?;
+//! // Participants 1 and 2 notarize a proposal, and 3 signs badly.
+//! round.add_network(&KEYS[1], notarize(1, 7))?;
+//! round.add_network(&KEYS[2], notarize(2, 7))?;
+//! round.add_network(&KEYS[3], bad(notarize(3, 7)))?;
+//! let batch = round.try_construct()?.expect("three votes could be a quorum");
+//! assert_eq!(batch.invalid, [Participant::new(3)]);
+//! assert!(batch.certificate.is_none());
+//! // The node's own vote makes the quorum. Nothing is verified twice.
+//! round.accept_vote(notarize(0, 7))?;
+//! let batch = round.try_construct()?.expect("three votes that attest");
+//! assert!(batch.certificate.is_some());
+//! // Who votes for something else is to be blocked.
+//! let admission = round.add_network(&KEYS[1], notarize(1, 8))?;
+//! assert_eq!(admission.block, Some(BlockReason::ConflictingNotarize));
+//! # Ok(())
+//! # }
+//! ```
+
+#![deny(missing_docs)]
+#![deny(unsafe_code)]
+
+mod answers;
+#[allow(unsafe_code)]
+mod ffi;
+mod flat;
+pub mod messages;
+pub mod positions;
+pub mod round;
+mod scheme;
+mod table;
+pub mod thread;
+
+pub use answers::{Admission, Batch, BlockReason, Error, Mode, Outcome, OwnFault};
+pub use messages::{
+    Activity, Attestation, Certificate, Finalization, Finalize, Kind, Notarization, Notarize,
+    Nullification, Nullify, Proposal, Sha256Digest, Subject, Vote,
+};
+pub use positions::{Epoch, Participant, Set, SetFault, View, quorum};
+pub use round::{Round, Step, Wanted};
+pub use scheme::Scheme;

@@ -1,0 +1,103 @@
+//! What a user brings: signatures and certificates.
+
+use crate::messages::{Attestation, Subject};
+use crate::positions::Set;
+
+/// Signatures and certificates, for one set of participants.
+///
+/// What is proved of a round is proved for every scheme, so it holds of this one, with one
+/// condition: what it says of an attestation depends on the subject, the signer and the signature
+/// alone. A round keeps the first verdict on each.
+///
+/// A round asks for verdicts only when a certificate is due, and for many at once.
+///
+/// ```
+/// use batcher::{Attestation, Scheme, Set, Subject};
+///
+/// /// A signature is its signer's index beside the kind, which protects nothing.
+/// struct Toy(Set<&'static str>);
+///
+/// impl Scheme for Toy {
+///     type PublicKey = &'static str;
+///     type Signature = (u32, batcher::Kind);
+///     type Certificate = Vec<Attestation<Self::Signature>>;
+///
+///     fn participants(&self) -> &Set<&'static str> {
+///         &self.0
+///     }
+///
+///     fn verify_attestations(
+///         &self,
+///         subject: &Subject,
+///         attestations: &[Attestation<Self::Signature>],
+///     ) -> Vec<bool> {
+///         attestations.iter().map(|it| it.signature == (it.signer.get(), subject.kind())).collect()
+///     }
+///
+///     fn assemble(
+///         &self,
+///         _: &Subject,
+///         attestations: &[Attestation<Self::Signature>],
+///     ) -> Self::Certificate {
+///         attestations.to_vec()
+///     }
+/// }
+/// ```
+pub trait Scheme {
+    /// Who a participant is to the network.
+    type PublicKey: Ord;
+
+    /// A signature. Equality has to be lawful, and signatures that differ in a byte are to differ:
+    /// a sender whose second vote differs from its first is blocked.
+    type Signature: Clone + Eq;
+
+    /// What a quorum of attestations makes.
+    type Certificate;
+
+    /// The keys of the participants. They are the same at each call.
+    fn participants(&self) -> &Set<Self::PublicKey>;
+
+    /// Whether it pays to wait for a quorum before attestations are verified. A round asks when it
+    /// is made.
+    fn is_batchable(&self) -> bool {
+        true
+    }
+
+    /// Whether a quorum may be verified as a whole, as where signatures are aggregated. A round
+    /// asks when it is made. Where it does, [`Scheme::verify_together`] is asked first, and
+    /// `verify_attestations` only where that says no.
+    fn aggregates(&self) -> bool {
+        false
+    }
+
+    /// Of each attestation, in order, whether it attests to the subject. Their signers are
+    /// participants. They may be verified together, but what is said of one has nothing to do with
+    /// the others.
+    fn verify_attestations(
+        &self,
+        subject: &Subject,
+        attestations: &[Attestation<Self::Signature>],
+    ) -> Vec<bool>;
+
+    /// Whether a quorum of attestations passes as a whole, which is enough to make a certificate of
+    /// it. The first `verified` of them are known to attest. Where all attest it says so.
+    fn verify_together(
+        &self,
+        subject: &Subject,
+        attestations: &[Attestation<Self::Signature>],
+        verified: usize,
+    ) -> bool {
+        let unknown = &attestations[verified..];
+        self.verify_attestations(subject, unknown)
+            .into_iter()
+            .all(|attests| attests)
+    }
+
+    /// The certificate of a quorum of attestations, ascending by signer. Each attests, or they
+    /// passed as a whole.
+    fn assemble(
+        &self,
+        subject: &Subject,
+        attestations: &[Attestation<Self::Signature>],
+    ) -> Self::Certificate;
+}

@@ -1,0 +1,112 @@
+//! Which number stands for which attestation.
+//!
+//! The library tells attestations apart by numbers alone. So the same vote has to get the same
+//! number each time that it comes, or else its sender would be blocked for a vote that differs from
+//! its first, and another vote another number, or else an equivocation would pass for a repeat.
+//!
+//! The library compares a vote with at most one other of its kind and signer, the first, and that
+//! only while votes of the kind are kept in full. So one vote for each place, which is a kind and a
+//! signer, is all that has to be known here: the first, from its addition until its kind is
+//! compacted. It is known also where it turned out not to attest, since its sender may repeat it.
+//! Every vote that differs from it, or that has nothing to be compared with, gets a number that was
+//! never used.
+
+use crate::Error;
+use crate::messages::{Kind, Vote};
+use crate::positions::Participant;
+
+/// A vote that the library keeps in full.
+pub(crate) struct Kept<G> {
+    pub(crate) vote: Vote<G>,
+    pub(crate) number: u64,
+    /// What was found of it. The first verdict counts, so the verdicts on a number are never two.
+    pub(crate) verdict: Option<bool>,
+}
+
+/// The votes of one kind: at most one for each signer.
+struct Places<G> {
+    /// Of each signer one more than the place of its vote in `kept`, or 0. It is empty until the
+    /// first vote comes.
+    index: Vec<u32>,
+    kept: Vec<Kept<G>>,
+}
+
+/// The numbers of one round.
+pub(crate) struct Table<G> {
+    kinds: [Places<G>; 3],
+    next: u64,
+}
+
+impl<G: Eq> Table<G> {
+    pub(crate) fn new() -> Self {
+        let kinds = [(); 3].map(|()| Places {
+            index: Vec::new(),
+            kept: Vec::new(),
+        });
+        Table { kinds, next: 0 }
+    }
+
+    /// A number that stands for nothing yet.
+    pub(crate) fn unused(&mut self) -> u64 {
+        let number = self.next;
+        self.next += 1;
+        number
+    }
+
+    /// The vote that is kept of a kind and a signer.
+    pub(crate) fn get(&self, kind: Kind, signer: Participant) -> Option<&Kept<G>> {
+        let places = &self.kinds[kind as usize];
+        let place = *places.index.get(usize::from(signer))?;
+        places.kept.get((place as usize).checked_sub(1)?)
+    }
+
+    pub(crate) fn get_mut(&mut self, kind: Kind, signer: Participant) -> Option<&mut Kept<G>> {
+        let places = &mut self.kinds[kind as usize];
+        let place = *places.index.get(usize::from(signer))?;
+        places.kept.get_mut((place as usize).checked_sub(1)?)
+    }
+
+    /// Makes room for a vote of a kind, so that `insert` takes no memory.
+    pub(crate) fn reserve(&mut self, kind: Kind, participants: u32) -> Result<(), Error> {
+        let Places { index, kept } = &mut self.kinds[kind as usize];
+        if index.is_empty() {
+            index
+                .try_reserve_exact(participants as usize)
+                .map_err(|_| Error::OutOfMemory)?;
+            index.resize(participants as usize, 0);
+        }
+        if kept.len() == kept.capacity() {
+            // An eighth more at a time, so that what is unused stays small beside the votes.
+            let more = 4 + kept.len() / 8;
+            kept.try_reserve_exact(more)
+                .map_err(|_| Error::OutOfMemory)?;
+        }
+        Ok(())
+    }
+
+    /// Keeps the first vote of its kind and signer. There is room for it.
+    pub(crate) fn insert(&mut self, vote: Vote<G>, number: u64, verdict: Option<bool>) {
+        let Places { index, kept } = &mut self.kinds[vote.kind() as usize];
+        if let Some(place) = index.get_mut(usize::from(vote.signer())) {
+            kept.push(Kept {
+                vote,
+                number,
+                verdict,
+            });
+            *place = kept.len() as u32;
+        }
+    }
+
+    /// Forgets the votes of a kind, of which the library keeps none any more.
+    pub(crate) fn forget(&mut self, kind: Kind) {
+        self.kinds[kind as usize] = Places {
+            index: Vec::new(),
+            kept: Vec::new(),
+        };
+    }
+
+    /// How many votes are kept.
+    pub(crate) fn len(&self) -> usize {
+        self.kinds.iter().map(|it| it.kept.len()).sum()
+    }
+}

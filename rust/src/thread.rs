@@ -1,0 +1,297 @@
+//! Rounds on a thread of their own, for callers on many threads and for tasks.
+//!
+//! A round stays on the thread on which it was made, since the library counts references without
+//! atomics. A [`Host`] is a thread that holds any number of rounds, and a [`Mailbox`] a handle to
+//! one of them that may be cloned and sent anywhere. Each job is run on the round alone, in the
+//! order in which jobs were handed in. Its answer can be waited for by blocking or as a future, on
+//! any executor.
+//!
+//! A call that waits for its answer takes two switches of threads, some ten microseconds, where the
+//! call itself takes less than one. So hand over what has piled up in one job, as in the example.
+//!
+//! ```
+//! # include!(concat!(env!("CARGO_MANIFEST_DIR"), "/tests/toy/mod.rs"));
+//! use batcher::Round;
+//! use batcher::thread::Host;
+//! # fn main() -> Result<(), batcher::Error> {
+//! let host = Host::new().unwrap();
+//! let scheme = Toy::new(4);
+//! let mailbox = host.start(move || Round::new(ROUND, scheme, false))?;
+//! let votes: Vec<_> = (0..3).map(|signer| (KEYS[signer], nullify(signer as u32))).collect();
+//! let batch = mailbox.call(move |round| {
+//!     for (sender, vote) in votes {
+//!         round.add_network(&sender, vote)?;
+//!     }
+//!     round.try_construct()
+//! })??;
+//! assert!(batch.is_some_and(|batch| batch.certificate.is_some()));
+//! # Ok(())
+//! # }
+//! ```
+
+use crate::answers::Error;
+use std::any::Any;
+use std::collections::HashMap;
+use std::fmt;
+use std::future::Future;
+use std::io;
+use std::marker::PhantomData;
+use std::panic::{AssertUnwindSafe, catch_unwind};
+use std::pin::Pin;
+use std::sync::atomic::{AtomicU64, Ordering};
+use std::sync::mpsc::{Sender, channel};
+use std::sync::{Arc, Condvar, Mutex, MutexGuard, PoisonError};
+use std::task::{Context, Poll, Waker};
+
+/// What lives on a host, by its number.
+type Values = HashMap<u64, Box<dyn Any>>;
+
+type Job = Box<dyn FnOnce(&mut Values) + Send>;
+
+/// A thread on which values live that can't leave it, as rounds. It ends once the host and all
+/// mailboxes to it are dropped.
+#[derive(Clone)]
+pub struct Host {
+    jobs: Sender<Job>,
+    next: Arc<AtomicU64>,
+}
+
+impl Host {
+    /// A thread on which nothing lives yet.
+    ///
+    /// # Errors
+    ///
+    /// Where the system gives no thread.
+    pub fn new() -> io::Result<Self> {
+        let (jobs, inbox) = channel::<Job>();
+        std::thread::Builder::new()
+            .name("batcher".into())
+            .spawn(move || {
+                let mut values = Values::new();
+                for job in inbox {
+                    job(&mut values);
+                }
+            })?;
+        Ok(Host {
+            jobs,
+            next: Arc::new(AtomicU64::new(0)),
+        })
+    }
+
+    /// Makes a value on the thread, and gives a mailbox to it. The value is dropped there once all
+    /// its mailboxes are.
+    ///
+    /// # Errors
+    ///
+    /// What `make` answers, or `Gone` where it panics.
+    pub fn start<T: 'static>(
+        &self,
+        make: impl FnOnce() -> Result<T, Error> + Send + 'static,
+    ) -> Result<Mailbox<T>, Error> {
+        let number = self.next.fetch_add(1, Ordering::Relaxed);
+        let reply = post(&self.jobs, move |values| {
+            let made = catch_unwind(AssertUnwindSafe(make)).ok()?;
+            Some(made.map(|value| {
+                values.insert(number, Box::new(value));
+            }))
+        });
+        reply.wait()??;
+        let place = Arc::new(Place {
+            jobs: self.jobs.clone(),
+            number,
+        });
+        Ok(Mailbox {
+            place,
+            of: PhantomData,
+        })
+    }
+}
+
+impl fmt::Debug for Host {
+    fn fmt(&self, f: &mut fmt::Formatter<'_>) -> fmt::Result {
+        f.debug_struct("Host").finish_non_exhaustive()
+    }
+}
+
+/// Where a value lives. The last mailbox that goes drops the value.
+struct Place {
+    jobs: Sender<Job>,
+    number: u64,
+}
+
+impl Drop for Place {
+    fn drop(&mut self) {
+        let number = self.number;
+        // Where the thread has ended the value is gone already.
+        let _ = self.jobs.send(Box::new(move |values| {
+            values.remove(&number);
+        }));
+    }
+}
+
+/// A handle to a value that lives on a [`Host`].
+///
+/// Jobs wait without a bound. Who waits for each answer before the next job has one there at a
+/// time.
+pub struct Mailbox<T> {
+    place: Arc<Place>,
+    of: PhantomData<fn(T)>,
+}
+
+impl<T: 'static> Mailbox<T> {
+    /// Runs a job on the value, and waits for its answer by blocking this thread.
+    ///
+    /// # Errors
+    ///
+    /// `Gone` where this job or an earlier one has panicked: the value is dropped then, and other
+    /// values live on.
+    pub fn call<R: Send + 'static>(
+        &self,
+        job: impl FnOnce(&mut T) -> R + Send + 'static,
+    ) -> Result<R, Error> {
+        self.ask(job).wait()
+    }
+
+    /// Has a job run on the value. The reply is a future, or can be waited for; whoever drops it
+    /// doesn't stop the job.
+    pub fn ask<R: Send + 'static>(
+        &self,
+        job: impl FnOnce(&mut T) -> R + Send + 'static,
+    ) -> Reply<R> {
+        let number = self.place.number;
+        post(&self.place.jobs, move |values| {
+            let value = values.get_mut(&number)?.downcast_mut::<T>()?;
+            match catch_unwind(AssertUnwindSafe(|| job(value))) {
+                Ok(answer) => Some(answer),
+                Err(_) => {
+                    // It may be in the midst of a change.
+                    values.remove(&number);
+                    None
+                }
+            }
+        })
+    }
+}
+
+impl<T> Clone for Mailbox<T> {
+    fn clone(&self) -> Self {
+        Mailbox {
+            place: self.place.clone(),
+            of: PhantomData,
+        }
+    }
+}
+
+impl<T> fmt::Debug for Mailbox<T> {
+    fn fmt(&self, f: &mut fmt::Formatter<'_>) -> fmt::Result {
+        f.debug_struct("Mailbox")
+            .field("number", &self.place.number)
+            .finish_non_exhaustive()
+    }
+}
+
+// Hands a job to the thread, which answers none where the value is gone.
+fn post<R: Send + 'static>(
+    jobs: &Sender<Job>,
+    job: impl FnOnce(&mut Values) -> Option<R> + Send + 'static,
+) -> Reply<R> {
+    let slot = Arc::new(Slot {
+        state: Mutex::new(State::Waiting(None)),
+        filled: Condvar::new(),
+    });
+    let answers = Answers(slot.clone());
+    // Where the thread has ended the job is dropped, and the slot filled by that.
+    let _ = jobs.send(Box::new(move |values| {
+        let answer = job(values);
+        answers.fill(answer);
+    }));
+    Reply { slot }
+}
+
+enum State<R> {
+    Waiting(Option<Waker>),
+    /// Where there is none, the value is gone.
+    Filled(Option<R>),
+}
+
+struct Slot<R> {
+    state: Mutex<State<R>>,
+    filled: Condvar,
+}
+
+impl<R> Slot<R> {
+    // No code that may panic runs while it is locked, so it is never left half done.
+    fn lock(&self) -> MutexGuard<'_, State<R>> {
+        self.state.lock().unwrap_or_else(PoisonError::into_inner)
+    }
+}
+
+/// The end of a slot that the job has. Dropped, it says that there will be no answer.
+struct Answers<R>(Arc<Slot<R>>);
+
+impl<R> Answers<R> {
+    fn fill(&self, answer: Option<R>) {
+        let mut state = self.0.lock();
+        if let State::Waiting(waker) = &mut *state {
+            let waker = waker.take();
+            *state = State::Filled(answer);
+            drop(state);
+            self.0.filled.notify_all();
+            if let Some(waker) = waker {
+                waker.wake();
+            }
+        }
+    }
+}
+
+impl<R> Drop for Answers<R> {
+    fn drop(&mut self) {
+        self.fill(None);
+    }
+}
+
+/// The answer to a job, once it is there. As a future it is ready once.
+pub struct Reply<R> {
+    slot: Arc<Slot<R>>,
+}
+
+impl<R> Reply<R> {
+    /// Waits for the answer by blocking this thread.
+    ///
+    /// # Errors
+    ///
+    /// `Gone` where the job, or an earlier one of its value, has panicked.
+    pub fn wait(self) -> Result<R, Error> {
+        let mut state = self.slot.lock();
+        loop {
+            if let State::Filled(answer) = &mut *state {
+                return answer.take().ok_or(Error::Gone);
+            }
+            state = self
+                .slot
+                .filled
+                .wait(state)
+                .unwrap_or_else(PoisonError::into_inner);
+        }
+    }
+}
+
+impl<R> Future for Reply<R> {
+    type Output = Result<R, Error>;
+
+    fn poll(self: Pin<&mut Self>, context: &mut Context<'_>) -> Poll<Self::Output> {
+        match &mut *self.slot.lock() {
+            State::Filled(answer) => Poll::Ready(answer.take().ok_or(Error::Gone)),
+            State::Waiting(waker) => {
+                *waker = Some(context.waker().clone());
+                Poll::Pending
+            }
+        }
+    }
+}
+
+impl<R> fmt::Debug for Reply<R> {
+    fn fmt(&self, f: &mut fmt::Formatter<'_>) -> fmt::Result {
+        f.debug_struct("Reply").finish_non_exhaustive()
+    }
+}
