@@ -64,7 +64,7 @@ fn play_many() -> io::Result<u8> {
         }
         let length = frame
             .strip_suffix(b"\n")
-            .and_then(|digits| str::from_utf8(digits).ok()?.parse().ok());
+            .and_then(|digits| std::str::from_utf8(digits).ok()?.parse().ok());
         let Some(length) = length else {
             write_all(&output)?;
             return Ok(MALFORMED);

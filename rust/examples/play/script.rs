@@ -66,7 +66,7 @@ impl Line {
         if !text.is_ascii() {
             return None;
         }
-        let text = str::from_utf8(text).ok()?;
+        let text = std::str::from_utf8(text).ok()?;
         // No line has more than six words, so a seventh is enough to tell that there are too many.
         let mut words = [""; 7];
         let mut count = 0;

@@ -21,10 +21,11 @@ const fn fractions<const N: usize>(power: u32) -> [u32; N] {
     words
 }
 
+#[allow(clippy::manual_is_multiple_of)]
 const fn is_prime(number: u128) -> bool {
     let mut divisor = 2;
     while divisor * divisor <= number {
-        if number.is_multiple_of(divisor) {
+        if number % divisor == 0 {
             return false;
         }
         divisor += 1;
