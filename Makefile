@@ -5,6 +5,7 @@
 # make prove               proves and builds these programs, which are played unproved until then
 # make bench               plays the rows of the benchmark and takes their time
 # make quick               proves what has changed, and plays all scripts
+# make rust                tests the doors for Rust and C, for which it takes cargo and cc
 # make test                proves everything and runs every test
 # make clean               removes all that rt has kept and built
 
@@ -20,7 +21,7 @@ unexport SCRIPT SEED
 # make begins its list of files with a space.
 TOP = "$$(dirname "$${MAKEFILE_NAMED\# }")"
 
-.PHONY: run hello audit demo prove bench quick test clean
+.PHONY: run hello audit demo prove bench quick rust test clean
 
 run:
 	@$(TOP)/tools/run "$$SCRIPT_NAMED"
@@ -43,8 +44,11 @@ bench:
 quick:
 	@$(TOP)/tools/quick
 
+rust:
+	@$(TOP)/tools/rust
+
 test:
 	@$(TOP)/tools/test
 
 clean:
-	@rm -rf $(TOP)/crates/*/out
+	@rm -rf $(TOP)/crates/*/out $(TOP)/rust/target $(TOP)/rust/validator/target

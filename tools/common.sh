@@ -9,7 +9,8 @@ need() {
     missing=1
     case $command in
       rt) echo "rt is not on the path: it comes with the kit that README.md names; 'rt version' shows that it is there" ;;
-      cc) echo "cc is not on the path: tools/refuse and tools/memory need a C compiler of that name (README.md)" ;;
+      cc) echo "cc is not on the path: tools/refuse, tools/memory and tools/rust need a C compiler of that name (README.md)" ;;
+      cargo) echo "cargo is not on the path: tools/rust needs it; Debian has it as the package cargo, and it has to be 1.85 or later" ;;
       valgrind) echo "valgrind is not on the path: tools/instructions counts by it; Debian has it as the package valgrind" ;;
       *) echo "$command is not on the path: rt and tools/cuts need it (README.md)" ;;
     esac >&2

@@ -504,7 +504,7 @@ impl<S: Scheme> Round<S> {
                     }
                 }
                 code::VERIFY_TOGETHER => {
-                    let listed = self.list[..step.listed as usize].to_vec();
+                    let listed = copied(&self.list[..step.listed as usize])?;
                     return Ok(Step::VerifyTogether(self.wanted(&step, listed)?));
                 }
                 answer => return Err(error_of(answer)),
@@ -601,7 +601,8 @@ impl<S: Scheme> Round<S> {
     // handed to the library.
     fn without_known(&mut self, step: &ffi::Step) -> Result<Vec<ffi::Attestation>, Error> {
         let kind = kind_of(step.kind)?;
-        let mut unknown = Vec::with_capacity(step.listed as usize);
+        let mut unknown = Vec::new();
+        reserve(&mut unknown, step.listed as usize)?;
         for place in 0..step.listed as usize {
             let listed = self.list[place];
             match self.kept(kind, &listed).map(|kept| kept.verdict) {
@@ -657,11 +658,13 @@ impl<S: Scheme> Round<S> {
         kind: Kind,
         listed: &[ffi::Attestation],
     ) -> Result<Vec<Attestation<S::Signature>>, Error> {
-        let attestation = |it| match self.kept(kind, it) {
-            Some(kept) => Ok(kept.vote.attestation().clone()),
-            None => Err(Error::Unknown(code::VERIFY)),
-        };
-        listed.iter().map(attestation).collect()
+        let mut attestations = Vec::new();
+        reserve(&mut attestations, listed.len())?;
+        for it in listed {
+            let kept = self.kept(kind, it).ok_or(Error::Unknown(code::VERIFY))?;
+            attestations.push(kept.vote.attestation().clone());
+        }
+        Ok(attestations)
     }
 
     // The kind is certified, so a round that releases votes keeps none of it in full from now on.
@@ -720,6 +723,17 @@ impl<S: Scheme> fmt::Debug for Round<S> {
             .field("votes_kept", &self.votes_kept())
             .finish_non_exhaustive()
     }
+}
+
+fn reserve<T>(list: &mut Vec<T>, more: usize) -> Result<(), Error> {
+    list.try_reserve_exact(more).map_err(|_| Error::OutOfMemory)
+}
+
+fn copied<T: Copy>(items: &[T]) -> Result<Vec<T>, Error> {
+    let mut list = Vec::new();
+    reserve(&mut list, items.len())?;
+    list.extend_from_slice(items);
+    Ok(list)
 }
 
 // A list with as many places as there are participants.

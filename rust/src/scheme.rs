@@ -31,7 +31,8 @@ use crate::positions::Set;
 ///         subject: &Subject,
 ///         attestations: &[Attestation<Self::Signature>],
 ///     ) -> Vec<bool> {
-///         attestations.iter().map(|it| it.signature == (it.signer.get(), subject.kind())).collect()
+///         let is_good = |it: &Attestation<_>| it.signature == (it.signer.get(), subject.kind());
+///         attestations.iter().map(is_good).collect()
 ///     }
 ///
 ///     fn assemble(

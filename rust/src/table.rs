@@ -77,7 +77,7 @@ impl<G: Eq> Table<G> {
         }
         if kept.len() == kept.capacity() {
             // An eighth more at a time, so that what is unused stays small beside the votes.
-            let more = 4 + kept.len() / 8;
+            let more = 1 + kept.len() / 8;
             kept.try_reserve_exact(more)
                 .map_err(|_| Error::OutOfMemory)?;
         }
@@ -108,5 +108,66 @@ impl<G: Eq> Table<G> {
     /// How many votes are kept.
     pub(crate) fn len(&self) -> usize {
         self.kinds.iter().map(|it| it.kept.len()).sum()
+    }
+}
+
+#[cfg(test)]
+mod tests {
+    use super::*;
+    use crate::positions::{Epoch, Round, View};
+    use crate::{Attestation, Subject};
+    use std::mem::size_of;
+
+    const ROUND: Round = Round::new(Epoch::zero(), View::zero());
+
+    fn vote(signer: u32) -> Vote<[u8; 64]> {
+        let signer = Participant::new(signer);
+        Vote::new(
+            Subject::Nullify { round: ROUND },
+            Attestation::new(signer, [1; 64]),
+        )
+    }
+
+    // What a vote takes, in the worst of the sizes.
+    #[test]
+    fn a_vote_takes_little_more_than_its_size() {
+        for participants in 1..300 {
+            let mut table = Table::new();
+            for signer in 0..participants {
+                table.reserve(Kind::Nullification, participants).unwrap();
+                let number = table.unused();
+                table.insert(vote(signer), number, None);
+            }
+            let Places { index, kept } = &table.kinds[Kind::Nullification as usize];
+            let bytes = kept.capacity() * size_of::<Kept<[u8; 64]>>() + 4 * index.capacity();
+            let most = size_of::<Vote<[u8; 64]>>() + 64;
+            assert!(
+                bytes <= participants as usize * most,
+                "{participants}: {bytes}"
+            );
+        }
+    }
+
+    #[test]
+    fn forgotten_votes_give_their_memory_back_and_numbers_go_on() {
+        let mut table = Table::new();
+        table.reserve(Kind::Nullification, 4).unwrap();
+        let number = table.unused();
+        table.insert(vote(3), number, None);
+        let signer = Participant::new(3);
+        assert!(
+            table
+                .get(Kind::Nullification, signer)
+                .is_some_and(|it| it.number == number)
+        );
+        assert!(table.get(Kind::Finalization, signer).is_none());
+        assert!(
+            table
+                .get(Kind::Nullification, Participant::new(4))
+                .is_none()
+        );
+        table.forget(Kind::Nullification);
+        assert!(table.get(Kind::Nullification, signer).is_none());
+        assert_eq!((table.len(), table.unused()), (0, number + 1));
     }
 }

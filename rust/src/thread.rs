@@ -79,7 +79,7 @@ impl Host {
     }
 
     /// Makes a value on the thread, and gives a mailbox to it. The value is dropped there once all
-    /// its mailboxes are.
+    /// its mailboxes are. This isn't to be called by a job of this host, which would wait for itself.
     ///
     /// # Errors
     ///
@@ -139,7 +139,8 @@ pub struct Mailbox<T> {
 }
 
 impl<T: 'static> Mailbox<T> {
-    /// Runs a job on the value, and waits for its answer by blocking this thread.
+    /// Runs a job on the value, and waits for its answer by blocking this thread. So it isn't to be
+    /// called by a job of the same host, which would wait for itself.
     ///
     /// # Errors
     ///

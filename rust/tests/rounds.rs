@@ -174,7 +174,8 @@ fn repeats_are_never_blocked() {
     }
 }
 
-// Votes for another proposal than the selected one wait outside of the library's buffers, and come back.
+// Votes for another proposal than the selected one wait outside of the library's buffers, and come
+// back.
 #[test]
 fn restored_votes_keep_their_numbers_and_verdicts() {
     let scheme = Toy::new(4);

@@ -1,6 +1,7 @@
-//! Seven validators on threads of their own finalize twenty views, with Ed25519 signatures by libsodium. One notarizes
-//! two proposals and one signs badly; the others name both. Attestations are verified in batches by other threads, while
-//! votes go on coming. It ends with 0 where all of that is so, and else with 1.
+//! Seven validators on threads of their own finalize twenty views, with Ed25519 signatures by
+//! libsodium. One notarizes two proposals and one signs badly; the others name both. Attestations
+//! are verified in batches by other threads, while votes go on coming. It ends with 0 where all of
+//! that is so, and else with 1.
 
 mod scheme;
 mod sodium;

@@ -26,7 +26,8 @@ impl Ed25519 {
             .is_some_and(|key| verify(key, message, &it.signature))
     }
 
-    /// Whether a certificate certifies what it names: by a quorum, ascending, of attestations that attest.
+    /// Whether a certificate certifies what it names: by a quorum, ascending, of attestations that
+    /// attest.
     pub fn certifies(&self, certificate: &Certificate<Vec<Attestation<Signature>>>) -> bool {
         let (message, content) = (bytes(&certificate.subject()), certificate.content());
         content.len() >= quorum(self.participants.len()) as usize

@@ -59,8 +59,8 @@ impl KeyPair {
 
     pub fn sign(&self, message: &[u8]) -> Signature {
         let mut signature = [0; 64];
-        // SAFETY: a signature is of 64 bytes and a secret key too, and the length is the message's. The length of the
-        // signature isn't asked for.
+        // SAFETY: a signature is of 64 bytes and a secret key too, and the length is the message's.
+        // The length of the signature isn't asked for.
         unsafe {
             crypto_sign_ed25519_detached(
                 signature.as_mut_ptr(),

@@ -247,8 +247,8 @@ impl Validator {
         self.cast(Subject::Notarize { proposal })
     }
 
-    /// Whether a proposal of the view may build on that of its parent: one that is notarized, after which each view
-    /// was given up.
+    /// Whether a proposal of the view may build on that of its parent: one that is notarized, after
+    /// which each view was given up.
     fn may_build(&self, parent: u64, view: u64) -> bool {
         parent < view
             && (parent == 0 || self.has(parent, Kind::Notarization))
@@ -283,7 +283,8 @@ impl Validator {
         Ok(())
     }
 
-    /// Casts a vote, and sends it where the round says that it is to be sent. Answers whether it was.
+    /// Casts a vote, and sends it where the round says that it is to be sent. Answers whether it
+    /// was.
     fn cast(&mut self, subject: Subject) -> Result<bool, Error> {
         let vote = Ed25519::sign(&self.keys, self.me, subject);
         match self
