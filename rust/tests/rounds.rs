@@ -187,6 +187,12 @@ fn restored_votes_keep_their_numbers_and_verdicts() {
     hear(&mut round, notarize(2, 2));
     hear(&mut round, notarize(3, 2));
     assert_eq!(scheme.counted(), [1, 1, 0]);
+    // The library forgets verdicts once a batch was made.
+    for signer in 1..4 {
+        hear(&mut round, nullify(signer));
+    }
+    assert!(round.try_construct().unwrap().is_some());
+    assert_eq!(scheme.counted(), [2, 4, 0]);
     let finalization = Certificate::new(
         Subject::Finalize {
             proposal: proposal(2),
@@ -198,7 +204,7 @@ fn restored_votes_keep_their_numbers_and_verdicts() {
     assert_eq!(batch.processed, 3);
     assert_eq!(batch.certificate.unwrap().proposal(), Some(proposal(2)));
     // It came back as pending, and isn't verified again.
-    assert_eq!(scheme.counted(), [2, 3, 0]);
+    assert_eq!(scheme.counted(), [3, 6, 0]);
 }
 
 #[test]
