@@ -59,7 +59,6 @@ pub(crate) struct Admission {
     pub(crate) report: u8,
     pub(crate) block: u8,
     pub(crate) added: bool,
-    pub(crate) retained: bool,
 }
 
 /// `struct batcher_step`
