@@ -34,6 +34,10 @@ impl Scheme for Trusting {
     fn assemble(&self, _: &Subject, attestations: &[Attestation<Signature>]) -> usize {
         attestations.len()
     }
+
+    fn verify_certificate(&self, _: &Subject, certificate: &usize) -> bool {
+        *certificate >= batcher::quorum(self.0.len()) as usize
+    }
 }
 
 fn scheme(participants: u32) -> Arc<Trusting> {

@@ -140,6 +140,8 @@ pub enum Error {
     OutOfMemory,
     /// Another leader of the round was named before.
     LeaderChanged,
+    /// The view is before the finalized one.
+    Passed,
     /// The own vote doesn't attest, as the scheme says.
     NotVerified,
     /// The own vote is refused beside an earlier one.
@@ -158,6 +160,7 @@ impl fmt::Display for Error {
             Error::Elsewhere => f.write_str("of another round"),
             Error::OutOfMemory => f.write_str("out of memory"),
             Error::LeaderChanged => f.write_str("leader changed within round"),
+            Error::Passed => f.write_str("view before the finalized one"),
             Error::NotVerified => f.write_str("own vote doesn't attest"),
             Error::Own(fault) => fault.fmt(f),
             Error::Gone => f.write_str("what lived on the thread is gone"),

@@ -21,6 +21,16 @@ pub(crate) mod code {
     pub(crate) const IDLE: u8 = 12;
     pub(crate) const VERIFY: u8 = 13;
     pub(crate) const VERIFY_TOGETHER: u8 = 14;
+    #[cfg(feature = "node")]
+    pub(crate) const DROPPED: u8 = 15;
+    #[cfg(feature = "node")]
+    pub(crate) const UNKNOWN: u8 = 16;
+    #[cfg(feature = "node")]
+    pub(crate) const PASSED: u8 = 17;
+    #[cfg(feature = "node")]
+    pub(crate) const KNOWN: u8 = 18;
+    #[cfg(feature = "node")]
+    pub(crate) const FORGED: u8 = 19;
 }
 
 /// `struct batcher_proposal`
@@ -303,6 +313,221 @@ impl Round {
                 signers.len(),
             )
         }
+    }
+}
+
+/// `struct batcher_node`, of which the same holds as of a round.
+#[cfg(feature = "node")]
+#[repr(C)]
+pub(crate) struct Node {
+    at: *mut c_void,
+}
+
+#[cfg(feature = "node")]
+unsafe extern "C" {
+    fn batcher_node_new(
+        node: *mut Node,
+        epoch: u64,
+        participants: u32,
+        finalized: u64,
+        ahead: u64,
+        track_historical_votes: bool,
+        batchable: bool,
+        aggregates: bool,
+    ) -> u8;
+    fn batcher_node_free(node: *mut Node);
+    fn batcher_node_record_verdict(node: *mut Node, number: u64, attests: bool) -> u8;
+    fn batcher_node_record_verdict_together(
+        node: *mut Node,
+        list: *const Attestation,
+        length: usize,
+        passes: bool,
+    ) -> u8;
+    fn batcher_node_receive_vote(
+        node: *mut Node,
+        peer: u64,
+        vote: *const Vote,
+        admission: *mut Admission,
+    ) -> u8;
+    fn batcher_node_receive_certificate(
+        node: *mut Node,
+        peer: u64,
+        kind: u8,
+        proposal: *const Proposal,
+        number: u64,
+        certifies: bool,
+        selected_anew: *mut bool,
+    ) -> u8;
+    fn batcher_node_cast_vote(node: *mut Node, vote: *const Vote, admission: *mut Admission) -> u8;
+    fn batcher_node_enter(node: *mut Node, view: u64, leader: u32) -> u8;
+    fn batcher_node_finalize(node: *mut Node, view: u64) -> u8;
+    fn batcher_node_try_construct(
+        node: *mut Node,
+        step: *mut Step,
+        list: *mut Attestation,
+        list_length: usize,
+        signers: *mut u32,
+        signers_length: usize,
+    ) -> u8;
+    fn batcher_node_try_forward_proposal(
+        node: *mut Node,
+        view: u64,
+        me: u32,
+        proposal: *mut Proposal,
+    ) -> u8;
+    fn batcher_node_window(
+        node: *const Node,
+        finalized: *mut u64,
+        current: *mut u64,
+        ahead: *mut u64,
+    ) -> u8;
+    fn batcher_node_rounds_kept(node: *const Node, count: *mut u64) -> u8;
+    fn batcher_node_blocked(
+        node: *const Node,
+        causes: *mut u8,
+        length: usize,
+        count: *mut u64,
+    ) -> u8;
+}
+
+#[cfg(feature = "node")]
+impl Drop for Node {
+    fn drop(&mut self) {
+        // SAFETY: the handle is empty, or is one that `batcher_node_new` filled and nobody else
+        // has.
+        unsafe { batcher_node_free(self) }
+    }
+}
+
+// What is said of the calls of a round holds of these.
+#[cfg(feature = "node")]
+impl Node {
+    /// A node, or the code that was answered.
+    pub(crate) fn new(
+        epoch: u64,
+        participants: u32,
+        finalized: u64,
+        ahead: u64,
+        track_historical_votes: bool,
+        [batchable, aggregates]: [bool; 2],
+    ) -> Result<Self, u8> {
+        let mut node = Node {
+            at: ptr::null_mut(),
+        };
+        // SAFETY: as of a round; an empty handle is a null pointer.
+        let answer = unsafe {
+            batcher_node_new(
+                &mut node,
+                epoch,
+                participants,
+                finalized,
+                ahead,
+                track_historical_votes,
+                batchable,
+                aggregates,
+            )
+        };
+        match answer {
+            code::DONE => Ok(node),
+            answer => Err(answer),
+        }
+    }
+
+    pub(crate) fn record_verdict(&mut self, number: u64, attests: bool) -> u8 {
+        // SAFETY: as of a round.
+        unsafe { batcher_node_record_verdict(self, number, attests) }
+    }
+
+    pub(crate) fn record_verdict_together(&mut self, list: &[Attestation], passes: bool) -> u8 {
+        // SAFETY: as of a round.
+        unsafe { batcher_node_record_verdict_together(self, list.as_ptr(), list.len(), passes) }
+    }
+
+    pub(crate) fn receive_vote(&mut self, peer: u64, vote: &Vote, admission: &mut Admission) -> u8 {
+        // SAFETY: as of a round.
+        unsafe { batcher_node_receive_vote(self, peer, vote, admission) }
+    }
+
+    pub(crate) fn receive_certificate(
+        &mut self,
+        peer: u64,
+        kind: u8,
+        proposal: &Proposal,
+        number: u64,
+        certifies: bool,
+        selected_anew: &mut bool,
+    ) -> u8 {
+        // SAFETY: as of a round.
+        unsafe {
+            batcher_node_receive_certificate(
+                self,
+                peer,
+                kind,
+                proposal,
+                number,
+                certifies,
+                selected_anew,
+            )
+        }
+    }
+
+    pub(crate) fn cast_vote(&mut self, vote: &Vote, admission: &mut Admission) -> u8 {
+        // SAFETY: as of a round.
+        unsafe { batcher_node_cast_vote(self, vote, admission) }
+    }
+
+    pub(crate) fn enter(&mut self, view: u64, leader: u32) -> u8 {
+        // SAFETY: as of a round.
+        unsafe { batcher_node_enter(self, view, leader) }
+    }
+
+    pub(crate) fn finalize(&mut self, view: u64) -> u8 {
+        // SAFETY: as of a round.
+        unsafe { batcher_node_finalize(self, view) }
+    }
+
+    pub(crate) fn try_construct(
+        &mut self,
+        step: &mut Step,
+        list: &mut [Attestation],
+        signers: &mut [u32],
+    ) -> u8 {
+        // SAFETY: as of a round.
+        unsafe {
+            batcher_node_try_construct(
+                self,
+                step,
+                list.as_mut_ptr(),
+                list.len(),
+                signers.as_mut_ptr(),
+                signers.len(),
+            )
+        }
+    }
+
+    pub(crate) fn try_forward_proposal(
+        &mut self,
+        view: u64,
+        me: u32,
+        proposal: &mut Proposal,
+    ) -> u8 {
+        // SAFETY: as of a round.
+        unsafe { batcher_node_try_forward_proposal(self, view, me, proposal) }
+    }
+
+    pub(crate) fn window(&self, [finalized, current, ahead]: [&mut u64; 3]) -> u8 {
+        // SAFETY: as of a round; the call only reads the handle.
+        unsafe { batcher_node_window(self, finalized, current, ahead) }
+    }
+
+    pub(crate) fn rounds_kept(&self, count: &mut u64) -> u8 {
+        // SAFETY: as of a round; the call only reads the handle.
+        unsafe { batcher_node_rounds_kept(self, count) }
+    }
+
+    pub(crate) fn blocked(&self, causes: &mut [u8], count: &mut u64) -> u8 {
+        // SAFETY: as of a round; the call only reads the handle.
+        unsafe { batcher_node_blocked(self, causes.as_mut_ptr(), causes.len(), count) }
     }
 }
 

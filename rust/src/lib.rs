@@ -39,10 +39,13 @@
 #![deny(unsafe_code)]
 
 mod answers;
+mod book;
 #[allow(unsafe_code)]
 mod ffi;
 mod flat;
 pub mod messages;
+#[cfg(feature = "node")]
+pub mod node;
 pub mod positions;
 pub mod round;
 mod scheme;
@@ -54,6 +57,8 @@ pub use messages::{
     Activity, Attestation, Certificate, Finalization, Finalize, Kind, Notarization, Notarize,
     Nullification, Nullify, Proposal, Sha256Digest, Subject, Vote,
 };
+#[cfg(feature = "node")]
+pub use node::Node;
 pub use positions::{Epoch, Participant, Set, SetFault, View, quorum};
 pub use round::{Round, Step, Wanted};
 pub use scheme::Scheme;

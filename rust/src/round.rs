@@ -1,52 +1,25 @@
 //! One round: what it answers to votes, and the certificates that it makes of them.
 
 use crate::answers::{Admission, Batch, Error, Mode, Outcome};
+pub use crate::book::Wanted;
+use crate::book::{Book, Library, reserve_each};
 use crate::ffi::{self, code};
-use crate::flat::{
-    block_of, done, error_of, flat_proposal, flat_subject, flat_vote, kind_of, proposal_of, some,
-    subject_of,
-};
-use crate::messages::{Activity, Attestation, Certificate, Kind, Proposal, Subject, Vote};
+use crate::flat::{done, error_of, flat_proposal, flat_subject, flat_vote, proposal_of, some};
+use crate::messages::{Activity, Certificate, Kind, Proposal, Vote};
 use crate::positions::{self, Participant};
 use crate::scheme::Scheme;
-use crate::table::{Kept, Table};
+use crate::table::Numbers;
 use std::fmt;
 use std::sync::Arc;
 use std::sync::atomic::{AtomicU64, Ordering};
 
 /// What the library is told of a sender that is no participant. All of these have lower names.
-const NOBODY: u64 = u64::MAX;
+pub(crate) const NOBODY: u64 = u64::MAX;
 
-/// Tells the rounds of a process apart.
-static ROUNDS: AtomicU64 = AtomicU64::new(0);
-
-/// Attestations of one subject on which a verdict is wanted. It is plain data: it may go to another
-/// thread, and the round goes on meanwhile.
-#[derive(Clone, Debug)]
-pub struct Wanted<G> {
-    subject: Subject,
-    attestations: Vec<Attestation<G>>,
-    verified: usize,
-    listed: Vec<ffi::Attestation>,
-    round: u64,
-}
-
-impl<G> Wanted<G> {
-    /// What they are to attest to.
-    pub fn subject(&self) -> &Subject {
-        &self.subject
-    }
-
-    /// The attestations, each of another participant.
-    pub fn attestations(&self) -> &[Attestation<G>] {
-        &self.attestations
-    }
-
-    /// How many of them, at the front, are known to attest. It is 0 where a verdict on each is
-    /// wanted.
-    pub fn verified(&self) -> usize {
-        self.verified
-    }
+/// A number that tells a round, or a node, from all others of the process.
+pub(crate) fn identity() -> u64 {
+    static NEXT: AtomicU64 = AtomicU64::new(0);
+    NEXT.fetch_add(1, Ordering::Relaxed)
 }
 
 /// What a construction comes to.
@@ -92,9 +65,8 @@ pub struct Round<S: Scheme> {
     number: positions::Round,
     mode: Mode,
     identity: u64,
-    table: Table<S::Signature>,
-    /// Of which kinds the library keeps votes in full.
-    keeps: [bool; 3],
+    book: Book<S::Signature>,
+    numbers: Numbers,
     // Where the library lists attestations and signers: a place for each participant, once one is
     // wanted.
     list: Vec<ffi::Attestation>,
@@ -158,9 +130,9 @@ impl<S: Scheme> Round<S> {
             scheme,
             number: round,
             mode,
-            identity: ROUNDS.fetch_add(1, Ordering::Relaxed),
-            table: Table::new(),
-            keeps: [mode != Mode::Skipped; 3],
+            identity: identity(),
+            book: Book::new(mode),
+            numbers: Numbers::new(),
             list: Vec::new(),
             signers: Vec::new(),
         })
@@ -221,29 +193,16 @@ impl<S: Scheme> Round<S> {
         sender: &S::PublicKey,
         vote: Vote<S::Signature>,
     ) -> Result<Admission<S::Signature>, Error> {
-        let (kind, signer) = (vote.kind(), vote.signer());
-        let sender = self.scheme.participants().index_near(sender, signer);
-        let (number, is_first) = self.number_of(&vote);
-        // No other vote is added and kept.
-        let may_keep = is_first && sender == Some(signer) && self.keeps[kind as usize];
-        if may_keep {
-            self.table.reserve(kind, self.scheme.participants().len())?;
-        }
+        let participants = self.scheme.participants();
+        let sender = participants.index_near(sender, vote.signer());
         let name = sender.map_or(NOBODY, |index| u64::from(index.get()));
+        let numbered = self
+            .book
+            .number(vote, sender, &mut self.numbers, participants.len())?;
         let mut answer = ffi::Admission::default();
-        done(
-            self.library
-                .add_network(name, &flat_vote(&vote, number), &mut answer),
-        )?;
-        let admission = Admission {
-            added: answer.added,
-            block: block_of(answer.block)?,
-            report: self.report(&answer, &vote, number)?,
-        };
-        if answer.added && may_keep {
-            self.table.insert(vote, number, None);
-        }
-        Ok(admission)
+        let flat = flat_vote(&numbered.vote, numbered.number);
+        done(self.library.add_network(name, &flat, &mut answer))?;
+        self.book.admission(&answer, numbered)
     }
 
     /// Takes in a vote of the node's own, which the scheme is asked to verify. **It is to be sent
@@ -298,31 +257,22 @@ impl<S: Scheme> Round<S> {
             return Err(Error::NotVerified);
         }
         let kind = vote.kind();
-        let (number, is_first) = self.number_of(&vote);
-        let retained = self.keeps[kind as usize];
-        if is_first && retained {
-            self.table.reserve(kind, self.scheme.participants().len())?;
-        }
-        self.record_verdict(
-            kind,
-            ffi::Attestation {
-                number,
-                signer: vote.signer().get(),
-            },
-            true,
-        )?;
+        let retained = self.book.keeps(kind);
+        let participants = self.scheme.participants().len();
+        let signer = Some(vote.signer());
+        let numbered = self
+            .book
+            .number(vote, signer, &mut self.numbers, participants)?;
+        self.book
+            .record_verdict(&mut self.library, kind, numbered.listed(), true)?;
         let mut answer = ffi::Admission::default();
-        done(
-            self.library
-                .accept_vote(&flat_vote(&vote, number), &mut answer),
-        )?;
-        let report = self.report(&answer, &vote, number)?;
+        let flat = flat_vote(&numbered.vote, numbered.number);
+        done(self.library.accept_vote(&flat, &mut answer))?;
+        let report = self.book.report(&answer, &numbered)?;
         if !answer.added {
             return Ok((Outcome::Duplicate { retained }, report));
         }
-        if retained {
-            self.table.insert(vote, number, Some(true));
-        }
+        self.book.keep(numbered, Some(true));
         Ok((Outcome::Added { retained }, report))
     }
 
@@ -336,14 +286,14 @@ impl<S: Scheme> Round<S> {
     ///
     /// `Elsewhere` and `OutOfMemory`.
     pub fn record_certificate<C>(&mut self, certificate: &Certificate<C>) -> Result<bool, Error> {
-        let (kind, number) = (certificate.kind(), self.table.unused());
+        let (kind, number) = (certificate.kind(), self.numbers.unused());
         let proposal = flat_subject(&certificate.subject());
         let mut selected_anew = false;
         done(
             self.library
                 .record_certificate(kind as u8, &proposal, number, &mut selected_anew),
         )?;
-        self.certified(kind);
+        self.book.certified(kind);
         Ok(selected_anew)
     }
 
@@ -489,23 +439,29 @@ impl<S: Scheme> Round<S> {
         reserve_each(&mut self.signers, participants, 0)?;
         loop {
             let mut step = ffi::Step::default();
-            match self
+            let answer = self
                 .library
-                .try_construct(&mut step, &mut self.list, &mut self.signers)
-            {
+                .try_construct(&mut step, &mut self.list, &mut self.signers);
+            let list = &self.list[..step.listed as usize];
+            match answer {
                 code::IDLE => return Ok(Step::Idle),
-                code::DONE => return Ok(Step::Made(self.made(&step)?)),
+                code::DONE => {
+                    let signers = &self.signers[..step.invalid as usize];
+                    return self
+                        .book
+                        .made(&*self.scheme, &step, list, signers)
+                        .map(Step::Made);
+                }
                 code::VERIFY => {
-                    // A vote that was restored was verified before, perhaps. It isn't a second
-                    // time.
-                    let unknown = self.without_known(&step)?;
+                    let unknown = self.book.without_known(&mut self.library, &step, list)?;
                     if !unknown.is_empty() {
-                        return Ok(Step::Verify(self.wanted(&step, unknown)?));
+                        let wanted = self.book.wanted(&step, &unknown, self.identity)?;
+                        return Ok(Step::Verify(wanted));
                     }
                 }
                 code::VERIFY_TOGETHER => {
-                    let listed = copied(&self.list[..step.listed as usize])?;
-                    return Ok(Step::VerifyTogether(self.wanted(&step, listed)?));
+                    let wanted = self.book.wanted(&step, list, self.identity)?;
+                    return Ok(Step::VerifyTogether(wanted));
                 }
                 answer => return Err(error_of(answer)),
             }
@@ -533,17 +489,11 @@ impl<S: Scheme> Round<S> {
             verdicts.len(),
             "there isn't one verdict for each"
         );
-        if wanted.round != self.identity {
+        if wanted.owner != self.identity {
             return Err(Error::Elsewhere);
         }
-        let kind = wanted.subject.kind();
-        for (listed, attests) in wanted.listed.iter().zip(verdicts) {
-            // What was forgotten meanwhile is needed no more.
-            if self.kept(kind, listed).is_some() {
-                self.record_verdict(kind, *listed, *attests)?;
-            }
-        }
-        Ok(())
+        self.book
+            .record_verdicts(&mut self.library, wanted, verdicts)
     }
 
     /// Records whether the attestations that a step has handed out pass as a whole.
@@ -557,7 +507,7 @@ impl<S: Scheme> Round<S> {
         wanted: &Wanted<S::Signature>,
         passes: bool,
     ) -> Result<(), Error> {
-        if wanted.round != self.identity {
+        if wanted.owner != self.identity {
             return Err(Error::Elsewhere);
         }
         done(self.library.record_verdict_together(&wanted.listed, passes))
@@ -565,153 +515,13 @@ impl<S: Scheme> Round<S> {
 
     /// How many votes are kept on this side of the door, each with its signature.
     pub fn votes_kept(&self) -> usize {
-        self.table.len()
+        self.book.len()
     }
+}
 
-    // The number of the vote's attestation, and whether no vote of its kind and signer is kept.
-    fn number_of(&mut self, vote: &Vote<S::Signature>) -> (u64, bool) {
-        match self.table.get(vote.kind(), vote.signer()) {
-            Some(kept) if kept.vote == *vote => (kept.number, false),
-            Some(_) => (self.table.unused(), false),
-            None => (self.table.unused(), true),
-        }
-    }
-
-    fn kept(&self, kind: Kind, listed: &ffi::Attestation) -> Option<&Kept<S::Signature>> {
-        let kept = self.table.get(kind, Participant::new(listed.signer))?;
-        (kept.number == listed.number).then_some(kept)
-    }
-
-    // Hands a verdict to the library, or the earlier one on the same attestation.
-    fn record_verdict(
-        &mut self,
-        kind: Kind,
-        listed: ffi::Attestation,
-        attests: bool,
-    ) -> Result<(), Error> {
-        let kept = self.table.get_mut(kind, Participant::new(listed.signer));
-        let attests = match kept {
-            Some(kept) if kept.number == listed.number => *kept.verdict.get_or_insert(attests),
-            _ => attests,
-        };
-        done(self.library.record_verdict(listed.number, attests))
-    }
-
-    // The attestations of a step that wants verdicts, without those on which there is one. It is
-    // handed to the library.
-    fn without_known(&mut self, step: &ffi::Step) -> Result<Vec<ffi::Attestation>, Error> {
-        let kind = kind_of(step.kind)?;
-        let mut unknown = Vec::new();
-        reserve(&mut unknown, step.listed as usize)?;
-        for place in 0..step.listed as usize {
-            let listed = self.list[place];
-            match self.kept(kind, &listed).map(|kept| kept.verdict) {
-                Some(Some(attests)) => done(self.library.record_verdict(listed.number, attests))?,
-                _ => unknown.push(listed),
-            }
-        }
-        Ok(unknown)
-    }
-
-    fn wanted(
-        &self,
-        step: &ffi::Step,
-        listed: Vec<ffi::Attestation>,
-    ) -> Result<Wanted<S::Signature>, Error> {
-        let kind = kind_of(step.kind)?;
-        Ok(Wanted {
-            subject: subject_of(kind, &step.proposal),
-            attestations: self.attestations(kind, &listed)?,
-            verified: step.verified as usize,
-            listed,
-            round: self.identity,
-        })
-    }
-
-    fn made(&mut self, step: &ffi::Step) -> Result<Batch<S::Certificate>, Error> {
-        let mut certificate = None;
-        if step.certified {
-            let kind = kind_of(step.kind)?;
-            let subject = subject_of(kind, &step.proposal);
-            let mut quorum = self.attestations(kind, &self.list[..step.listed as usize])?;
-            quorum.sort_unstable_by_key(|it| it.signer);
-            certificate = Some(Certificate::new(
-                subject,
-                self.scheme.assemble(&subject, &quorum),
-            ));
-            self.certified(kind);
-        }
-        let invalid = &self.signers[..step.invalid as usize];
-        Ok(Batch {
-            processed: step.processed as usize,
-            invalid: invalid
-                .iter()
-                .map(|index| Participant::new(*index))
-                .collect(),
-            certificate,
-            fallback: step.fallback,
-        })
-    }
-
-    fn attestations(
-        &self,
-        kind: Kind,
-        listed: &[ffi::Attestation],
-    ) -> Result<Vec<Attestation<S::Signature>>, Error> {
-        let mut attestations = Vec::new();
-        reserve(&mut attestations, listed.len())?;
-        for it in listed {
-            let kept = self.kept(kind, it).ok_or(Error::Unknown(code::VERIFY))?;
-            attestations.push(kept.vote.attestation().clone());
-        }
-        Ok(attestations)
-    }
-
-    // The kind is certified, so a round that releases votes keeps none of it in full from now on.
-    fn certified(&mut self, kind: Kind) {
-        if self.mode == Mode::Releasing {
-            self.keeps[kind as usize] = false;
-            self.table.forget(kind);
-        }
-    }
-
-    // The report of an answer to this vote, whose attestation has this number. Another vote in it
-    // is one that is kept.
-    fn report(
-        &self,
-        answer: &ffi::Admission,
-        vote: &Vote<S::Signature>,
-        number: u64,
-    ) -> Result<Option<Activity<S::Signature>>, Error> {
-        let of = |flat: &ffi::Vote| {
-            if flat.attestation.number == number {
-                return Ok(vote.clone());
-            }
-            match self.kept(kind_of(flat.kind)?, &flat.attestation) {
-                Some(kept) => Ok(kept.vote.clone()),
-                None => Err(Error::Unknown(answer.report)),
-            }
-        };
-        Ok(Some(match (answer.report, answer) {
-            (0, _) => return Ok(None),
-            (1..=3, _) => match of(&answer.first)? {
-                Vote::Notarize(vote) => Activity::Notarize(vote),
-                Vote::Nullify(vote) => Activity::Nullify(vote),
-                Vote::Finalize(vote) => Activity::Finalize(vote),
-            },
-            (report, _) => match (report, of(&answer.first)?, of(&answer.second)?) {
-                (4, Vote::Notarize(first), Vote::Notarize(second)) => {
-                    Activity::ConflictingNotarize(first, second)
-                }
-                (5, Vote::Finalize(first), Vote::Finalize(second)) => {
-                    Activity::ConflictingFinalize(first, second)
-                }
-                (6, Vote::Nullify(first), Vote::Finalize(second)) => {
-                    Activity::NullifyFinalize(first, second)
-                }
-                (other, _, _) => return Err(Error::Unknown(other)),
-            },
-        }))
+impl Library for ffi::Round {
+    fn record_verdict(&mut self, number: u64, attests: bool) -> u8 {
+        ffi::Round::record_verdict(self, number, attests)
     }
 }
 
@@ -723,24 +533,4 @@ impl<S: Scheme> fmt::Debug for Round<S> {
             .field("votes_kept", &self.votes_kept())
             .finish_non_exhaustive()
     }
-}
-
-fn reserve<T>(list: &mut Vec<T>, more: usize) -> Result<(), Error> {
-    list.try_reserve_exact(more).map_err(|_| Error::OutOfMemory)
-}
-
-fn copied<T: Copy>(items: &[T]) -> Result<Vec<T>, Error> {
-    let mut list = Vec::new();
-    reserve(&mut list, items.len())?;
-    list.extend_from_slice(items);
-    Ok(list)
-}
-
-// A list with as many places as there are participants.
-fn reserve_each<T: Clone>(list: &mut Vec<T>, participants: u32, nothing: T) -> Result<(), Error> {
-    let more = (participants as usize).saturating_sub(list.len());
-    list.try_reserve_exact(more)
-        .map_err(|_| Error::OutOfMemory)?;
-    list.resize(participants as usize, nothing);
-    Ok(())
 }

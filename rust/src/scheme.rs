@@ -42,6 +42,12 @@ use crate::positions::Set;
 ///     ) -> Self::Certificate {
 ///         attestations.to_vec()
 ///     }
+///
+///     fn verify_certificate(&self, subject: &Subject, certificate: &Self::Certificate) -> bool {
+///         certificate.len() >= batcher::quorum(self.0.len()) as usize
+///             && certificate.windows(2).all(|pair| pair[0].signer < pair[1].signer)
+///             && self.verify_attestations(subject, certificate).into_iter().all(|attests| attests)
+///     }
 /// }
 /// ```
 pub trait Scheme {
@@ -101,4 +107,8 @@ pub trait Scheme {
         subject: &Subject,
         attestations: &[Attestation<Self::Signature>],
     ) -> Self::Certificate;
+
+    /// Whether a certificate that came from elsewhere certifies the subject, by itself. A round
+    /// doesn't ask; a node does.
+    fn verify_certificate(&self, subject: &Subject, certificate: &Self::Certificate) -> bool;
 }

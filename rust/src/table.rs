@@ -31,10 +31,26 @@ struct Places<G> {
     kept: Vec<Kept<G>>,
 }
 
-/// The numbers of one round.
+/// Numbers that were never used.
+pub(crate) struct Numbers {
+    next: u64,
+}
+
+impl Numbers {
+    pub(crate) fn new() -> Self {
+        Numbers { next: 0 }
+    }
+
+    pub(crate) fn unused(&mut self) -> u64 {
+        let number = self.next;
+        self.next += 1;
+        number
+    }
+}
+
+/// The votes of one view that the library keeps in full.
 pub(crate) struct Table<G> {
     kinds: [Places<G>; 3],
-    next: u64,
 }
 
 impl<G: Eq> Table<G> {
@@ -43,14 +59,7 @@ impl<G: Eq> Table<G> {
             index: Vec::new(),
             kept: Vec::new(),
         });
-        Table { kinds, next: 0 }
-    }
-
-    /// A number that stands for nothing yet.
-    pub(crate) fn unused(&mut self) -> u64 {
-        let number = self.next;
-        self.next += 1;
-        number
+        Table { kinds }
     }
 
     /// The vote that is kept of a kind and a signer.
@@ -132,10 +141,10 @@ mod tests {
     #[test]
     fn a_vote_takes_little_more_than_its_size() {
         for participants in 1..300 {
-            let mut table = Table::new();
+            let (mut table, mut numbers) = (Table::new(), Numbers::new());
             for signer in 0..participants {
                 table.reserve(Kind::Nullification, participants).unwrap();
-                let number = table.unused();
+                let number = numbers.unused();
                 table.insert(vote(signer), number, None);
             }
             let Places { index, kept } = &table.kinds[Kind::Nullification as usize];
@@ -150,9 +159,9 @@ mod tests {
 
     #[test]
     fn forgotten_votes_give_their_memory_back_and_numbers_go_on() {
-        let mut table = Table::new();
+        let (mut table, mut numbers) = (Table::new(), Numbers::new());
         table.reserve(Kind::Nullification, 4).unwrap();
-        let number = table.unused();
+        let number = numbers.unused();
         table.insert(vote(3), number, None);
         let signer = Participant::new(3);
         assert!(
@@ -168,6 +177,6 @@ mod tests {
         );
         table.forget(Kind::Nullification);
         assert!(table.get(Kind::Nullification, signer).is_none());
-        assert_eq!((table.len(), table.unused()), (0, number + 1));
+        assert_eq!((table.len(), numbers.unused()), (0, number + 1));
     }
 }

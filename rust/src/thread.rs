@@ -79,7 +79,8 @@ impl Host {
     }
 
     /// Makes a value on the thread, and gives a mailbox to it. The value is dropped there once all
-    /// its mailboxes are. This isn't to be called by a job of this host, which would wait for itself.
+    /// its mailboxes are. This isn't to be called by a job of this host, which would wait for
+    /// itself.
     ///
     /// # Errors
     ///

@@ -1,5 +1,6 @@
-//! Whatever the others send and whatever is certified, who votes once for each thing and repeats its
-//! votes as they are is never blocked; and who does more is blocked with evidence of its own alone.
+//! Whatever the others send and whatever is certified, who votes once for each thing and repeats
+//! its votes as they are is never blocked; and who does more is blocked with evidence of its own
+//! alone.
 
 mod toy;
 

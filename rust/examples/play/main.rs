@@ -13,7 +13,7 @@ mod sha256;
 
 use batcher::{
     Activity, Admission, Attestation, Batch, Certificate, Error, Outcome, Participant, Proposal,
-    Round, Sha256Digest, Subject, View, Vote, quorum,
+    Round, Scheme, Sha256Digest, Subject, View, Vote, quorum,
 };
 use scheme::{Content, Signature, TestScheme};
 use script::{Ballot, Command, Line, Opening};
@@ -224,7 +224,7 @@ impl Player {
         assert!(
             certificate
                 .as_ref()
-                .is_none_or(|it| self.scheme.certifies(it))
+                .is_none_or(|it| self.scheme.verify_certificate(&it.subject(), it.content()))
         );
         let (invalid, certificate) = (List(invalid), OrNone(certificate.as_ref().map(Made)));
         let fallback = if *fallback { "yes" } else { "no" };

@@ -54,22 +54,6 @@ impl TestScheme {
         Certificate::new(subject, self.assemble(&subject, &attestations))
     }
 
-    /// Whether a certificate certifies what it names.
-    pub fn certifies(&self, certificate: &Certificate<Content>) -> bool {
-        let subject = certificate.subject();
-        match certificate.content() {
-            Content::List(attestations) => {
-                self.sort != Sort::Sealed
-                    && attestations.len() >= quorum(self.participants.len()) as usize
-                    && attestations
-                        .windows(2)
-                        .all(|pair| pair[0].signer < pair[1].signer)
-                    && attestations.iter().all(|it| self.attests(&subject, it))
-            }
-            Content::Seal(seal) => self.sort == Sort::Sealed && *seal == signed(MASTER, &subject),
-        }
-    }
-
     fn attests(&self, subject: &Subject, attestation: &Attestation<Signature>) -> bool {
         self.participants.key(attestation.signer).is_some()
             && attestation.signature == signed(attestation.signer.get(), subject)
@@ -120,6 +104,20 @@ impl Scheme for TestScheme {
         match self.sort {
             Sort::Keyed | Sort::Single => Content::List(attestations.to_vec()),
             Sort::Sealed => Content::Seal(signed(MASTER, subject)),
+        }
+    }
+
+    fn verify_certificate(&self, subject: &Subject, certificate: &Content) -> bool {
+        match certificate {
+            Content::List(attestations) => {
+                self.sort != Sort::Sealed
+                    && attestations.len() >= quorum(self.participants.len()) as usize
+                    && attestations
+                        .windows(2)
+                        .all(|pair| pair[0].signer < pair[1].signer)
+                    && attestations.iter().all(|it| self.attests(subject, it))
+            }
+            Content::Seal(seal) => self.sort == Sort::Sealed && *seal == signed(MASTER, subject),
         }
     }
 }

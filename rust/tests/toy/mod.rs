@@ -101,6 +101,18 @@ impl batcher::Scheme for Toy {
     ) -> Self::Certificate {
         attestations.to_vec()
     }
+
+    fn verify_certificate(
+        &self,
+        subject: &batcher::Subject,
+        certificate: &Self::Certificate,
+    ) -> bool {
+        certificate.len() >= batcher::quorum(self.participants.len()) as usize
+            && certificate
+                .windows(2)
+                .all(|pair| pair[0].signer < pair[1].signer)
+            && certificate.iter().all(|it| attests(subject, it))
+    }
 }
 
 /// A good vote.

@@ -1,7 +1,7 @@
 //! Ed25519 as a scheme. A certificate is a list of attestations.
 
 use crate::sodium::{KeyPair, PublicKey, Signature, verify};
-use batcher::{Attestation, Certificate, Participant, Scheme, Set, Subject, Vote, quorum};
+use batcher::{Attestation, Participant, Scheme, Set, Subject, Vote, quorum};
 
 /// Keeps signatures apart from those of other uses of the keys.
 const DOMAIN: &[u8] = b"batcher validator example";
@@ -24,17 +24,6 @@ impl Ed25519 {
         self.participants
             .key(it.signer)
             .is_some_and(|key| verify(key, message, &it.signature))
-    }
-
-    /// Whether a certificate certifies what it names: by a quorum, ascending, of attestations that
-    /// attest.
-    pub fn certifies(&self, certificate: &Certificate<Vec<Attestation<Signature>>>) -> bool {
-        let (message, content) = (bytes(&certificate.subject()), certificate.content());
-        content.len() >= quorum(self.participants.len()) as usize
-            && content
-                .windows(2)
-                .all(|pair| pair[0].signer < pair[1].signer)
-            && content.iter().all(|it| self.attests(&message, it))
     }
 }
 
@@ -65,6 +54,16 @@ impl Scheme for Ed25519 {
         attestations: &[Attestation<Signature>],
     ) -> Vec<Attestation<Signature>> {
         attestations.to_vec()
+    }
+
+    // By a quorum, ascending, of attestations that attest.
+    fn verify_certificate(&self, subject: &Subject, certificate: &Self::Certificate) -> bool {
+        let message = bytes(subject);
+        certificate.len() >= quorum(self.participants.len()) as usize
+            && certificate
+                .windows(2)
+                .all(|pair| pair[0].signer < pair[1].signer)
+            && certificate.iter().all(|it| self.attests(&message, it))
     }
 }
 

@@ -46,7 +46,7 @@ pub fn verify(scheme: &Ed25519, job: Job) {
             answer.send(Message::Verdicts(view, wanted, verdicts))
         }
         Job::Certificate(from, made, answer) => {
-            let certifies = scheme.certifies(&made);
+            let certifies = scheme.verify_certificate(&made.subject(), made.content());
             answer.send(Message::Certifies(from, made, certifies))
         }
     };

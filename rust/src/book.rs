@@ -1,0 +1,338 @@
+//! What this side of the door knows of one view: the votes that the library keeps in full, with
+//! their numbers, and what was found of them.
+
+use crate::answers::{Admission, Batch, Error, Mode};
+use crate::ffi::{self, code};
+use crate::flat::{block_of, done, kind_of, subject_of};
+use crate::messages::{Activity, Attestation, Certificate, Kind, Subject, Vote};
+use crate::positions::Participant;
+use crate::scheme::Scheme;
+use crate::table::{Kept, Numbers, Table};
+
+/// Attestations of one subject on which a verdict is wanted. It is plain data: it may go to another
+/// thread, and the round goes on meanwhile.
+#[derive(Clone, Debug)]
+pub struct Wanted<G> {
+    subject: Subject,
+    attestations: Vec<Attestation<G>>,
+    verified: usize,
+    pub(crate) listed: Vec<ffi::Attestation>,
+    /// Tells whom it is to be handed back to.
+    pub(crate) owner: u64,
+}
+
+impl<G> Wanted<G> {
+    /// What they are to attest to.
+    pub fn subject(&self) -> &Subject {
+        &self.subject
+    }
+
+    /// The attestations, each of another participant.
+    pub fn attestations(&self) -> &[Attestation<G>] {
+        &self.attestations
+    }
+
+    /// How many of them, at the front, are known to attest. It is 0 where a verdict on each is
+    /// wanted.
+    pub fn verified(&self) -> usize {
+        self.verified
+    }
+}
+
+/// Where verdicts go.
+pub(crate) trait Library {
+    fn record_verdict(&mut self, number: u64, attests: bool) -> u8;
+}
+
+/// A vote on its way to the library.
+pub(crate) struct Numbered<G> {
+    pub(crate) vote: Vote<G>,
+    pub(crate) number: u64,
+    /// Whether the library keeps it in full, if it is added.
+    may_keep: bool,
+}
+
+impl<G> Numbered<G> {
+    pub(crate) fn listed(&self) -> ffi::Attestation {
+        let signer = self.vote.signer().get();
+        ffi::Attestation {
+            number: self.number,
+            signer,
+        }
+    }
+}
+
+pub(crate) struct Book<G> {
+    table: Table<G>,
+    releases: bool,
+    /// Of which kinds the library keeps votes in full.
+    keeps: [bool; 3],
+    certified: [bool; 3],
+}
+
+impl<G: Clone + Eq> Book<G> {
+    pub(crate) fn new(mode: Mode) -> Self {
+        Book {
+            table: Table::new(),
+            releases: mode == Mode::Releasing,
+            keeps: [mode != Mode::Skipped; 3],
+            certified: [false; 3],
+        }
+    }
+
+    /// Whether the library keeps votes of the kind in full.
+    pub(crate) fn keeps(&self, kind: Kind) -> bool {
+        self.keeps[kind as usize]
+    }
+
+    /// How many votes are kept.
+    pub(crate) fn len(&self) -> usize {
+        self.table.len()
+    }
+
+    /// Gives a vote its number, and makes room for it where the library may keep it, which it does
+    /// of no vote that isn't from its signer.
+    pub(crate) fn number(
+        &mut self,
+        vote: Vote<G>,
+        sender: Option<Participant>,
+        numbers: &mut Numbers,
+        participants: u32,
+    ) -> Result<Numbered<G>, Error> {
+        let (kind, signer) = (vote.kind(), vote.signer());
+        let (number, is_first) = match self.table.get(kind, signer) {
+            Some(kept) if kept.vote == vote => (kept.number, false),
+            Some(_) => (numbers.unused(), false),
+            None => (numbers.unused(), true),
+        };
+        let may_keep = is_first && sender == Some(signer) && self.keeps(kind);
+        if may_keep {
+            self.table.reserve(kind, participants)?;
+        }
+        Ok(Numbered {
+            vote,
+            number,
+            may_keep,
+        })
+    }
+
+    /// What the library has answered to a network vote.
+    pub(crate) fn admission(
+        &mut self,
+        answer: &ffi::Admission,
+        numbered: Numbered<G>,
+    ) -> Result<Admission<G>, Error> {
+        let admission = Admission {
+            added: answer.added,
+            block: block_of(answer.block)?,
+            report: self.report(answer, &numbered)?,
+        };
+        if answer.added {
+            self.keep(numbered, None);
+        }
+        Ok(admission)
+    }
+
+    /// Keeps a vote that was added.
+    pub(crate) fn keep(&mut self, numbered: Numbered<G>, verdict: Option<bool>) {
+        if numbered.may_keep {
+            self.table.insert(numbered.vote, numbered.number, verdict);
+        }
+    }
+
+    /// The report of an answer to this vote. Another vote in it is one that is kept.
+    pub(crate) fn report(
+        &self,
+        answer: &ffi::Admission,
+        numbered: &Numbered<G>,
+    ) -> Result<Option<Activity<G>>, Error> {
+        let of = |flat: &ffi::Vote| {
+            if flat.attestation.number == numbered.number {
+                return Ok(numbered.vote.clone());
+            }
+            match self.kept(kind_of(flat.kind)?, &flat.attestation) {
+                Some(kept) => Ok(kept.vote.clone()),
+                None => Err(Error::Unknown(answer.report)),
+            }
+        };
+        Ok(Some(match answer.report {
+            0 => return Ok(None),
+            1..=3 => match of(&answer.first)? {
+                Vote::Notarize(vote) => Activity::Notarize(vote),
+                Vote::Nullify(vote) => Activity::Nullify(vote),
+                Vote::Finalize(vote) => Activity::Finalize(vote),
+            },
+            report => match (report, of(&answer.first)?, of(&answer.second)?) {
+                (4, Vote::Notarize(first), Vote::Notarize(second)) => {
+                    Activity::ConflictingNotarize(first, second)
+                }
+                (5, Vote::Finalize(first), Vote::Finalize(second)) => {
+                    Activity::ConflictingFinalize(first, second)
+                }
+                (6, Vote::Nullify(first), Vote::Finalize(second)) => {
+                    Activity::NullifyFinalize(first, second)
+                }
+                (other, _, _) => return Err(Error::Unknown(other)),
+            },
+        }))
+    }
+
+    /// Hands a verdict to the library, or the earlier one on the same attestation.
+    pub(crate) fn record_verdict(
+        &mut self,
+        library: &mut impl Library,
+        kind: Kind,
+        listed: ffi::Attestation,
+        attests: bool,
+    ) -> Result<(), Error> {
+        let kept = self.table.get_mut(kind, Participant::new(listed.signer));
+        let attests = match kept {
+            Some(kept) if kept.number == listed.number => *kept.verdict.get_or_insert(attests),
+            _ => attests,
+        };
+        done(library.record_verdict(listed.number, attests))
+    }
+
+    /// Hands in the verdicts on what a step has wanted.
+    pub(crate) fn record_verdicts(
+        &mut self,
+        library: &mut impl Library,
+        wanted: &Wanted<G>,
+        verdicts: &[bool],
+    ) -> Result<(), Error> {
+        let kind = wanted.subject.kind();
+        for (listed, attests) in wanted.listed.iter().zip(verdicts) {
+            // What was forgotten meanwhile is needed no more.
+            if self.kept(kind, listed).is_some() {
+                self.record_verdict(library, kind, *listed, *attests)?;
+            }
+        }
+        Ok(())
+    }
+
+    /// Those of the attestations that a step wants verdicts on, without those on which there is
+    /// one, as on a vote that was restored. The library is handed that.
+    pub(crate) fn without_known(
+        &self,
+        library: &mut impl Library,
+        step: &ffi::Step,
+        list: &[ffi::Attestation],
+    ) -> Result<Vec<ffi::Attestation>, Error> {
+        let kind = kind_of(step.kind)?;
+        let mut unknown = Vec::new();
+        reserve(&mut unknown, list.len())?;
+        for listed in list {
+            match self.kept(kind, listed).map(|kept| kept.verdict) {
+                Some(Some(attests)) => done(library.record_verdict(listed.number, attests))?,
+                _ => unknown.push(*listed),
+            }
+        }
+        Ok(unknown)
+    }
+
+    /// What is handed out to be verified.
+    pub(crate) fn wanted(
+        &self,
+        step: &ffi::Step,
+        list: &[ffi::Attestation],
+        owner: u64,
+    ) -> Result<Wanted<G>, Error> {
+        let kind = kind_of(step.kind)?;
+        let mut listed = Vec::new();
+        reserve(&mut listed, list.len())?;
+        listed.extend_from_slice(list);
+        Ok(Wanted {
+            subject: subject_of(kind, &step.proposal),
+            attestations: self.attestations(kind, list)?,
+            verified: step.verified as usize,
+            listed,
+            owner,
+        })
+    }
+
+    /// The batch that the library has made.
+    pub(crate) fn made<S: Scheme<Signature = G>>(
+        &mut self,
+        scheme: &S,
+        step: &ffi::Step,
+        list: &[ffi::Attestation],
+        signers: &[u32],
+    ) -> Result<Batch<S::Certificate>, Error> {
+        let mut certificate = None;
+        if step.certified {
+            let kind = kind_of(step.kind)?;
+            let subject = subject_of(kind, &step.proposal);
+            let mut quorum = self.attestations(kind, list)?;
+            quorum.sort_unstable_by_key(|it| it.signer);
+            certificate = Some(Certificate::new(
+                subject,
+                scheme.assemble(&subject, &quorum),
+            ));
+            self.certified(kind);
+        }
+        Ok(Batch {
+            processed: step.processed as usize,
+            invalid: signers
+                .iter()
+                .map(|index| Participant::new(*index))
+                .collect(),
+            certificate,
+            fallback: step.fallback,
+        })
+    }
+
+    /// Notes that a certificate of the kind is there. The library keeps none of its votes in full
+    /// from then on, where it releases them.
+    pub(crate) fn certified(&mut self, kind: Kind) {
+        self.certified[kind as usize] = true;
+        if self.releases {
+            self.keeps[kind as usize] = false;
+            self.table.forget(kind);
+        }
+    }
+
+    fn kept(&self, kind: Kind, listed: &ffi::Attestation) -> Option<&Kept<G>> {
+        let kept = self.table.get(kind, Participant::new(listed.signer))?;
+        (kept.number == listed.number).then_some(kept)
+    }
+
+    fn attestations(
+        &self,
+        kind: Kind,
+        list: &[ffi::Attestation],
+    ) -> Result<Vec<Attestation<G>>, Error> {
+        let mut attestations = Vec::new();
+        reserve(&mut attestations, list.len())?;
+        for listed in list {
+            let kept = self
+                .kept(kind, listed)
+                .ok_or(Error::Unknown(code::VERIFY))?;
+            attestations.push(kept.vote.attestation().clone());
+        }
+        Ok(attestations)
+    }
+}
+
+#[cfg(feature = "node")]
+impl<G> Book<G> {
+    /// Whether a certificate of the kind is there.
+    pub(crate) fn is_certified(&self, kind: Kind) -> bool {
+        self.certified[kind as usize]
+    }
+}
+
+/// Makes room in a list.
+pub(crate) fn reserve<T>(list: &mut Vec<T>, more: usize) -> Result<(), Error> {
+    list.try_reserve_exact(more).map_err(|_| Error::OutOfMemory)
+}
+
+/// Makes a list have as many places as there are participants.
+pub(crate) fn reserve_each<T: Clone>(
+    list: &mut Vec<T>,
+    participants: u32,
+    nothing: T,
+) -> Result<(), Error> {
+    reserve(list, (participants as usize).saturating_sub(list.len()))?;
+    list.resize(participants as usize, nothing);
+    Ok(())
+}
