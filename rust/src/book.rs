@@ -250,7 +250,8 @@ impl<G: Clone + Eq> Book<G> {
         })
     }
 
-    /// The batch that the library has made.
+    /// The batch that the library has made. A refusal for memory changes nothing, so the same call
+    /// can be made again; nothing may be forgotten of the view meanwhile.
     pub(crate) fn made<S: Scheme<Signature = G>>(
         &mut self,
         scheme: &S,
@@ -258,6 +259,9 @@ impl<G: Clone + Eq> Book<G> {
         list: &[ffi::Attestation],
         signers: &[u32],
     ) -> Result<Batch<S::Certificate>, Error> {
+        let mut invalid = Vec::new();
+        reserve(&mut invalid, signers.len())?;
+        invalid.extend(signers.iter().map(|index| Participant::new(*index)));
         let mut certificate = None;
         if step.certified {
             let kind = kind_of(step.kind)?;
@@ -272,10 +276,7 @@ impl<G: Clone + Eq> Book<G> {
         }
         Ok(Batch {
             processed: step.processed as usize,
-            invalid: signers
-                .iter()
-                .map(|index| Participant::new(*index))
-                .collect(),
+            invalid,
             certificate,
             fallback: step.fallback,
         })

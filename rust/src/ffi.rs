@@ -629,3 +629,34 @@ unsafe extern "C" fn rattle_dealloc(at: *mut c_void) {
         dealloc(block, layout);
     }
 }
+
+#[cfg(test)]
+mod tests {
+    use super::*;
+
+    #[test]
+    fn blocks_keep_their_bytes_and_refusals_are_answers() {
+        let block = rattle_alloc(3, 1);
+        assert!(block.ok && block.at.addr() % 16 == 0);
+        // SAFETY: the block is of 3 bytes, then of 5000, then of 2, and is given back once.
+        unsafe {
+            block.at.cast::<[u8; 3]>().write([1, 2, 3]);
+            let refused = rattle_realloc(block.at, 3, usize::MAX - 20, 1);
+            assert!(!refused.ok && !refused.at.is_null());
+            let larger = rattle_realloc(block.at, 3, 5000, 1);
+            assert!(larger.ok);
+            assert_eq!(larger.at.cast::<[u8; 3]>().read(), [1, 2, 3]);
+            let smaller = rattle_realloc(larger.at, 2, 2, 1);
+            assert!(smaller.ok && smaller.at.addr() % 16 == 0);
+            assert_eq!(smaller.at.cast::<[u8; 2]>().read(), [1, 2]);
+            rattle_dealloc(smaller.at);
+        }
+        for size in [usize::MAX, usize::MAX - 15, isize::MAX as usize - 15] {
+            assert!(!rattle_alloc(size, 8).ok);
+        }
+        let nothing = rattle_alloc(0, 16);
+        assert!(nothing.ok);
+        // SAFETY: the block is given back once.
+        unsafe { rattle_dealloc(nothing.at) };
+    }
+}

@@ -128,6 +128,9 @@ pub struct Node<S: Scheme> {
     books: BTreeMap<View, Book<S::Signature>>,
     /// Of each participant why it is blocked, as the library says.
     causes: Vec<u8>,
+    /// A batch that the library has made, and that memory was refused for here. It stands in the
+    /// lists.
+    unfinished: Option<ffi::Step>,
     list: Vec<ffi::Attestation>,
     signers: Vec<u32>,
 }
@@ -176,6 +179,7 @@ impl<S: Scheme> Node<S> {
             numbers: Numbers::new(),
             books: BTreeMap::new(),
             causes,
+            unfinished: None,
             list: Vec::new(),
             signers: Vec::new(),
         })
@@ -292,7 +296,12 @@ impl<S: Scheme> Node<S> {
                     .books
                     .entry(view)
                     .or_insert_with(|| Book::new(self.mode));
-                book.certified(kind);
+                // The votes of a batch that isn't finished are needed until it is.
+                let is_needed =
+                    |step: ffi::Step| step.view == view.get() && step.kind == kind as u8;
+                if !self.unfinished.is_some_and(is_needed) {
+                    book.certified(kind);
+                }
                 Verdict::Recorded(selected_anew)
             }
             code::KNOWN => Verdict::Known,
@@ -393,7 +402,11 @@ impl<S: Scheme> Node<S> {
     pub fn finalize(&mut self, view: View) -> Result<(), Error> {
         done(self.library.finalize(view.get()))?;
         let finalized = self.window().finalized;
-        self.books = self.books.split_off(&finalized);
+        // The votes of a batch that isn't finished are needed until it is.
+        let first = self
+            .unfinished
+            .map_or(finalized, |step| finalized.min(View::new(step.view)));
+        self.books = self.books.split_off(&first);
         Ok(())
     }
 
@@ -441,6 +454,9 @@ impl<S: Scheme> Node<S> {
         let participants = self.scheme.participants().len();
         reserve_each(&mut self.list, participants, ffi::Attestation::default())?;
         reserve_each(&mut self.signers, participants, 0)?;
+        if let Some(step) = self.unfinished {
+            return self.finish(step);
+        }
         loop {
             let mut step = ffi::Step::default();
             let answer = self
@@ -452,18 +468,7 @@ impl<S: Scheme> Node<S> {
             match answer {
                 code::IDLE => return Ok(Step::Idle),
                 code::UNKNOWN => return Ok(Step::Made(Construction { view, batch: None })),
-                code::DONE => {
-                    let signers = &self.signers[..step.invalid as usize];
-                    let book = book.or_insert_with(|| Book::new(self.mode));
-                    let batch = book.made(&*self.scheme, &step, list, signers)?;
-                    if !batch.invalid.is_empty() {
-                        self.note_blocked()?;
-                    }
-                    return Ok(Step::Made(Construction {
-                        view,
-                        batch: Some(batch),
-                    }));
-                }
+                code::DONE => return self.finish(step),
                 code::VERIFY => {
                     let book = book.or_insert_with(|| Book::new(self.mode));
                     let unknown = book.without_known(&mut self.library, &step, list)?;
@@ -586,6 +591,30 @@ impl<S: Scheme> Node<S> {
     /// How many votes are kept on this side of the door, each with its signature.
     pub fn votes_kept(&self) -> usize {
         self.books.values().map(Book::len).sum()
+    }
+
+    // Hands over a batch that the library has made.
+    fn finish(&mut self, step: ffi::Step) -> Result<Step<S::Signature, S::Certificate>, Error> {
+        self.unfinished = Some(step);
+        let view = View::new(step.view);
+        let list = &self.list[..step.listed as usize];
+        let signers = &self.signers[..step.invalid as usize];
+        let book = self
+            .books
+            .entry(view)
+            .or_insert_with(|| Book::new(self.mode));
+        let made = book.made(&*self.scheme, &step, list, signers);
+        if !matches!(made, Err(Error::OutOfMemory)) {
+            self.unfinished = None;
+        }
+        let batch = made?;
+        if !batch.invalid.is_empty() {
+            self.note_blocked()?;
+        }
+        Ok(Step::Made(Construction {
+            view,
+            batch: Some(batch),
+        }))
     }
 
     fn is_within(&self, round: positions::Round) -> bool {

@@ -67,6 +67,9 @@ pub struct Round<S: Scheme> {
     identity: u64,
     book: Book<S::Signature>,
     numbers: Numbers,
+    /// A batch that the library has made, and that memory was refused for here. It stands in the
+    /// lists.
+    unfinished: Option<ffi::Step>,
     // Where the library lists attestations and signers: a place for each participant, once one is
     // wanted.
     list: Vec<ffi::Attestation>,
@@ -133,6 +136,7 @@ impl<S: Scheme> Round<S> {
             identity: identity(),
             book: Book::new(mode),
             numbers: Numbers::new(),
+            unfinished: None,
             list: Vec::new(),
             signers: Vec::new(),
         })
@@ -293,7 +297,10 @@ impl<S: Scheme> Round<S> {
             self.library
                 .record_certificate(kind as u8, &proposal, number, &mut selected_anew),
         )?;
-        self.book.certified(kind);
+        // The votes of a batch that isn't finished are needed until it is.
+        if self.unfinished.is_none_or(|step| step.kind != kind as u8) {
+            self.book.certified(kind);
+        }
         Ok(selected_anew)
     }
 
@@ -437,6 +444,9 @@ impl<S: Scheme> Round<S> {
         let participants = self.scheme.participants().len();
         reserve_each(&mut self.list, participants, ffi::Attestation::default())?;
         reserve_each(&mut self.signers, participants, 0)?;
+        if let Some(step) = self.unfinished {
+            return self.finish(step);
+        }
         loop {
             let mut step = ffi::Step::default();
             let answer = self
@@ -445,13 +455,7 @@ impl<S: Scheme> Round<S> {
             let list = &self.list[..step.listed as usize];
             match answer {
                 code::IDLE => return Ok(Step::Idle),
-                code::DONE => {
-                    let signers = &self.signers[..step.invalid as usize];
-                    return self
-                        .book
-                        .made(&*self.scheme, &step, list, signers)
-                        .map(Step::Made);
-                }
+                code::DONE => return self.finish(step),
                 code::VERIFY => {
                     let unknown = self.book.without_known(&mut self.library, &step, list)?;
                     if !unknown.is_empty() {
@@ -511,6 +515,18 @@ impl<S: Scheme> Round<S> {
             return Err(Error::Elsewhere);
         }
         done(self.library.record_verdict_together(&wanted.listed, passes))
+    }
+
+    // Hands over a batch that the library has made.
+    fn finish(&mut self, step: ffi::Step) -> Result<Step<S::Signature, S::Certificate>, Error> {
+        self.unfinished = Some(step);
+        let list = &self.list[..step.listed as usize];
+        let signers = &self.signers[..step.invalid as usize];
+        let made = self.book.made(&*self.scheme, &step, list, signers);
+        if !matches!(made, Err(Error::OutOfMemory)) {
+            self.unfinished = None;
+        }
+        made.map(Step::Made)
     }
 
     /// How many votes are kept on this side of the door, each with its signature.
