@@ -91,6 +91,7 @@ struct batcher_admission {
     struct batcher_vote first, second; /* of the report: of a new vote the first alone */
     uint8_t report, block;
     bool added;
+    bool retained; /* of an own vote: whether votes of its kind are kept in full */
 };
 
 /* What a construction comes to. Of one that wants verdicts: what the attestations are to attest, and

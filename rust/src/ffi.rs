@@ -3,6 +3,7 @@
 //! with the header.
 
 use std::alloc::{Layout, alloc, dealloc, realloc};
+use std::cell::UnsafeCell;
 use std::ffi::c_void;
 use std::ptr;
 
@@ -69,6 +70,7 @@ pub(crate) struct Admission {
     pub(crate) report: u8,
     pub(crate) block: u8,
     pub(crate) added: bool,
+    pub(crate) retained: bool,
 }
 
 /// `struct batcher_step`
@@ -86,19 +88,25 @@ pub(crate) struct Step {
     pub(crate) fallback: bool,
 }
 
-/// `struct batcher_round`: what a round is in the library's memory. It owns that, and `Drop` gives
-/// it back.
-///
-/// It is neither `Send` nor `Sync`, by its pointer: the library counts references without atomics.
+/// `struct batcher_round`
 #[repr(C)]
-pub(crate) struct Round {
+struct RoundHandle {
     at: *mut c_void,
+}
+
+/// A round in the library's memory. It owns that, and `Drop` gives it back.
+///
+/// It is neither `Send` nor `Sync`, by its pointer: the library counts references without atomics. A
+/// call that only asks takes the round out of its handle too, and puts it back, so the handle is in a
+/// cell.
+pub(crate) struct Round {
+    handle: UnsafeCell<RoundHandle>,
 }
 
 // No function here unwinds: Rattle has no panics. A slice is a pointer and its length.
 unsafe extern "C" {
     fn batcher_round_new(
-        round: *mut Round,
+        round: *mut RoundHandle,
         epoch: u64,
         view: u64,
         participants: u32,
@@ -106,57 +114,57 @@ unsafe extern "C" {
         batchable: bool,
         aggregates: bool,
     ) -> u8;
-    fn batcher_round_free(round: *mut Round);
-    fn batcher_round_record_verdict(round: *mut Round, number: u64, attests: bool) -> u8;
+    fn batcher_round_free(round: *mut RoundHandle);
+    fn batcher_round_record_verdict(round: *mut RoundHandle, number: u64, attests: bool) -> u8;
     fn batcher_round_record_verdict_together(
-        round: *mut Round,
+        round: *mut RoundHandle,
         list: *const Attestation,
         length: usize,
         passes: bool,
     ) -> u8;
     fn batcher_round_add_network(
-        round: *mut Round,
+        round: *mut RoundHandle,
         sender: u64,
         vote: *const Vote,
         admission: *mut Admission,
     ) -> u8;
     fn batcher_round_accept_vote(
-        round: *mut Round,
+        round: *mut RoundHandle,
         vote: *const Vote,
         admission: *mut Admission,
     ) -> u8;
     fn batcher_round_record_certificate(
-        round: *mut Round,
+        round: *mut RoundHandle,
         kind: u8,
         proposal: *const Proposal,
         number: u64,
         selected_anew: *mut bool,
     ) -> u8;
-    fn batcher_round_set_leader(round: *mut Round, leader: u32) -> u8;
-    fn batcher_round_leader(round: *const Round, leader: *mut u32) -> u8;
-    fn batcher_round_proposal(round: *const Round, proposal: *mut Proposal) -> u8;
+    fn batcher_round_set_leader(round: *mut RoundHandle, leader: u32) -> u8;
+    fn batcher_round_leader(round: *mut RoundHandle, leader: *mut u32) -> u8;
+    fn batcher_round_proposal(round: *mut RoundHandle, proposal: *mut Proposal) -> u8;
     fn batcher_round_try_forward_proposal(
-        round: *mut Round,
+        round: *mut RoundHandle,
         me: u32,
         proposal: *mut Proposal,
     ) -> u8;
-    fn batcher_round_has_certificate(round: *const Round, kind: u8, has: *mut bool) -> u8;
-    fn batcher_round_has_nullify(round: *const Round, signer: u32, has: *mut bool) -> u8;
+    fn batcher_round_has_certificate(round: *mut RoundHandle, kind: u8, has: *mut bool) -> u8;
+    fn batcher_round_has_nullify(round: *mut RoundHandle, signer: u32, has: *mut bool) -> u8;
     fn batcher_round_is_missing_voter(
-        round: *const Round,
+        round: *mut RoundHandle,
         proposal: *const Proposal,
         participant: u32,
         is_missing: *mut bool,
     ) -> u8;
     fn batcher_round_missing_voters(
-        round: *const Round,
+        round: *mut RoundHandle,
         proposal: *const Proposal,
         list: *mut u32,
         length: usize,
         count: *mut u64,
     ) -> u8;
     fn batcher_round_try_construct(
-        round: *mut Round,
+        round: *mut RoundHandle,
         step: *mut Step,
         list: *mut Attestation,
         list_length: usize,
@@ -169,14 +177,14 @@ impl Drop for Round {
     fn drop(&mut self) {
         // SAFETY: the handle is empty, or is one that `batcher_round_new` filled and nobody else
         // has.
-        unsafe { batcher_round_free(self) }
+        unsafe { batcher_round_free(self.handle.get()) }
     }
 }
 
 // Each call is given a handle that is empty or was filled by `batcher_round_new`, and that nobody
-// else has meanwhile: a `Round` is never copied, and is borrowed for the call. Each other pointer
-// is to a live value of its type, which is the call's alone where it writes, and a length is that
-// of its slice. No call keeps a pointer.
+// else has meanwhile: a `Round` is never copied nor shared with another thread, and no call calls
+// back. Each other pointer is to a live value of its type, which is the call's alone where it
+// writes, and a length is that of its slice. No call keeps a pointer.
 impl Round {
     /// A round, or the code that was answered.
     pub(crate) fn new(
@@ -187,13 +195,14 @@ impl Round {
         batchable: bool,
         aggregates: bool,
     ) -> Result<Self, u8> {
-        let mut round = Round {
+        let handle = UnsafeCell::new(RoundHandle {
             at: ptr::null_mut(),
-        };
+        });
+        let round = Round { handle };
         // SAFETY: as above; an empty handle is a null pointer.
         let answer = unsafe {
             batcher_round_new(
-                &mut round,
+                round.handle.get(),
                 epoch,
                 view,
                 participants,
@@ -210,12 +219,19 @@ impl Round {
 
     pub(crate) fn record_verdict(&mut self, number: u64, attests: bool) -> u8 {
         // SAFETY: as above.
-        unsafe { batcher_round_record_verdict(self, number, attests) }
+        unsafe { batcher_round_record_verdict(self.handle.get(), number, attests) }
     }
 
     pub(crate) fn record_verdict_together(&mut self, list: &[Attestation], passes: bool) -> u8 {
         // SAFETY: as above.
-        unsafe { batcher_round_record_verdict_together(self, list.as_ptr(), list.len(), passes) }
+        unsafe {
+            batcher_round_record_verdict_together(
+                self.handle.get(),
+                list.as_ptr(),
+                list.len(),
+                passes,
+            )
+        }
     }
 
     pub(crate) fn add_network(
@@ -225,12 +241,12 @@ impl Round {
         admission: &mut Admission,
     ) -> u8 {
         // SAFETY: as above.
-        unsafe { batcher_round_add_network(self, sender, vote, admission) }
+        unsafe { batcher_round_add_network(self.handle.get(), sender, vote, admission) }
     }
 
     pub(crate) fn accept_vote(&mut self, vote: &Vote, admission: &mut Admission) -> u8 {
         // SAFETY: as above.
-        unsafe { batcher_round_accept_vote(self, vote, admission) }
+        unsafe { batcher_round_accept_vote(self.handle.get(), vote, admission) }
     }
 
     pub(crate) fn record_certificate(
@@ -241,37 +257,45 @@ impl Round {
         selected_anew: &mut bool,
     ) -> u8 {
         // SAFETY: as above.
-        unsafe { batcher_round_record_certificate(self, kind, proposal, number, selected_anew) }
+        unsafe {
+            batcher_round_record_certificate(
+                self.handle.get(),
+                kind,
+                proposal,
+                number,
+                selected_anew,
+            )
+        }
     }
 
     pub(crate) fn set_leader(&mut self, leader: u32) -> u8 {
         // SAFETY: as above.
-        unsafe { batcher_round_set_leader(self, leader) }
+        unsafe { batcher_round_set_leader(self.handle.get(), leader) }
     }
 
     pub(crate) fn leader(&self, leader: &mut u32) -> u8 {
-        // SAFETY: as above; the call only reads the handle.
-        unsafe { batcher_round_leader(self, leader) }
+        // SAFETY: as above.
+        unsafe { batcher_round_leader(self.handle.get(), leader) }
     }
 
     pub(crate) fn proposal(&self, proposal: &mut Proposal) -> u8 {
-        // SAFETY: as above; the call only reads the handle.
-        unsafe { batcher_round_proposal(self, proposal) }
+        // SAFETY: as above.
+        unsafe { batcher_round_proposal(self.handle.get(), proposal) }
     }
 
     pub(crate) fn try_forward_proposal(&mut self, me: u32, proposal: &mut Proposal) -> u8 {
         // SAFETY: as above.
-        unsafe { batcher_round_try_forward_proposal(self, me, proposal) }
+        unsafe { batcher_round_try_forward_proposal(self.handle.get(), me, proposal) }
     }
 
     pub(crate) fn has_certificate(&self, kind: u8, has: &mut bool) -> u8 {
-        // SAFETY: as above; the call only reads the handle.
-        unsafe { batcher_round_has_certificate(self, kind, has) }
+        // SAFETY: as above.
+        unsafe { batcher_round_has_certificate(self.handle.get(), kind, has) }
     }
 
     pub(crate) fn has_nullify(&self, signer: u32, has: &mut bool) -> u8 {
-        // SAFETY: as above; the call only reads the handle.
-        unsafe { batcher_round_has_nullify(self, signer, has) }
+        // SAFETY: as above.
+        unsafe { batcher_round_has_nullify(self.handle.get(), signer, has) }
     }
 
     pub(crate) fn is_missing_voter(
@@ -280,8 +304,10 @@ impl Round {
         participant: u32,
         is_missing: &mut bool,
     ) -> u8 {
-        // SAFETY: as above; the call only reads the handle.
-        unsafe { batcher_round_is_missing_voter(self, proposal, participant, is_missing) }
+        // SAFETY: as above.
+        unsafe {
+            batcher_round_is_missing_voter(self.handle.get(), proposal, participant, is_missing)
+        }
     }
 
     pub(crate) fn missing_voters(
@@ -290,9 +316,15 @@ impl Round {
         list: &mut [u32],
         count: &mut u64,
     ) -> u8 {
-        // SAFETY: as above; the call only reads the handle.
+        // SAFETY: as above.
         unsafe {
-            batcher_round_missing_voters(self, proposal, list.as_mut_ptr(), list.len(), count)
+            batcher_round_missing_voters(
+                self.handle.get(),
+                proposal,
+                list.as_mut_ptr(),
+                list.len(),
+                count,
+            )
         }
     }
 
@@ -305,7 +337,7 @@ impl Round {
         // SAFETY: as above.
         unsafe {
             batcher_round_try_construct(
-                self,
+                self.handle.get(),
                 step,
                 list.as_mut_ptr(),
                 list.len(),
@@ -316,17 +348,23 @@ impl Round {
     }
 }
 
-/// `struct batcher_node`, of which the same holds as of a round.
+/// `struct batcher_node`
 #[cfg(feature = "node")]
 #[repr(C)]
-pub(crate) struct Node {
+struct NodeHandle {
     at: *mut c_void,
+}
+
+/// A node in the library's memory, of which the same holds as of a round.
+#[cfg(feature = "node")]
+pub(crate) struct Node {
+    handle: UnsafeCell<NodeHandle>,
 }
 
 #[cfg(feature = "node")]
 unsafe extern "C" {
     fn batcher_node_new(
-        node: *mut Node,
+        node: *mut NodeHandle,
         epoch: u64,
         participants: u32,
         finalized: u64,
@@ -335,22 +373,22 @@ unsafe extern "C" {
         batchable: bool,
         aggregates: bool,
     ) -> u8;
-    fn batcher_node_free(node: *mut Node);
-    fn batcher_node_record_verdict(node: *mut Node, number: u64, attests: bool) -> u8;
+    fn batcher_node_free(node: *mut NodeHandle);
+    fn batcher_node_record_verdict(node: *mut NodeHandle, number: u64, attests: bool) -> u8;
     fn batcher_node_record_verdict_together(
-        node: *mut Node,
+        node: *mut NodeHandle,
         list: *const Attestation,
         length: usize,
         passes: bool,
     ) -> u8;
     fn batcher_node_receive_vote(
-        node: *mut Node,
+        node: *mut NodeHandle,
         peer: u64,
         vote: *const Vote,
         admission: *mut Admission,
     ) -> u8;
     fn batcher_node_receive_certificate(
-        node: *mut Node,
+        node: *mut NodeHandle,
         peer: u64,
         kind: u8,
         proposal: *const Proposal,
@@ -358,11 +396,15 @@ unsafe extern "C" {
         certifies: bool,
         selected_anew: *mut bool,
     ) -> u8;
-    fn batcher_node_cast_vote(node: *mut Node, vote: *const Vote, admission: *mut Admission) -> u8;
-    fn batcher_node_enter(node: *mut Node, view: u64, leader: u32) -> u8;
-    fn batcher_node_finalize(node: *mut Node, view: u64) -> u8;
+    fn batcher_node_cast_vote(
+        node: *mut NodeHandle,
+        vote: *const Vote,
+        admission: *mut Admission,
+    ) -> u8;
+    fn batcher_node_enter(node: *mut NodeHandle, view: u64, leader: u32) -> u8;
+    fn batcher_node_finalize(node: *mut NodeHandle, view: u64) -> u8;
     fn batcher_node_try_construct(
-        node: *mut Node,
+        node: *mut NodeHandle,
         step: *mut Step,
         list: *mut Attestation,
         list_length: usize,
@@ -370,20 +412,20 @@ unsafe extern "C" {
         signers_length: usize,
     ) -> u8;
     fn batcher_node_try_forward_proposal(
-        node: *mut Node,
+        node: *mut NodeHandle,
         view: u64,
         me: u32,
         proposal: *mut Proposal,
     ) -> u8;
     fn batcher_node_window(
-        node: *const Node,
+        node: *mut NodeHandle,
         finalized: *mut u64,
         current: *mut u64,
         ahead: *mut u64,
     ) -> u8;
-    fn batcher_node_rounds_kept(node: *const Node, count: *mut u64) -> u8;
+    fn batcher_node_rounds_kept(node: *mut NodeHandle, count: *mut u64) -> u8;
     fn batcher_node_blocked(
-        node: *const Node,
+        node: *mut NodeHandle,
         causes: *mut u8,
         length: usize,
         count: *mut u64,
@@ -395,7 +437,7 @@ impl Drop for Node {
     fn drop(&mut self) {
         // SAFETY: the handle is empty, or is one that `batcher_node_new` filled and nobody else
         // has.
-        unsafe { batcher_node_free(self) }
+        unsafe { batcher_node_free(self.handle.get()) }
     }
 }
 
@@ -411,13 +453,14 @@ impl Node {
         track_historical_votes: bool,
         [batchable, aggregates]: [bool; 2],
     ) -> Result<Self, u8> {
-        let mut node = Node {
+        let handle = UnsafeCell::new(NodeHandle {
             at: ptr::null_mut(),
-        };
+        });
+        let node = Node { handle };
         // SAFETY: as of a round; an empty handle is a null pointer.
         let answer = unsafe {
             batcher_node_new(
-                &mut node,
+                node.handle.get(),
                 epoch,
                 participants,
                 finalized,
@@ -435,17 +478,24 @@ impl Node {
 
     pub(crate) fn record_verdict(&mut self, number: u64, attests: bool) -> u8 {
         // SAFETY: as of a round.
-        unsafe { batcher_node_record_verdict(self, number, attests) }
+        unsafe { batcher_node_record_verdict(self.handle.get(), number, attests) }
     }
 
     pub(crate) fn record_verdict_together(&mut self, list: &[Attestation], passes: bool) -> u8 {
         // SAFETY: as of a round.
-        unsafe { batcher_node_record_verdict_together(self, list.as_ptr(), list.len(), passes) }
+        unsafe {
+            batcher_node_record_verdict_together(
+                self.handle.get(),
+                list.as_ptr(),
+                list.len(),
+                passes,
+            )
+        }
     }
 
     pub(crate) fn receive_vote(&mut self, peer: u64, vote: &Vote, admission: &mut Admission) -> u8 {
         // SAFETY: as of a round.
-        unsafe { batcher_node_receive_vote(self, peer, vote, admission) }
+        unsafe { batcher_node_receive_vote(self.handle.get(), peer, vote, admission) }
     }
 
     pub(crate) fn receive_certificate(
@@ -460,7 +510,7 @@ impl Node {
         // SAFETY: as of a round.
         unsafe {
             batcher_node_receive_certificate(
-                self,
+                self.handle.get(),
                 peer,
                 kind,
                 proposal,
@@ -473,17 +523,17 @@ impl Node {
 
     pub(crate) fn cast_vote(&mut self, vote: &Vote, admission: &mut Admission) -> u8 {
         // SAFETY: as of a round.
-        unsafe { batcher_node_cast_vote(self, vote, admission) }
+        unsafe { batcher_node_cast_vote(self.handle.get(), vote, admission) }
     }
 
     pub(crate) fn enter(&mut self, view: u64, leader: u32) -> u8 {
         // SAFETY: as of a round.
-        unsafe { batcher_node_enter(self, view, leader) }
+        unsafe { batcher_node_enter(self.handle.get(), view, leader) }
     }
 
     pub(crate) fn finalize(&mut self, view: u64) -> u8 {
         // SAFETY: as of a round.
-        unsafe { batcher_node_finalize(self, view) }
+        unsafe { batcher_node_finalize(self.handle.get(), view) }
     }
 
     pub(crate) fn try_construct(
@@ -495,7 +545,7 @@ impl Node {
         // SAFETY: as of a round.
         unsafe {
             batcher_node_try_construct(
-                self,
+                self.handle.get(),
                 step,
                 list.as_mut_ptr(),
                 list.len(),
@@ -512,22 +562,22 @@ impl Node {
         proposal: &mut Proposal,
     ) -> u8 {
         // SAFETY: as of a round.
-        unsafe { batcher_node_try_forward_proposal(self, view, me, proposal) }
+        unsafe { batcher_node_try_forward_proposal(self.handle.get(), view, me, proposal) }
     }
 
     pub(crate) fn window(&self, [finalized, current, ahead]: [&mut u64; 3]) -> u8 {
-        // SAFETY: as of a round; the call only reads the handle.
-        unsafe { batcher_node_window(self, finalized, current, ahead) }
+        // SAFETY: as of a round.
+        unsafe { batcher_node_window(self.handle.get(), finalized, current, ahead) }
     }
 
     pub(crate) fn rounds_kept(&self, count: &mut u64) -> u8 {
-        // SAFETY: as of a round; the call only reads the handle.
-        unsafe { batcher_node_rounds_kept(self, count) }
+        // SAFETY: as of a round.
+        unsafe { batcher_node_rounds_kept(self.handle.get(), count) }
     }
 
     pub(crate) fn blocked(&self, causes: &mut [u8], count: &mut u64) -> u8 {
-        // SAFETY: as of a round; the call only reads the handle.
-        unsafe { batcher_node_blocked(self, causes.as_mut_ptr(), causes.len(), count) }
+        // SAFETY: as of a round.
+        unsafe { batcher_node_blocked(self.handle.get(), causes.as_mut_ptr(), causes.len(), count) }
     }
 }
 

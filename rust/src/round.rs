@@ -261,7 +261,6 @@ impl<S: Scheme> Round<S> {
             return Err(Error::NotVerified);
         }
         let kind = vote.kind();
-        let retained = self.book.keeps(kind);
         let participants = self.scheme.participants().len();
         let signer = Some(vote.signer());
         let numbered = self
@@ -273,6 +272,7 @@ impl<S: Scheme> Round<S> {
         let flat = flat_vote(&numbered.vote, numbered.number);
         done(self.library.accept_vote(&flat, &mut answer))?;
         let report = self.book.report(&answer, &numbered)?;
+        let retained = answer.retained;
         if !answer.added {
             return Ok((Outcome::Duplicate { retained }, report));
         }
