@@ -1,4 +1,15 @@
-/* (the design; refine where needed, and tell the other helper's owner by keeping /tmp/helpers/batcher.h up to date) */
+/* Rounds of a verified vote batcher. Link libbatcher_c.a, and what defines `rattle_alloc`,
+ * `rattle_dealloc` and `rattle_realloc`, from which it takes its memory.
+ *
+ * What a caller owes, which nothing here can test:
+ *   - a `struct batcher_round` begins as {0}, is in one call at a time, on one thread, and its
+ *     pointer is neither copied nor written;
+ *   - each pointer is to a live value of its type that nobody else writes meanwhile, or to as many as
+ *     the length after it says; a `bool` is 0 or 1; pointers that are written through don't overlap;
+ *   - of one number the same verdict is recorded always, of a list as a whole too, and a certificate
+ *     is recorded only where it certifies what it names.
+ * All else is tested: on an empty handle, for a code that means nothing and for a vote of another
+ * round a call answers a code, and changes nothing. */
 #ifndef BATCHER_H
 #define BATCHER_H
 
@@ -10,37 +21,30 @@ struct batcher_round {
     void *at; /* null: none */
 };
 
-struct batcher_node {
-    void *at; /* null: none */
+/* What calls answer. */
+enum batcher_code {
+    BATCHER_DONE, /* of a construction: a batch was made */
+    BATCHER_NONE, /* the handle is empty */
+    BATCHER_MALFORMED, /* a code that means nothing, or no participant */
+    BATCHER_ELSEWHERE, /* of another round */
+    BATCHER_OUT_OF_MEMORY, /* all is as it was, but for the verdicts of a construction */
+    BATCHER_LEADER_CHANGED, /* another leader was named before */
+    BATCHER_NOT_VERIFIED, /* an own vote without a verdict that it attests */
+    BATCHER_DUPLICATE_NOTARIZE, /* a notarize of its signer is kept */
+    BATCHER_DUPLICATE_FINALIZE, /* a finalize of its signer is kept */
+    BATCHER_CONFLICTING, /* an earlier vote of its kind and signer was for another proposal */
+    BATCHER_NULLIFY_AFTER_FINALIZE, /* its signer has finalized before */
+    BATCHER_FINALIZE_AFTER_NULLIFY, /* its signer has nullified before */
+    BATCHER_IDLE, /* nothing is to be done, or there is none */
+    BATCHER_VERIFY, /* verdicts are wanted on the attestations of the list */
+    BATCHER_VERIFY_TOGETHER /* one verdict is wanted on those of the list as a whole */
 };
 
 enum batcher_kind { BATCHER_NOTARIZATION, BATCHER_NULLIFICATION, BATCHER_FINALIZATION };
+
 enum batcher_mode { BATCHER_RETAINING, BATCHER_RELEASING, BATCHER_SKIPPED };
 
-enum batcher_code {
-    BATCHER_DONE,            /* of a construction: a batch was made */
-    BATCHER_NONE,            /* the handle is empty */
-    BATCHER_MALFORMED,       /* a code or a number that means nothing; no participant */
-    BATCHER_ELSEWHERE,       /* of another round; of a node: outside of its window or of another epoch */
-    BATCHER_OUT_OF_MEMORY,   /* all is as it was */
-    BATCHER_LEADER_CHANGED,
-    BATCHER_NOT_VERIFIED,    /* an own vote without a verdict that it attests */
-    BATCHER_DUPLICATE_NOTARIZE,
-    BATCHER_DUPLICATE_FINALIZE,
-    BATCHER_CONFLICTING,
-    BATCHER_NULLIFY_AFTER_FINALIZE,
-    BATCHER_FINALIZE_AFTER_NULLIFY,
-    BATCHER_IDLE,            /* nothing is to be done */
-    BATCHER_VERIFY,          /* the list has the attestations on which verdicts are wanted */
-    BATCHER_VERIFY_TOGETHER, /* the list has those on which one verdict as a whole is wanted */
-    /* of a node alone */
-    BATCHER_DROPPED,         /* the peer was blocked before */
-    BATCHER_UNKNOWN,         /* the peer takes no part; a view in which nothing happened */
-    BATCHER_PASSED,          /* the view is before the finalized one */
-    BATCHER_KNOWN,           /* a certificate of its kind is there; an own vote that isn't to be sent */
-    BATCHER_FORGED           /* the certificate doesn't certify, and its sender is blocked */
-};
-
+/* Why the sender of a vote is to be blocked, if it is. */
 enum batcher_block {
     BATCHER_BLOCK_NONE,
     BATCHER_BLOCK_UNKNOWN_PARTICIPANT,
@@ -52,30 +56,30 @@ enum batcher_block {
     BATCHER_BLOCK_CONFLICTING_FINALIZE,
     BATCHER_BLOCK_INVALID_SIGNATURE,
     BATCHER_BLOCK_NULLIFY_AFTER_FINALIZE,
-    BATCHER_BLOCK_FINALIZE_AFTER_NULLIFY,
-    /* of a node's blocked peers alone */
-    BATCHER_BLOCK_CERTIFICATE, /* it sent a certificate that doesn't certify */
-    BATCHER_BLOCK_SIGNATURE    /* a construction found a vote of it that doesn't attest */
+    BATCHER_BLOCK_FINALIZE_AFTER_NULLIFY
 };
 
+/* What a report is of, if there is one. */
 enum batcher_report {
     BATCHER_REPORT_NONE,
     BATCHER_REPORT_NOTARIZE,
     BATCHER_REPORT_NULLIFY,
     BATCHER_REPORT_FINALIZE,
-    BATCHER_REPORT_CONFLICTING_NOTARIZE, /* first is the earlier one */
-    BATCHER_REPORT_CONFLICTING_FINALIZE, /* first is the earlier one */
-    BATCHER_REPORT_NULLIFY_FINALIZE      /* first is the nullify */
+    BATCHER_REPORT_CONFLICTING_NOTARIZE, /* the first is the earlier one */
+    BATCHER_REPORT_CONFLICTING_FINALIZE, /* the first is the earlier one */
+    BATCHER_REPORT_NULLIFY_FINALIZE /* the first is the nullify */
 };
 
-/* A proposal; of a nullify and a nullification its epoch and view alone count. */
+/* A proposal. Of a nullify and a nullification its epoch and view alone count. */
 struct batcher_proposal {
-    uint64_t epoch, view, parent;
+    uint64_t epoch;
+    uint64_t view;
+    uint64_t parent;
     uint8_t payload[32];
 };
 
-/* An attestation is a number that the caller gives to a signature of a signer on what it signs: to
- * equal ones the same number, to others another. */
+/* An attestation: a number that the caller gives to a signature of a signer on what it signs, to equal
+ * ones the same number, and to others another. */
 struct batcher_attestation {
     uint64_t number;
     uint32_t signer;
@@ -87,87 +91,93 @@ struct batcher_vote {
     uint8_t kind;
 };
 
+/* The answer to a vote. */
 struct batcher_admission {
-    struct batcher_vote first, second; /* of the report: of a new vote the first alone */
-    uint8_t report, block;
+    struct batcher_vote first; /* the votes of the report; of a new one the first alone */
+    struct batcher_vote second;
+    uint8_t report;
+    uint8_t block;
     bool added;
-    bool retained; /* of an own vote: whether votes of its kind are kept in full */
+    bool retained; /* of an own vote, whether votes of its kind are kept in full; else false */
 };
 
-/* What a construction comes to. Of one that wants verdicts: what the attestations are to attest, and
- * how many are listed; of VERIFY_TOGETHER the first `verified` of them are known to attest. Of one that
- * was made: the batch, and of a certificate what it is of and of how many attestations it is made. */
+/* What a construction comes to. Of one that wants verdicts: what the attestations are to attest, how many
+ * there are, and how many of them come first that are known to attest. Of one that was made: the batch,
+ * and of a certificate what it is of and of how many attestations it is made. */
 struct batcher_step {
     struct batcher_proposal proposal;
-    uint64_t view;      /* of a node: which view */
-    uint64_t processed; /* how many votes the batch looked at */
-    uint64_t listed, verified;
+    uint64_t view; /* of a node, which view */
+    uint64_t processed; /* how many votes were looked at */
+    uint64_t listed;
+    uint64_t verified;
     uint64_t invalid; /* how many signers of votes that don't attest there are */
     uint8_t kind;
-    bool certified, fallback;
+    bool certified;
+    bool fallback; /* the pending votes had to be verified one by one */
 };
 
-/* Rounds. A round of as many participants as are named, whose keys are 0, 1, .. in this order. A
- * batchable scheme waits for a quorum before it verifies; one that aggregates may find that a quorum
- * passes as a whole. Each answers a code. */
-uint8_t batcher_round_new(struct batcher_round *, uint64_t epoch, uint64_t view, uint32_t participants,
-                          uint8_t mode, bool batchable, bool aggregates);
-void batcher_round_free(struct batcher_round *);
-uint8_t batcher_round_record_verdict(struct batcher_round *, uint64_t number, bool attests);
-uint8_t batcher_round_record_verdict_together(struct batcher_round *,
-                                              const struct batcher_attestation *list, size_t length,
-                                              bool passes);
-uint8_t batcher_round_add_network(struct batcher_round *, uint64_t sender,
-                                  const struct batcher_vote *, struct batcher_admission *);
-uint8_t batcher_round_accept_vote(struct batcher_round *, const struct batcher_vote *,
-                                  struct batcher_admission *);
-uint8_t batcher_round_record_certificate(struct batcher_round *, uint8_t kind,
-                                         const struct batcher_proposal *, uint64_t number,
+/* A round of so many participants, whose keys are 0, 1, .. in this order. A batchable scheme waits for a
+ * quorum before it wants verdicts; where it aggregates, a quorum may pass as a whole. The handle's earlier
+ * round is freed. */
+uint8_t batcher_round_new(struct batcher_round *round, uint64_t epoch, uint64_t view,
+                          uint32_t participants, uint8_t mode, bool batchable, bool aggregates);
+
+void batcher_round_free(struct batcher_round *round);
+
+/* Whether the attestation of a number attests what it is of. */
+uint8_t batcher_round_record_verdict(struct batcher_round *round, uint64_t number, bool attests);
+
+/* Whether these attestations pass as a whole, in place of such a verdict before. */
+uint8_t batcher_round_record_verdict_together(struct batcher_round *round,
+                                              const struct batcher_attestation *list,
+                                              size_t list_length, bool passes);
+
+/* A vote of the peer whose key is the sender; of another number, of one that takes no part. */
+uint8_t batcher_round_add_network(struct batcher_round *round, uint64_t sender,
+                                  const struct batcher_vote *vote, struct batcher_admission *out);
+
+/* A vote of the node's own, of which a verdict says that it attests. */
+uint8_t batcher_round_accept_vote(struct batcher_round *round, const struct batcher_vote *vote,
+                                  struct batcher_admission *out);
+
+/* A certificate that the caller has verified, under a number of its own. It says of a notarization whether
+ * another proposal is selected than before. */
+uint8_t batcher_round_record_certificate(struct batcher_round *round, uint8_t kind,
+                                         const struct batcher_proposal *proposal, uint64_t number,
                                          bool *selected_anew);
-uint8_t batcher_round_set_leader(struct batcher_round *, uint32_t leader);
-uint8_t batcher_round_leader(const struct batcher_round *, uint32_t *);          /* IDLE: none yet */
-uint8_t batcher_round_proposal(const struct batcher_round *, struct batcher_proposal *); /* IDLE: none */
-uint8_t batcher_round_try_forward_proposal(struct batcher_round *, uint32_t me,
-                                           struct batcher_proposal *);            /* IDLE: none */
-uint8_t batcher_round_has_certificate(const struct batcher_round *, uint8_t kind, bool *);
-uint8_t batcher_round_has_nullify(const struct batcher_round *, uint32_t signer, bool *);
-uint8_t batcher_round_is_missing_voter(const struct batcher_round *, const struct batcher_proposal *,
-                                       uint32_t participant, bool *);
-uint8_t batcher_round_missing_voters(const struct batcher_round *, const struct batcher_proposal *,
-                                     uint32_t *list, size_t length, uint64_t *count);
-/* What doesn't fit into a list is left out, but counted; lists of as many places as there are
- * participants hold all. */
-uint8_t batcher_round_try_construct(struct batcher_round *, struct batcher_step *,
+
+uint8_t batcher_round_set_leader(struct batcher_round *round, uint32_t leader);
+
+/* IDLE: there is none yet. */
+uint8_t batcher_round_leader(struct batcher_round *round, uint32_t *out);
+
+/* The selected proposal. IDLE: there is none yet. */
+uint8_t batcher_round_proposal(struct batcher_round *round, struct batcher_proposal *out);
+
+/* The selected proposal, to hand on once. IDLE: there is none, or not for this participant. */
+uint8_t batcher_round_try_forward_proposal(struct batcher_round *round, uint32_t me,
+                                           struct batcher_proposal *out);
+
+uint8_t batcher_round_has_certificate(struct batcher_round *round, uint8_t kind, bool *out);
+
+/* Whether a nullify of the signer is kept in full. */
+uint8_t batcher_round_has_nullify(struct batcher_round *round, uint32_t signer, bool *out);
+
+/* Whether the participant isn't known to have the proposal's block. */
+uint8_t batcher_round_is_missing_voter(struct batcher_round *round,
+                                       const struct batcher_proposal *proposal,
+                                       uint32_t participant, bool *out);
+
+/* Those that aren't known to have it. What doesn't fit into the list is left out, but counted; the same of
+ * the lists below. Lists of as many places as there are participants hold all. */
+uint8_t batcher_round_missing_voters(struct batcher_round *round,
+                                     const struct batcher_proposal *proposal, uint32_t *list,
+                                     size_t list_length, uint64_t *count);
+
+/* The next construction. It is made by the verdicts that were recorded since the last one; where it wants
+ * others it says so, and nothing changes. Made again with those it goes on. */
+uint8_t batcher_round_try_construct(struct batcher_round *round, struct batcher_step *out,
                                     struct batcher_attestation *list, size_t list_length,
                                     uint32_t *signers, size_t signers_length);
-
-/* Nodes: the same over many views. */
-uint8_t batcher_node_new(struct batcher_node *, uint64_t epoch, uint32_t participants,
-                         uint64_t finalized, uint64_t ahead, bool track_historical_votes,
-                         bool batchable, bool aggregates);
-void batcher_node_free(struct batcher_node *);
-uint8_t batcher_node_record_verdict(struct batcher_node *, uint64_t number, bool attests);
-uint8_t batcher_node_record_verdict_together(struct batcher_node *,
-                                             const struct batcher_attestation *list, size_t length,
-                                             bool passes);
-uint8_t batcher_node_receive_vote(struct batcher_node *, uint64_t peer, const struct batcher_vote *,
-                                  struct batcher_admission *);
-uint8_t batcher_node_receive_certificate(struct batcher_node *, uint64_t peer, uint8_t kind,
-                                         const struct batcher_proposal *, uint64_t number,
-                                         bool certifies, bool *selected_anew);
-uint8_t batcher_node_cast_vote(struct batcher_node *, const struct batcher_vote *,
-                               struct batcher_admission *); /* DONE: to be sent */
-uint8_t batcher_node_enter(struct batcher_node *, uint64_t view, uint32_t leader);
-uint8_t batcher_node_finalize(struct batcher_node *, uint64_t view);
-uint8_t batcher_node_try_construct(struct batcher_node *, struct batcher_step *,
-                                   struct batcher_attestation *list, size_t list_length,
-                                   uint32_t *signers, size_t signers_length);
-uint8_t batcher_node_try_forward_proposal(struct batcher_node *, uint64_t view, uint32_t me,
-                                          struct batcher_proposal *);
-uint8_t batcher_node_window(const struct batcher_node *, uint64_t *finalized, uint64_t *current,
-                            uint64_t *ahead);
-uint8_t batcher_node_rounds_kept(const struct batcher_node *, uint64_t *);
-uint8_t batcher_node_blocked(const struct batcher_node *, uint8_t *causes, size_t length,
-                             uint64_t *count); /* a cause each participant, BATCHER_BLOCK_.. */
 
 #endif

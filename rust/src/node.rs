@@ -2,7 +2,8 @@
 
 use crate::answers::{Admission, Batch, BlockReason, Error, Mode};
 use crate::book::{Book, Library, Wanted, reserve_each};
-use crate::ffi::{self, code};
+use crate::ffi::node::code;
+use crate::ffi::{self, node};
 use crate::flat::{block_of, done, error_of, flat_subject, flat_vote, proposal_of, some};
 use crate::messages::{Activity, Certificate, Proposal, Vote};
 use crate::positions::{self, Epoch, Participant, View};
@@ -119,7 +120,7 @@ pub enum Step<G, C> {
 ///
 /// It stays on the thread on which it was made, as rounds do.
 pub struct Node<S: Scheme> {
-    library: ffi::Node,
+    library: node::Node,
     scheme: Arc<S>,
     epoch: Epoch,
     mode: Mode,
@@ -156,7 +157,7 @@ impl<S: Scheme> Node<S> {
         let mut causes = Vec::new();
         reserve_each(&mut causes, participants, 0)?;
         let sort = [scheme.is_batchable(), scheme.aggregates()];
-        let library = ffi::Node::new(
+        let library = node::Node::new(
             epoch.get(),
             participants,
             finalized.get(),
@@ -647,9 +648,9 @@ impl<S: Scheme> Node<S> {
     }
 }
 
-impl Library for ffi::Node {
+impl Library for node::Node {
     fn record_verdict(&mut self, number: u64, attests: bool) -> u8 {
-        ffi::Node::record_verdict(self, number, attests)
+        node::Node::record_verdict(self, number, attests)
     }
 }
 

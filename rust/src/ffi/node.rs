@@ -1,0 +1,245 @@
+//! What is declared of nodes. `tools/header` compares these with the header too, once it has nodes.
+
+use super::{Admission, Attestation, Proposal, Step, Vote};
+use std::cell::UnsafeCell;
+use std::ffi::c_void;
+use std::ptr;
+
+/// Codes that calls of nodes answer, beside those of rounds.
+pub(crate) mod code {
+    pub(crate) use crate::ffi::code::*;
+
+    pub(crate) const DROPPED: u8 = 15;
+    pub(crate) const UNKNOWN: u8 = 16;
+    pub(crate) const PASSED: u8 = 17;
+    pub(crate) const KNOWN: u8 = 18;
+    pub(crate) const FORGED: u8 = 19;
+}
+
+/// `struct batcher_node`
+#[repr(C)]
+struct NodeHandle {
+    at: *mut c_void,
+}
+
+/// A node in the library's memory, of which the same holds as of a round.
+pub(crate) struct Node {
+    handle: UnsafeCell<NodeHandle>,
+}
+
+unsafe extern "C" {
+    fn batcher_node_new(
+        node: *mut NodeHandle,
+        epoch: u64,
+        participants: u32,
+        finalized: u64,
+        ahead: u64,
+        track_historical_votes: bool,
+        batchable: bool,
+        aggregates: bool,
+    ) -> u8;
+    fn batcher_node_free(node: *mut NodeHandle);
+    fn batcher_node_record_verdict(node: *mut NodeHandle, number: u64, attests: bool) -> u8;
+    fn batcher_node_record_verdict_together(
+        node: *mut NodeHandle,
+        list: *const Attestation,
+        length: usize,
+        passes: bool,
+    ) -> u8;
+    fn batcher_node_receive_vote(
+        node: *mut NodeHandle,
+        peer: u64,
+        vote: *const Vote,
+        admission: *mut Admission,
+    ) -> u8;
+    fn batcher_node_receive_certificate(
+        node: *mut NodeHandle,
+        peer: u64,
+        kind: u8,
+        proposal: *const Proposal,
+        number: u64,
+        certifies: bool,
+        selected_anew: *mut bool,
+    ) -> u8;
+    fn batcher_node_cast_vote(
+        node: *mut NodeHandle,
+        vote: *const Vote,
+        admission: *mut Admission,
+    ) -> u8;
+    fn batcher_node_enter(node: *mut NodeHandle, view: u64, leader: u32) -> u8;
+    fn batcher_node_finalize(node: *mut NodeHandle, view: u64) -> u8;
+    fn batcher_node_try_construct(
+        node: *mut NodeHandle,
+        step: *mut Step,
+        list: *mut Attestation,
+        list_length: usize,
+        signers: *mut u32,
+        signers_length: usize,
+    ) -> u8;
+    fn batcher_node_try_forward_proposal(
+        node: *mut NodeHandle,
+        view: u64,
+        me: u32,
+        proposal: *mut Proposal,
+    ) -> u8;
+    fn batcher_node_window(
+        node: *mut NodeHandle,
+        finalized: *mut u64,
+        current: *mut u64,
+        ahead: *mut u64,
+    ) -> u8;
+    fn batcher_node_rounds_kept(node: *mut NodeHandle, count: *mut u64) -> u8;
+    fn batcher_node_blocked(
+        node: *mut NodeHandle,
+        causes: *mut u8,
+        length: usize,
+        count: *mut u64,
+    ) -> u8;
+}
+
+impl Drop for Node {
+    fn drop(&mut self) {
+        // SAFETY: the handle is empty, or is one that `batcher_node_new` filled and nobody else
+        // has.
+        unsafe { batcher_node_free(self.handle.get()) }
+    }
+}
+
+// What is said of the calls of a round holds of these.
+impl Node {
+    /// A node, or the code that was answered.
+    pub(crate) fn new(
+        epoch: u64,
+        participants: u32,
+        finalized: u64,
+        ahead: u64,
+        track_historical_votes: bool,
+        [batchable, aggregates]: [bool; 2],
+    ) -> Result<Self, u8> {
+        let handle = UnsafeCell::new(NodeHandle {
+            at: ptr::null_mut(),
+        });
+        let node = Node { handle };
+        // SAFETY: as of a round; an empty handle is a null pointer.
+        let answer = unsafe {
+            batcher_node_new(
+                node.handle.get(),
+                epoch,
+                participants,
+                finalized,
+                ahead,
+                track_historical_votes,
+                batchable,
+                aggregates,
+            )
+        };
+        match answer {
+            code::DONE => Ok(node),
+            answer => Err(answer),
+        }
+    }
+
+    pub(crate) fn record_verdict(&mut self, number: u64, attests: bool) -> u8 {
+        // SAFETY: as of a round.
+        unsafe { batcher_node_record_verdict(self.handle.get(), number, attests) }
+    }
+
+    pub(crate) fn record_verdict_together(&mut self, list: &[Attestation], passes: bool) -> u8 {
+        // SAFETY: as of a round.
+        unsafe {
+            batcher_node_record_verdict_together(
+                self.handle.get(),
+                list.as_ptr(),
+                list.len(),
+                passes,
+            )
+        }
+    }
+
+    pub(crate) fn receive_vote(&mut self, peer: u64, vote: &Vote, admission: &mut Admission) -> u8 {
+        // SAFETY: as of a round.
+        unsafe { batcher_node_receive_vote(self.handle.get(), peer, vote, admission) }
+    }
+
+    pub(crate) fn receive_certificate(
+        &mut self,
+        peer: u64,
+        kind: u8,
+        proposal: &Proposal,
+        number: u64,
+        certifies: bool,
+        selected_anew: &mut bool,
+    ) -> u8 {
+        // SAFETY: as of a round.
+        unsafe {
+            batcher_node_receive_certificate(
+                self.handle.get(),
+                peer,
+                kind,
+                proposal,
+                number,
+                certifies,
+                selected_anew,
+            )
+        }
+    }
+
+    pub(crate) fn cast_vote(&mut self, vote: &Vote, admission: &mut Admission) -> u8 {
+        // SAFETY: as of a round.
+        unsafe { batcher_node_cast_vote(self.handle.get(), vote, admission) }
+    }
+
+    pub(crate) fn enter(&mut self, view: u64, leader: u32) -> u8 {
+        // SAFETY: as of a round.
+        unsafe { batcher_node_enter(self.handle.get(), view, leader) }
+    }
+
+    pub(crate) fn finalize(&mut self, view: u64) -> u8 {
+        // SAFETY: as of a round.
+        unsafe { batcher_node_finalize(self.handle.get(), view) }
+    }
+
+    pub(crate) fn try_construct(
+        &mut self,
+        step: &mut Step,
+        list: &mut [Attestation],
+        signers: &mut [u32],
+    ) -> u8 {
+        // SAFETY: as of a round.
+        unsafe {
+            batcher_node_try_construct(
+                self.handle.get(),
+                step,
+                list.as_mut_ptr(),
+                list.len(),
+                signers.as_mut_ptr(),
+                signers.len(),
+            )
+        }
+    }
+
+    pub(crate) fn try_forward_proposal(
+        &mut self,
+        view: u64,
+        me: u32,
+        proposal: &mut Proposal,
+    ) -> u8 {
+        // SAFETY: as of a round.
+        unsafe { batcher_node_try_forward_proposal(self.handle.get(), view, me, proposal) }
+    }
+
+    pub(crate) fn window(&self, [finalized, current, ahead]: [&mut u64; 3]) -> u8 {
+        // SAFETY: as of a round.
+        unsafe { batcher_node_window(self.handle.get(), finalized, current, ahead) }
+    }
+
+    pub(crate) fn rounds_kept(&self, count: &mut u64) -> u8 {
+        // SAFETY: as of a round.
+        unsafe { batcher_node_rounds_kept(self.handle.get(), count) }
+    }
+
+    pub(crate) fn blocked(&self, causes: &mut [u8], count: &mut u64) -> u8 {
+        // SAFETY: as of a round.
+        unsafe { batcher_node_blocked(self.handle.get(), causes.as_mut_ptr(), causes.len(), count) }
+    }
+}
