@@ -238,8 +238,9 @@ fn a_refusal_changes_nothing() {
                 }
                 granted += 1;
             }
+            // A script that asks for nothing would show nothing. A skipped round asks for the least.
             assert!(
-                granted > 10,
+                granted > 5,
                 "{mode:?}, {aggregates}: {granted} requests alone"
             );
         }
