@@ -3,7 +3,9 @@
 use std::ffi::{c_int, c_ulonglong};
 use std::ptr;
 
-#[link(name = "sodium")]
+// By its full name, since the package of that name has the library alone, without what the linker
+// would look for.
+#[link(name = "libsodium.so.23", modifiers = "+verbatim")]
 unsafe extern "C" {
     fn sodium_init() -> c_int;
     fn crypto_sign_ed25519_seed_keypair(public: *mut u8, secret: *mut u8, seed: *const u8)
