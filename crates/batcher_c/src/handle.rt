@@ -1,0 +1,94 @@
+//! What C holds of a round.
+
+ghost use Rattle.std.specs.Prelude.{◌≡◌, Option, None, Some};
+ghost use Rattle.std.specs.Option.{MatchOption};
+ghost use Rattle.batcher_c.specs.declared.standin.Session.{Session};
+
+use crate::standin::Session;
+use crate::unboxed::Unboxed;
+use std::alloc::Global;
+use std::marker::Model;
+use std::{mem, ptr};
+
+/// A round, or none. C sees one pointer, which is null where there is none.
+#[repr(C)]
+pub struct Handle {
+    at: *mut u8,
+    alloc: Global,
+    ghost value: { Option Session },
+}
+
+impl Model for Handle {
+    ghost use Rattle.batcher_c.specs.Owned.{owned_or_null};
+    ghost use Rattle.batcher_c.specs.contracts.standin.Session.{the_row};
+
+    ghost also_owns = { λ h. owned_or_null the_row h.alloc h.at h.value };
+}
+
+impl Handle {
+    // A handle of none.
+    fn empty(alloc: Global) -> Handle
+        ensures { result.value ≡ None }
+    {
+        Handle {
+            at: ptr::null_mut(),
+            alloc,
+        }
+    }
+
+    fn from_unboxed(whole: Unboxed<Session, Global>) -> Handle
+        ensures { result.value ≡ Some whole.value }
+    {
+        let Unboxed { at, alloc } = whole;
+        Handle {
+            at: at as *mut u8,
+            alloc,
+        }
+    }
+
+    fn into_unboxed(self) -> Option<Unboxed<Session, Global>>
+        ensures { MatchOption result (self.value ≡ None) (λ whole. self.value ≡ Some whole.value) }
+    {
+        let Handle { at, alloc } = self;
+        if at.is_null() {
+            None
+        } else {
+            Some(Unboxed {
+                at: at as *mut Session,
+                alloc,
+            })
+        }
+    }
+
+    /// A handle of the session.
+    fn of(session: Box<Session>) -> Handle
+        ensures { result.value ≡ Some session.value }
+    {
+        Handle::from_unboxed(Unboxed::of(session))
+    }
+
+    fn into_box(self) -> Option<Box<Session>>
+        ensures { MatchOption result (self.value ≡ None) (λ b. self.value ≡ Some b.value) }
+    {
+        match self.into_unboxed() {
+            Some(whole) => Some(whole.into_box()),
+            None => None,
+        }
+    }
+
+    /// Takes the session out, where there is one, so that the handle is empty.
+    pub fn take(&mut self, alloc: Global) -> Option<Box<Session>>
+        ensures taken { MatchOption result (self.old.value ≡ None)
+            (λ session. self.old.value ≡ Some session.value) }
+        ensures left { self.new.value ≡ None }
+    {
+        mem::replace(self, Handle::empty(alloc)).into_box()
+    }
+
+    /// Puts a session in. One that was there is freed.
+    pub fn put(&mut self, session: Box<Session>)
+        ensures { self.new.value ≡ Some session.value }
+    {
+        drop(mem::replace(self, Handle::of(session)).into_box());
+    }
+}

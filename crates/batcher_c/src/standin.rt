@@ -1,0 +1,6 @@
+//! A stand-in.
+
+#[derive(Drop)]
+pub struct Session {
+    pub numbers: Vec<u64>,
+}
