@@ -2,27 +2,31 @@
 
 ghost use Rattle.std.specs.Prelude.{◌≡◌, Option, None, Some};
 ghost use Rattle.std.specs.Option.{MatchOption};
-ghost use Rattle.batcher_c.specs.declared.standin.Session.{Session};
+ghost use Rattle.batcher_session.specs.Sessions.{SessionView};
 
-use crate::standin::Session;
+use crate::caller::Caller;
 use crate::unboxed::Unboxed;
+use batcher_session::AnySession;
 use std::alloc::Global;
 use std::marker::Model;
 use std::{mem, ptr};
+
+/// A round as C has it.
+pub type Session = AnySession<Caller>;
 
 /// A round, or none. C sees one pointer, which is null where there is none.
 #[repr(C)]
 pub struct Handle {
     at: *mut u8,
     alloc: Global,
-    ghost value: { Option Session },
+    pub ghost value: { Option SessionView },
 }
 
 impl Model for Handle {
     ghost use Rattle.batcher_c.specs.Owned.{owned_or_null};
-    ghost use Rattle.batcher_c.specs.contracts.standin.Session.{the_row};
+    ghost use Rattle.batcher_c.specs.Rows.{session_row};
 
-    ghost also_owns = { λ h. owned_or_null the_row h.alloc h.at h.value };
+    ghost also_owns = { λ h. owned_or_null session_row h.alloc h.at h.value };
 }
 
 impl Handle {

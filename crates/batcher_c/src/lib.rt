@@ -2,6 +2,10 @@
 //! `include/batcher.h`.
 #![tactic(auto)]
 
+mod caller;
+mod codes;
+mod exports;
+mod flat;
 mod handle;
+mod rounds;
 mod unboxed;
-mod standin;

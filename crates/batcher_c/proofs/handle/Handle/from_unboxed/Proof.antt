@@ -23,7 +23,7 @@ use Rattle.std.specs.contracts.impls.GlobalAllocator.TheImpl.{ghosts}
 use Rattle.std.proofs.alloc.Global.TheLaws as heap_laws
 use Rattle.std.proofs.raw_atomic.Walks.{proved_at, leaves}
 use Rattle.batcher_c.proofs.Pointers.{word, fits_at, Unboxed, unboxed_out, handle_in}
-use Rattle.batcher_c.specs.contracts.standin.Session.{the_row as R}
+use Rattle.batcher_c.specs.Rows.{session_row as R}
 use Rattle.batcher_c.specs.contracts.handle.Handle.from_unboxed.{ended, clauses}
 use Rattle.batcher_c.specs.contracts.handle.Handle.from_unboxed.Key.{name}
 use Rattle.batcher_c.proofs.handle.Handle.from_unboxed.Statement.{statement}

@@ -28,7 +28,7 @@ use Rattle.std.proofs.alloc.Global.TheLaws as heap_laws
 use Rattle.std_alloc.proofs.ResultValues.{and_tt}
 use Rattle.std.proofs.raw_atomic.Walks.{proved_at, leaves}
 use Rattle.batcher_c.proofs.Pointers.{word, fits_at, fits_null, Unboxed, unboxed_in, handle_out, either}
-use Rattle.batcher_c.specs.contracts.standin.Session.{the_row as R}
+use Rattle.batcher_c.specs.Rows.{session_row as R}
 use Rattle.batcher_c.specs.contracts.handle.Handle.{the_row as Handle}
 use Rattle.batcher_c.specs.contracts.handle.Handle.into_unboxed.{ended, clauses}
 use Rattle.batcher_c.specs.contracts.handle.Handle.into_unboxed.Key.{name}

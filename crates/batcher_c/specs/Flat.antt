@@ -1,0 +1,131 @@
+-- What flat values and codes mean.
+use Rattle.std.specs.Prelude.{◌≡◌, ◌==◌, ℕ, Bool, if◌then◌else◌, Option, Some, None}
+use Rattle.std.specs.Option.{option_map}
+use Rattle.batcher_types.specs.declared.positions.Round.{Round}
+use Rattle.batcher_types.specs.declared.messages.Sha256Digest.{Sha256Digest}
+use Rattle.batcher_types.specs.declared.messages.Proposal.{Proposal}
+use Rattle.batcher_types.specs.declared.messages.Attestation.{Attestation}
+use Rattle.batcher_types.specs.declared.messages.Notarize.{Notarize}
+use Rattle.batcher_types.specs.declared.messages.Nullify.{Nullify}
+use Rattle.batcher_types.specs.declared.messages.Finalize.{Finalize}
+use Rattle.batcher_types.specs.declared.messages.Vote.{Vote}
+use Rattle.batcher_types.specs.declared.messages.Vote.TheVariants.{Notarize as NotarizeVote, Nullify as NullifyVote, Finalize as FinalizeVote}
+use Rattle.batcher_types.specs.declared.messages.Subject.{Subject}
+use Rattle.batcher_types.specs.declared.messages.Subject.TheVariants.{Notarize as NotarizeSubject, Nullify as NullifySubject, Finalize as FinalizeSubject}
+use Rattle.batcher_types.specs.declared.messages.Kind.{Kind}
+use Rattle.batcher_types.specs.declared.messages.Kind.TheVariants.{Notarization, Nullification, Finalization}
+use Rattle.batcher_types.specs.declared.messages.Activity.{Activity}
+use Rattle.batcher_types.specs.declared.messages.Activity.TheVariants.{Notarize as NotarizeReport, Nullify as NullifyReport, Finalize as FinalizeReport, ConflictingNotarize as NotarizesReport, ConflictingFinalize as FinalizesReport, NullifyFinalize as NullifyFinalizeReport}
+use Rattle.batcher_votes.specs.declared.votes.Mode.{Mode}
+use Rattle.batcher_votes.specs.declared.votes.Mode.TheVariants.{Retaining, Releasing, Skipped}
+use Rattle.batcher_votes.specs.declared.votes.Outcome.{Outcome}
+use Rattle.batcher_votes.specs.declared.votes.Outcome.TheVariants.{Added, Duplicate}
+use Rattle.batcher_histories.specs.declared.answers.Admission.{Admission}
+use Rattle.batcher_histories.specs.declared.answers.BlockReason.{BlockReason}
+use Rattle.batcher_histories.specs.declared.answers.BlockReason.TheVariants.{UnknownParticipant, NotarizeSignerMismatch, NullifySignerMismatch, FinalizeSignerMismatch, ConflictingNotarize, ConflictingNullify, ConflictingFinalize, InvalidSignature, NullifyAfterFinalize, FinalizeAfterNullify}
+use Rattle.batcher_c.specs.declared.codes.TheConstants.{NOTARIZATION, NULLIFICATION, FINALIZATION, RETAINING, RELEASING, SKIPPED}
+use Rattle.batcher_c.specs.declared.codes.TheConstants.{BLOCK_UNKNOWN_PARTICIPANT, BLOCK_NOTARIZE_SIGNER_MISMATCH, BLOCK_NULLIFY_SIGNER_MISMATCH, BLOCK_FINALIZE_SIGNER_MISMATCH, BLOCK_CONFLICTING_NOTARIZE, BLOCK_CONFLICTING_NULLIFY, BLOCK_CONFLICTING_FINALIZE, BLOCK_INVALID_SIGNATURE, BLOCK_NULLIFY_AFTER_FINALIZE, BLOCK_FINALIZE_AFTER_NULLIFY}
+use Rattle.batcher_c.specs.declared.codes.TheConstants.{REPORT_NOTARIZE, REPORT_NULLIFY, REPORT_FINALIZE, REPORT_CONFLICTING_NOTARIZE, REPORT_CONFLICTING_FINALIZE, REPORT_NULLIFY_FINALIZE}
+use Rattle.batcher_c.specs.declared.flat.FlatProposal.{FlatProposal}
+use Rattle.batcher_c.specs.declared.flat.FlatAttestation.{FlatAttestation}
+use Rattle.batcher_c.specs.declared.flat.FlatVote.{FlatVote}
+use Rattle.batcher_c.specs.declared.flat.FlatAdmission.{FlatAdmission}
+
+abbrev pub kind_in : ℕ → Option Kind
+kind_in code =
+    if code == NOTARIZATION then Some Notarization else
+    if code == NULLIFICATION then Some Nullification else
+    if code == FINALIZATION then Some Finalization else None
+
+abbrev pub mode_in : ℕ → Option Mode
+mode_in code =
+    if code == RETAINING then Some Retaining else
+    if code == RELEASING then Some Releasing else
+    if code == SKIPPED then Some Skipped else None
+
+abbrev pub block_in : ℕ → Option BlockReason
+block_in code =
+    if code == BLOCK_UNKNOWN_PARTICIPANT then Some UnknownParticipant else
+    if code == BLOCK_NOTARIZE_SIGNER_MISMATCH then Some NotarizeSignerMismatch else
+    if code == BLOCK_NULLIFY_SIGNER_MISMATCH then Some NullifySignerMismatch else
+    if code == BLOCK_FINALIZE_SIGNER_MISMATCH then Some FinalizeSignerMismatch else
+    if code == BLOCK_CONFLICTING_NOTARIZE then Some ConflictingNotarize else
+    if code == BLOCK_CONFLICTING_NULLIFY then Some ConflictingNullify else
+    if code == BLOCK_CONFLICTING_FINALIZE then Some ConflictingFinalize else
+    if code == BLOCK_INVALID_SIGNATURE then Some InvalidSignature else
+    if code == BLOCK_NULLIFY_AFTER_FINALIZE then Some NullifyAfterFinalize else
+    if code == BLOCK_FINALIZE_AFTER_NULLIFY then Some FinalizeAfterNullify else None
+
+abbrev pub round_in : FlatProposal → Round
+round_in flat = record { epoch = record { 0 = flat.epoch }; view = record { 0 = flat.view } }
+
+abbrev pub proposal_in : FlatProposal → Proposal Sha256Digest
+proposal_in flat =
+    record {
+      round = round_in flat;
+      parent = record { 0 = flat.parent };
+      payload = record { 0 = flat.payload };
+    }
+
+abbrev pub attestation_in : FlatAttestation → Attestation ℕ
+attestation_in flat = record { signer = record { 0 = flat.signer }; signature = flat.number }
+
+abbrev pub notarize_in : FlatVote → Notarize ℕ Sha256Digest
+notarize_in flat =
+    record {
+      proposal = proposal_in flat.proposal;
+      attestation = attestation_in flat.attestation;
+    }
+
+abbrev pub nullify_in : FlatVote → Nullify ℕ
+nullify_in flat =
+    record { round = round_in flat.proposal; attestation = attestation_in flat.attestation }
+
+abbrev pub finalize_in : FlatVote → Finalize ℕ Sha256Digest
+finalize_in flat =
+    record {
+      proposal = proposal_in flat.proposal;
+      attestation = attestation_in flat.attestation;
+    }
+
+abbrev pub vote_of_kind : FlatVote → Kind → Vote ℕ Sha256Digest
+vote_of_kind flat Notarization = NotarizeVote (notarize_in flat)
+vote_of_kind flat Nullification = NullifyVote (nullify_in flat)
+vote_of_kind flat Finalization = FinalizeVote (finalize_in flat)
+
+-- the vote, where its kind is one
+abbrev pub vote_in : FlatVote → Option (Vote ℕ Sha256Digest)
+vote_in flat = option_map (vote_of_kind flat) (kind_in flat.kind)
+
+abbrev pub subject_of_kind : FlatProposal → Kind → Subject Sha256Digest
+subject_of_kind flat Notarization = NotarizeSubject (proposal_in flat)
+subject_of_kind flat Nullification = NullifySubject (round_in flat)
+subject_of_kind flat Finalization = FinalizeSubject (proposal_in flat)
+
+-- what is signed, where the kind is one
+abbrev pub subject_in : ℕ → FlatProposal → Option (Subject Sha256Digest)
+subject_in code flat = option_map (subject_of_kind flat) (kind_in code)
+
+abbrev pub report_by : ℕ → FlatVote → FlatVote → Option (Activity ℕ Sha256Digest)
+report_by code first second =
+    if code == REPORT_NOTARIZE then Some (NotarizeReport (notarize_in first)) else
+    if code == REPORT_NULLIFY then Some (NullifyReport (nullify_in first)) else
+    if code == REPORT_FINALIZE then Some (FinalizeReport (finalize_in first)) else
+    if code == REPORT_CONFLICTING_NOTARIZE
+        then Some (NotarizesReport (notarize_in first) (notarize_in second)) else
+    if code == REPORT_CONFLICTING_FINALIZE
+        then Some (FinalizesReport (finalize_in first) (finalize_in second)) else
+    if code == REPORT_NULLIFY_FINALIZE
+        then Some (NullifyFinalizeReport (nullify_in first) (finalize_in second)) else None
+
+-- what is reported, if anything is
+abbrev pub report_in : FlatAdmission → Option (Activity ℕ Sha256Digest)
+report_in flat = report_by flat.report flat.first flat.second
+
+abbrev pub admission_in : FlatAdmission → Admission ℕ Sha256Digest
+admission_in flat =
+    record { added = flat.added; block = block_in flat.block; report = report_in flat }
+
+-- what came of an own vote that isn't refused
+abbrev pub outcome_in : FlatAdmission → Outcome
+outcome_in flat = if flat.added then Added flat.retained else Duplicate flat.retained

@@ -1,0 +1,360 @@
+//! The calls of a round, over flat values. Each answers a code.
+
+ghost use Rattle.std.specs.Prelude.{◌≡◌, ◌≢◌, true, length, map, Some, IfOk};
+ghost use Rattle.batcher_types.specs.Keys.{participant};
+ghost use Rattle.batcher_c.specs.Flat.{attestation_in, subject_in};
+ghost use Rattle.batcher_c.specs.Truths.{number_attests, list_passes, number_certifies};
+ghost use Rattle.batcher_c.specs.Written.{IsWritten, WritesContent, WritesBatch};
+ghost use Rattle.batcher_c.specs.Rounds.{is_one_of, refusals, RecordsVerdict, RecordsTogether, AddsNetwork, AcceptsVote, RecordsCertificate, SetsLeader, Forwards, ListsMissing, Constructs};
+
+use crate::caller::Caller;
+use crate::codes::{
+    CONFLICTING, DONE, DUPLICATE_FINALIZE, DUPLICATE_NOTARIZE, ELSEWHERE, FINALIZE_AFTER_NULLIFY,
+    IDLE, LEADER_CHANGED, MALFORMED, NOT_VERIFIED, NULLIFY_AFTER_FINALIZE, OUT_OF_MEMORY, VERIFY,
+    VERIFY_TOGETHER,
+};
+use crate::flat::{
+    FlatAdmission, FlatAttestation, FlatProposal, FlatStep, FlatVote, flat_subject, kind_of,
+    subject_of,
+};
+use crate::handle::Session;
+use batcher_external::{CertificateVerdict, Content};
+use batcher_histories::answers::OwnFault;
+use batcher_session::{OwnRefusal, Step, Wanted};
+use batcher_types::messages::{Attestation, Certificate, Sha256Digest};
+use batcher_types::positions::Participant;
+use batcher_votes::verifier::Batch;
+use batcher_votes::votes::Outcome;
+use std::alloc::{AllocError, Global};
+
+/// Records a verdict on the attestation of a number.
+pub fn record_verdict(session: &mut Session, number: u64, attests: bool) -> u8
+    requires { number_attests number ≡ attests }
+    ensures { RecordsVerdict session.old result session.new number attests }
+{
+    match session.record_verdict(number, attests) {
+        Ok(()) => DONE,
+        Err(_) => OUT_OF_MEMORY,
+    }
+}
+
+/// Records a verdict on attestations as a whole.
+pub fn record_verdict_together(
+    session: &mut Session,
+    alloc: Global,
+    list: &[FlatAttestation],
+    passes: bool,
+) -> u8
+    requires { list_passes (map attestation_in list.now) ≡ passes }
+    ensures { RecordsTogether session.old result session.new list.now passes }
+{
+    match attestations_of(alloc, list) {
+        Ok(attestations) => {
+            session.record_verdict_together(attestations, passes);
+            DONE
+        }
+        Err(_) => OUT_OF_MEMORY,
+    }
+}
+
+/// Takes in a vote of the peer whose key is the number.
+pub fn add_network(
+    session: &mut Session,
+    sender: u64,
+    vote: &FlatVote,
+    out: &mut FlatAdmission,
+) -> u8
+    ensures { AddsNetwork session.old result session.new sender vote.now out.old out.new }
+{
+    let Some(typed) = vote.vote() else {
+        return MALFORMED;
+    };
+    match session.add_network(sender, typed) {
+        Ok(Some(admission)) => {
+            *out = FlatAdmission::of(&admission);
+            DONE
+        }
+        Ok(None) => ELSEWHERE,
+        Err(_) => OUT_OF_MEMORY,
+    }
+}
+
+/// Takes in a vote of the node's own, of which a verdict says that it attests.
+pub fn accept_vote(session: &mut Session, vote: &FlatVote, out: &mut FlatAdmission) -> u8
+    ensures { AcceptsVote session.old result session.new vote.now out.old out.new }
+{
+    let Some(typed) = vote.vote() else {
+        return MALFORMED;
+    };
+    match session.accept_vote(typed) {
+        Ok((Outcome::Added { retained }, report)) => {
+            *out = FlatAdmission::of_own(true, retained, &report);
+            DONE
+        }
+        Ok((Outcome::Duplicate { retained }, report)) => {
+            *out = FlatAdmission::of_own(false, retained, &report);
+            DONE
+        }
+        Ok((Outcome::Conflicting, _)) => CONFLICTING,
+        Err(refusal) => refusal_code(refusal),
+    }
+}
+
+// None of them says that it is done, or that the vote is malformed.
+fn refusal_code(refusal: OwnRefusal) -> u8
+    ensures codes { is_one_of refusals result ≡ true }
+    ensures done { result ≢ DONE }
+    ensures malformed { result ≢ MALFORMED }
+{
+    match refusal {
+        OwnRefusal::Elsewhere => ELSEWHERE,
+        OwnRefusal::NotVerified => NOT_VERIFIED,
+        OwnRefusal::Fault(OwnFault::OutOfMemory) => OUT_OF_MEMORY,
+        OwnRefusal::Fault(OwnFault::DuplicateNotarize) => DUPLICATE_NOTARIZE,
+        OwnRefusal::Fault(OwnFault::DuplicateFinalize) => DUPLICATE_FINALIZE,
+        OwnRefusal::Fault(OwnFault::Conflicting) => CONFLICTING,
+        OwnRefusal::Fault(OwnFault::NullifyAfterFinalize) => NULLIFY_AFTER_FINALIZE,
+        OwnRefusal::Fault(OwnFault::FinalizeAfterNullify) => FINALIZE_AFTER_NULLIFY,
+    }
+}
+
+/// Records a certificate that the caller has verified.
+pub fn record_certificate(
+    session: &mut Session,
+    kind: u8,
+    proposal: &FlatProposal,
+    number: u64,
+    selected_anew: &mut bool,
+) -> u8
+    requires { number_certifies number ≡ true }
+    ensures { RecordsCertificate session.old result session.new kind proposal.now number
+        selected_anew.old selected_anew.new }
+{
+    let Some(subject) = subject_of(kind, proposal) else {
+        return MALFORMED;
+    };
+    let content = Content::Received(CertificateVerdict::new(number, true));
+    let certificate = Certificate::new(subject, content);
+    let answer = session.record_certificate(&certificate);
+    drop(certificate);
+    match answer {
+        Ok(Some(selected)) => {
+            *selected_anew = selected;
+            DONE
+        }
+        Ok(None) => ELSEWHERE,
+        Err(_) => OUT_OF_MEMORY,
+    }
+}
+
+/// Sets the leader.
+pub fn set_leader(session: &mut Session, leader: u32) -> u8
+    ensures { SetsLeader session.old result session.new leader }
+{
+    match session.set_leader(Participant(leader)) {
+        Ok(()) => DONE,
+        Err(_) => LEADER_CHANGED,
+    }
+}
+
+/// The selected proposal, to hand on once.
+pub fn try_forward_proposal(session: &mut Session, me: u32, out: &mut FlatProposal) -> u8
+    ensures { Forwards session.old result session.new me out.old out.new }
+{
+    match session.try_forward_proposal(Participant(me)) {
+        Some(proposal) => {
+            *out = FlatProposal::of(&proposal);
+            DONE
+        }
+        None => IDLE,
+    }
+}
+
+/// The leader.
+pub fn leader(session: &Session, out: &mut u32) -> u8
+{
+    match session.leader() {
+        Some(leader) => {
+            *out = leader.0;
+            DONE
+        }
+        None => IDLE,
+    }
+}
+
+/// The selected proposal.
+pub fn proposal(session: &Session, out: &mut FlatProposal) -> u8
+{
+    match session.proposal() {
+        Some(proposal) => {
+            *out = FlatProposal::of(&proposal);
+            DONE
+        }
+        None => IDLE,
+    }
+}
+
+/// Whether a certificate of the kind is there.
+pub fn has_certificate(session: &Session, kind: u8, out: &mut bool) -> u8
+{
+    let Some(kind) = kind_of(kind) else {
+        return MALFORMED;
+    };
+    *out = session.has_certificate(kind);
+    DONE
+}
+
+/// Whether a nullify of the signer is kept in full.
+pub fn has_nullify(session: &Session, signer: u32, out: &mut bool) -> u8
+{
+    *out = session.has_nullify(Participant(signer));
+    DONE
+}
+
+/// Whether the participant isn't known to have the proposal's block.
+pub fn is_missing_voter(
+    session: &Session,
+    proposal: &FlatProposal,
+    participant: u32,
+    out: &mut bool,
+) -> u8
+{
+    *out = session.is_missing_voter(&proposal.proposal(), Participant(participant));
+    DONE
+}
+
+/// The participants that aren't known to have the proposal's block.
+pub fn missing_voters(
+    session: &Session,
+    proposal: &FlatProposal,
+    list: &mut [u32],
+    count: &mut u64,
+) -> u8
+    ensures { ListsMissing session.now result session.now proposal.now list.old list.new count.old
+        count.new }
+{
+    match session.missing_voters(&proposal.proposal()) {
+        Ok(missing) => {
+            *count = missing.len() as u64;
+            write_signers(missing.as_slice(), list);
+            drop(missing);
+            DONE
+        }
+        Err(_) => OUT_OF_MEMORY,
+    }
+}
+
+/// Makes the next construction, or says on what it wants verdicts first.
+pub fn try_construct(
+    session: &mut Session,
+    step: &mut FlatStep,
+    list: &mut [FlatAttestation],
+    signers: &mut [u32],
+) -> u8
+    ensures { Constructs session.old result session.new step.new list.old list.new signers.old
+        signers.new }
+{
+    match session.try_construct() {
+        Ok(Step::Idle) => IDLE,
+        Ok(Step::Verify(wanted)) => {
+            write_wanted(&wanted, step, list);
+            drop(wanted);
+            VERIFY
+        }
+        Ok(Step::VerifyTogether(wanted)) => {
+            write_wanted(&wanted, step, list);
+            drop(wanted);
+            VERIFY_TOGETHER
+        }
+        Ok(Step::Made(batch)) => {
+            write_batch(&batch, step, list, signers);
+            drop(batch);
+            DONE
+        }
+        Err(_) => OUT_OF_MEMORY,
+    }
+}
+
+fn write_wanted(wanted: &Wanted, step: &mut FlatStep, list: &mut [FlatAttestation])
+    ensures subject { subject_in step.new.kind step.new.proposal ≡ Some wanted.now.subject }
+    ensures listed { step.new.listed ≡ length wanted.now.attestations.items }
+    ensures verified { step.new.verified ≡ wanted.now.verified }
+    ensures list { IsWritten attestation_in wanted.now.attestations.items list.old list.new }
+{
+    let (kind, proposal) = flat_subject(&wanted.subject);
+    step.kind = kind;
+    step.proposal = proposal;
+    step.listed = wanted.attestations.len() as u64;
+    step.verified = wanted.verified as u64;
+    write_attestations(wanted.attestations.as_slice(), list);
+}
+
+fn write_batch(
+    batch: &Batch<Certificate<Content<Caller>, Sha256Digest>>,
+    step: &mut FlatStep,
+    list: &mut [FlatAttestation],
+    signers: &mut [u32],
+)
+    ensures { WritesBatch step.new list.old list.new signers.old signers.new batch.now }
+{
+    step.processed = batch.processed as u64;
+    step.fallback = batch.fallback;
+    step.invalid = batch.invalid.len() as u64;
+    write_signers(batch.invalid.as_slice(), signers);
+    match &batch.certificate {
+        Some(certificate) => {
+            step.certified = true;
+            let (kind, proposal) = flat_subject(&certificate.subject());
+            step.kind = kind;
+            step.proposal = proposal;
+            write_content(certificate.content(), step, list);
+        }
+        None => step.certified = false,
+    }
+}
+
+// The attestations that a certificate is made of. One that came from elsewhere shows none.
+fn write_content(content: &Content<Caller>, step: &mut FlatStep, list: &mut [FlatAttestation])
+    ensures content { WritesContent step.new list.old list.new content.now }
+    ensures others { step.new ≡ record step.old { listed = step.new.listed } }
+{
+    match content {
+        Content::Listed(parts) => {
+            let attestations = parts.attestations();
+            step.listed = attestations.len() as u64;
+            write_attestations(attestations, list);
+        }
+        Content::Received(_) => step.listed = 0,
+    }
+}
+
+// Writes as many as there is room for.
+fn write_attestations(from: &[Attestation<u64>], to: &mut [FlatAttestation])
+    ensures { IsWritten attestation_in from.now to.old to.new }
+{
+    for index in 0..from.len().min(to.len()) {
+        to[index] = FlatAttestation::of(from[index]);
+    }
+}
+
+// Writes as many as there is room for.
+fn write_signers(from: &[Participant], to: &mut [u32])
+    ensures { IsWritten participant from.now to.old to.new }
+{
+    for index in 0..from.len().min(to.len()) {
+        to[index] = from[index].0;
+    }
+}
+
+fn attestations_of(
+    alloc: Global,
+    list: &[FlatAttestation],
+) -> Result<Vec<Attestation<u64>>, AllocError>
+    ensures { IfOk result (λ all. all.items ≡ map attestation_in list.now) }
+{
+    let mut all = Vec::with_capacity(alloc, list.len())?;
+    for flat in list {
+        all.push(flat.attestation())?;
+    }
+    Ok(all)
+}

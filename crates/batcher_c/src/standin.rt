@@ -1,6 +1,0 @@
-//! A stand-in.
-
-#[derive(Drop)]
-pub struct Session {
-    pub numbers: Vec<u64>,
-}
