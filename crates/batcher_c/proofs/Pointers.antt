@@ -139,7 +139,7 @@ module _ (R : RattleType) {M : Type 1} {𝓤 : Ura M} {𝓛 : Logic 𝓤} {K : T
   either t a p (Some x) none one =
       somewhere R heap.the_row heap_laws.the_row_laws ghosts t a p x (λ b o place.
       let whole =
-          there R heap.the_row heap_laws.the_row_laws ghosts a (block_ptr b o) x in
+      there R heap.the_row heap_laws.the_row_laws ghosts a (block_ptr b o) x in
       use1 𝓛 (given (Testable (block_ptr b o)) (‵ whole)) (testable R a 𝓛 (block_ptr b o) x) $
       learn t (λ tests. one b o x refl place tests))
 

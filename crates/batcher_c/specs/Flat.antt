@@ -1,5 +1,5 @@
 -- What flat values and codes mean.
-use Rattle.std.specs.Prelude.{◌≡◌, ◌==◌, ℕ, Bool, if◌then◌else◌, Option, Some, None}
+use Rattle.std.specs.Prelude.{◌≡◌, ◌==◌, ℕ, Bool, if◌then◌else◌, Option, Some, None, option_and_then}
 use Rattle.std.specs.Option.{option_map}
 use Rattle.batcher_types.specs.declared.positions.Round.{Round}
 use Rattle.batcher_types.specs.declared.messages.Sha256Digest.{Sha256Digest}
@@ -15,16 +15,20 @@ use Rattle.batcher_types.specs.declared.messages.Subject.TheVariants.{Notarize a
 use Rattle.batcher_types.specs.declared.messages.Kind.{Kind}
 use Rattle.batcher_types.specs.declared.messages.Kind.TheVariants.{Notarization, Nullification, Finalization}
 use Rattle.batcher_types.specs.declared.messages.Activity.{Activity}
-use Rattle.batcher_types.specs.declared.messages.Activity.TheVariants.{Notarize as NotarizeReport, Nullify as NullifyReport, Finalize as FinalizeReport, ConflictingNotarize as NotarizesReport, ConflictingFinalize as FinalizesReport, NullifyFinalize as NullifyFinalizeReport}
+use Rattle.batcher_types.specs.declared.messages.Activity.TheVariants.{Notarize as NotarizeReport, Nullify as NullifyReport, Finalize as FinalizeReport, ConflictingNotarize as NotarizesReport}
+use Rattle.batcher_types.specs.declared.messages.Activity.TheVariants.{ConflictingFinalize as FinalizesReport, NullifyFinalize as NullifyFinalizeReport}
 use Rattle.batcher_votes.specs.declared.votes.Mode.{Mode}
 use Rattle.batcher_votes.specs.declared.votes.Mode.TheVariants.{Retaining, Releasing, Skipped}
 use Rattle.batcher_votes.specs.declared.votes.Outcome.{Outcome}
 use Rattle.batcher_votes.specs.declared.votes.Outcome.TheVariants.{Added, Duplicate}
 use Rattle.batcher_histories.specs.declared.answers.Admission.{Admission}
 use Rattle.batcher_histories.specs.declared.answers.BlockReason.{BlockReason}
-use Rattle.batcher_histories.specs.declared.answers.BlockReason.TheVariants.{UnknownParticipant, NotarizeSignerMismatch, NullifySignerMismatch, FinalizeSignerMismatch, ConflictingNotarize, ConflictingNullify, ConflictingFinalize, InvalidSignature, NullifyAfterFinalize, FinalizeAfterNullify}
+use Rattle.batcher_histories.specs.declared.answers.BlockReason.TheVariants.{UnknownParticipant, NotarizeSignerMismatch, NullifySignerMismatch, FinalizeSignerMismatch, ConflictingNotarize}
+use Rattle.batcher_histories.specs.declared.answers.BlockReason.TheVariants.{ConflictingNullify, ConflictingFinalize, InvalidSignature, NullifyAfterFinalize, FinalizeAfterNullify}
 use Rattle.batcher_c.specs.declared.codes.TheConstants.{NOTARIZATION, NULLIFICATION, FINALIZATION, RETAINING, RELEASING, SKIPPED}
-use Rattle.batcher_c.specs.declared.codes.TheConstants.{BLOCK_UNKNOWN_PARTICIPANT, BLOCK_NOTARIZE_SIGNER_MISMATCH, BLOCK_NULLIFY_SIGNER_MISMATCH, BLOCK_FINALIZE_SIGNER_MISMATCH, BLOCK_CONFLICTING_NOTARIZE, BLOCK_CONFLICTING_NULLIFY, BLOCK_CONFLICTING_FINALIZE, BLOCK_INVALID_SIGNATURE, BLOCK_NULLIFY_AFTER_FINALIZE, BLOCK_FINALIZE_AFTER_NULLIFY}
+use Rattle.batcher_c.specs.declared.codes.TheConstants.{BLOCK_UNKNOWN_PARTICIPANT, BLOCK_NOTARIZE_SIGNER_MISMATCH, BLOCK_NULLIFY_SIGNER_MISMATCH, BLOCK_FINALIZE_SIGNER_MISMATCH}
+use Rattle.batcher_c.specs.declared.codes.TheConstants.{BLOCK_CONFLICTING_NOTARIZE, BLOCK_CONFLICTING_NULLIFY, BLOCK_CONFLICTING_FINALIZE, BLOCK_INVALID_SIGNATURE, BLOCK_NULLIFY_AFTER_FINALIZE}
+use Rattle.batcher_c.specs.declared.codes.TheConstants.{BLOCK_FINALIZE_AFTER_NULLIFY}
 use Rattle.batcher_c.specs.declared.codes.TheConstants.{REPORT_NOTARIZE, REPORT_NULLIFY, REPORT_FINALIZE, REPORT_CONFLICTING_NOTARIZE, REPORT_CONFLICTING_FINALIZE, REPORT_NULLIFY_FINALIZE}
 use Rattle.batcher_c.specs.declared.flat.FlatProposal.{FlatProposal}
 use Rattle.batcher_c.specs.declared.flat.FlatAttestation.{FlatAttestation}
@@ -106,21 +110,39 @@ subject_of_kind flat Finalization = FinalizeSubject (proposal_in flat)
 abbrev pub subject_in : ℕ → FlatProposal → Option (Subject Sha256Digest)
 subject_in code flat = option_map (subject_of_kind flat) (kind_in code)
 
-abbrev pub report_by : ℕ → FlatVote → FlatVote → Option (Activity ℕ Sha256Digest)
+abbrev pub as_notarize : Option (Vote ℕ Sha256Digest) → Option (Notarize ℕ Sha256Digest)
+as_notarize (Some (NotarizeVote vote)) = Some vote
+as_notarize other = None
+
+abbrev pub as_nullify : Option (Vote ℕ Sha256Digest) → Option (Nullify ℕ)
+as_nullify (Some (NullifyVote vote)) = Some vote
+as_nullify other = None
+
+abbrev pub as_finalize : Option (Vote ℕ Sha256Digest) → Option (Finalize ℕ Sha256Digest)
+as_finalize (Some (FinalizeVote vote)) = Some vote
+as_finalize other = None
+
+-- two votes, where both are there
+abbrev pub with_both : {A B C : Type 0} → (A → B → C) → Option A → Option B → Option C
+with_both f a b = option_and_then (λ x. option_map (f x) b) a
+
+-- the report of a code, of the first vote or of both
+abbrev pub report_by : ℕ → Option (Vote ℕ Sha256Digest) → Option (Vote ℕ Sha256Digest)
+    → Option (Activity ℕ Sha256Digest)
 report_by code first second =
-    if code == REPORT_NOTARIZE then Some (NotarizeReport (notarize_in first)) else
-    if code == REPORT_NULLIFY then Some (NullifyReport (nullify_in first)) else
-    if code == REPORT_FINALIZE then Some (FinalizeReport (finalize_in first)) else
+    if code == REPORT_NOTARIZE then option_map NotarizeReport (as_notarize first) else
+    if code == REPORT_NULLIFY then option_map NullifyReport (as_nullify first) else
+    if code == REPORT_FINALIZE then option_map FinalizeReport (as_finalize first) else
     if code == REPORT_CONFLICTING_NOTARIZE
-        then Some (NotarizesReport (notarize_in first) (notarize_in second)) else
+    then with_both NotarizesReport (as_notarize first) (as_notarize second) else
     if code == REPORT_CONFLICTING_FINALIZE
-        then Some (FinalizesReport (finalize_in first) (finalize_in second)) else
+    then with_both FinalizesReport (as_finalize first) (as_finalize second) else
     if code == REPORT_NULLIFY_FINALIZE
-        then Some (NullifyFinalizeReport (nullify_in first) (finalize_in second)) else None
+    then with_both NullifyFinalizeReport (as_nullify first) (as_finalize second) else None
 
 -- what is reported, if anything is
 abbrev pub report_in : FlatAdmission → Option (Activity ℕ Sha256Digest)
-report_in flat = report_by flat.report flat.first flat.second
+report_in flat = report_by flat.report (vote_in flat.first) (vote_in flat.second)
 
 abbrev pub admission_in : FlatAdmission → Admission ℕ Sha256Digest
 admission_in flat =

@@ -1,6 +1,6 @@
 -- The types that handles own, as the logic describes them.
 use denote.RattleType.{RattleType}
-use Rattle.batcher_session.specs.contracts.any.AnySession as session
+use Rattle.batcher_session.specs.contracts.session.Session as session
 use Rattle.batcher_c.specs.contracts.caller.Caller as caller
 use Rattle.batcher_c.specs.contracts.caller.CallerTruth.TheImpl.{ghosts}
 

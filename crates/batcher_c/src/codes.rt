@@ -33,32 +33,52 @@ pub const VERIFY_TOGETHER: u8 = 14;
 
 /// Kinds of votes and certificates.
 pub const NOTARIZATION: u8 = 0;
+
 pub const NULLIFICATION: u8 = 1;
+
 pub const FINALIZATION: u8 = 2;
 
 /// How a round keeps its votes.
 pub const RETAINING: u8 = 0;
+
 pub const RELEASING: u8 = 1;
+
 pub const SKIPPED: u8 = 2;
 
 /// Why a sender is to be blocked, if it is.
 pub const BLOCK_NONE: u8 = 0;
+
 pub const BLOCK_UNKNOWN_PARTICIPANT: u8 = 1;
+
 pub const BLOCK_NOTARIZE_SIGNER_MISMATCH: u8 = 2;
+
 pub const BLOCK_NULLIFY_SIGNER_MISMATCH: u8 = 3;
+
 pub const BLOCK_FINALIZE_SIGNER_MISMATCH: u8 = 4;
+
 pub const BLOCK_CONFLICTING_NOTARIZE: u8 = 5;
+
 pub const BLOCK_CONFLICTING_NULLIFY: u8 = 6;
+
 pub const BLOCK_CONFLICTING_FINALIZE: u8 = 7;
+
 pub const BLOCK_INVALID_SIGNATURE: u8 = 8;
+
 pub const BLOCK_NULLIFY_AFTER_FINALIZE: u8 = 9;
+
 pub const BLOCK_FINALIZE_AFTER_NULLIFY: u8 = 10;
 
 /// What a report is of, if there is one.
 pub const REPORT_NONE: u8 = 0;
+
 pub const REPORT_NOTARIZE: u8 = 1;
+
 pub const REPORT_NULLIFY: u8 = 2;
+
 pub const REPORT_FINALIZE: u8 = 3;
+
 pub const REPORT_CONFLICTING_NOTARIZE: u8 = 4;
+
 pub const REPORT_CONFLICTING_FINALIZE: u8 = 5;
+
 pub const REPORT_NULLIFY_FINALIZE: u8 = 6;

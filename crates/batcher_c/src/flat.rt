@@ -1,7 +1,7 @@
 //! What crosses to C: structs of numbers, and codes in place of enums.
 
 ghost use Rattle.std.specs.Prelude.{◌≡◌, Some, if◌then◌else◌};
-ghost use Rattle.batcher_c.specs.Flat.{kind_in, mode_in, block_in, round_in, proposal_in, attestation_in, notarize_in, nullify_in, finalize_in, vote_in, report_in, admission_in, outcome_in, subject_in};
+ghost use Rattle.batcher_c.specs.Flat.{kind_in, mode_in, block_in, round_in, proposal_in, attestation_in, vote_in, report_in, admission_in, outcome_in, subject_in};
 
 use crate::codes::{
     BLOCK_CONFLICTING_FINALIZE, BLOCK_CONFLICTING_NOTARIZE, BLOCK_CONFLICTING_NULLIFY,
@@ -14,8 +14,7 @@ use crate::codes::{
 };
 use batcher_histories::answers::{Admission, BlockReason};
 use batcher_types::messages::{
-    Activity, Attestation, Finalize, Kind, Notarize, Nullify, Proposal, Sha256Digest, Subject,
-    Vote,
+    Activity, Attestation, Finalize, Kind, Notarize, Nullify, Proposal, Sha256Digest, Subject, Vote,
 };
 use batcher_types::positions::{Epoch, Participant, Round, View};
 use batcher_votes::votes::{Mode, Outcome};
@@ -90,17 +89,6 @@ pub fn kind_of(code: u8) -> Option<Kind>
         NULLIFICATION => Some(Kind::Nullification),
         FINALIZATION => Some(Kind::Finalization),
         _ => None,
-    }
-}
-
-/// The code of a kind.
-pub fn code_of(kind: Kind) -> u8
-    ensures { kind_in result ≡ Some kind }
-{
-    match kind {
-        Kind::Notarization => NOTARIZATION,
-        Kind::Nullification => NULLIFICATION,
-        Kind::Finalization => FINALIZATION,
     }
 }
 
@@ -262,7 +250,7 @@ impl FlatVote {
     }
 
     fn of_notarize(vote: &Notarize<u64, Sha256Digest>) -> Self
-        ensures { notarize_in result ≡ vote.now }
+        ensures { vote_in result ≡ Some (Vote.Notarize vote.now) }
     {
         FlatVote {
             proposal: FlatProposal::of(&vote.proposal),
@@ -272,7 +260,7 @@ impl FlatVote {
     }
 
     fn of_nullify(vote: &Nullify<u64>) -> Self
-        ensures { nullify_in result ≡ vote.now }
+        ensures { vote_in result ≡ Some (Vote.Nullify vote.now) }
     {
         FlatVote {
             proposal: FlatProposal::of_round(vote.round),
@@ -282,7 +270,7 @@ impl FlatVote {
     }
 
     fn of_finalize(vote: &Finalize<u64, Sha256Digest>) -> Self
-        ensures { finalize_in result ≡ vote.now }
+        ensures { vote_in result ≡ Some (Vote.Finalize vote.now) }
     {
         FlatVote {
             proposal: FlatProposal::of(&vote.proposal),

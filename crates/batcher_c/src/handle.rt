@@ -6,45 +6,44 @@ ghost use Rattle.batcher_session.specs.Sessions.{SessionView};
 
 use crate::caller::Caller;
 use crate::unboxed::Unboxed;
-use batcher_session::AnySession;
 use std::alloc::Global;
 use std::marker::Model;
 use std::{mem, ptr};
 
 /// A round as C has it.
-pub type Session = AnySession<Caller>;
+pub type Session = batcher_session::Session<Caller>;
 
 /// A round, or none. C sees one pointer, which is null where there is none.
 #[repr(C)]
-pub struct Handle {
+pub struct RoundHandle {
     at: *mut u8,
     alloc: Global,
     pub ghost value: { Option SessionView },
 }
 
-impl Model for Handle {
+impl Model for RoundHandle {
     ghost use Rattle.batcher_c.specs.Owned.{owned_or_null};
     ghost use Rattle.batcher_c.specs.Rows.{session_row};
 
     ghost also_owns = { λ h. owned_or_null session_row h.alloc h.at h.value };
 }
 
-impl Handle {
+impl RoundHandle {
     // A handle of none.
-    fn empty(alloc: Global) -> Handle
+    fn empty(alloc: Global) -> RoundHandle
         ensures { result.value ≡ None }
     {
-        Handle {
+        RoundHandle {
             at: ptr::null_mut(),
             alloc,
         }
     }
 
-    fn from_unboxed(whole: Unboxed<Session, Global>) -> Handle
+    fn from_unboxed(whole: Unboxed<Session, Global>) -> RoundHandle
         ensures { result.value ≡ Some whole.value }
     {
         let Unboxed { at, alloc } = whole;
-        Handle {
+        RoundHandle {
             at: at as *mut u8,
             alloc,
         }
@@ -53,7 +52,7 @@ impl Handle {
     fn into_unboxed(self) -> Option<Unboxed<Session, Global>>
         ensures { MatchOption result (self.value ≡ None) (λ whole. self.value ≡ Some whole.value) }
     {
-        let Handle { at, alloc } = self;
+        let RoundHandle { at, alloc } = self;
         if at.is_null() {
             None
         } else {
@@ -65,10 +64,10 @@ impl Handle {
     }
 
     /// A handle of the session.
-    fn of(session: Box<Session>) -> Handle
+    fn of(session: Box<Session>) -> RoundHandle
         ensures { result.value ≡ Some session.value }
     {
-        Handle::from_unboxed(Unboxed::of(session))
+        RoundHandle::from_unboxed(Unboxed::of(session))
     }
 
     fn into_box(self) -> Option<Box<Session>>
@@ -86,13 +85,13 @@ impl Handle {
             (λ session. self.old.value ≡ Some session.value) }
         ensures left { self.new.value ≡ None }
     {
-        mem::replace(self, Handle::empty(alloc)).into_box()
+        mem::replace(self, RoundHandle::empty(alloc)).into_box()
     }
 
     /// Puts a session in. One that was there is freed.
     pub fn put(&mut self, session: Box<Session>)
         ensures { self.new.value ≡ Some session.value }
     {
-        drop(mem::replace(self, Handle::of(session)).into_box());
+        drop(mem::replace(self, RoundHandle::of(session)).into_box());
     }
 }

@@ -5,7 +5,8 @@ ghost use Rattle.batcher_types.specs.Keys.{participant};
 ghost use Rattle.batcher_c.specs.Flat.{attestation_in, subject_in};
 ghost use Rattle.batcher_c.specs.Truths.{number_attests, list_passes, number_certifies};
 ghost use Rattle.batcher_c.specs.Written.{IsWritten, WritesContent, WritesBatch};
-ghost use Rattle.batcher_c.specs.Rounds.{is_one_of, refusals, RecordsVerdict, RecordsTogether, AddsNetwork, AcceptsVote, RecordsCertificate, SetsLeader, Forwards, ListsMissing, Constructs};
+ghost use Rattle.batcher_c.specs.Rounds.{is_one_of, refusals, RecordsVerdict, RecordsTogether, AddsNetwork, AcceptsVote, RecordsCertificate, SetsLeader, Forwards, AsksLeader, AsksProposal};
+ghost use Rattle.batcher_c.specs.Rounds.{AsksCertificate, AsksNullify, AsksMissing, ListsMissing, Constructs};
 
 use crate::caller::Caller;
 use crate::codes::{
@@ -172,6 +173,7 @@ pub fn try_forward_proposal(session: &mut Session, me: u32, out: &mut FlatPropos
 
 /// The leader.
 pub fn leader(session: &Session, out: &mut u32) -> u8
+    ensures { AsksLeader session.now result out.old out.new }
 {
     match session.leader() {
         Some(leader) => {
@@ -184,10 +186,11 @@ pub fn leader(session: &Session, out: &mut u32) -> u8
 
 /// The selected proposal.
 pub fn proposal(session: &Session, out: &mut FlatProposal) -> u8
+    ensures { AsksProposal session.now result out.old out.new }
 {
     match session.proposal() {
-        Some(proposal) => {
-            *out = FlatProposal::of(&proposal);
+        Some(selected) => {
+            *out = FlatProposal::of(&selected);
             DONE
         }
         None => IDLE,
@@ -196,6 +199,7 @@ pub fn proposal(session: &Session, out: &mut FlatProposal) -> u8
 
 /// Whether a certificate of the kind is there.
 pub fn has_certificate(session: &Session, kind: u8, out: &mut bool) -> u8
+    ensures { AsksCertificate session.now result kind out.old out.new }
 {
     let Some(kind) = kind_of(kind) else {
         return MALFORMED;
@@ -206,6 +210,7 @@ pub fn has_certificate(session: &Session, kind: u8, out: &mut bool) -> u8
 
 /// Whether a nullify of the signer is kept in full.
 pub fn has_nullify(session: &Session, signer: u32, out: &mut bool) -> u8
+    ensures { AsksNullify session.now result signer out.new }
 {
     *out = session.has_nullify(Participant(signer));
     DONE
@@ -218,6 +223,7 @@ pub fn is_missing_voter(
     participant: u32,
     out: &mut bool,
 ) -> u8
+    ensures { AsksMissing session.now result proposal.now participant out.new }
 {
     *out = session.is_missing_voter(&proposal.proposal(), Participant(participant));
     DONE
@@ -230,8 +236,7 @@ pub fn missing_voters(
     list: &mut [u32],
     count: &mut u64,
 ) -> u8
-    ensures { ListsMissing session.now result session.now proposal.now list.old list.new count.old
-        count.new }
+    ensures { ListsMissing session.now result proposal.now list.old list.new count.old count.new }
 {
     match session.missing_voters(&proposal.proposal()) {
         Ok(missing) => {

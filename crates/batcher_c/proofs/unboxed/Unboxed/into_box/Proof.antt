@@ -50,10 +50,10 @@ into_box_spec 𝓤 𝓛 𝓜 𝓡 wired T A L LA g d dx dd allocator glue glued 
     let contract = ended T A g d dx dd in
     let c = clauses T A g d dx dd 𝓛 𝓜.mem 𝓡.returns in
     let at_types = bounded (a_type ∷ a_type ∷ []) (T, (A, tt))
-        (dcons d (dcons dx (dcons dd dnil))) in
+    (dcons d (dcons dx (dcons dd dnil))) in
     let body : Fn = inst_fn at_types code.function in
     let stays : Stays contract.signature.params contract.kept =
-        (stay_dropped (plain (λ _. U)) no, tt) in
+    (stay_dropped (plain (λ _. U)) no, tt) in
     let E : box.Bx = record {
       row = T;
       laws = L;
@@ -73,9 +73,9 @@ into_box_spec 𝓤 𝓛 𝓜 𝓡 wired T A L LA g d dx dd allocator glue glued 
     let v : Val = word (block_ptr b o) h in
     let typed = fits_at Z LZ g b o h fits in
     let made = triple_of 𝓛 (callee.signature T A g d dd)
-        (callee.spec T A g d dd 𝓛 𝓜.mem 𝓡.returns) in
+    (callee.spec T A g d dd 𝓛 𝓜.mem 𝓡.returns) in
     let y : made.Ghost =
-        ((κs, qs, tt, (u.alloc, (block_ptr b o, tt)), (h ∷ [], (vptr b o ∷ [], tt))), u.value) in
+    ((κs, qs, tt, (u.alloc, (block_ptr b o, tt)), (h ∷ [], (vptr b o ∷ [], tt))), u.value) in
     -- the lifetimes that the callee asks for, and what it is handed
     move ! (4 ∷ []) $
     use1 𝓛 (raw (fact 𝓤 (κs.0 ⊑ T.lives)) ⊛ raw (fact 𝓤 (κs.1.0 ⊑ A.lives)) ⊛ ‵ ftrue) (id⊢ 𝓤 _) $
@@ -104,7 +104,7 @@ into_box_spec 𝓤 𝓛 𝓜 𝓡 wired T A L LA g d dx dd allocator glue glued 
     box_in E ! r b' o' r.value place refl $
     rewrite ! 0 (λ (ws : List Val). ‵ (B.own_val r ws)) (sym word_is) refl $
     let good : Good (layout B) w =
-        subst (Good (layout B)) (sym (ap only word_is)) (fits_at Z LZ g b' o' h' fits') in
+    subst (Good (layout B)) (sym (ap only word_is)) (fits_at Z LZ g b' o' h' fits') in
     lands_last ! refl good $
     exec ! 𝓣.C 𝓣.Λ (env body.locals l) (after 3 body.body) (at_ret (env body.locals l) Post) $
     sets ! (of_opd ! (get ! refl)) refl good $ nothing ! $ nothing ! $ fjoin ! $

@@ -45,7 +45,7 @@ of_spec 𝓤 𝓛 𝓜 𝓡 wired T A L LA g d dx dd allocator glue glued =
     let contract = ended T A g d dx dd in
     let c = clauses T A g d dx dd 𝓛 𝓜.mem 𝓡.returns in
     let at_types = bounded (a_type ∷ a_type ∷ []) (T, (A, tt))
-        (dcons d (dcons dx (dcons dd dnil))) in
+    (dcons d (dcons dx (dcons dd dnil))) in
     let body : Fn = inst_fn at_types code.function in
     let E : box.Bx = record {
       row = T;
@@ -53,7 +53,7 @@ of_spec 𝓤 𝓛 𝓜 𝓡 wired T A L LA g d dx dd allocator glue glued =
       al = record { row = A; laws = LA; g = g; d = d; drops = dd };
     } in
     let stays : Stays contract.signature.params contract.kept =
-        (stay_dropped (plain (λ _. box.B E)) no, tt) in
+    (stay_dropped (plain (λ _. box.B E)) no, tt) in
     proved_at 𝓛 contract stays c 𝓜 𝓡
     (Goes-blank 𝓛 2 (plain (λ _. box.B E)) no (λ κs x f. tt), tt) (name at_types) body
     (code.unfolded 𝓤 H 𝓜 𝓡 wired (T, (A, tt)) d dx dd) (λ z are.
@@ -68,7 +68,7 @@ of_spec 𝓤 𝓛 𝓜 𝓡 wired T A L LA g d dx dd allocator glue glued =
     let v : Val = box.word E h b o in
     let typed = fits_at Z LZ g b o h fits in
     let apart = triple_of 𝓛 (callee.signature T A g d dd dx)
-        (callee.spec T A g d dd dx 𝓛 𝓜.mem 𝓡.returns) in
+    (callee.spec T A g d dd dx 𝓛 𝓜.mem 𝓡.returns) in
     let y : apart.Ghost = ((κs, qs, tt, (w, tt), (v ∷ [], tt)), tt) in
     fjoin ! $ move ! (1 ∷ 0 ∷ []) $ join ! $ join ! $ use1 𝓛 (raw (apart.pre y)) (id⊢ 𝓤 _) $
     suffices ! (Runs (v ∷ [])) (subst (λ (ws : List Val). ent 𝓤 (Runs (v ∷ [])) (Runs ws))

@@ -24,10 +24,10 @@ use Rattle.std.proofs.alloc.Global.TheLaws as heap_laws
 use Rattle.std.proofs.raw_atomic.Walks.{proved_at, leaves}
 use Rattle.batcher_c.proofs.Pointers.{word, fits_at, Unboxed, unboxed_out, handle_in}
 use Rattle.batcher_c.specs.Rows.{session_row as R}
-use Rattle.batcher_c.specs.contracts.handle.Handle.from_unboxed.{ended, clauses}
-use Rattle.batcher_c.specs.contracts.handle.Handle.from_unboxed.Key.{name}
-use Rattle.batcher_c.proofs.handle.Handle.from_unboxed.Statement.{statement}
-use Rattle.batcher_c.proofs.handle.Handle.from_unboxed.Code as code
+use Rattle.batcher_c.specs.contracts.handle.RoundHandle.from_unboxed.{ended, clauses}
+use Rattle.batcher_c.specs.contracts.handle.RoundHandle.from_unboxed.Key.{name}
+use Rattle.batcher_c.proofs.handle.RoundHandle.from_unboxed.Statement.{statement}
+use Rattle.batcher_c.proofs.handle.RoundHandle.from_unboxed.Code as code
 
 pub from_unboxed_spec : {M : Type 1} → statement M
 from_unboxed_spec 𝓤 𝓛 𝓜 𝓡 wired =

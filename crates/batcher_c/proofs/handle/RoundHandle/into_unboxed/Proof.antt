@@ -29,11 +29,11 @@ use Rattle.std_alloc.proofs.ResultValues.{and_tt}
 use Rattle.std.proofs.raw_atomic.Walks.{proved_at, leaves}
 use Rattle.batcher_c.proofs.Pointers.{word, fits_at, fits_null, Unboxed, unboxed_in, handle_out, either}
 use Rattle.batcher_c.specs.Rows.{session_row as R}
-use Rattle.batcher_c.specs.contracts.handle.Handle.{the_row as Handle}
-use Rattle.batcher_c.specs.contracts.handle.Handle.into_unboxed.{ended, clauses}
-use Rattle.batcher_c.specs.contracts.handle.Handle.into_unboxed.Key.{name}
-use Rattle.batcher_c.proofs.handle.Handle.into_unboxed.Statement.{statement}
-use Rattle.batcher_c.proofs.handle.Handle.into_unboxed.Code as code
+use Rattle.batcher_c.specs.contracts.handle.RoundHandle.{the_row as Handle}
+use Rattle.batcher_c.specs.contracts.handle.RoundHandle.into_unboxed.{ended, clauses}
+use Rattle.batcher_c.specs.contracts.handle.RoundHandle.into_unboxed.Key.{name}
+use Rattle.batcher_c.proofs.handle.RoundHandle.into_unboxed.Statement.{statement}
+use Rattle.batcher_c.proofs.handle.RoundHandle.into_unboxed.Code as code
 
 pub into_unboxed_spec : {M : Type 1} → statement M
 into_unboxed_spec 𝓤 𝓛 𝓜 𝓡 wired =
@@ -45,7 +45,7 @@ into_unboxed_spec 𝓤 𝓛 𝓜 𝓡 wired =
     let c = clauses 𝓛 𝓜.mem 𝓡.returns in
     let body = code.function in
     let stays : Stays ended.signature.params ended.kept =
-        (stay_dropped (plain (λ _. Handle)) yes, tt) in
+    (stay_dropped (plain (λ _. Handle)) yes, tt) in
     proved_at 𝓛 ended stays c 𝓜 𝓡
     (Goes-dropped 𝓛 0 (plain (λ _. Handle)) yes (λ κs x f. refl), tt) name body
     (code.unfolded 𝓤 H 𝓜 𝓡 wired) (λ z are.
@@ -86,7 +86,7 @@ into_unboxed_spec 𝓤 𝓛 𝓜 𝓡 wired =
     let w : Val = live 1 (vcons v vnil) in
     let r : U.Denot = record { at = block_ptr b o; alloc = a; value = x } in
     let good : Good (layout Out) w =
-        (and_tt _ typed.0, (record { fits = lit< tt }, (typed.1, tt))) in
+    (and_tt _ typed.0, (record { fits = lit< tt }, (typed.1, tt))) in
     suffices ! (Runs (v ∷ [])) (subst (λ (ws : List Val). ent 𝓤 (Runs (v ∷ [])) (Runs ws))
     (sym (λ i. is' i ++ [])) (id⊢ 𝓤 (Runs (v ∷ [])))) $
     enter ! 𝓣.C 𝓣.Λ body (v ∷ []) Post $ alloc_all ! (λ l. pass_all ! refl (typed, tt) $

@@ -25,10 +25,10 @@ use Rattle.std.proofs.alloc.Global.TheLaws as heap_laws
 use Rattle.std.proofs.raw_atomic.Walks.{proved_at, leaves}
 use Rattle.batcher_c.proofs.Pointers.{word, bare_alloc, fits_null, handle_in}
 use Rattle.batcher_c.specs.Rows.{session_row as R}
-use Rattle.batcher_c.specs.contracts.handle.Handle.empty.{ended, clauses}
-use Rattle.batcher_c.specs.contracts.handle.Handle.empty.Key.{name}
-use Rattle.batcher_c.proofs.handle.Handle.empty.Statement.{statement}
-use Rattle.batcher_c.proofs.handle.Handle.empty.Code as code
+use Rattle.batcher_c.specs.contracts.handle.RoundHandle.empty.{ended, clauses}
+use Rattle.batcher_c.specs.contracts.handle.RoundHandle.empty.Key.{name}
+use Rattle.batcher_c.proofs.handle.RoundHandle.empty.Statement.{statement}
+use Rattle.batcher_c.proofs.handle.RoundHandle.empty.Code as code
 
 pub empty_spec : {M : Type 1} → statement M
 empty_spec 𝓤 𝓛 𝓜 𝓡 wired =
