@@ -1,5 +1,7 @@
-"""What the tools in Python share: the crates, and whether one was proved as it is now."""
+"""What the tools in Python share: the crates, whether one was proved as it is now, and rt itself."""
 import hashlib
+import importlib.machinery
+import importlib.util
 import os
 import shutil
 import sys
@@ -22,6 +24,17 @@ def has_rt():
         return True
     say("rt is not on the path: it comes with the kit that README.md names; 'rt version' shows that it is there")
     return False
+
+
+def load_rt():
+    """The kit's rt as a module, so that what rt does is done by its own code."""
+    path = shutil.which("rt")
+    if path is None:
+        sys.exit("rt is not on the path: it comes with the kit that README.md names")
+    loader = importlib.machinery.SourceFileLoader("rt", os.path.realpath(path))
+    module = importlib.util.module_from_spec(importlib.util.spec_from_loader("rt", loader))
+    loader.exec_module(module)
+    return module
 
 
 def folder_of(crate):
