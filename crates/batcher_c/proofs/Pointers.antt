@@ -2,12 +2,12 @@
 -- are made of. Assumes `Logic`.
 --     word p h             the struct of the pointer p and the machine value h of the allocator
 --     parts_out, parts_in  what such a struct owns is what its parts own, both ways
-use Rattle.std.proofs.Common.{◌≡◌, ◌&&◌, ◌∙◌, ℕ, true, List, [], ◌∷◌, ◌++◌, refl, ap, subst, lit<}
+use Rattle.std.proofs.Common.{◌≡◌, ◌&&◌, ◌∙◌, ℕ, true, List, [], ◌∷◌, ◌++◌, refl, subst, lit<}
 use lib.Dec.{T}
 use seplogic.Ra.Ura.{Ura}
-use mir.Syntax.{Ty, impl, tnil, dnil}
+use mir.Syntax.{impl, tnil, dnil}
 use mir.Raw.{raw as bare}
-use mir.Val.{Val, vstruct, vcons, vnil, of_list, has_ty, WT}
+use mir.Val.{Val, vstruct, of_list, has_ty, WT}
 use base.Fml.{Fml, fsep}
 use base.Fraction.{full_share}
 use base.Logic.{ent, via, guard, guard_i, never, fst∗, snd∗}

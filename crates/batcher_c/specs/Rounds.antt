@@ -1,5 +1,5 @@
 -- What the calls of a round do and answer, by codes and flat values.
-use Rattle.std.specs.Prelude.{◌≡◌, ◌≢◌, ◌↔◌, ◌≤◌, ◌==◌, ⊤, not, ℕ, Bool, true, List, [], ◌∷◌, length, map, Option, Some, None, Ok, IfSome, IsSomeAnd}
+use Rattle.std.specs.Prelude.{◌≡◌, ◌≢◌, ◌↔◌, ◌≤◌, ◌==◌, not, ℕ, Bool, true, List, [], ◌∷◌, length, map, Option, Some, None, Ok, IfSome, IsSomeAnd}
 use Rattle.std.specs.List.{list_any}
 use Rattle.batcher_types.specs.declared.messages.Sha256Digest.{Sha256Digest}
 use Rattle.batcher_types.specs.declared.positions.Participant.{Participant}
@@ -34,13 +34,13 @@ use Rattle.batcher_c.specs.declared.flat.FlatStep.{FlatStep}
 use Rattle.batcher_c.specs.Flat.{kind_in, mode_in, vote_in, subject_in, attestation_in, admission_in, outcome_in, report_in, proposal_in}
 use Rattle.batcher_c.specs.Written.{Made, IsWritten, WritesBatch}
 
--- A call on an empty handle leaves it empty, and the code says so. Else the handle has a round
--- before and after, of which it holds.
-abbrev pub OnRound : Option SessionView → Option SessionView → ℕ
+-- A call on an empty handle leaves it empty, and what it writes to as it was, and the code says so.
+-- Else the handle has a round before and after, of which it holds.
+abbrev pub OnRound : Option SessionView → Option SessionView → ℕ → Type 0
     → (SessionView → SessionView → Type 0) → Type 0
-OnRound None None code holds = code ≡ NONE
-OnRound (Some before) (Some after) code holds = (code ≢ NONE) × holds before after
-OnRound before after code holds = ⊥
+OnRound None None code stays holds = (code ≡ NONE) × stays
+OnRound (Some before) (Some after) code stays holds = (code ≢ NONE) × holds before after
+OnRound before after code stays holds = ⊥
 
 abbrev pub is_one_of : List ℕ → ℕ → Bool
 is_one_of codes code = list_any (λ c. c == code) codes
@@ -181,6 +181,8 @@ module _ (before : SessionView) (code : ℕ) (after : SessionView) where
   pub record AcceptsVote (vote : FlatVote) (old out : FlatAdmission) : Type 0 where
     pub codes : is_one_of (DONE ∷ MALFORMED ∷ refusals) code ≡ true
     pub malformed : (code ≡ MALFORMED) ↔ (vote_in vote ≡ None)
+    pub elsewhere : IfSome (vote_in vote) (λ typed.
+        (code ≡ ELSEWHERE) ↔ (round_signed (subject_of typed) ≢ before.round.number))
     pub done : code ≡ DONE → IfSome (vote_in vote) (λ typed.
         Goes (OwnCall typed, OwnAnswer (outcome_in out) (report_in out)))
     pub stays : code ≢ DONE → code ≢ CONFLICTING → after ≡ before
@@ -221,7 +223,7 @@ module _ (before : SessionView) (code : ℕ) (after : SessionView) where
     pub same : SameRound before.round after.round
 
   -- a construction, or the verdicts that it wants first
-  pub record Constructs (step : FlatStep) (room list : List FlatAttestation)
+  pub record Constructs (old step : FlatStep) (room list : List FlatAttestation)
       (signers_room signers : List ℕ) : Type 0 where
     pub codes : is_one_of (DONE ∷ IDLE ∷ VERIFY ∷ VERIFY_TOGETHER ∷ OUT_OF_MEMORY ∷ []) code ≡ true
     pub asks : wants code ≡ true
@@ -239,5 +241,7 @@ module _ (before : SessionView) (code : ℕ) (after : SessionView) where
     pub forgets : is_made code ≡ true → (number : ℕ)
         → known_in after.ledger.singles number ≡ None
     pub refused : code ≡ OUT_OF_MEMORY → after.round ≡ before.round
+    pub untouched : is_one_of (IDLE ∷ OUT_OF_MEMORY ∷ []) code ≡ true
+        → (step ≡ old) × ((list ≡ room) × (signers ≡ signers_room))
     pub scheme : SameScheme before.ledger after.ledger
     pub same : SameRound before.round after.round

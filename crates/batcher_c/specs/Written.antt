@@ -1,5 +1,5 @@
 -- What is written into the room that a caller hands in.
-use Rattle.std.specs.Prelude.{◌≡◌, ◌<◌, ◌≤◌, ⊤, ℕ, Bool, List, length, slice_get, Option, Some, None, is_some, IfSome}
+use Rattle.std.specs.Prelude.{◌≡◌, ◌<◌, ◌≤◌, ℕ, List, length, slice_get, Some, is_some, IfSome}
 use Rattle.std.specs.Option.{option_map}
 use Rattle.batcher_types.specs.declared.messages.Sha256Digest.{Sha256Digest}
 use Rattle.batcher_types.specs.declared.messages.Certificate.{Certificate}

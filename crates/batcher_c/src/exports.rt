@@ -1,6 +1,6 @@
 //! The functions that C calls. Each answers a code of the header.
 
-ghost use Rattle.std.specs.Prelude.{◌≡◌, true, map, None};
+ghost use Rattle.std.specs.Prelude.{◌≡◌, ⊤, true, map, None};
 ghost use Rattle.batcher_c.specs.Flat.{attestation_in};
 ghost use Rattle.batcher_c.specs.Rounds.{OnRound, MakesRound, RecordsVerdict, RecordsTogether, AddsNetwork, AcceptsVote, RecordsCertificate, SetsLeader, Forwards, AsksLeader, AsksProposal};
 ghost use Rattle.batcher_c.specs.Rounds.{AsksCertificate, AsksNullify, AsksMissing, ListsMissing, Constructs};
@@ -63,7 +63,7 @@ pub extern "C" fn batcher_round_record_verdict(
     attests: bool,
 ) -> u8
     requires { number_attests number ≡ attests }
-    ensures { OnRound round.old.value round.new.value result (λ before after.
+    ensures { OnRound round.old.value round.new.value result ⊤ (λ before after.
         RecordsVerdict before result after number attests) }
 {
     let Some(mut session) = round.take(alloc) else {
@@ -83,7 +83,7 @@ pub extern "C" fn batcher_round_record_verdict_together(
     passes: bool,
 ) -> u8
     requires { list_passes (map attestation_in list.now) ≡ passes }
-    ensures { OnRound round.old.value round.new.value result (λ before after.
+    ensures { OnRound round.old.value round.new.value result ⊤ (λ before after.
         RecordsTogether before result after list.now passes) }
 {
     let Some(mut session) = round.take(alloc) else {
@@ -103,7 +103,7 @@ pub extern "C" fn batcher_round_add_network(
     vote: &FlatVote,
     out: &mut FlatAdmission,
 ) -> u8
-    ensures { OnRound round.old.value round.new.value result (λ before after.
+    ensures { OnRound round.old.value round.new.value result (out.new ≡ out.old) (λ before after.
         AddsNetwork before result after sender vote.now out.old out.new) }
 {
     let Some(mut session) = round.take(alloc) else {
@@ -122,7 +122,7 @@ pub extern "C" fn batcher_round_accept_vote(
     vote: &FlatVote,
     out: &mut FlatAdmission,
 ) -> u8
-    ensures { OnRound round.old.value round.new.value result (λ before after.
+    ensures { OnRound round.old.value round.new.value result (out.new ≡ out.old) (λ before after.
         AcceptsVote before result after vote.now out.old out.new) }
 {
     let Some(mut session) = round.take(alloc) else {
@@ -144,7 +144,8 @@ pub extern "C" fn batcher_round_record_certificate(
     selected_anew: &mut bool,
 ) -> u8
     requires { number_certifies number ≡ true }
-    ensures { OnRound round.old.value round.new.value result (λ before after.
+    ensures { OnRound round.old.value round.new.value result
+        (selected_anew.new ≡ selected_anew.old) (λ before after.
         RecordsCertificate before result after kind proposal.now number selected_anew.old
         selected_anew.new) }
 {
@@ -163,7 +164,7 @@ pub extern "C" fn batcher_round_set_leader(
     alloc: Global,
     leader: u32,
 ) -> u8
-    ensures { OnRound round.old.value round.new.value result (λ before after.
+    ensures { OnRound round.old.value round.new.value result ⊤ (λ before after.
         SetsLeader before result after leader) }
 {
     let Some(mut session) = round.take(alloc) else {
@@ -177,7 +178,7 @@ pub extern "C" fn batcher_round_set_leader(
 /// The leader, once it is set.
 #[unsafe(no_mangle)]
 pub extern "C" fn batcher_round_leader(round: &mut RoundHandle, alloc: Global, out: &mut u32) -> u8
-    ensures { OnRound round.old.value round.new.value result (λ before after.
+    ensures { OnRound round.old.value round.new.value result (out.new ≡ out.old) (λ before after.
         (after ≡ before) × AsksLeader before result out.old out.new) }
 {
     let Some(session) = round.take(alloc) else {
@@ -195,7 +196,7 @@ pub extern "C" fn batcher_round_proposal(
     alloc: Global,
     out: &mut FlatProposal,
 ) -> u8
-    ensures { OnRound round.old.value round.new.value result (λ before after.
+    ensures { OnRound round.old.value round.new.value result (out.new ≡ out.old) (λ before after.
         (after ≡ before) × AsksProposal before result out.old out.new) }
 {
     let Some(session) = round.take(alloc) else {
@@ -214,7 +215,7 @@ pub extern "C" fn batcher_round_try_forward_proposal(
     me: u32,
     out: &mut FlatProposal,
 ) -> u8
-    ensures { OnRound round.old.value round.new.value result (λ before after.
+    ensures { OnRound round.old.value round.new.value result (out.new ≡ out.old) (λ before after.
         Forwards before result after me out.old out.new) }
 {
     let Some(mut session) = round.take(alloc) else {
@@ -233,7 +234,7 @@ pub extern "C" fn batcher_round_has_certificate(
     kind: u8,
     out: &mut bool,
 ) -> u8
-    ensures { OnRound round.old.value round.new.value result (λ before after.
+    ensures { OnRound round.old.value round.new.value result (out.new ≡ out.old) (λ before after.
         (after ≡ before) × AsksCertificate before result kind out.old out.new) }
 {
     let Some(session) = round.take(alloc) else {
@@ -252,7 +253,7 @@ pub extern "C" fn batcher_round_has_nullify(
     signer: u32,
     out: &mut bool,
 ) -> u8
-    ensures { OnRound round.old.value round.new.value result (λ before after.
+    ensures { OnRound round.old.value round.new.value result (out.new ≡ out.old) (λ before after.
         (after ≡ before) × AsksNullify before result signer out.new) }
 {
     let Some(session) = round.take(alloc) else {
@@ -272,7 +273,7 @@ pub extern "C" fn batcher_round_is_missing_voter(
     participant: u32,
     out: &mut bool,
 ) -> u8
-    ensures { OnRound round.old.value round.new.value result (λ before after.
+    ensures { OnRound round.old.value round.new.value result (out.new ≡ out.old) (λ before after.
         (after ≡ before) × AsksMissing before result proposal.now participant out.new) }
 {
     let Some(session) = round.take(alloc) else {
@@ -292,7 +293,8 @@ pub extern "C" fn batcher_round_missing_voters(
     list: &mut [u32],
     count: &mut u64,
 ) -> u8
-    ensures { OnRound round.old.value round.new.value result (λ before after.
+    ensures { OnRound round.old.value round.new.value result
+        ((list.new ≡ list.old) × (count.new ≡ count.old)) (λ before after.
         (after ≡ before)
         × ListsMissing before result proposal.now list.old list.new count.old count.new) }
 {
@@ -313,8 +315,10 @@ pub extern "C" fn batcher_round_try_construct(
     list: &mut [FlatAttestation],
     signers: &mut [u32],
 ) -> u8
-    ensures { OnRound round.old.value round.new.value result (λ before after.
-        Constructs before result after out.new list.old list.new signers.old signers.new) }
+    ensures { OnRound round.old.value round.new.value result
+        ((out.new ≡ out.old) × ((list.new ≡ list.old) × (signers.new ≡ signers.old)))
+        (λ before after. Constructs before result after out.old out.new list.old list.new
+        signers.old signers.new) }
 {
     let Some(mut session) = round.take(alloc) else {
         return NONE;

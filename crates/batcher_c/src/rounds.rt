@@ -1,6 +1,6 @@
 //! The calls of a round, over flat values. Each answers a code.
 
-ghost use Rattle.std.specs.Prelude.{◌≡◌, ◌≢◌, true, length, map, Some, IfOk};
+ghost use Rattle.std.specs.Prelude.{◌≡◌, ◌≢◌, ◌↔◌, true, length, map, Some, IfOk};
 ghost use Rattle.batcher_types.specs.Keys.{participant};
 ghost use Rattle.batcher_c.specs.Flat.{attestation_in, subject_in};
 ghost use Rattle.batcher_c.specs.Truths.{number_attests, list_passes, number_certifies};
@@ -106,6 +106,7 @@ fn refusal_code(refusal: OwnRefusal) -> u8
     ensures codes { is_one_of refusals result ≡ true }
     ensures done { result ≢ DONE }
     ensures malformed { result ≢ MALFORMED }
+    ensures elsewhere { (result ≡ ELSEWHERE) ↔ (refusal ≡ OwnRefusal.Elsewhere) }
 {
     match refusal {
         OwnRefusal::Elsewhere => ELSEWHERE,
@@ -256,8 +257,8 @@ pub fn try_construct(
     list: &mut [FlatAttestation],
     signers: &mut [u32],
 ) -> u8
-    ensures { Constructs session.old result session.new step.new list.old list.new signers.old
-        signers.new }
+    ensures { Constructs session.old result session.new step.old step.new list.old list.new
+        signers.old signers.new }
 {
     match session.try_construct() {
         Ok(Step::Idle) => IDLE,

@@ -1,7 +1,7 @@
 -- `of` takes what `into_raw_with_allocator` gives.
 use Rattle.std.proofs.Common.{◌≡◌, List, [], ◌∷◌, ◌++◌, refl, sym, ap, ◌∙◌, subst}
 use mir.Syntax.{Fn, a_type, dcons, dnil}
-use mir.Val.{Val, vptr}
+use mir.Val.{Val}
 use mir.MapTy.{inst_fn}
 use base.Logic.{SProp, ent, emp, id⊢}
 use base.Fml.{ftrue, fsep, flft}
@@ -27,7 +27,7 @@ use Rattle.core.proofs.atomic.Steps.{fm}
 use Rattle.std_alloc.proofs.BoxSteps.Form as box
 use Rattle.std_alloc.proofs.BoxSteps.Steps.{box_out, box_in}
 use Rattle.std.proofs.raw_atomic.Walks.{proved_at, leaves}
-use Rattle.batcher_c.proofs.Pointers.{word, fits_at, Parts, parts_out, Unboxed, there, somewhere, unboxed_in}
+use Rattle.batcher_c.proofs.Pointers.{word, fits_at, Parts, parts_out, there, somewhere, unboxed_in}
 use Rattle.std_alloc.specs.contracts.boxed.Box.into_raw_with_allocator as callee
 use Rattle.std_alloc.proofs.boxed.Box.into_raw_with_allocator.Met.{met}
 use Rattle.batcher_c.specs.contracts.unboxed.Unboxed.of.{ended, clauses}
