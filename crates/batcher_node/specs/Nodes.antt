@@ -1,5 +1,5 @@
 -- A node, as contracts see it, what it is judged by, and what one call of a view's round changes.
-use Rattle.std.specs.Prelude.{◌≡◌, ◌≢◌, ◌≤◌, ◌⊎◌, ◌||◌, ℕ, Bool, true, false, List, [], Option, Some, None, Err, IfSome, MatchOption, option_and_then}
+use Rattle.std.specs.Prelude.{◌≡◌, ◌≢◌, ◌≤◌, ◌<◌, ◌⊎◌, ◌||◌, ℕ, Bool, true, false, List, [], Option, Some, None, Err, IfSome, MatchOption, option_and_then}
 use Rattle.std.specs.List.{slice_get}
 use Rattle.std.specs.Ordering.{nat_cmp}
 use Rattle.std.specs.declared.cmp.Ordering.{Ordering}
@@ -89,6 +89,12 @@ pub record HasChanged {R : Type 0} (at : Option (Slot R)) : Type 0 where
   pub slot : Slot R
   pub there : at ≡ Some slot
   pub changed : slot.changed ≡ true
+
+-- The view is the lowest that changed since it was found to rest.
+pub record IsNext {R : Type 0} (rounds : List (ℕ × Slot R)) (view : ℕ) : Type 0 where
+  pub changed : HasChanged (slot_at rounds view)
+  pub lowest : (lower : ℕ) → lower < view
+      → IfSome (slot_at rounds lower) (λ slot. slot.changed ≡ false)
 
 -- No view changed since it was found to rest.
 abbrev pub IsAtRest : {S G D : Type 0} → NodeView S G D → Type 0

@@ -12,9 +12,9 @@ ghost use Rattle.batcher.specs.Answers.{own_answer};
 ghost use Rattle.batcher.specs.Steps.{fault_or_memory};
 ghost use Rattle.batcher_node.specs.declared.answers.Cause.TheVariants.{Vote as ForVote, Signature as ForSignature};
 ghost use Rattle.batcher_node.specs.declared.answers.EnterFault.TheVariants.{Passed as PassedFault, LeaderChanged as LeaderChangedFault, OutOfMemory as OutOfMemoryFault};
-ghost use Rattle.batcher_node.specs.Windows.{is_of, width};
+ghost use Rattle.batcher_node.specs.Windows.{is_of, width, contains, numbered};
 ghost use Rattle.batcher_node.specs.Events.{peer_in, invalid_in, started, vote_came, certificate_came, view_entered, view_finalized, constructed, told};
-ghost use Rattle.batcher_node.specs.Nodes.{SameNode, IsAtRest, HasChanged, Draws, IsLedByAnother, NamesEnterFault, cause_at, slot_at};
+ghost use Rattle.batcher_node.specs.Nodes.{SameNode, IsAtRest, HasChanged, IsNext, Draws, IsLedByAnother, NamesEnterFault, cause_at, slot_at};
 ghost use Rattle.batcher_node.specs.Stands.{cast_by, Meets, MeetsCast, MeetsForward, NodeStands, WhereverNodeStands, IsHeard, setting_of, HasHistory};
 ghost use Rattle.batcher_node.specs.Promised.{HadGivenCause, IsComplete, KeepsPromises};
 
@@ -299,6 +299,8 @@ impl<S: Scheme<D>, D: Digest> Node<S, D> {
         ensures meets { IfOk result (λ made. IfSome made (λ one.
             Meets (⟦<S as NodeJudge<D>>⟧.of self.old) self.old
             (constructed one.view.0 one.batch) self.new)) }
+        ensures next { IfOk result (λ made. IfSome made (λ one.
+            IsNext self.old.rounds one.view.0)) }
         ensures rests { result ≡ Ok None → (self.new ≡ self.old) × (IsAtRest self.old) }
         ensures complete { result ≡ Ok None
             → (h : HasHistory (⟦<S as NodeJudge<D>>⟧.of self.new) self.new)
@@ -342,6 +344,18 @@ impl<S: Scheme<D>, D: Digest> Node<S, D> {
         ensures { result ≡ certifies_itself (S.meaning self.now.scheme) certificate.now }
     {
         verifies(&*self.frame.scheme, certificate)
+    }
+
+    /// The lowest view that changed since it was found to rest: the next construction is made there.
+    /// None where all views rest.
+    pub fn next_view(&self) -> Option<View>
+        ensures next { IfSome result (λ view. IsNext self.now.rounds view.0) }
+        ensures none { IfNone result (IsAtRest self.now) }
+    {
+        match first_due(&self.slots) {
+            Some(number) => Some(View(number)),
+            None => None,
+        }
     }
 
     /// Which views it keeps rounds of.
@@ -394,8 +408,11 @@ impl<S: Scheme<D>, D: Digest> Node<S, D> {
 
     /// The round of the view, if something was said in it.
     pub fn round(&self, view: View) -> Option<&Round<S, D>>
-        ensures { option_copied result
+        ensures round { option_copied result
             ≡ option_map (λ slot. slot.round) (slot_at self.now.rounds view.0) }
+        ensures own { IfSome result (λ round. (round.now.scheme ≡ self.now.scheme)
+            × ((round.now.number ≡ numbered self.now.epoch view.0)
+            × (contains self.now.window view.0 ≡ true))) }
     {
         match self.slots.get(&view.0) {
             Some(slot) => Some(&slot.round),
