@@ -1,0 +1,8 @@
+pub mod Over
+pub mod Standing
+pub mod Viewing
+pub mod Next
+pub mod Results
+pub mod Seeing
+pub mod Asking
+pub mod Nothing

@@ -1,0 +1,71 @@
+-- The view of the next construction, and what its round asks.
+use Rattle.std.proofs.Common.{◌≡◌, ◌<◌, ◌∙◌, ℕ, Bool, true, false, List, Option, Some, None, arith, sym, ap, subst}
+use Rattle.std.specs.Prelude.{IfSome, map}
+use Rattle.std.specs.Option.{option_map}
+use Rattle.std.proofs.lemmas.Bool.{true≢false}
+use Rattle.batcher.specs.messages.Sha256Digest.{Sha256Digest}
+use Rattle.batcher.specs.messages.Subject.{Subject}
+use Rattle.batcher.specs.Held.{RoundView}
+use Rattle.batcher_round.specs.Next.{subject_next}
+use Rattle.batcher_external.specs.declared.truth.Truth.{Ghosts}
+use Rattle.batcher_external.specs.declared.scheme.External.{External}
+use Rattle.batcher_node.specs.declared.slot.Slot.{Slot}
+use Rattle.batcher_node.specs.Nodes.{NodeView, HasChanged, IsNext, slot_at}
+use Rattle.batcher_node.proofs.Finding.{some_is, some_same}
+use Rattle.batcher_session.specs.Ledgers.{LedgerView}
+use Rattle.batcher_session.specs.Schemes.{SchemeView, scheme_seen}
+use Rattle.batcher_session.specs.Sessions.{judged, seen as round_seen}
+use Rattle.batcher_session.specs.Wants.{Asked, asked_next}
+use Rattle.batcher_node_session.specs.Seen.{slot_over, entry_over, seen}
+use Rattle.batcher_node_session.specs.Steps.{AsksNext}
+use Rattle.batcher_node_session.proofs.Over.{slot_at-over}
+
+module _ {R : Type 0} (es : List (ℕ × Slot R)) where
+  -- A view that changed isn't at rest.
+  pub changed_or_rests : (view : ℕ) → HasChanged (slot_at es view)
+      → IfSome (slot_at es view) (λ slot. slot.changed ≡ false) → ⊥
+  changed_or_rests view h rest =
+      true≢false (sym h.changed ∙ subst (λ o. IfSome o (λ slot. slot.changed ≡ false)) h.there rest)
+
+  not_below : (a b : ℕ) → IsNext es a → IsNext es b → a < b → ⊥
+  not_below a b first second below = changed_or_rests a first.changed (second.lowest a below)
+
+  -- There is one alone.
+  pub next_same : (a b : ℕ) → IsNext es a → IsNext es b → a ≡ b
+  next_same a b first second =
+      omega (arith, not_below a b first second, not_below b a second first)
+
+module _ {T : Type 0} {truth : Ghosts T} {b : ℕ} (batchable : Bool)
+    (node : NodeView (External T b truth) ℕ Sha256Digest) (view : ℕ)
+    (round : RoundView (External T b truth) ℕ Sha256Digest) where
+  round_in : (o : Option (Slot (RoundView (External T b truth) ℕ Sha256Digest)))
+      (slot : Slot (RoundView SchemeView ℕ Sha256Digest))
+      → Some round ≡ option_map (λ slot. slot.round) o
+      → option_map (slot_over (scheme_seen batchable)) o ≡ Some slot
+      → round_seen batchable round ≡ slot.round
+  round_in None slot is there = absurd (some_is is)
+  round_in (Some other) slot is there =
+      ap (round_seen batchable) (some_same is) ∙ ap (λ s. s.round) (some_same there)
+
+  -- what is asked of the round that stands at the next view
+  pub asks_next : (ledger : LedgerView) (asked : Option Asked)
+      (subject : Option (Subject Sha256Digest)) → IsNext (seen batchable node).rounds view
+      → Some round ≡ option_map (λ slot. slot.round) (slot_at node.rounds view)
+      → asked ≡ asked_next ledger (judged truth (round_seen batchable round)) round.holds
+      → IfSome subject (λ s.
+      subject_next (judged truth (round_seen batchable round)) round.holds ≡ Some s)
+      → AsksNext truth (seen batchable node) ledger asked subject view
+  asks_next ledger asked subject next is asks about =
+      let slot = next.changed.slot in
+      let same : round_seen batchable round ≡ slot.round =
+          round_in (slot_at node.rounds view) slot is
+          (sym (slot_at-over (scheme_seen batchable) node.rounds view) ∙ next.changed.there) in
+      record {
+        next = next;
+        slot = slot;
+        there = next.changed.there;
+        asks = asks ∙ ap (λ r. asked_next ledger (judged truth r) r.holds) same;
+        about =
+            subst (λ r. IfSome subject (λ s. subject_next (judged truth r) r.holds ≡ Some s)) same
+            about;
+      }

@@ -1,0 +1,133 @@
+-- A node stands just where it does by what is seen of its scheme.
+use Rattle.std.proofs.Common.{◌≡◌, ℕ, List, [], ◌∷◌, Option, Some, None, ap}
+use Rattle.std.specs.Prelude.{MatchOption}
+use Rattle.std.specs.Option.{option_map}
+use Rattle.batcher.specs.positions.Participant.{Participant}
+use Rattle.batcher.specs.messages.Proposal.{Proposal}
+use Rattle.batcher.specs.messages.Vote.{Vote}
+use Rattle.batcher.specs.Held.{RoundView}
+use Rattle.batcher_node.specs.declared.answers.Cast.{Cast}
+use Rattle.batcher_node.specs.declared.answers.Cast.TheVariants.{ToSend, Known, Outside}
+use Rattle.batcher_node.specs.declared.slot.Slot.{Slot}
+use Rattle.batcher_node.specs.Events.{NodeEvent, NodeHistory, proposal_forwarded, told}
+use Rattle.batcher_node.specs.Nodes.{NodeView, NodeSetting, IsAtRest, slot_at}
+use Rattle.batcher_node.specs.Promised.{KeepsPromises}
+use Rattle.batcher_node.specs.Stands.{ViewStands, NodeStands, HasHistory, Meets, MeetsCast, MeetsForward, WhereverNodeStands}
+use Rattle.batcher_node_session.specs.Seen.{slot_over, node_over}
+use Rattle.batcher_node_session.proofs.Over.{to_over, from_over, rest_over, rest_under}
+
+-- a node at rest
+pub rests_over : {S R G D : Type 0} (see : S → R) (node : NodeView S G D) → IsAtRest node
+    → IsAtRest (node_over see node)
+rests_over see node h = λ view. rest_over see node.rounds view (h view)
+
+module _ {D K G C : Type 0} (x : NodeSetting D K G C) where
+  -- A view without a round was told nothing, and the round of one stands.
+  abbrev AtView : {S : Type 0} → NodeHistory D K G C → ℕ → Option (Slot (RoundView S G D)) → Type 0
+  AtView past view at = MatchOption at (told view past ≡ []) (ViewStands x past view)
+
+  module _ {S R : Type 0} (see : S → R) where
+    view_over : (past : NodeHistory D K G C) (view : ℕ) (o : Option (Slot (RoundView S G D)))
+        → AtView past view o → AtView past view (option_map (slot_over see) o)
+    view_over past view None h = h
+    view_over past view (Some slot) h =
+        record {
+          begun = h.begun;
+          mode_is = h.mode_is;
+          changed_is = h.changed_is;
+          stands = h.stands;
+        }
+
+    view_under : (past : NodeHistory D K G C) (view : ℕ) (o : Option (Slot (RoundView S G D)))
+        → AtView past view (option_map (slot_over see) o) → AtView past view o
+    view_under past view None h = h
+    view_under past view (Some slot) h =
+        record {
+          begun = h.begun;
+          mode_is = h.mode_is;
+          changed_is = h.changed_is;
+          stands = h.stands;
+        }
+
+    pub stands_over : (past : NodeHistory D K G C) (node : NodeView S G D) → NodeStands x past node
+        → NodeStands x past (node_over see node)
+    stands_over past node h =
+        record {
+          window_is = h.window_is;
+          blocked_are = h.blocked_are;
+          answered = h.answered;
+          possible = h.possible;
+          views =
+              λ view within.
+              to_over see (AtView past view) node.rounds view
+              (view_over past view (slot_at node.rounds view) (h.views view within));
+        }
+
+    pub stands_under : (past : NodeHistory D K G C) (node : NodeView S G D)
+        → NodeStands x past (node_over see node) → NodeStands x past node
+    stands_under past node h =
+        record {
+          window_is = h.window_is;
+          blocked_are = h.blocked_are;
+          answered = h.answered;
+          possible = h.possible;
+          views =
+              λ view within.
+              view_under past view (slot_at node.rounds view)
+              (from_over see (AtView past view) node.rounds view (h.views view within));
+        }
+
+    pub has_history_over : (node : NodeView S G D) → HasHistory x node
+        → HasHistory x (node_over see node)
+    has_history_over node h =
+        record { past = h.past; stands = stands_over h.past node h.stands }
+
+    pub wherever_over : (node : NodeView S G D) (P : NodeHistory D K G C → Type 0)
+        → WhereverNodeStands x node P → WhereverNodeStands x (node_over see node) P
+    wherever_over node P h = λ past stands. h past (stands_under past node stands)
+
+    -- how it goes on
+    pub meets_over : (old new : NodeView S G D) (event : NodeEvent D K G C) → Meets x old event new
+        → Meets x (node_over see old) event (node_over see new)
+    meets_over old new event h = λ past stands.
+        stands_over (event ∷ past) new (h past (stands_under past old stands))
+
+    pub cast_over : (old new : NodeView S G D) (vote : Vote G D) (cast : Cast G D)
+        → MeetsCast x old vote cast new
+        → MeetsCast x (node_over see old) vote cast (node_over see new)
+    cast_over old new vote (ToSend report) h = (h.0, meets_over old new _ h.1)
+    cast_over old new vote Known h = (h.0, meets_over old new _ h.1)
+    cast_over old new vote Outside h = (h.0, ap (node_over see) h.1)
+
+    forwards_over : (old new : NodeView S G D) (view : ℕ) (me : Participant)
+        (given : Option (Proposal D)) (o : Option (Slot (RoundView S G D)))
+        → MatchOption o ((given ≡ None) × (new ≡ old))
+        (λ slot. Meets x old (proposal_forwarded view me given) new)
+        → MatchOption (option_map (slot_over see) o)
+        ((given ≡ None) × (node_over see new ≡ node_over see old))
+        (λ slot. Meets x (node_over see old) (proposal_forwarded view me given) (node_over see new))
+    forwards_over old new view me given None h = (h.0, ap (node_over see) h.1)
+    forwards_over old new view me given (Some slot) h = meets_over old new _ h
+
+    pub forward_over : (old new : NodeView S G D) (view : ℕ) (me : Participant)
+        (given : Option (Proposal D)) → MeetsForward x old view me given new
+        → MeetsForward x (node_over see old) view me given (node_over see new)
+    forward_over old new view me given h =
+        to_over see
+        (λ at. MatchOption at ((given ≡ None) × (node_over see new ≡ node_over see old))
+        (λ slot. Meets x (node_over see old) (proposal_forwarded view me given)
+        (node_over see new)))
+        old.rounds view (forwards_over old new view me given (slot_at old.rounds view) h)
+
+    -- what is promised of it
+    pub keeps_over : (node : NodeView S G D) → KeepsPromises x node
+        → KeepsPromises x (node_over see node)
+    keeps_over node h =
+        record {
+          past = h.past;
+          stands = stands_over h.past node h.stands;
+          promised = h.promised;
+          blocked_gave_cause = h.blocked_gave_cause;
+          complete_at_rest =
+              λ rest. h.complete_at_rest (λ view. rest_under see node.rounds view (rest view));
+        }

@@ -1,0 +1,13 @@
+use Rattle.std.proofs.Common.{refl}
+use Rattle.batcher.specs.Selection.{is_certified}
+use Rattle.batcher_node_session.proofs.Asking.{in_seen, in_none_seen}
+use Rattle.batcher_node_session.proofs.questions.has_certificate.Goals as goal
+
+pub returns-in-Some : goal.returns-in-Some
+returns-in-Some g c =
+    in_seen _ c.args.node.now c.args.view.0 (λ _ past. is_certified past c.args.kind) c.in-Some.round.now c.in-Some.ensures.round
+    c.in-Some.ensures.own c.has_certificate.ensures.meets
+
+pub returns-in-None : goal.returns-in-None
+returns-in-None g c =
+    in_none_seen _ c.args.node.now c.args.view.0 (λ _ past. is_certified past c.args.kind) c.in-None.ensures.round (λ y. refl)
