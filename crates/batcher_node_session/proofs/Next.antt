@@ -18,6 +18,7 @@ use Rattle.batcher_session.specs.Sessions.{judged, seen as round_seen}
 use Rattle.batcher_session.specs.Wants.{Asked, asked_next}
 use Rattle.batcher_node_session.specs.Seen.{slot_over, entry_over, seen}
 use Rattle.batcher_node_session.specs.Steps.{AsksNext}
+use Rattle.batcher_node_session.proofs.Asking.{none_there}
 use Rattle.batcher_node_session.proofs.Over.{slot_at-over}
 
 module _ {R : Type 0} (es : List (ℕ × Slot R)) where
@@ -69,3 +70,11 @@ module _ {T : Type 0} {truth : Ghosts T} {b : ℕ} (batchable : Bool)
             subst (λ r. IfSome subject (λ s. subject_next (judged truth r) r.holds ≡ Some s)) same
             about;
       }
+
+-- The next view has a round.
+pub no_round : {T : Type 0} {truth : Ghosts T} {b : ℕ} (batchable : Bool)
+    (node : NodeView (External T b truth) ℕ Sha256Digest) (view : ℕ)
+    → IsNext (seen batchable node).rounds view
+    → None ≡ option_map (λ slot. slot.round) (slot_at node.rounds view) → ⊥
+no_round batchable node view next is =
+    some_is (sym next.changed.there ∙ none_there batchable node view is)

@@ -33,9 +33,9 @@ pub(crate) fn step<T: Truth, const BATCHABLE: bool>(
     ensures rests { result ≡ Ok NodeStep.Rests → (node.new ≡ node.old)
         × ((ledger.new ≡ ledger.old) × (IsAtRest (seen BATCHABLE node.old))) }
     ensures complete { result ≡ Ok NodeStep.Rests
-        → (h : HasHistory (judged T.Truth (seen BATCHABLE node.old)) (seen BATCHABLE node.old))
-        × (IsComplete (judged T.Truth (seen BATCHABLE node.old)) h.past
-        (seen BATCHABLE node.old)) }
+        → (h : HasHistory (judged T.Truth (seen BATCHABLE node.new)) (seen BATCHABLE node.new))
+        × (IsComplete (judged T.Truth (seen BATCHABLE node.new)) h.past
+        (seen BATCHABLE node.new)) }
     ensures meets { IfOk result (λ step. IfMade step (λ one. Meets
         (judged T.Truth (seen BATCHABLE node.old)) (seen BATCHABLE node.old)
         (constructed one.view.0 one.batch) (seen BATCHABLE node.new))) }
