@@ -346,8 +346,8 @@ impl<S: Scheme<D>, D: Digest> Node<S, D> {
         verifies(&*self.frame.scheme, certificate)
     }
 
-    /// The lowest view that changed since it was found to rest: the next construction is made there.
-    /// None where all views rest.
+    /// The lowest view that changed since it was found to rest, in which the next construction is
+    /// made. None where all views rest.
     pub fn next_view(&self) -> Option<View>
         ensures next { IfSome result (λ view. IsNext self.now.rounds view.0) }
         ensures none { IfNone result (IsAtRest self.now) }

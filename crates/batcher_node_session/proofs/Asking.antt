@@ -1,5 +1,5 @@
 -- What is said of the round of a view, said of the history of the view in what is seen of a node.
-use Rattle.std.proofs.Common.{◌≡◌, ◌==◌, ℕ, Bool, List, [], Option, Some, None, sym, refl}
+use Rattle.std.proofs.Common.{◌≡◌, ◌==◌, ℕ, Bool, [], Option, Some, None, sym, refl}
 use Rattle.std.specs.Option.{option_map}
 use Rattle.std.specs.Ordering.{nat_cmp}
 use Rattle.std.specs.Cmp.Lexicographic.{pointwise}

@@ -1,6 +1,6 @@
 -- The view of the next construction, and what its round asks.
-use Rattle.std.proofs.Common.{◌≡◌, ◌<◌, ◌∙◌, ℕ, Bool, true, false, List, Option, Some, None, arith, sym, ap, subst}
-use Rattle.std.specs.Prelude.{IfSome, map}
+use Rattle.std.proofs.Common.{◌≡◌, ◌<◌, ◌∙◌, ℕ, Bool, false, List, Option, Some, None, arith, sym, ap, subst}
+use Rattle.std.specs.Prelude.{IfSome}
 use Rattle.std.specs.Option.{option_map}
 use Rattle.std.proofs.lemmas.Bool.{true≢false}
 use Rattle.batcher.specs.messages.Sha256Digest.{Sha256Digest}
@@ -16,7 +16,7 @@ use Rattle.batcher_session.specs.Ledgers.{LedgerView}
 use Rattle.batcher_session.specs.Schemes.{SchemeView, scheme_seen}
 use Rattle.batcher_session.specs.Sessions.{judged, seen as round_seen}
 use Rattle.batcher_session.specs.Wants.{Asked, asked_next}
-use Rattle.batcher_node_session.specs.Seen.{slot_over, entry_over, seen}
+use Rattle.batcher_node_session.specs.Seen.{slot_over, seen}
 use Rattle.batcher_node_session.specs.Steps.{AsksNext}
 use Rattle.batcher_node_session.proofs.Asking.{none_there}
 use Rattle.batcher_node_session.proofs.Over.{slot_at-over}
@@ -59,8 +59,8 @@ module _ {T : Type 0} {truth : Ghosts T} {b : ℕ} (batchable : Bool)
   asks_next ledger asked subject next is asks about =
       let slot = next.changed.slot in
       let same : round_seen batchable round ≡ slot.round =
-          round_in (slot_at node.rounds view) slot is
-          (sym (slot_at-over (scheme_seen batchable) node.rounds view) ∙ next.changed.there) in
+      round_in (slot_at node.rounds view) slot is
+      (sym (slot_at-over (scheme_seen batchable) node.rounds view) ∙ next.changed.there) in
       record {
         next = next;
         slot = slot;

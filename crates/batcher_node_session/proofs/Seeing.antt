@@ -1,6 +1,5 @@
 -- What is said of a node over a sort of scheme, said of what is seen of it.
-use Rattle.std.proofs.Common.{◌≡◌, ℕ, Bool, false, List, Option, None}
-use Rattle.std.specs.Prelude.{IfSome}
+use Rattle.std.proofs.Common.{◌≡◌, ℕ, Bool, Option, None}
 use Rattle.batcher.specs.messages.Proposal.{Proposal}
 use Rattle.batcher.specs.messages.Sha256Digest.{Sha256Digest}
 use Rattle.batcher.specs.messages.Vote.{Vote}

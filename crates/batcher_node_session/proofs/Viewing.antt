@@ -1,5 +1,5 @@
 -- What is said of a view's round holds of the history of the view.
-use Rattle.std.proofs.Common.{◌≡◌, ◌≤◌, ◌∙◌, ℕ, Bool, [], Option, Some, None, refl, sym, ap, subst}
+use Rattle.std.proofs.Common.{◌≡◌, ◌∙◌, ℕ, Bool, [], Option, Some, None, sym, ap, subst}
 use Rattle.std.specs.Prelude.{MatchOption}
 use Rattle.std.specs.Option.{option_map}
 use Rattle.std.specs.declared.cmp.Ordering.{Ordering}
@@ -12,7 +12,7 @@ use Rattle.batcher.specs.Stands.{Stands}
 use Rattle.batcher_node.specs.declared.slot.Slot.{Slot}
 use Rattle.batcher_node.specs.Events.{NodeHistory, told}
 use Rattle.batcher_node.specs.Nodes.{NodeView, NodeSetting, judge_node, slot_at}
-use Rattle.batcher_node.specs.Stands.{ViewStands, NodeStands, setting_of, mode_of}
+use Rattle.batcher_node.specs.Stands.{ViewStands, setting_of, mode_of}
 use Rattle.batcher_node.specs.Windows.{numbered}
 use Rattle.batcher_node_session.specs.Seen.{node_over, InView}
 use Rattle.batcher_node_session.proofs.Standing.{stands_under}

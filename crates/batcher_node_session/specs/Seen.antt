@@ -1,5 +1,5 @@
 -- A node whose attestations are verified elsewhere, by what is seen of its scheme.
-use Rattle.std.specs.Prelude.{◌≡◌, ◌≤◌, ◌==◌, ℕ, Bool, map}
+use Rattle.std.specs.Prelude.{◌≤◌, ◌==◌, ℕ, Bool, map}
 use Rattle.std.specs.Ordering.{nat_cmp}
 use Rattle.std.specs.Cmp.Lexicographic.{pointwise}
 use Rattle.batcher.specs.messages.Sha256Digest.{Sha256Digest}

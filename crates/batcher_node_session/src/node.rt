@@ -154,7 +154,8 @@ impl<T: Truth> NodeSession<T> {
     /// Records whether these attestations pass as a whole, in place of those before.
     pub fn record_verdict_together(&mut self, attestations: Vec<Attestation<u64>>, passes: bool)
         requires { T.passes attestations.items ≡ passes }
-        ensures recorded { known_together self.new.ledger.together attestations.items ≡ Some passes }
+        ensures recorded { known_together self.new.ledger.together attestations.items
+            ≡ Some passes }
         ensures singles { self.new.ledger.singles ≡ self.old.ledger.singles }
         ensures node { self.new.node ≡ self.old.node }
         ensures same { SameScheme self.old.ledger self.new.ledger }
@@ -186,8 +187,8 @@ impl<T: Truth> NodeSession<T> {
         }
     }
 
-    /// Takes in a certificate that a peer sent, with the verdict on it. Where it doesn't certify what
-    /// it names, the peer is blocked from then on. Where its view has one of its kind, nothing
+    /// Takes in a certificate that a peer sent, with the verdict on it. Where it doesn't certify
+    /// what it names, the peer is blocked from then on. Where its view has one of its kind, nothing
     /// changes. A refusal for memory changes nothing.
     pub fn receive_certificate(
         &mut self,
@@ -425,8 +426,8 @@ impl<T: Truth> NodeSession<T> {
         }
     }
 
-    /// The lowest view that changed since it was found to rest: the next construction is made there.
-    /// None where all views rest.
+    /// The lowest view that changed since it was found to rest, in which the next construction is
+    /// made. None where all views rest.
     pub fn next_view(&self) -> Option<View>
         ensures next { IfSome result (λ view. IsNext self.now.node.rounds view.0) }
         ensures none { IfNone result (IsAtRest self.now.node) }

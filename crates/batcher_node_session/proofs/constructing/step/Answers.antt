@@ -8,11 +8,13 @@ returns-in_default-clause-rests g c = λ is.
 
 pub returns-in_default-clause-complete : goal.returns-in_default-clause-complete
 returns-in_default-clause-complete g c = λ is.
-    let kept = c.promises.ensures in
-    (record {
-      past = kept.past;
-      stands = stands_seen _ _ c.args.node.now kept.past kept.stands;
-    }, kept.complete_at_rest c.in_default.ensures.none)
+    let kept = c.promises.ensures in (
+      record {
+        past = kept.past;
+        stands = stands_seen _ _ c.args.node.now kept.past kept.stands;
+      },
+      kept.complete_at_rest c.in_default.ensures.none,
+    )
 
 pub wanted-requires : goal.wanted-requires
 wanted-requires g c =

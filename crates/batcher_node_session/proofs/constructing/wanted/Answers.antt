@@ -10,24 +10,26 @@ unreachable-requires g c =
     no_round _ c.args.node.now c.args.view.0 c.requires.next c.in_default.ensures.round
 
 pub returns-in-Some-Verify-clause-asks : goal.returns-in-Some-Verify-clause-asks
-returns-in-Some-Verify-clause-asks g c =
-    (refl,
-    asks_next _ c.args.node.now c.args.view.0 c.in-Some.round.now c.args.ledger.now _ _
-    c.requires.next c.in-Some.ensures.round
-    (ap (option_and_then asked_by) (sym (c.in-Some-Verify.is ∙ ap Some c.in-Some-Verify.field-0-is))
-    ∙ c.in_ok-wanted.ensures.asks)
-    (sym (if_some _ _ _ (c.in-Some-Verify.is ∙ ap Some c.in-Some-Verify.field-0-is)
-    c.in_ok-wanted.ensures.subject)))
+returns-in-Some-Verify-clause-asks g c = (
+  refl,
+  asks_next _ c.args.node.now c.args.view.0 c.in-Some.round.now c.args.ledger.now _ _
+      c.requires.next c.in-Some.ensures.round
+      (ap (option_and_then asked_by) (sym (c.in-Some-Verify.is ∙ ap Some c.in-Some-Verify.field-0-is))
+      ∙ c.in_ok-wanted.ensures.asks)
+      (sym (if_some _ _ _ (c.in-Some-Verify.is ∙ ap Some c.in-Some-Verify.field-0-is)
+      c.in_ok-wanted.ensures.subject)),
+)
 
 pub returns-in-Some-VerifyTogether-clause-asks : goal.returns-in-Some-VerifyTogether-clause-asks
-returns-in-Some-VerifyTogether-clause-asks g c =
-    (refl,
-    asks_next _ c.args.node.now c.args.view.0 c.in-Some.round.now c.args.ledger.now _ _
-    c.requires.next c.in-Some.ensures.round
-    (ap (option_and_then asked_by) (sym (c.in-Some-VerifyTogether.is ∙ ap Some c.in-Some-VerifyTogether.field-0-is))
-    ∙ c.in_ok-wanted.ensures.asks)
-    (sym (if_some _ _ _ (c.in-Some-VerifyTogether.is ∙ ap Some c.in-Some-VerifyTogether.field-0-is)
-    c.in_ok-wanted.ensures.subject)))
+returns-in-Some-VerifyTogether-clause-asks g c = (
+  refl,
+  asks_next _ c.args.node.now c.args.view.0 c.in-Some.round.now c.args.ledger.now _ _
+      c.requires.next c.in-Some.ensures.round
+      (ap (option_and_then asked_by) (sym (c.in-Some-VerifyTogether.is ∙ ap Some c.in-Some-VerifyTogether.field-0-is))
+      ∙ c.in_ok-wanted.ensures.asks)
+      (sym (if_some _ _ _ (c.in-Some-VerifyTogether.is ∙ ap Some c.in-Some-VerifyTogether.field-0-is)
+      c.in_ok-wanted.ensures.subject)),
+)
 
 pub returns-in-None-clause-none : goal.returns-in-None-clause-none
 returns-in-None-clause-none g c = λ is.
