@@ -74,7 +74,7 @@ fn rounds(participants: u32) {
     };
     let hear = |round: &mut Round<Trusting>| {
         for (sender, vote) in &votes {
-            black_box(round.add_network(sender, *vote).unwrap());
+            let _ = black_box(round.add_network(sender, *vote).unwrap());
         }
     };
     let made = shortest(count, || {
@@ -121,7 +121,7 @@ fn mailboxes(participants: u32) {
         let mailbox = start();
         let begin = Instant::now();
         for signer in 0..participants {
-            black_box(
+            let _ = black_box(
                 mailbox
                     .call(move |round| round.add_network(&signer, vote(signer)))
                     .unwrap()
@@ -137,7 +137,7 @@ fn mailboxes(participants: u32) {
             .map(|signer| mailbox.ask(move |round| round.add_network(&signer, vote(signer))))
             .collect();
         for reply in replies {
-            black_box(reply.wait().unwrap().unwrap());
+            let _ = black_box(reply.wait().unwrap().unwrap());
         }
         begin.elapsed()
     });
@@ -146,7 +146,7 @@ fn mailboxes(participants: u32) {
         let begin = Instant::now();
         let all = move |round: &mut Round<Trusting>| {
             for signer in 0..participants {
-                black_box(round.add_network(&signer, vote(signer)).unwrap());
+                let _ = black_box(round.add_network(&signer, vote(signer)).unwrap());
             }
         };
         mailbox.call(all).unwrap();

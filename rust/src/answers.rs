@@ -58,27 +58,33 @@ impl fmt::Display for BlockReason {
 }
 
 /// The answer to a network vote.
+#[must_use = "it may say that the sender is to be blocked"]
 #[derive(Clone, Copy, Debug, PartialEq, Eq, Hash)]
 pub struct Admission<G> {
     /// Whether it was taken as its signer's first of its kind.
     pub added: bool,
     /// Why its sender is to be blocked, if it is. It is the sender, also where the vote names
-    /// another signer.
+    /// another signer. To block it is the caller's matter: a round goes on taking in its votes.
     pub block: Option<BlockReason>,
     /// The vote, where it was added, or evidence of two that contradict each other.
     pub report: Option<Activity<G>>,
 }
 
-/// What came of an own vote. `retained` says whether votes of its kind are kept in full.
+/// What came of an own vote: **it is to be sent only where this is `ToSend`.** That a call wasn't
+/// refused isn't enough.
+#[must_use = "only a vote that is `ToSend` may be sent"]
 #[derive(Clone, Copy, Debug, PartialEq, Eq, Hash)]
-pub enum Outcome {
-    /// It is the first of its kind and signer, and **is to be sent**.
-    Added {
+pub enum Outcome<G> {
+    /// It was added as the first of its kind and signer, and **is to be sent**. To send it again,
+    /// send the same bytes, and never sign it anew.
+    ToSend {
+        /// The vote, as what is reported of it.
+        report: Activity<G>,
         /// Whether votes of its kind are kept in full.
         retained: bool,
     },
-    /// There was one before, and nothing that is kept shows that the two differ. It isn't to be
-    /// sent: who has the earlier one would block the sender of another.
+    /// There was one before, and nothing that is kept shows that the two differ. It **isn't to be
+    /// sent**: if it differs, whoever has the earlier one blocks this node.
     Duplicate {
         /// Whether votes of its kind are kept in full.
         retained: bool,
@@ -115,7 +121,8 @@ impl fmt::Display for OwnFault {
 
 impl std::error::Error for OwnFault {}
 
-/// What one attempt at a certificate did.
+/// What one attempt at a certificate did. It is given once.
+#[must_use = "its certificate isn't given again"]
 #[derive(Clone, Debug, PartialEq, Eq, Hash)]
 pub struct Batch<C> {
     /// How many pending votes were looked at.
@@ -123,31 +130,42 @@ pub struct Batch<C> {
     /// The signers whose votes were found not to attest, in the order in which they were looked at.
     /// They are to be blocked: a vote is taken in from its signer alone.
     pub invalid: Vec<Participant>,
-    /// The certificate, if one was made. It is recorded already.
+    /// The certificate, if one was made, which is to be sent. It is recorded already, and isn't
+    /// given again.
     pub certificate: Option<Certificate<C>>,
     /// Whether the votes could have been a quorum, but had to be sorted one by one.
     pub fallback: bool,
 }
 
-/// Why a call was refused. The round is as it was.
+/// Why a call was refused. The round is as it was, but where it is `Gone`.
 #[derive(Clone, Copy, Debug, PartialEq, Eq, Hash)]
 pub enum Error {
     /// The scheme has no participant.
     NoParticipants,
-    /// It is of another round.
+    /// It is of another round, or was handed out by another. Nobody is to be blocked for that: a
+    /// peer may be a view ahead.
     Elsewhere,
     /// Memory was refused. The same call may succeed later.
     OutOfMemory,
     /// Another leader of the round was named before.
     LeaderChanged,
+    /// No participant has this index.
+    UnknownParticipant,
     /// The view is before the finalized one.
     Passed,
     /// The own vote doesn't attest, as the scheme says.
     NotVerified,
+    /// The certificate doesn't certify what it names, as the scheme says. Who sent it is to be
+    /// blocked.
+    Forged,
     /// The own vote is refused beside an earlier one.
     Own(OwnFault),
-    /// The thread on which the value lives has ended, or a job of it has panicked.
+    /// The thread on which the value lives has ended, or a job of it has panicked, which took the
+    /// value with it. Where that was a round, what it knew of own votes is gone too: see
+    /// [`Round::accept_vote`](crate::Round::accept_vote).
     Gone,
+    /// The system gives no thread.
+    NoThread,
     /// The library answered a code that the call doesn't have, so it isn't the one that this crate
     /// was written for.
     Unknown(u8),
@@ -160,10 +178,13 @@ impl fmt::Display for Error {
             Error::Elsewhere => f.write_str("of another round"),
             Error::OutOfMemory => f.write_str("out of memory"),
             Error::LeaderChanged => f.write_str("leader changed within round"),
+            Error::UnknownParticipant => f.write_str("no participant has this index"),
             Error::Passed => f.write_str("view before the finalized one"),
             Error::NotVerified => f.write_str("own vote doesn't attest"),
+            Error::Forged => f.write_str("certificate doesn't certify"),
             Error::Own(fault) => fault.fmt(f),
             Error::Gone => f.write_str("what lived on the thread is gone"),
+            Error::NoThread => f.write_str("the system gives no thread"),
             Error::Unknown(code) => write!(f, "the library answered {code}, which isn't known"),
         }
     }

@@ -1,5 +1,5 @@
-//! What this side of the door knows of one view: the votes that the library keeps in full, with
-//! their numbers, and what was found of them.
+//! What the crate knows of one view: the votes that the library keeps in full, with their numbers,
+//! and what was found of them.
 
 use crate::answers::{Admission, Batch, Error, Mode};
 use crate::ffi::{self, code};
@@ -9,13 +9,12 @@ use crate::positions::Participant;
 use crate::scheme::Scheme;
 use crate::table::{Kept, Numbers, Table};
 
-/// Attestations of one subject on which a verdict is wanted. It is plain data: it may go to another
-/// thread, and the round goes on meanwhile.
+/// Attestations of one subject, on each of which a verdict is wanted. It is plain data: it may go
+/// to another thread, and the round goes on meanwhile.
 #[derive(Clone, Debug)]
 pub struct Wanted<G> {
     subject: Subject,
     attestations: Vec<Attestation<G>>,
-    verified: usize,
     pub(crate) listed: Vec<ffi::Attestation>,
     /// Tells whom it is to be handed back to.
     pub(crate) owner: u64,
@@ -31,9 +30,28 @@ impl<G> Wanted<G> {
     pub fn attestations(&self) -> &[Attestation<G>] {
         &self.attestations
     }
+}
 
-    /// How many of them, at the front, are known to attest. It is 0 where a verdict on each is
-    /// wanted.
+/// Attestations of one subject, on which one verdict is wanted, as a whole. It is plain data: it
+/// may go to another thread, and the round goes on meanwhile.
+#[derive(Clone, Debug)]
+pub struct WantedTogether<G> {
+    pub(crate) wanted: Wanted<G>,
+    verified: usize,
+}
+
+impl<G> WantedTogether<G> {
+    /// What they are to attest to.
+    pub fn subject(&self) -> &Subject {
+        self.wanted.subject()
+    }
+
+    /// The attestations, each of another participant.
+    pub fn attestations(&self) -> &[Attestation<G>] {
+        self.wanted.attestations()
+    }
+
+    /// How many of them, at the front, are known to attest.
     pub fn verified(&self) -> usize {
         self.verified
     }
@@ -244,9 +262,21 @@ impl<G: Clone + Eq> Book<G> {
         Ok(Wanted {
             subject: subject_of(kind, &step.proposal),
             attestations: self.attestations(kind, list)?,
-            verified: step.verified as usize,
             listed,
             owner,
+        })
+    }
+
+    /// What is handed out to be verified as a whole.
+    pub(crate) fn wanted_together(
+        &self,
+        step: &ffi::Step,
+        list: &[ffi::Attestation],
+        owner: u64,
+    ) -> Result<WantedTogether<G>, Error> {
+        Ok(WantedTogether {
+            wanted: self.wanted(step, list, owner)?,
+            verified: step.verified as usize,
         })
     }
 

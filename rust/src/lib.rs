@@ -9,28 +9,41 @@
 //! A [`Scheme`] says what signatures are worth, and a [`Round`] is one view: votes go in by
 //! [`Round::add_network`] and [`Round::accept_vote`], certificates come out of
 //! [`Round::try_construct`]. Who verifies elsewhere, as on other threads, takes [`Round::step`] in
-//! its place. A round stays on its thread; [`thread`] has a handle that doesn't.
+//! its place. A round stays on its thread; [`thread`] has a handle that doesn't. The examples
+//! `view` and `mailbox` of this crate are whole programs.
+//!
+//! The number of a round has the name of what happens in it, so import it by another one:
+//! `use batcher::positions::Round as Number;`
 //!
 //! ```
 //! # include!(concat!(env!("CARGO_MANIFEST_DIR"), "/tests/toy/mod.rs"));
-//! use batcher::{BlockReason, Participant, Round};
+//! use batcher::{BlockReason, Outcome, Participant, Round};
 //! # fn main() -> Result<(), batcher::Error> {
 //! let mut round = Round::new(ROUND, Toy::new(4), true)?;
 //! round.set_leader(Participant::new(2))?;
 //! // Participants 1 and 2 notarize a proposal, and 3 signs badly.
-//! round.add_network(&KEYS[1], notarize(1, 7))?;
-//! round.add_network(&KEYS[2], notarize(2, 7))?;
-//! round.add_network(&KEYS[3], bad(notarize(3, 7)))?;
+//! for vote in [notarize(1, 7), notarize(2, 7), bad(notarize(3, 7))] {
+//!     let sender = KEYS[usize::from(vote.signer())];
+//!     let admission = round.add_network(&sender, vote)?;
+//!     assert!(admission.added && admission.block.is_none());
+//! }
 //! let batch = round.try_construct()?.expect("three votes could be a quorum");
 //! assert_eq!(batch.invalid, [Participant::new(3)]);
 //! assert!(batch.certificate.is_none());
-//! // The node's own vote makes the quorum. Nothing is verified twice.
-//! round.accept_vote(notarize(0, 7))?;
+//! // The node's own vote makes the quorum. It is sent only where the round says so.
+//! # let mut sent = Vec::new();
+//! # let mut send = |vote| sent.push(vote);
+//! let vote = notarize(0, 7);
+//! if let Outcome::ToSend { .. } = round.accept_vote(vote)? {
+//!     send(vote);
+//! }
+//! // Nothing is verified twice.
 //! let batch = round.try_construct()?.expect("three votes that attest");
 //! assert!(batch.certificate.is_some());
 //! // Who votes for something else is to be blocked.
 //! let admission = round.add_network(&KEYS[1], notarize(1, 8))?;
 //! assert_eq!(admission.block, Some(BlockReason::ConflictingNotarize));
+//! # assert_eq!(sent, [notarize(0, 7)]);
 //! # Ok(())
 //! # }
 //! ```
@@ -60,5 +73,52 @@ pub use messages::{
 #[cfg(feature = "node")]
 pub use node::Node;
 pub use positions::{Epoch, Participant, Set, SetFault, View, quorum};
-pub use round::{Round, Step, Wanted};
+pub use round::{Round, Step, Wanted, WantedTogether};
 pub use scheme::Scheme;
+
+/// What a round answers isn't dropped without a warning. Each of the first three programs is
+/// refused for that alone, since the fourth one says that it drops all.
+///
+/// ```compile_fail
+/// #![deny(unused_must_use)]
+/// # include!(concat!(env!("CARGO_MANIFEST_DIR"), "/tests/toy/mod.rs"));
+/// # fn main() -> Result<(), batcher::Error> {
+/// let mut round = batcher::Round::new(ROUND, Toy::new(4), true)?;
+/// round.accept_vote(notarize(0, 7))?;
+/// # Ok(())
+/// # }
+/// ```
+///
+/// ```compile_fail
+/// #![deny(unused_must_use)]
+/// # include!(concat!(env!("CARGO_MANIFEST_DIR"), "/tests/toy/mod.rs"));
+/// # fn main() -> Result<(), batcher::Error> {
+/// let mut round = batcher::Round::new(ROUND, Toy::new(4), true)?;
+/// round.add_network(&"ada", notarize(0, 7))?;
+/// # Ok(())
+/// # }
+/// ```
+///
+/// ```compile_fail
+/// #![deny(unused_must_use)]
+/// # include!(concat!(env!("CARGO_MANIFEST_DIR"), "/tests/toy/mod.rs"));
+/// # fn main() -> Result<(), batcher::Error> {
+/// let mut round = batcher::Round::new(ROUND, Toy::new(4), true)?;
+/// round.step()?;
+/// # Ok(())
+/// # }
+/// ```
+///
+/// ```
+/// #![deny(unused_must_use)]
+/// # include!(concat!(env!("CARGO_MANIFEST_DIR"), "/tests/toy/mod.rs"));
+/// # fn main() -> Result<(), batcher::Error> {
+/// let mut round = batcher::Round::new(ROUND, Toy::new(4), true)?;
+/// let _ = round.accept_vote(notarize(0, 7))?;
+/// let _ = round.add_network(&"ada", notarize(0, 7))?;
+/// let _ = round.step()?;
+/// # Ok(())
+/// # }
+/// ```
+#[cfg(doctest)]
+struct Dropped;

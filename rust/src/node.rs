@@ -1,7 +1,7 @@
 //! A validator's rounds over many views.
 
 use crate::answers::{Admission, Batch, BlockReason, Error, Mode};
-use crate::book::{Book, Library, Wanted, reserve_each};
+use crate::book::{Book, Library, Wanted, WantedTogether, reserve_each};
 use crate::ffi::node::code;
 use crate::ffi::{self, node};
 use crate::flat::{block_of, done, error_of, flat_subject, flat_vote, proposal_of, some};
@@ -15,6 +15,7 @@ use std::fmt;
 use std::sync::Arc;
 
 /// What became of a peer's message, where `A` is what it is answered.
+#[must_use = "it may say that the peer is blocked"]
 #[derive(Clone, Copy, Debug, PartialEq, Eq, Hash)]
 pub enum Receipt<A> {
     /// Its view is in the window.
@@ -40,13 +41,14 @@ pub enum Verdict {
 }
 
 /// What became of a vote of the node's own.
+#[must_use = "only a vote that is `ToSend` may be sent"]
 #[derive(Clone, Copy, Debug, PartialEq, Eq, Hash)]
 pub enum Cast<G> {
     /// It is the first of its kind and signer, and **is to be sent** to all. This is reported of
     /// it.
     ToSend(Activity<G>),
-    /// There was one before, and nothing that is kept shows that the two differ. So it isn't to be
-    /// sent: who has the earlier one would block the sender of another.
+    /// There was one before, and nothing that is kept shows that the two differ. It **isn't to be
+    /// sent**: if it differs, whoever has the earlier one blocks this node.
     Known,
     /// It is of a view outside of the window, or of another epoch, and wasn't looked at.
     Outside,
@@ -91,7 +93,8 @@ impl Window {
     }
 }
 
-/// A construction in a view.
+/// A construction in a view. Its batch is given once.
+#[must_use = "its certificate isn't given again"]
 #[derive(Clone, Debug, PartialEq, Eq, Hash)]
 pub struct Construction<C> {
     /// The view.
@@ -101,6 +104,7 @@ pub struct Construction<C> {
 }
 
 /// What a construction comes to.
+#[must_use = "what was made isn't given again"]
 #[derive(Clone, Debug)]
 pub enum Step<G, C> {
     /// All views rest.
@@ -109,7 +113,7 @@ pub enum Step<G, C> {
     Verify(Wanted<G>),
     /// One verdict on all of them as a whole is wanted first: [`Node::record_verdict_together`].
     /// The node is as it was.
-    VerifyTogether(Wanted<G>),
+    VerifyTogether(WantedTogether<G>),
     /// One was made in a view.
     Made(Construction<C>),
 }
@@ -248,10 +252,10 @@ impl<S: Scheme> Node<S> {
     /// What is answered to a certificate that needn't be verified: its peer is blocked or takes no
     /// part, it is of a view outside of the window, or one of its kind is there. Where there is
     /// none, it is to be verified, and handed in with what was found.
-    pub fn answers_unverified<C>(
+    pub fn answers_unverified(
         &self,
         peer: &S::PublicKey,
-        certificate: &Certificate<C>,
+        certificate: &Certificate<S::Certificate>,
     ) -> Option<Receipt<Verdict>> {
         // A certificate has no signer that is likely to have sent it.
         match self.look_at(peer, Participant::new(u32::MAX), certificate.round()) {
@@ -269,10 +273,10 @@ impl<S: Scheme> Node<S> {
     /// # Errors
     ///
     /// `OutOfMemory`.
-    pub fn receive_verified_certificate<C>(
+    pub fn receive_verified_certificate(
         &mut self,
         peer: &S::PublicKey,
-        certificate: &Certificate<C>,
+        certificate: &Certificate<S::Certificate>,
         certifies: bool,
     ) -> Result<Receipt<Verdict>, Error> {
         let name = match self.scheme.participants().index(peer) {
@@ -386,8 +390,12 @@ impl<S: Scheme> Node<S> {
     ///
     /// # Errors
     ///
-    /// `Passed`, `LeaderChanged` and `OutOfMemory`.
+    /// `Passed`, `LeaderChanged`, `OutOfMemory`, and `UnknownParticipant` where the leader's index
+    /// is no participant's.
     pub fn enter(&mut self, view: View, leader: Participant) -> Result<(), Error> {
+        if self.scheme.participants().key(leader).is_none() {
+            return Err(Error::UnknownParticipant);
+        }
         match self.library.enter(view.get(), leader.get()) {
             code::DONE => Ok(()),
             code::PASSED => Err(Error::Passed),
@@ -399,7 +407,7 @@ impl<S: Scheme> Node<S> {
     ///
     /// # Errors
     ///
-    /// None but `Unknown`.
+    /// Only `Unknown`.
     pub fn finalize(&mut self, view: View) -> Result<(), Error> {
         done(self.library.finalize(view.get()))?;
         let finalized = self.window().finalized;
@@ -480,7 +488,7 @@ impl<S: Scheme> Node<S> {
                 }
                 code::VERIFY_TOGETHER => {
                     let book = book.or_insert_with(|| Book::new(self.mode));
-                    let wanted = book.wanted(&step, list, self.identity)?;
+                    let wanted = book.wanted_together(&step, list, self.identity)?;
                     return Ok(Step::VerifyTogether(wanted));
                 }
                 answer => return Err(error_of(answer)),
@@ -527,9 +535,10 @@ impl<S: Scheme> Node<S> {
     /// be made again.
     pub fn record_verdict_together(
         &mut self,
-        wanted: &Wanted<S::Signature>,
+        wanted: &WantedTogether<S::Signature>,
         passes: bool,
     ) -> Result<(), Error> {
+        let wanted = &wanted.wanted;
         if wanted.owner != self.identity {
             return Err(Error::Elsewhere);
         }
@@ -541,7 +550,7 @@ impl<S: Scheme> Node<S> {
     ///
     /// # Errors
     ///
-    /// None but `Unknown`.
+    /// Only `Unknown`.
     pub fn try_forward_proposal(
         &mut self,
         view: View,
@@ -589,7 +598,7 @@ impl<S: Scheme> Node<S> {
         cause_of(*self.causes.get(usize::from(participant))?)
     }
 
-    /// How many votes are kept on this side of the door, each with its signature.
+    /// How many votes the crate keeps, each with its signature.
     pub fn votes_kept(&self) -> usize {
         self.books.values().map(Book::len).sum()
     }

@@ -79,12 +79,13 @@ impl fmt::Display for Round {
     }
 }
 
-/// The index of a participant: its key's place among all keys in ascending order.
+/// The index of a participant: its key's place among all keys in ascending order, which
+/// [`Set::index`] gives. It isn't the place in the list that a set was made of.
 #[derive(Clone, Copy, Debug, PartialEq, Eq, PartialOrd, Ord, Hash)]
 pub struct Participant(pub u32);
 
 impl Participant {
-    /// The participant at this place, the first being 0. Whether there is one a round tells.
+    /// The participant at this place, the first being 0. Whether there is one, the set says.
     pub const fn new(index: u32) -> Self {
         Participant(index)
     }
@@ -107,8 +108,8 @@ impl fmt::Display for Participant {
     }
 }
 
-/// How many votes make a certificate among `n` participants: all but the third, rounded down, of
-/// the others that may be faulty. Of no participants it is 0.
+/// How many votes make a certificate among `n` participants: `n - (n - 1) / 3`, where a division
+/// drops the remainder. Of no participants it is 0.
 ///
 /// ```
 /// assert_eq!([1, 3, 4, 5, 7, 100].map(batcher::quorum), [1, 3, 3, 4, 5, 67]);

@@ -1,11 +1,11 @@
 //! One round: what it answers to votes, and the certificates that it makes of them.
 
 use crate::answers::{Admission, Batch, Error, Mode, Outcome};
-pub use crate::book::Wanted;
 use crate::book::{Book, Library, reserve_each};
+pub use crate::book::{Wanted, WantedTogether};
 use crate::ffi::{self, code};
 use crate::flat::{done, error_of, flat_proposal, flat_subject, flat_vote, proposal_of, some};
-use crate::messages::{Activity, Certificate, Kind, Proposal, Vote};
+use crate::messages::{Certificate, Kind, Proposal, Vote};
 use crate::positions::{self, Participant};
 use crate::scheme::Scheme;
 use crate::table::Numbers;
@@ -23,6 +23,7 @@ pub(crate) fn identity() -> u64 {
 }
 
 /// What a construction comes to.
+#[must_use = "what was made isn't given again"]
 #[derive(Clone, Debug)]
 pub enum Step<G, C> {
     /// No kind is ready.
@@ -30,8 +31,8 @@ pub enum Step<G, C> {
     /// A verdict on each is wanted first: [`Round::record_verdicts`]. The round is as it was.
     Verify(Wanted<G>),
     /// One verdict on all of them as a whole is wanted first: [`Round::record_verdict_together`].
-    /// The round is as it was.
-    VerifyTogether(Wanted<G>),
+    /// The round is as it was. Only a scheme that [aggregates](Scheme::aggregates) is asked so.
+    VerifyTogether(WantedTogether<G>),
     /// An attempt was made.
     Made(Batch<C>),
 }
@@ -163,15 +164,21 @@ impl<S: Scheme> Round<S> {
     }
 
     /// Whether the certificate is of this round. Its parent view isn't looked at.
-    pub fn belongs_certificate<C>(&self, certificate: &Certificate<C>) -> bool {
+    pub fn belongs_certificate(&self, certificate: &Certificate<S::Certificate>) -> bool {
         certificate.round() == self.number
     }
 
     /// Takes in a vote that the network brought. The sender is who the transport has authenticated.
     ///
-    /// The first of each kind per signer is added, but a nullify beside a finalize of its signer,
-    /// or the reverse. A sender is blocked for that, for the vote of another, and for two votes
-    /// that are known to differ. A vote that isn't added takes no memory.
+    /// The first of each kind per signer is added, except a nullify after a finalize of its signer,
+    /// or a finalize after its nullify. A sender is to be blocked for that, for the vote of another
+    /// signer, and for two votes that are known to differ. To block it is the caller's matter: a
+    /// round goes on taking in its votes. A vote that isn't added takes no memory.
+    ///
+    /// Votes come from their signers alone. Where the network gossips, don't hand in a vote under
+    /// the key of who relays it, who would be blocked for it.
+    ///
+    /// After a vote that was added, construct.
     ///
     /// ```
     /// # include!(concat!(env!("CARGO_MANIFEST_DIR"), "/tests/toy/mod.rs"));
@@ -191,7 +198,8 @@ impl<S: Scheme> Round<S> {
     ///
     /// # Errors
     ///
-    /// `Elsewhere` and `OutOfMemory`.
+    /// `Elsewhere`, for which nobody is to be blocked, and `OutOfMemory`. In a loop over many
+    /// votes, go on with the others after it.
     pub fn add_network(
         &mut self,
         sender: &S::PublicKey,
@@ -210,21 +218,53 @@ impl<S: Scheme> Round<S> {
     }
 
     /// Takes in a vote of the node's own, which the scheme is asked to verify. **It is to be sent
-    /// only where it is `Added`.**
+    /// only where it is `ToSend`**, which not every vote is that isn't refused.
     ///
-    /// It is refused beside a kept vote of its kind, or beside the other of nullify and finalize; a
-    /// nullify that is there already is a duplicate. A finalize fixes its proposal first, also
-    /// where it is a duplicate of one that isn't kept.
+    /// A notarize or a finalize is refused where its signer's vote of the same kind is kept, and a
+    /// nullify then is a duplicate. A nullify is refused after a finalize, and a finalize after a
+    /// nullify.
+    ///
+    /// Hand in votes of one's own participant alone, and a finalize only of a proposal that is
+    /// notarized. A finalize selects its proposal, also where an earlier one of its signer isn't
+    /// kept any more, and the votes for another proposal count no more.
+    ///
+    /// A round knows the own votes that it was handed, and no others. So keep the bytes of each own
+    /// vote before it is sent. A round that is made again for the same view, as after a restart or
+    /// after [`Error::Gone`], would take a vote that contradicts an earlier one. Cast the earlier
+    /// ones there first, as the same bytes. Where that can't be done, cast nothing more in that
+    /// view.
+    ///
+    /// ```
+    /// # include!(concat!(env!("CARGO_MANIFEST_DIR"), "/tests/toy/mod.rs"));
+    /// use batcher::{Error, Outcome, OwnFault, Round, Vote};
+    /// # fn main() -> Result<(), batcher::Error> {
+    /// let mut round = Round::new(ROUND, Toy::new(4), true)?;
+    /// let mut sent = Vec::new();
+    /// let mut cast = |round: &mut Round<Toy>, vote: Vote<Signature>| {
+    ///     if let Outcome::ToSend { .. } = round.accept_vote(vote)? {
+    ///         sent.push(vote);
+    ///     }
+    ///     Ok::<(), Error>(())
+    /// };
+    /// cast(&mut round, nullify(0))?;
+    /// // The second one isn't refused, and isn't to be sent either.
+    /// cast(&mut round, nullify(0))?;
+    /// // Who gave the view up finalizes nothing in it.
+    /// let refused = cast(&mut round, finalize(0, 7));
+    /// assert_eq!(refused, Err(Error::Own(OwnFault::FinalizeAfterNullify)));
+    /// assert_eq!(sent, [nullify(0)]);
+    /// # Ok(())
+    /// # }
+    /// ```
     ///
     /// # Errors
     ///
     /// `Elsewhere`, `OutOfMemory`, `NotVerified` where the scheme says that it doesn't attest, and
     /// `Own`.
-    #[allow(clippy::type_complexity)]
     pub fn accept_vote(
         &mut self,
         vote: Vote<S::Signature>,
-    ) -> Result<(Outcome, Option<Activity<S::Signature>>), Error> {
+    ) -> Result<Outcome<S::Signature>, Error> {
         if !self.belongs(&vote) {
             return Err(Error::Elsewhere);
         }
@@ -249,11 +289,10 @@ impl<S: Scheme> Round<S> {
     ///
     /// As of [`Round::accept_vote`]. `NotVerified` where its signer takes no part, or where the
     /// very same vote was found not to attest before.
-    #[allow(clippy::type_complexity)]
     pub fn accept_verified_vote(
         &mut self,
         vote: Vote<S::Signature>,
-    ) -> Result<(Outcome, Option<Activity<S::Signature>>), Error> {
+    ) -> Result<Outcome<S::Signature>, Error> {
         if !self.belongs(&vote) {
             return Err(Error::Elsewhere);
         }
@@ -274,22 +313,93 @@ impl<S: Scheme> Round<S> {
         let report = self.book.report(&answer, &numbered)?;
         let retained = answer.retained;
         if !answer.added {
-            return Ok((Outcome::Duplicate { retained }, report));
+            return Ok(Outcome::Duplicate { retained });
         }
+        // A vote that was added is reported.
+        let report = report.ok_or(Error::Unknown(code::DONE))?;
         self.book.keep(numbered, Some(true));
-        Ok((Outcome::Added { retained }, report))
+        Ok(Outcome::ToSend { report, retained })
     }
 
-    /// Records a certificate that the caller has verified. It completes its kind, fixes its
-    /// proposal where none is fixed, and releases the votes of its kind.
+    /// Takes in a certificate that came from elsewhere, which the scheme is asked to verify. It
+    /// completes its kind, fixes its proposal where none is fixed, and releases the votes of its
+    /// kind. Where [`Round::has_certificate`] says that one of its kind is there, it tells nothing
+    /// new, and needn't be handed in. Those that the round made are recorded already.
     ///
-    /// A notarization answers whether another proposal is selected than before, other certificates
-    /// answer false. True tells the caller to construct.
+    /// Of a notarization it answers whether another proposal is selected than before. Of other
+    /// certificates it answers false, also where a finalization selects one. So construct after
+    /// each, whatever the answer is.
+    ///
+    /// ```
+    /// # include!(concat!(env!("CARGO_MANIFEST_DIR"), "/tests/toy/mod.rs"));
+    /// use batcher::{Error, Kind, Round, Subject};
+    /// # fn main() -> Result<(), batcher::Error> {
+    /// let mut round = Round::new(ROUND, Toy::new(4), false)?;
+    /// // No leader is named, so the notarizes wait.
+    /// for signer in 0..3 {
+    ///     assert!(round.add_network(&KEYS[signer], notarize(signer as u32, 7))?.added);
+    /// }
+    /// assert!(round.try_construct()?.is_none());
+    /// let subject = Subject::Finalize { proposal: proposal(7) };
+    /// // Two signers are no quorum: who sent that is to be blocked.
+    /// let forged = certificate(subject, 0..2);
+    /// assert_eq!(round.record_certificate(&forged), Err(Error::Forged));
+    /// // A finalization selects its proposal, so the notarizes make a certificate.
+    /// assert!(!round.record_certificate(&certificate(subject, 1..4))?);
+    /// let batch = round.try_construct()?.expect("a quorum is there");
+    /// assert!(batch.certificate.is_some_and(|it| it.kind() == Kind::Notarization));
+    /// # Ok(())
+    /// # }
+    /// ```
+    ///
+    /// # Errors
+    ///
+    /// `Elsewhere`, for which nobody is to be blocked, `Forged` where the scheme says that it
+    /// doesn't certify what it names, and `OutOfMemory`.
+    pub fn record_certificate(
+        &mut self,
+        certificate: &Certificate<S::Certificate>,
+    ) -> Result<bool, Error> {
+        if !self.belongs_certificate(certificate) {
+            return Err(Error::Elsewhere);
+        }
+        if !self
+            .scheme
+            .verify_certificate(&certificate.subject(), certificate.content())
+        {
+            return Err(Error::Forged);
+        }
+        self.record_verified_certificate(certificate)
+    }
+
+    /// The same of a certificate of which the caller knows that it certifies what it names, as it
+    /// was verified elsewhere. **One that doesn't selects a proposal that nobody voted for, and
+    /// stops its kind**:
+    ///
+    /// ```
+    /// # include!(concat!(env!("CARGO_MANIFEST_DIR"), "/tests/toy/mod.rs"));
+    /// use batcher::{Round, Scheme, Subject};
+    /// # fn main() -> Result<(), batcher::Error> {
+    /// # let mut round = Round::new(ROUND, Toy::new(4), false)?;
+    /// # let scheme = round.scheme().clone();
+    /// # let certificate = certificate(Subject::Nullify { round: ROUND }, 0..3);
+    /// if round.belongs_certificate(&certificate)
+    ///     && scheme.verify_certificate(&certificate.subject(), certificate.content())
+    /// {
+    ///     round.record_verified_certificate(&certificate)?;
+    /// }
+    /// # assert!(round.has_certificate(batcher::Kind::Nullification));
+    /// # Ok(())
+    /// # }
+    /// ```
     ///
     /// # Errors
     ///
     /// `Elsewhere` and `OutOfMemory`.
-    pub fn record_certificate<C>(&mut self, certificate: &Certificate<C>) -> Result<bool, Error> {
+    pub fn record_verified_certificate(
+        &mut self,
+        certificate: &Certificate<S::Certificate>,
+    ) -> Result<bool, Error> {
         let (kind, number) = (certificate.kind(), self.numbers.unused());
         let proposal = flat_subject(&certificate.subject());
         let mut selected_anew = false;
@@ -304,12 +414,40 @@ impl<S: Scheme> Round<S> {
         Ok(selected_anew)
     }
 
-    /// Names the leader. If its notarize is kept, that selects its proposal where none is selected.
+    /// Names the leader. If its notarize is kept, that selects its proposal where none is selected,
+    /// so construct after this.
+    ///
+    /// A leader's index is the place of its key in the scheme's [`Set`](crate::Set), which is
+    /// sorted, and not in the list that the set was made of. Who is named can't be changed.
+    ///
+    /// ```
+    /// # include!(concat!(env!("CARGO_MANIFEST_DIR"), "/tests/toy/mod.rs"));
+    /// use batcher::{Participant, Round, Scheme};
+    /// # fn main() -> Result<(), batcher::Error> {
+    /// let scheme = Toy::new(4);
+    /// let mut round = Round::new(ROUND, scheme.clone(), false)?;
+    /// let leader = scheme.participants().index(&"cyd").expect("cyd takes part");
+    /// round.set_leader(leader)?;
+    /// assert_eq!(round.leader(), Some(leader));
+    /// assert!(round.set_leader(Participant::new(4)).is_err());
+    /// # Ok(())
+    /// # }
+    /// ```
     ///
     /// # Errors
     ///
-    /// `LeaderChanged` where another one was named before.
+    /// `UnknownParticipant` where the index is no participant's, and `LeaderChanged` where another
+    /// leader was named before.
     pub fn set_leader(&mut self, leader: Participant) -> Result<(), Error> {
+        if self.scheme.participants().key(leader).is_none() {
+            return Err(Error::UnknownParticipant);
+        }
+        self.set_any_leader(leader)
+    }
+
+    // As the library has it, which takes each index. Scripts of calls name such leaders too.
+    #[doc(hidden)]
+    pub fn set_any_leader(&mut self, leader: Participant) -> Result<(), Error> {
         done(self.library.set_leader(leader.get()))
     }
 
@@ -330,7 +468,7 @@ impl<S: Scheme> Round<S> {
     ///
     /// # Errors
     ///
-    /// None but `Unknown`.
+    /// Only `Unknown`.
     pub fn try_forward_proposal(&mut self, me: Participant) -> Result<Option<Proposal>, Error> {
         let mut proposal = ffi::Proposal::default();
         let is_some = some(self.library.try_forward_proposal(me.get(), &mut proposal))?;
@@ -350,7 +488,7 @@ impl<S: Scheme> Round<S> {
     }
 
     /// Whether nothing shows that the participant has the proposal's block: neither a notarize nor
-    /// a finalize for it.
+    /// a finalize for it. A vote shows that also where it doesn't attest.
     pub fn is_missing_voter(&self, proposal: &Proposal, participant: Participant) -> bool {
         let (proposal, mut is_missing) = (flat_proposal(proposal), false);
         let answer = self
@@ -377,7 +515,39 @@ impl<S: Scheme> Round<S> {
     }
 
     /// Makes the next construction, and has the scheme verify what it takes. None where no kind is
-    /// ready. A round gives three batches in a row at most.
+    /// ready.
+    ///
+    /// Call it after each added vote, named leader and recorded certificate, until it answers none:
+    /// a batch without a certificate needn't be the last. A round gives three in a row at most.
+    ///
+    /// A batch is given once, with its certificate. Deal with each before the next call, so that
+    /// none is lost where that is refused.
+    ///
+    /// ```
+    /// # include!(concat!(env!("CARGO_MANIFEST_DIR"), "/tests/toy/mod.rs"));
+    /// use batcher::{Kind, Participant, Round};
+    /// # fn main() -> Result<(), batcher::Error> {
+    /// # let mut round = Round::new(ROUND, Toy::new(4), false)?;
+    /// # for vote in [bad(notarize(1, 7)), notarize(2, 7), notarize(3, 7)] {
+    /// #     assert!(round.add_network(&KEYS[vote.signer().get() as usize], vote)?.added);
+    /// #     let nullify = nullify(vote.signer().get());
+    /// #     assert!(round.add_network(&KEYS[vote.signer().get() as usize], nullify)?.added);
+    /// # }
+    /// # let (mut send, mut block) = (Vec::new(), Vec::new());
+    /// round.set_leader(Participant::new(2))?;
+    /// while let Some(batch) = round.try_construct()? {
+    ///     for signer in batch.invalid {
+    ///         block.push(signer);
+    ///     }
+    ///     if let Some(certificate) = batch.certificate {
+    ///         send.push(certificate);
+    ///     }
+    /// }
+    /// # assert_eq!(block, [Participant::new(1)]);
+    /// # assert!(send.iter().map(|it| it.kind()).eq([Kind::Nullification]));
+    /// # Ok(())
+    /// # }
+    /// ```
     ///
     /// # Errors
     ///
@@ -411,6 +581,14 @@ impl<S: Scheme> Round<S> {
 
     /// Makes the next construction, or hands out what has to be verified for it, which may be done
     /// anywhere. Votes may be added meanwhile; then a later step may want more.
+    ///
+    /// Call it after each added vote, named leader and recorded certificate, and after each verdict
+    /// that is recorded, until it answers `Idle` or something to verify: a batch without a
+    /// certificate needn't be the last. A batch is given once, with its certificate.
+    ///
+    /// A step before the verdicts are in hands out the same again, and what has come since. One
+    /// kind is handed out at a time, so verdicts that never come hold up the other kinds too.
+    /// Where a verifier fails or is late, step again, and have that verified.
     ///
     /// ```
     /// # include!(concat!(env!("CARGO_MANIFEST_DIR"), "/tests/toy/mod.rs"));
@@ -464,7 +642,7 @@ impl<S: Scheme> Round<S> {
                     }
                 }
                 code::VERIFY_TOGETHER => {
-                    let wanted = self.book.wanted(&step, list, self.identity)?;
+                    let wanted = self.book.wanted_together(&step, list, self.identity)?;
                     return Ok(Step::VerifyTogether(wanted));
                 }
                 answer => return Err(error_of(answer)),
@@ -472,13 +650,17 @@ impl<S: Scheme> Round<S> {
         }
     }
 
-    /// Records a verdict on each of the attestations that a step has handed out, in their order. Of
-    /// two verdicts on one attestation the first counts.
+    /// Records a verdict on each of the attestations that a step has handed out, in their order.
+    /// Then step again, also where no vote has come.
+    ///
+    /// **A verdict can't be taken back, and false has its signer blocked.** Of two verdicts on one
+    /// attestation the first counts. Where the verification failed to run, record nothing, and step
+    /// again.
     ///
     /// # Errors
     ///
-    /// `Elsewhere` where they are of another round, and `OutOfMemory`. After that the same call can
-    /// be made again.
+    /// `Elsewhere` where they are of another round, and `OutOfMemory`, after which the same call
+    /// can be made again.
     ///
     /// # Panics
     ///
@@ -500,17 +682,22 @@ impl<S: Scheme> Round<S> {
             .record_verdicts(&mut self.library, wanted, verdicts)
     }
 
-    /// Records whether the attestations that a step has handed out pass as a whole.
+    /// Records whether the attestations that a step has handed out pass as a whole. Then step
+    /// again, also where no vote has come.
+    ///
+    /// It counts for these attestations together, and for no others: where a vote of their kind
+    /// comes before the next step, that asks for a verdict on all of them with the new one.
     ///
     /// # Errors
     ///
-    /// `Elsewhere` where they are of another round, and `OutOfMemory`. After that the same call can
-    /// be made again.
+    /// `Elsewhere` where they are of another round, and `OutOfMemory`, after which the same call
+    /// can be made again.
     pub fn record_verdict_together(
         &mut self,
-        wanted: &Wanted<S::Signature>,
+        wanted: &WantedTogether<S::Signature>,
         passes: bool,
     ) -> Result<(), Error> {
+        let wanted = &wanted.wanted;
         if wanted.owner != self.identity {
             return Err(Error::Elsewhere);
         }
@@ -529,7 +716,7 @@ impl<S: Scheme> Round<S> {
         made.map(Step::Made)
     }
 
-    /// How many votes are kept on this side of the door, each with its signature.
+    /// How many votes the crate keeps, each with its signature.
     pub fn votes_kept(&self) -> usize {
         self.book.len()
     }

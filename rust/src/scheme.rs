@@ -9,7 +9,9 @@ use crate::positions::Set;
 /// condition: what it says of an attestation depends on the subject, the signer and the signature
 /// alone. A round keeps the first verdict on each.
 ///
-/// A round asks for verdicts only when a certificate is due, and for many at once.
+/// Where the scheme is batchable, a round asks for verdicts only when a quorum is possible, and for
+/// many at once; else as soon as a vote counts. Batchable is the default, and that a scheme doesn't
+/// aggregate.
 ///
 /// ```
 /// use batcher::{Attestation, Scheme, Set, Subject};
@@ -44,11 +46,28 @@ use crate::positions::Set;
 ///     }
 ///
 ///     fn verify_certificate(&self, subject: &Subject, certificate: &Self::Certificate) -> bool {
+///         // A quorum, of which no two are by one signer,
 ///         certificate.len() >= batcher::quorum(self.0.len()) as usize
 ///             && certificate.windows(2).all(|pair| pair[0].signer < pair[1].signer)
+///             // each by a participant,
+///             && certificate.iter().all(|it| self.0.key(it.signer).is_some())
+///             // and all of which attest.
 ///             && self.verify_attestations(subject, certificate).into_iter().all(|attests| attests)
 ///     }
 /// }
+///
+/// let toy = Toy(Set::new(vec!["ada", "ben", "cyd", "dot"])?);
+/// let subject = Subject::Nullify {
+///     round: batcher::positions::Round::new(batcher::Epoch(0), batcher::View(1)),
+/// };
+/// let by = |signers: std::ops::Range<u32>| -> Vec<_> {
+///     let sign = |it| Attestation::new(batcher::Participant(it), (it, subject.kind()));
+///     signers.map(sign).collect()
+/// };
+/// assert!(toy.verify_certificate(&subject, &by(0..3)));
+/// // Whoever isn't a participant counts for nothing.
+/// assert!(!toy.verify_certificate(&subject, &by(4..7)));
+/// # Ok::<(), batcher::SetFault>(())
 /// ```
 pub trait Scheme {
     /// Who a participant is to the network.
@@ -64,22 +83,22 @@ pub trait Scheme {
     /// The keys of the participants. They are the same at each call.
     fn participants(&self) -> &Set<Self::PublicKey>;
 
-    /// Whether it pays to wait for a quorum before attestations are verified. A round asks when it
-    /// is made.
+    /// Whether it pays to wait for a quorum before attestations are verified, which is so by
+    /// default. A round asks when it is made.
     fn is_batchable(&self) -> bool {
         true
     }
 
-    /// Whether a quorum may be verified as a whole, as where signatures are aggregated. A round
-    /// asks when it is made. Where it does, [`Scheme::verify_together`] is asked first, and
-    /// `verify_attestations` only where that says no.
+    /// Whether a quorum may be verified as a whole, as where signatures are aggregated. By default
+    /// it isn't. A round asks when it is made. Where this is true, [`Scheme::verify_together`] is
+    /// asked first, and `verify_attestations` only where that says no.
     fn aggregates(&self) -> bool {
         false
     }
 
-    /// Of each attestation, in order, whether it attests to the subject. Their signers are
-    /// participants. They may be verified together, but what is said of one has nothing to do with
-    /// the others.
+    /// Of each attestation, in order, whether it attests to the subject. They may be verified
+    /// together, but what is said of one has nothing to do with the others. Where a round asks,
+    /// their signers are participants. Who calls this by `verify_certificate` sees to that there.
     fn verify_attestations(
         &self,
         subject: &Subject,
@@ -87,7 +106,8 @@ pub trait Scheme {
     ) -> Vec<bool>;
 
     /// Whether a quorum of attestations passes as a whole, which is enough to make a certificate of
-    /// it. The first `verified` of them are known to attest. Where all attest it says so.
+    /// it. The first `verified` of them are known to attest. Where all attest it says so. By default
+    /// it asks `verify_attestations` about the others.
     fn verify_together(
         &self,
         subject: &Subject,
@@ -108,7 +128,8 @@ pub trait Scheme {
         attestations: &[Attestation<Self::Signature>],
     ) -> Self::Certificate;
 
-    /// Whether a certificate that came from elsewhere certifies the subject, by itself. A round
-    /// doesn't ask; a node does.
+    /// Whether a certificate that came from elsewhere certifies the subject, by itself: it is made
+    /// of a quorum of participants, each once, of whom each attests.
+    /// [`Round::record_certificate`](crate::Round::record_certificate) asks.
     fn verify_certificate(&self, subject: &Subject, certificate: &Self::Certificate) -> bool;
 }

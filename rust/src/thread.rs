@@ -8,33 +8,50 @@
 //!
 //! A call that waits for its answer takes two switches of threads, some ten microseconds, where the
 //! call itself takes less than one. So hand over what has piled up in one job, as in the example.
+//! No vote stops those behind it there: each has its own answer, and a vote of another round is
+//! refused without harm.
 //!
 //! ```
 //! # include!(concat!(env!("CARGO_MANIFEST_DIR"), "/tests/toy/mod.rs"));
-//! use batcher::Round;
 //! use batcher::thread::Host;
+//! use batcher::{BlockReason, Round};
 //! # fn main() -> Result<(), batcher::Error> {
-//! let host = Host::new().unwrap();
+//! let host = Host::new()?;
 //! let scheme = Toy::new(4);
 //! let mailbox = host.start(move || Round::new(ROUND, scheme, false))?;
-//! let votes: Vec<_> = (0..3).map(|signer| (KEYS[signer], nullify(signer as u32))).collect();
-//! let batch = mailbox.call(move |round| {
-//!     for (sender, vote) in votes {
-//!         round.add_network(&sender, vote)?;
+//! // The second one is in another's name.
+//! let votes = vec![("ada", nullify(0)), ("dot", nullify(2)), ("ben", nullify(1)), ("cyd", nullify(2))];
+//! let answers = mailbox.call(move |round| {
+//!     let each = votes.into_iter().map(|(sender, vote)| (sender, round.add_network(&sender, vote)));
+//!     each.collect::<Vec<_>>()
+//! })?;
+//! let mut blocked = Vec::new();
+//! for (sender, answer) in answers {
+//!     match answer {
+//!         Ok(admission) => blocked.extend(admission.block.map(|reason| (sender, reason))),
+//!         Err(error) => println!("a vote of {sender}: {error}"),
 //!     }
-//!     round.try_construct()
-//! })??;
+//! }
+//! assert_eq!(blocked, [("dot", BlockReason::NullifySignerMismatch)]);
+//! let batch = mailbox.call(|round| round.try_construct())??;
 //! assert!(batch.is_some_and(|batch| batch.certificate.is_some()));
 //! # Ok(())
 //! # }
 //! ```
+//!
+//! **A certificate is given once.** Whoever drops the [`Reply`] to a job that constructs loses it,
+//! and so does a job that constructs again and is refused then. Where that may be, as in a task
+//! that can be cancelled, send on from within the job what is made.
+//!
+//! `try_construct` verifies on the host's thread, and the other rounds of the host wait meanwhile.
+//! Where there are any, use [`Round::step`](crate::Round::step), and verify elsewhere: the example
+//! `mailbox` of this crate does so.
 
 use crate::answers::Error;
 use std::any::Any;
 use std::collections::HashMap;
 use std::fmt;
 use std::future::Future;
-use std::io;
 use std::marker::PhantomData;
 use std::panic::{AssertUnwindSafe, catch_unwind};
 use std::pin::Pin;
@@ -61,8 +78,8 @@ impl Host {
     ///
     /// # Errors
     ///
-    /// Where the system gives no thread.
-    pub fn new() -> io::Result<Self> {
+    /// `NoThread`.
+    pub fn new() -> Result<Self, Error> {
         let (jobs, inbox) = channel::<Job>();
         std::thread::Builder::new()
             .name("batcher".into())
@@ -71,7 +88,8 @@ impl Host {
                 for job in inbox {
                     job(&mut values);
                 }
-            })?;
+            })
+            .map_err(|_| Error::NoThread)?;
         Ok(Host {
             jobs,
             next: Arc::new(AtomicU64::new(0)),
@@ -252,7 +270,9 @@ impl<R> Drop for Answers<R> {
     }
 }
 
-/// The answer to a job, once it is there. As a future it is ready once.
+/// The answer to a job, once it is there. As a future it is ready once. The job is run whether or
+/// not the answer is waited for.
+#[must_use = "what the job answers is lost with it"]
 pub struct Reply<R> {
     slot: Arc<Slot<R>>,
 }

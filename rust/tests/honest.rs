@@ -6,7 +6,7 @@ mod toy;
 
 use batcher::{
     Attestation, Batch, Certificate, Mode, Outcome, Participant, Round, Scheme, Step, Subject,
-    Vote, Wanted, quorum,
+    Vote, Wanted, WantedTogether, quorum,
 };
 use std::sync::Arc;
 use toy::{KEYS, ROUND, Signature, Toy, bad, finalize, notarize, nullify};
@@ -56,6 +56,12 @@ fn any_subject(numbers: &mut Numbers) -> Subject {
     any_vote(0, numbers).subject()
 }
 
+/// What was handed out to be verified.
+enum Waiting {
+    Each(Wanted<Signature>),
+    Together(WantedTogether<Signature>),
+}
+
 /// One round, in which 1, 2 and so on are honest, 0 is this node, and the last two are anything.
 fn play(seed: u64) {
     let mut numbers = Numbers(seed);
@@ -66,7 +72,7 @@ fn play(seed: u64) {
     let honest: Vec<_> = (0..count - 2)
         .map(|signer| honest_votes(signer, &mut numbers))
         .collect();
-    let mut waiting: Vec<(Wanted<Signature>, bool)> = Vec::new();
+    let mut waiting = Vec::new();
     for _ in 0..120 {
         match numbers.below(12) {
             0..4 => {
@@ -93,19 +99,19 @@ fn play(seed: u64) {
             7 => {
                 let vote = honest[0][numbers.below(2) as usize];
                 // Both of what a node casts once are added once.
-                let _: Result<(Outcome, _), _> = round.accept_vote(vote);
+                let _: Result<Outcome<_>, _> = round.accept_vote(vote);
             }
             8 => {
-                let certificate = Certificate::new(any_subject(&mut numbers), ());
-                round.record_certificate(&certificate).unwrap();
+                let certificate = Certificate::new(any_subject(&mut numbers), Vec::new());
+                round.record_verified_certificate(&certificate).unwrap();
             }
             9 => {
                 let _ = round.set_leader(Participant::new(numbers.below(u64::from(count)) as u32));
             }
             10 => match round.step().unwrap() {
                 // The verdicts may come late.
-                Step::Verify(wanted) => waiting.push((wanted, false)),
-                Step::VerifyTogether(wanted) => waiting.push((wanted, true)),
+                Step::Verify(wanted) => waiting.push(Waiting::Each(wanted)),
+                Step::VerifyTogether(wanted) => waiting.push(Waiting::Together(wanted)),
                 Step::Made(batch) => check(&scheme, batch, count),
                 Step::Idle => {}
             },
@@ -137,20 +143,22 @@ fn check(scheme: &Toy, batch: Batch<Vec<Attestation<Signature>>>, count: u32) {
 fn hand_in(
     round: &mut Round<Toy>,
     scheme: &Arc<Toy>,
-    waiting: &mut Vec<(Wanted<Signature>, bool)>,
+    waiting: &mut Vec<Waiting>,
     numbers: &mut Numbers,
 ) {
     if waiting.is_empty() {
         return;
     }
-    let (wanted, is_whole) = waiting.swap_remove(numbers.below(waiting.len() as u64) as usize);
-    let (subject, attestations) = (wanted.subject(), wanted.attestations());
-    if is_whole {
-        let passes = scheme.verify_together(subject, attestations, wanted.verified());
-        round.record_verdict_together(&wanted, passes).unwrap();
-    } else {
-        let verdicts = scheme.verify_attestations(subject, attestations);
-        round.record_verdicts(&wanted, &verdicts).unwrap();
+    match waiting.swap_remove(numbers.below(waiting.len() as u64) as usize) {
+        Waiting::Each(wanted) => {
+            let verdicts = scheme.verify_attestations(wanted.subject(), wanted.attestations());
+            round.record_verdicts(&wanted, &verdicts).unwrap();
+        }
+        Waiting::Together(wanted) => {
+            let (subject, attestations) = (wanted.subject(), wanted.attestations());
+            let passes = scheme.verify_together(subject, attestations, wanted.verified());
+            round.record_verdict_together(&wanted, passes).unwrap();
+        }
     }
 }
 

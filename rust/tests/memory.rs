@@ -209,7 +209,7 @@ fn play(mode: Mode, aggregates: bool, granted: u32) -> (Vec<String>, bool) {
         Subject::Finalize {
             proposal: proposal(2),
         },
-        (),
+        3,
     );
     let answer = again(granted, || player.round.record_certificate(&finalization));
     player.note(answer);

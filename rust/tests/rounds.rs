@@ -4,25 +4,36 @@ mod toy;
 
 use batcher::positions::{self, Round as Number};
 use batcher::{
-    Activity, BlockReason, Certificate, Epoch, Error, Kind, Mode, Outcome, OwnFault, Participant,
-    Round, Scheme, Set, SetFault, Step, Subject, View, Vote, quorum,
+    Activity, BlockReason, Epoch, Error, Kind, Mode, Outcome, OwnFault, Participant, Round, Scheme,
+    Set, SetFault, Step, Subject, View, Vote, quorum,
 };
 use std::sync::Arc;
-use toy::{KEYS, ROUND, Signature, Toy, bad, finalize, notarize, nullify, proposal};
+use toy::{KEYS, ROUND, Signature, Toy, bad, certificate, finalize, notarize, nullify, proposal};
 
 fn round(scheme: &Arc<Toy>, mode: Mode) -> Round<Toy> {
     Round::in_mode(ROUND, scheme.clone(), mode).unwrap()
 }
 
 /// Takes in a vote from its signer.
-fn hear(round: &mut Round<Toy>, vote: Vote<Signature>) -> batcher::Admission<Signature> {
+fn answer(round: &mut Round<Toy>, vote: Vote<Signature>) -> batcher::Admission<Signature> {
     round
         .add_network(&KEYS[usize::from(vote.signer())], vote)
         .unwrap()
 }
 
+/// The same, where it doesn't matter what is answered.
+fn hear(round: &mut Round<Toy>, vote: Vote<Signature>) {
+    let _ = answer(round, vote);
+}
+
+/// Casts an own vote, which is to be sent.
+fn cast(round: &mut Round<Toy>, vote: Vote<Signature>) {
+    let outcome = round.accept_verified_vote(vote);
+    assert!(matches!(outcome, Ok(Outcome::ToSend { .. })));
+}
+
 fn is_repeat(round: &mut Round<Toy>, vote: Vote<Signature>) -> bool {
-    let admission = hear(round, vote);
+    let admission = answer(round, vote);
     !admission.added && admission.block.is_none() && admission.report.is_none()
 }
 
@@ -31,7 +42,7 @@ fn three_nullifies_make_a_nullification() {
     let scheme = Toy::new(4);
     let mut round = round(&scheme, Mode::Releasing);
     for signer in 0..3 {
-        let admission = hear(&mut round, nullify(signer));
+        let admission = answer(&mut round, nullify(signer));
         assert!(admission.added && admission.block.is_none());
         assert!(matches!(admission.report, Some(Activity::Nullify(_))));
     }
@@ -87,7 +98,7 @@ fn contradictions_are_blocked_with_their_evidence() {
     let (first, second) = (notarize(1, 1), notarize(1, 2));
     hear(&mut round, first);
     assert!(is_repeat(&mut round, first));
-    let admission = hear(&mut round, second);
+    let admission = answer(&mut round, second);
     assert_eq!(admission.block, Some(BlockReason::ConflictingNotarize));
     let (Vote::Notarize(one), Vote::Notarize(other)) = (first, second) else {
         unreachable!()
@@ -96,7 +107,7 @@ fn contradictions_are_blocked_with_their_evidence() {
         admission.report,
         Some(Activity::ConflictingNotarize(one, other))
     );
-    let admission = hear(&mut round, bad(first));
+    let admission = answer(&mut round, bad(first));
     assert_eq!(admission.block, Some(BlockReason::InvalidSignature));
     let admission = round.add_network(&"ada", second).unwrap();
     assert_eq!(admission.block, Some(BlockReason::NotarizeSignerMismatch));
@@ -104,9 +115,9 @@ fn contradictions_are_blocked_with_their_evidence() {
     assert_eq!(admission.block, Some(BlockReason::UnknownParticipant));
     let (early, late) = (nullify(2), finalize(2, 1));
     hear(&mut round, early);
-    let admission = hear(&mut round, bad(early));
+    let admission = answer(&mut round, bad(early));
     assert_eq!(admission.block, Some(BlockReason::ConflictingNullify));
-    let admission = hear(&mut round, late);
+    let admission = answer(&mut round, late);
     assert_eq!(admission.block, Some(BlockReason::FinalizeAfterNullify));
     let (Vote::Nullify(early), Vote::Finalize(late)) = (early, late) else {
         unreachable!()
@@ -132,7 +143,7 @@ fn repeats_are_never_blocked() {
             finalize(3, 2),
         ];
         for vote in early {
-            assert!(hear(&mut round, vote).added);
+            assert!(answer(&mut round, vote).added);
             assert!(is_repeat(&mut round, vote));
         }
         round.set_leader(Participant::new(0)).unwrap();
@@ -158,11 +169,11 @@ fn repeats_are_never_blocked() {
             );
         }
         // A certificate from outside replaces nothing here, and what is kept stays known.
-        let finalization = Certificate::new(
+        let finalization = certificate(
             Subject::Finalize {
                 proposal: proposal(1),
             },
-            (),
+            0..3,
         );
         assert_eq!(round.record_certificate(&finalization), Ok(false));
         for vote in early {
@@ -183,7 +194,7 @@ fn restored_votes_keep_their_numbers_and_verdicts() {
     round.set_leader(Participant::new(0)).unwrap();
     hear(&mut round, notarize(0, 1));
     // An own vote for another proposal was verified when it was taken in.
-    round.accept_vote(notarize(1, 2)).unwrap();
+    assert!(round.accept_vote(notarize(1, 2)).is_ok());
     hear(&mut round, notarize(2, 2));
     hear(&mut round, notarize(3, 2));
     assert_eq!(scheme.counted(), [1, 1, 0]);
@@ -193,11 +204,11 @@ fn restored_votes_keep_their_numbers_and_verdicts() {
     }
     assert!(round.try_construct().unwrap().is_some());
     assert_eq!(scheme.counted(), [2, 4, 0]);
-    let finalization = Certificate::new(
+    let finalization = certificate(
         Subject::Finalize {
             proposal: proposal(2),
         },
-        (),
+        0..3,
     );
     assert_eq!(round.record_certificate(&finalization), Ok(false));
     let batch = round.try_construct().unwrap().unwrap();
@@ -226,9 +237,14 @@ fn the_leaders_proposal_is_notarized_forwarded_and_finalized() {
     assert_eq!(round.proposal(), Some(proposal(7)));
     assert_eq!(round.try_forward_proposal(me), Ok(Some(proposal(7))));
     assert_eq!(round.try_forward_proposal(me), Ok(None));
-    let (outcome, report) = round.accept_vote(notarize(0, 7)).unwrap();
-    assert_eq!(outcome, Outcome::Added { retained: true });
-    assert!(matches!(report, Some(Activity::Notarize(_))));
+    let Vote::Notarize(own) = notarize(0, 7) else {
+        unreachable!()
+    };
+    let to_send = Outcome::ToSend {
+        report: Activity::Notarize(own),
+        retained: true,
+    };
+    assert_eq!(round.accept_vote(notarize(0, 7)), Ok(to_send));
     let duplicate = Err(Error::Own(OwnFault::DuplicateNotarize));
     assert_eq!(round.accept_vote(notarize(0, 7)), duplicate);
     let batch = round.try_construct().unwrap().unwrap();
@@ -241,7 +257,7 @@ fn the_leaders_proposal_is_notarized_forwarded_and_finalized() {
     assert!(!round.is_missing_voter(&proposal(7), Participant::new(1)));
     // Its kind is released, so a repeat leaves facts alone.
     let again = round.accept_vote(notarize(0, 7));
-    assert_eq!(again, Ok((Outcome::Duplicate { retained: false }, None)));
+    assert_eq!(again, Ok(Outcome::Duplicate { retained: false }));
     assert_eq!(
         round.accept_vote(bad(finalize(0, 7))),
         Err(Error::NotVerified)
@@ -257,12 +273,12 @@ fn the_leaders_proposal_is_notarized_forwarded_and_finalized() {
 fn own_votes_exclude_each_other() {
     let scheme = Toy::new(4);
     let mut round = round(&scheme, Mode::Retaining);
-    round.accept_verified_vote(finalize(0, 1)).unwrap();
+    cast(&mut round, finalize(0, 1));
     let fault = Err(Error::Own(OwnFault::NullifyAfterFinalize));
     assert_eq!(round.accept_verified_vote(nullify(0)), fault);
-    round.accept_verified_vote(nullify(1)).unwrap();
+    cast(&mut round, nullify(1));
     let again = round.accept_verified_vote(nullify(1));
-    assert_eq!(again, Ok((Outcome::Duplicate { retained: true }, None)));
+    assert_eq!(again, Ok(Outcome::Duplicate { retained: true }));
     let fault = Err(Error::Own(OwnFault::FinalizeAfterNullify));
     assert_eq!(round.accept_verified_vote(finalize(1, 1)), fault);
     assert!(round.has_nullify(Participant::new(1)));
@@ -305,19 +321,11 @@ fn what_is_of_another_round_is_refused() {
     let vote = toy::vote(Subject::Nullify { round: elsewhere }, 0);
     assert_eq!(round.add_network(&"ada", vote), Err(Error::Elsewhere));
     assert_eq!(round.accept_vote(vote), Err(Error::Elsewhere));
-    let certificate = Certificate::new(Subject::Nullify { round: elsewhere }, ());
-    assert!(!round.belongs_certificate(&certificate));
-    assert_eq!(
-        round.record_certificate(&certificate),
-        Err(Error::Elsewhere)
-    );
-    let certificate = Certificate::new(
-        Subject::Notarize {
-            proposal: proposal(3),
-        },
-        (),
-    );
-    assert_eq!(round.record_certificate(&certificate), Ok(true));
+    let nullification = certificate(Subject::Nullify { round: elsewhere }, 0..3);
+    assert!(!round.belongs_certificate(&nullification));
+    let elsewhere = Err(Error::Elsewhere);
+    assert_eq!(round.record_certificate(&nullification), elsewhere);
+    assert_eq!(round.record_verified_certificate(&nullification), elsewhere);
     // Attestations of one round aren't taken for another's, though their numbers are the same.
     let mut other = self::round(&scheme, Mode::Releasing);
     for signer in 0..3 {
@@ -331,6 +339,18 @@ fn what_is_of_another_round_is_refused() {
         other.record_verdicts(&wanted, &[true; 3]),
         Err(Error::Elsewhere)
     );
+    let scheme = Toy::with(4, true, true);
+    let (mut one, mut other) = (
+        self::round(&scheme, Mode::Releasing),
+        self::round(&scheme, Mode::Releasing),
+    );
+    for signer in 0..3 {
+        hear(&mut one, nullify(signer));
+        hear(&mut other, nullify(signer));
+    }
+    let Step::VerifyTogether(wanted) = one.step().unwrap() else {
+        panic!("it aggregates")
+    };
     assert_eq!(
         other.record_verdict_together(&wanted, true),
         Err(Error::Elsewhere)
@@ -339,11 +359,101 @@ fn what_is_of_another_round_is_refused() {
     assert_eq!(none.unwrap_err(), Error::NoParticipants);
 }
 
+// A certificate is verified by the scheme, unless the caller says that it was.
+#[test]
+fn forged_certificates_are_refused() {
+    let scheme = Toy::new(4);
+    let mut round = round(&scheme, Mode::Releasing);
+    let subject = Subject::Notarize {
+        proposal: proposal(3),
+    };
+    // Too few, and whoever takes no part.
+    for signers in [0..2, 2..5] {
+        let forged = certificate(subject, signers);
+        assert_eq!(round.record_certificate(&forged), Err(Error::Forged));
+    }
+    assert_eq!(round.proposal(), None);
+    assert!(!round.has_certificate(Kind::Notarization));
+    assert_eq!(
+        round.record_certificate(&certificate(subject, 1..4)),
+        Ok(true)
+    );
+    assert_eq!(round.proposal(), Some(proposal(3)));
+    let mut round = self::round(&scheme, Mode::Releasing);
+    let forged = certificate(subject, 0..0);
+    assert_eq!(round.record_verified_certificate(&forged), Ok(true));
+    assert_eq!(round.proposal(), Some(proposal(3)));
+}
+
+// Whoever is no participant can't lead, and the leader may still be named.
+#[test]
+fn a_leader_takes_part() {
+    let scheme = Toy::new(4);
+    let mut round = round(&scheme, Mode::Releasing);
+    for index in [4, u32::MAX] {
+        assert_eq!(
+            round.set_leader(Participant::new(index)),
+            Err(Error::UnknownParticipant)
+        );
+    }
+    assert_eq!(round.leader(), None);
+    round.set_leader(Participant::new(3)).unwrap();
+    assert_eq!(round.leader(), Some(Participant::new(3)));
+    // After that too an index that is no participant's is said to be none.
+    assert_eq!(
+        round.set_leader(Participant::new(4)),
+        Err(Error::UnknownParticipant)
+    );
+}
+
+// A verdict on a quorum as a whole counts for just that quorum.
+#[test]
+fn a_vote_that_comes_makes_a_verdict_together_void() {
+    let scheme = Toy::with(4, true, true);
+    let mut round = round(&scheme, Mode::Releasing);
+    for signer in 0..3 {
+        hear(&mut round, nullify(signer));
+    }
+    let Step::VerifyTogether(first) = round.step().unwrap() else {
+        panic!("it aggregates")
+    };
+    hear(&mut round, nullify(3));
+    round.record_verdict_together(&first, true).unwrap();
+    let Step::VerifyTogether(second) = round.step().unwrap() else {
+        panic!("it aggregates")
+    };
+    assert_eq!(
+        (first.attestations().len(), second.attestations().len()),
+        (3, 4)
+    );
+    assert_eq!(second.verified(), 0);
+    round.record_verdict_together(&second, true).unwrap();
+    assert!(matches!(round.step(), Ok(Step::Made(batch)) if batch.certificate.is_some()));
+}
+
+// Verdicts that never come hold up the other kinds, until the step is made again.
+#[test]
+fn a_step_hands_out_the_same_again_and_what_has_come() {
+    let scheme = Toy::new(4);
+    let mut round = round(&scheme, Mode::Releasing);
+    for signer in 0..3 {
+        hear(&mut round, nullify(signer));
+    }
+    for wanted in [3, 4] {
+        let Step::Verify(again) = round.step().unwrap() else {
+            panic!("three are a quorum")
+        };
+        assert_eq!(again.attestations().len(), wanted);
+        hear(&mut round, nullify(3));
+    }
+    assert!(round.try_construct().unwrap().is_some());
+}
+
 #[test]
 fn a_quorum_is_verified_together_where_it_aggregates() {
     let scheme = Toy::with(4, true, true);
     let mut round = round(&scheme, Mode::Releasing);
-    round.accept_verified_vote(nullify(3)).unwrap();
+    cast(&mut round, nullify(3));
     hear(&mut round, nullify(0));
     hear(&mut round, bad(nullify(1)));
     let Step::VerifyTogether(wanted) = round.step().unwrap() else {
@@ -415,8 +525,8 @@ fn verdicts_may_come_late() {
     let Step::Verify(wanted) = round.step().unwrap() else {
         panic!("three are a quorum")
     };
-    let certificate = Certificate::new(Subject::Nullify { round: ROUND }, ());
-    assert_eq!(round.record_certificate(&certificate), Ok(false));
+    let nullification = certificate(Subject::Nullify { round: ROUND }, 0..3);
+    assert_eq!(round.record_certificate(&nullification), Ok(false));
     round.record_verdicts(&wanted, &[true; 3]).unwrap();
     assert_eq!(round.try_construct(), Ok(None));
     assert_eq!(scheme.participants().len(), 4);
@@ -441,7 +551,7 @@ fn rounds_come_and_go() {
         let mut round = Round::skipped(number, scheme.clone()).unwrap();
         for signer in 0..7 {
             let vote = toy::vote(Subject::Nullify { round: number }, signer);
-            assert!(hear(&mut round, vote).added);
+            assert!(answer(&mut round, vote).added);
         }
         assert_eq!(round.try_construct(), Ok(None));
     }

@@ -175,8 +175,8 @@ impl Player {
             Command::Own { signer, ballot } => {
                 let vote = self.vote(signer, ballot, true);
                 match self.round.accept_vote(vote) {
-                    Ok((outcome, report)) => {
-                        let (outcome, report) = (own_outcome(outcome), Report(report));
+                    Ok(outcome) => {
+                        let (outcome, report) = own_outcome(outcome);
                         print(printed, format_args!("own: {outcome}, report {report}"));
                     }
                     Err(Error::Own(fault)) => print(printed, format_args!("own: refused {fault}")),
@@ -188,7 +188,7 @@ impl Player {
                 let changed = self.round.record_certificate(&certificate)?;
                 print(printed, format_args!("cert: {changed}"));
             }
-            Command::Leader(index) => match self.round.set_leader(Participant::new(index)) {
+            Command::Leader(index) => match self.round.set_any_leader(Participant::new(index)) {
                 Ok(()) => print(printed, "leader: ok"),
                 Err(fault @ Error::LeaderChanged) => {
                     print(printed, format_args!("leader: refused {fault}"));
@@ -269,13 +269,13 @@ fn payload(proposal: &Proposal) -> u8 {
     proposal.payload.0[0]
 }
 
-fn own_outcome(outcome: Outcome) -> &'static str {
-    match outcome {
-        Outcome::Added { retained: true } => "added retained",
-        Outcome::Added { retained: false } => "added compact",
-        Outcome::Duplicate { retained: true } => "duplicate retained",
-        Outcome::Duplicate { retained: false } => "duplicate compact",
-    }
+fn own_outcome(outcome: Outcome<Signature>) -> (String, Report) {
+    let (what, report, retained) = match outcome {
+        Outcome::ToSend { report, retained } => ("added", Some(report), retained),
+        Outcome::Duplicate { retained } => ("duplicate", None, retained),
+    };
+    let kept = if retained { "retained" } else { "compact" };
+    (format!("{what} {kept}"), Report(report))
 }
 
 struct OrNone<T>(Option<T>);

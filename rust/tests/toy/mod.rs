@@ -111,8 +111,20 @@ impl batcher::Scheme for Toy {
             && certificate
                 .windows(2)
                 .all(|pair| pair[0].signer < pair[1].signer)
-            && certificate.iter().all(|it| attests(subject, it))
+            && certificate
+                .iter()
+                .all(|it| self.participants.key(it.signer).is_some() && attests(subject, it))
     }
+}
+
+/// The certificate of the participants in a range, which certifies where they are a quorum.
+#[allow(dead_code)]
+pub fn certificate(
+    subject: batcher::Subject,
+    signers: std::ops::Range<u32>,
+) -> batcher::Certificate<Vec<batcher::Attestation<Signature>>> {
+    let attestations = signers.map(|signer| *vote(subject, signer).attestation());
+    batcher::Certificate::new(subject, attestations.collect())
 }
 
 /// A good vote.

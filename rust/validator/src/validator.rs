@@ -97,8 +97,10 @@ impl Validator {
                 Ok(Message::Stop) | Err(RecvTimeoutError::Disconnected) => break,
                 Ok(message) => self.hear(message)?,
                 Err(RecvTimeoutError::Timeout) => {
-                    // It gives the view up, or does so again, by the same bytes.
+                    // It gives the view up, unless it did.
                     self.since = Instant::now();
+                    // What the verifiers haven't answered by now is asked for again.
+                    self.asked.clear();
                     self.cast(Subject::Nullify {
                         round: number(self.view),
                     })?;
@@ -173,7 +175,7 @@ impl Validator {
             }
             Message::Certifies(_, made, true) => {
                 self.round(made.round().view.get())?
-                    .record_certificate(&made)?;
+                    .record_verified_certificate(&made)?;
                 self.note(&made);
             }
             Message::Verdicts(view, wanted, verdicts) => {
@@ -206,11 +208,15 @@ impl Validator {
         for view in views {
             loop {
                 match self.round(view)?.step()? {
-                    Step::Idle | Step::VerifyTogether(_) => break,
+                    Step::Idle => break,
+                    Step::VerifyTogether(_) => unreachable!("Ed25519 doesn't aggregate"),
                     Step::Verify(wanted) => {
-                        self.asked.insert(view);
                         let answer = self.peers[usize::from(self.me)].clone();
-                        let _ = self.verifiers.send(Job::Attestations(view, wanted, answer));
+                        let job = Job::Attestations(view, wanted, answer);
+                        // What nobody verifies isn't waited for.
+                        if self.verifiers.send(job).is_ok() {
+                            self.asked.insert(view);
+                        }
                         break;
                     }
                     Step::Made(batch) => {
@@ -291,9 +297,9 @@ impl Validator {
             .round(subject.round().view.get())?
             .accept_verified_vote(vote)
         {
-            Ok((Outcome::Added { .. }, _)) => {}
+            Ok(Outcome::ToSend { .. }) => {}
             // A vote that stands already, or that an earlier one excludes, isn't sent.
-            Ok((Outcome::Duplicate { .. }, _)) | Err(Error::Own(_)) => return Ok(false),
+            Ok(Outcome::Duplicate { .. }) | Err(Error::Own(_)) => return Ok(false),
             Err(error) => return Err(error),
         }
         self.send_each(|_| Message::Vote(self.me, self.spoilt(vote)));
