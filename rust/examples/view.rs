@@ -1,0 +1,162 @@
+//! One view of four validators, as one of them, ada, plays it. It prints what ada sends, and whom
+//! it blocks.
+
+use batcher::positions::Round as Number;
+use batcher::{
+    Attestation, Certificate, Epoch, Error, Outcome, Proposal, Round, Scheme, Set, Sha256Digest,
+    Subject, View, Vote, quorum,
+};
+use std::sync::Arc;
+
+type Key = &'static str;
+
+/// A signature says who signs what, which protects nothing: yours can't be made by others.
+type Signature = (Key, Subject);
+
+struct Plain {
+    participants: Set<Key>,
+}
+
+impl Plain {
+    // A participant's index is the place of its key in the set, which is sorted.
+    fn sign(&self, key: Key, subject: Subject) -> Vote<Signature> {
+        let signer = self.participants.index(&key).expect("takes part");
+        Vote::new(subject, Attestation::new(signer, (key, subject)))
+    }
+
+    fn attests(&self, subject: &Subject, it: &Attestation<Signature>) -> bool {
+        let key = self.participants.key(it.signer);
+        key.is_some_and(|key| it.signature == (*key, *subject))
+    }
+}
+
+impl Scheme for Plain {
+    type PublicKey = Key;
+    type Signature = Signature;
+    type Certificate = Vec<Attestation<Signature>>;
+
+    fn participants(&self) -> &Set<Key> {
+        &self.participants
+    }
+
+    fn verify_attestations(
+        &self,
+        subject: &Subject,
+        attestations: &[Attestation<Signature>],
+    ) -> Vec<bool> {
+        let each = attestations.iter();
+        each.map(|it| self.attests(subject, it)).collect()
+    }
+
+    fn assemble(&self, _: &Subject, quorum: &[Attestation<Signature>]) -> Self::Certificate {
+        quorum.to_vec()
+    }
+
+    // Of a quorum of participants, each once, each attests.
+    fn verify_certificate(&self, subject: &Subject, certificate: &Self::Certificate) -> bool {
+        certificate.len() >= quorum(self.participants.len()) as usize
+            && certificate.is_sorted_by(|one, next| one.signer < next.signer)
+            && certificate.iter().all(|it| self.attests(subject, it))
+    }
+}
+
+/// Takes in a vote. The sender is who the transport has authenticated.
+fn hear(round: &mut Round<Plain>, sender: Key, vote: Vote<Signature>) -> Result<(), Error> {
+    match round.add_network(&sender, vote) {
+        Ok(admission) => {
+            if let Some(reason) = admission.block {
+                println!("block {sender}: {reason}");
+            }
+        }
+        // Nobody is blocked for that, since a peer may be a view ahead.
+        Err(Error::Elsewhere) => println!("{sender} sends a vote of another round"),
+        Err(error) => return Err(error),
+    }
+    construct(round)
+}
+
+/// Takes in a certificate.
+fn learn(
+    round: &mut Round<Plain>,
+    sender: Key,
+    certificate: &Certificate<Vec<Attestation<Signature>>>,
+) -> Result<(), Error> {
+    match round.record_certificate(certificate) {
+        Ok(_) | Err(Error::Elsewhere) => {}
+        Err(Error::Forged) => println!("block {sender}: its certificate doesn't certify"),
+        Err(error) => return Err(error),
+    }
+    construct(round)
+}
+
+/// Casts a vote of one's own.
+fn cast(round: &mut Round<Plain>, vote: Vote<Signature>) -> Result<(), Error> {
+    match round.accept_vote(vote) {
+        // A validator writes the vote down first: after a restart a round knows none of its votes.
+        Ok(Outcome::ToSend { .. }) => println!("send a vote for a {}", vote.kind()),
+        // An earlier vote is there, with which this one might be found to disagree.
+        Ok(Outcome::Duplicate { .. }) => println!("send nothing"),
+        Err(Error::Own(fault)) => println!("send nothing: {fault}"),
+        Err(error) => return Err(error),
+    }
+    construct(round)
+}
+
+/// Makes what certificates can be made, after whatever may have changed that.
+fn construct(round: &mut Round<Plain>) -> Result<(), Error> {
+    while let Some(batch) = round.try_construct()? {
+        for signer in batch.invalid {
+            let key = round.scheme().participants().key(signer);
+            println!(
+                "block {}: its vote doesn't attest",
+                key.expect("takes part")
+            );
+        }
+        if let Some(certificate) = batch.certificate {
+            println!("send a {}", certificate.kind());
+        }
+    }
+    Ok(())
+}
+
+fn main() -> Result<(), Box<dyn std::error::Error>> {
+    let participants = Set::new(vec!["dot", "ada", "cyd", "ben"])?;
+    let leader = participants.index(&"dot").expect("takes part");
+    let scheme = Arc::new(Plain { participants });
+    let number = Number::new(Epoch::zero(), View::new(1));
+    let round = &mut Round::new(number, scheme.clone(), false)?;
+    round.set_leader(leader)?;
+
+    let proposal = Proposal::new(number, View::zero(), Sha256Digest([7; 32]));
+    let notarize = Subject::Notarize { proposal };
+    hear(round, "dot", scheme.sign("dot", notarize))?;
+    hear(round, "ben", scheme.sign("ben", notarize))?;
+    cast(round, scheme.sign("ada", notarize))?;
+
+    let finalize = Subject::Finalize { proposal };
+    hear(round, "dot", scheme.sign("dot", finalize))?;
+    let signer = scheme.sign("cyd", finalize).signer();
+    let bad = Attestation::new(signer, ("nobody", finalize));
+    hear(round, "cyd", Vote::new(finalize, bad))?;
+    cast(round, scheme.sign("ada", finalize))?;
+
+    let next = Number::new(Epoch::zero(), View::new(2));
+    hear(
+        round,
+        "ben",
+        scheme.sign("ben", Subject::Nullify { round: next }),
+    )?;
+    let nullify = Subject::Nullify { round: number };
+    cast(round, scheme.sign("ada", nullify))?;
+    let two = ["ada", "cyd"].map(|key| *scheme.sign(key, nullify).attestation());
+    learn(round, "cyd", &Certificate::new(nullify, two.to_vec()))?;
+
+    hear(round, "ben", scheme.sign("ben", finalize))?;
+    let other = Proposal::new(number, View::zero(), Sha256Digest([8; 32]));
+    hear(
+        round,
+        "dot",
+        scheme.sign("dot", Subject::Notarize { proposal: other }),
+    )?;
+    Ok(())
+}
