@@ -322,7 +322,9 @@ impl<S: Scheme> Node<S> {
     }
 
     /// Takes in a vote of the node's own, which the scheme is asked to verify, and says whether it
-    /// is to be sent. **Only `ToSend` says so.**
+    /// is to be sent. **Only `ToSend` says so.** What
+    /// [`Round::accept_vote`](crate::Round::accept_vote)
+    /// asks of own votes is asked here too: keep the bytes of each before it is sent.
     ///
     /// # Errors
     ///
@@ -454,7 +456,13 @@ impl<S: Scheme> Node<S> {
     }
 
     /// Makes the next construction, or hands out what has to be verified for it, which may be done
-    /// anywhere.
+    /// anywhere. Call it after each message that was answered, own vote, view that was entered and
+    /// verdict that is recorded, until it answers `Idle` or something to verify. A batch is given
+    /// once, with its certificate.
+    ///
+    /// A step before the verdicts are in hands out the same again, and what has come since. One
+    /// kind of one view is handed out at a time, so verdicts that never come hold up the others.
+    /// Where a verifier fails or is late, step again, and have that verified.
     ///
     /// # Errors
     ///
@@ -496,8 +504,10 @@ impl<S: Scheme> Node<S> {
         }
     }
 
-    /// Records a verdict on each of the attestations that a step has handed out, in their order. Of
-    /// two verdicts on one attestation the first counts.
+    /// Records a verdict on each of the attestations that a step has handed out, in their order.
+    /// Then step again. **A verdict can't be taken back, and false has its signer blocked.** Of two
+    /// verdicts on one attestation the first counts. Where the verification failed to run, record
+    /// nothing, and step again.
     ///
     /// # Errors
     ///
@@ -527,7 +537,8 @@ impl<S: Scheme> Node<S> {
         }
     }
 
-    /// Records whether the attestations that a step has handed out pass as a whole.
+    /// Records whether the attestations that a step has handed out pass as a whole. Then step
+    /// again. It counts for these attestations together, and for no others.
     ///
     /// # Errors
     ///

@@ -218,21 +218,22 @@ impl<S: Scheme> Round<S> {
     }
 
     /// Takes in a vote of the node's own, which the scheme is asked to verify. **It is to be sent
-    /// only where it is `ToSend`**, which not every vote is that isn't refused.
+    /// only where it is `ToSend`**: not every vote that isn't refused is.
     ///
-    /// A notarize or a finalize is refused where its signer's vote of the same kind is kept, and a
-    /// nullify then is a duplicate. A nullify is refused after a finalize, and a finalize after a
-    /// nullify.
+    /// A second notarize or finalize of a signer is refused while the first is kept. Once that isn't
+    /// kept any more, the second is refused where what is known shows that the two differ, and is a
+    /// duplicate otherwise. A second nullify is a duplicate. A nullify is refused after a finalize,
+    /// and a finalize after a nullify.
     ///
     /// Hand in votes of one's own participant alone, and a finalize only of a proposal that is
-    /// notarized. A finalize selects its proposal, also where an earlier one of its signer isn't
-    /// kept any more, and the votes for another proposal count no more.
+    /// notarized: it selects its proposal, also where it is a duplicate, and votes for another
+    /// proposal count no more.
     ///
     /// A round knows the own votes that it was handed, and no others. So keep the bytes of each own
     /// vote before it is sent. A round that is made again for the same view, as after a restart or
-    /// after [`Error::Gone`], would take a vote that contradicts an earlier one. Cast the earlier
-    /// ones there first, as the same bytes. Where that can't be done, cast nothing more in that
-    /// view.
+    /// after [`Error::Gone`], knows none of them, and would let another be sent that contradicts
+    /// them. Cast those first, as the same bytes. Where that can't be done, cast nothing more in
+    /// that view.
     ///
     /// ```
     /// # include!(concat!(env!("CARGO_MANIFEST_DIR"), "/tests/toy/mod.rs"));
@@ -373,8 +374,8 @@ impl<S: Scheme> Round<S> {
     }
 
     /// The same of a certificate of which the caller knows that it certifies what it names, as it
-    /// was verified elsewhere. **One that doesn't selects a proposal that nobody voted for, and
-    /// stops its kind**:
+    /// was verified elsewhere. **One that doesn't may select a proposal that nobody voted for, and
+    /// its kind makes no certificate any more.** So verify it before:
     ///
     /// ```
     /// # include!(concat!(env!("CARGO_MANIFEST_DIR"), "/tests/toy/mod.rs"));

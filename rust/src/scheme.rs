@@ -98,7 +98,7 @@ pub trait Scheme {
 
     /// Of each attestation, in order, whether it attests to the subject. They may be verified
     /// together, but what is said of one has nothing to do with the others. Where a round asks,
-    /// their signers are participants. Who calls this by `verify_certificate` sees to that there.
+    /// their signers are participants. `verify_certificate` has to see to that by itself.
     fn verify_attestations(
         &self,
         subject: &Subject,
@@ -106,8 +106,8 @@ pub trait Scheme {
     ) -> Vec<bool>;
 
     /// Whether a quorum of attestations passes as a whole, which is enough to make a certificate of
-    /// it. The first `verified` of them are known to attest. Where all attest it says so. By default
-    /// it asks `verify_attestations` about the others.
+    /// it. The first `verified` of them are known to attest. Where all attest it says so. By
+    /// default it asks `verify_attestations` about the others.
     fn verify_together(
         &self,
         subject: &Subject,

@@ -20,10 +20,10 @@
 //! let scheme = Toy::new(4);
 //! let mailbox = host.start(move || Round::new(ROUND, scheme, false))?;
 //! // The second one is in another's name.
-//! let votes = vec![("ada", nullify(0)), ("dot", nullify(2)), ("ben", nullify(1)), ("cyd", nullify(2))];
+//! let signers = [("ada", 0), ("dot", 2), ("ben", 1), ("cyd", 2)];
+//! let votes = signers.map(|(sender, signer)| (sender, nullify(signer)));
 //! let answers = mailbox.call(move |round| {
-//!     let each = votes.into_iter().map(|(sender, vote)| (sender, round.add_network(&sender, vote)));
-//!     each.collect::<Vec<_>>()
+//!     votes.map(|(sender, vote)| (sender, round.add_network(&sender, vote)))
 //! })?;
 //! let mut blocked = Vec::new();
 //! for (sender, answer) in answers {
@@ -172,8 +172,8 @@ impl<T: 'static> Mailbox<T> {
         self.ask(job).wait()
     }
 
-    /// Has a job run on the value. The reply is a future, or can be waited for; whoever drops it
-    /// doesn't stop the job.
+    /// Has a job run on the value. The reply is a future, or can be waited for. Whoever drops it
+    /// doesn't stop the job, and loses what it answers.
     pub fn ask<R: Send + 'static>(
         &self,
         job: impl FnOnce(&mut T) -> R + Send + 'static,

@@ -385,6 +385,28 @@ fn forged_certificates_are_refused() {
     assert_eq!(round.proposal(), Some(proposal(3)));
 }
 
+// A round knows the own votes that it was handed. One that is made again has to be handed those that
+// were sent, or else it would let another be sent that contradicts them.
+#[test]
+fn a_round_that_is_made_again_is_handed_the_votes_that_were_sent() {
+    let scheme = Toy::new(4);
+    let sent = [notarize(0, 7), nullify(0)];
+    let contradicts = [notarize(0, 8), finalize(0, 7)];
+    for mode in [Mode::Retaining, Mode::Releasing] {
+        for vote in contradicts {
+            cast(&mut round(&scheme, mode), vote);
+        }
+        let mut again = round(&scheme, mode);
+        for vote in sent {
+            cast(&mut again, vote);
+        }
+        for vote in contradicts {
+            let refused = again.accept_vote(vote);
+            assert!(matches!(refused, Err(Error::Own(_))), "{mode:?}, {vote:?}");
+        }
+    }
+}
+
 // Whoever is no participant can't lead, and the leader may still be named.
 #[test]
 fn a_leader_takes_part() {
