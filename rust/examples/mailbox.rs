@@ -18,7 +18,8 @@ type Step = batcher::Step<Signature, Vec<Attestation<Signature>>>;
 fn step(round: &mut Round<Toy>, made: &Sender<Made>) -> Result<Step, Error> {
     loop {
         match round.step()? {
-            Step::Made(batch) => made.send(batch).expect("it is listened to"),
+            // Where nobody listens any more, the round isn't to be lost by a panic as well.
+            Step::Made(batch) => drop(made.send(batch)),
             step => return Ok(step),
         }
     }

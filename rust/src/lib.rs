@@ -76,8 +76,8 @@ pub use positions::{Epoch, Participant, Set, SetFault, View, quorum};
 pub use round::{Round, Step, Wanted, WantedTogether};
 pub use scheme::Scheme;
 
-/// What a round answers isn't dropped without a warning. Each of the first three programs is
-/// refused for that alone, since the fourth one says that it drops all.
+/// What a round answers isn't dropped without a warning. The first three programs are refused for
+/// that alone: the fourth makes the same calls, says that it drops their answers, and compiles.
 ///
 /// ```compile_fail
 /// #![deny(unused_must_use)]

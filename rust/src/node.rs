@@ -322,9 +322,9 @@ impl<S: Scheme> Node<S> {
     }
 
     /// Takes in a vote of the node's own, which the scheme is asked to verify, and says whether it
-    /// is to be sent. **Only `ToSend` says so.** What
-    /// [`Round::accept_vote`](crate::Round::accept_vote)
-    /// asks of own votes is asked here too: keep the bytes of each before it is sent.
+    /// is to be sent. **Only `ToSend` says so.** What is asked of own votes by
+    /// [`Round::accept_vote`](crate::Round::accept_vote) is asked here too: keep the bytes of each
+    /// before it is sent.
     ///
     /// # Errors
     ///
