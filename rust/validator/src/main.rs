@@ -112,7 +112,7 @@ fn verify_all(scheme: &Ed25519, jobs: &Mutex<Receiver<Job>>) {
     }
 }
 
-/// Waits until each honest validator has finalized enough views, or for a minute.
+/// Waits until each honest validator has finalized enough views, or for three minutes.
 fn wait(heard: &Receiver<(Participant, usize)>) {
     let begin = Instant::now();
     let mut waits: BTreeSet<_> = (0..u32::from(VALIDATORS))
@@ -120,7 +120,7 @@ fn wait(heard: &Receiver<(Participant, usize)>) {
         .filter(|it| fault_of(*it) == Fault::None)
         .collect();
     while !waits.is_empty() {
-        let left = Duration::from_secs(60).saturating_sub(begin.elapsed());
+        let left = Duration::from_secs(180).saturating_sub(begin.elapsed());
         match heard.recv_timeout(left) {
             Ok((participant, views)) if views >= VIEWS => waits.remove(&participant),
             Ok(_) => false,

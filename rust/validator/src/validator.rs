@@ -12,8 +12,8 @@ use std::sync::Arc;
 use std::sync::mpsc::{Receiver, RecvTimeoutError, Sender};
 use std::time::{Duration, Instant};
 
-/// How long a validator waits on a view before it gives it up.
-const PATIENCE: Duration = Duration::from_millis(150);
+/// How long a validator waits on the first view before it gives it up.
+const PATIENCE: Duration = Duration::from_millis(250);
 
 /// How far from its view a validator listens, so that nobody has it keep rounds without end.
 const AHEAD: u64 = 64;
@@ -92,7 +92,7 @@ impl Validator {
     pub fn run(mut self, inbox: &Receiver<Message>) -> Result<Report, Error> {
         self.enter(1)?;
         loop {
-            let left = PATIENCE.saturating_sub(self.since.elapsed());
+            let left = self.patience().saturating_sub(self.since.elapsed());
             match inbox.recv_timeout(left) {
                 Ok(Message::Stop) | Err(RecvTimeoutError::Disconnected) => break,
                 Ok(message) => self.hear(message)?,
@@ -119,6 +119,14 @@ impl Validator {
             finalized,
             blocked,
         })
+    }
+
+    /// How long it waits on its view. That doubles with each view that isn't final, up to four
+    /// seconds, so that validators on a slow machine come to an end too.
+    fn patience(&self) -> Duration {
+        let last = self.finalized.keys().next_back().map_or(0, |view| *view);
+        let behind = self.view.saturating_sub(last + 1).min(4);
+        PATIENCE * (1 << behind)
     }
 
     fn leader(&self, view: u64) -> Participant {
