@@ -1,13 +1,13 @@
-/* Rounds of a verified vote batcher. Link libbatcher_c.a, and what defines `rattle_alloc`,
- * `rattle_dealloc` and `rattle_realloc`, from which it takes its memory.
+/* Rounds and nodes of a verified vote batcher, and evidence. Link libbatcher_c.a, and what defines
+ * `rattle_alloc`, `rattle_dealloc` and `rattle_realloc`, from which it takes its memory.
  *
  * What a caller owes, which nothing here can test:
- *   - a `struct batcher_round` begins as {0}, is in one call at a time, on one thread, and its
- *     pointer is neither copied nor written;
+ *   - a handle, a `struct batcher_round` or `struct batcher_node`, begins as {0}, is in one call at a
+ *     time, on one thread, and its pointer is neither copied nor written;
  *   - each pointer is to a live value of its type that nobody else writes meanwhile, or to as many as
  *     the length after it says; a `bool` is 0 or 1; pointers that are written through don't overlap;
- *   - of one number the same verdict is recorded always, of a list as a whole too, and a certificate
- *     is recorded only where it certifies what it names.
+ *   - of one number a handle is always given the same verdict, of a list as a whole too, and a round
+ *     is given only certificates that certify what they name.
  * All else is tested: on an empty handle, for a code that means nothing and for a vote of another
  * round a call answers a code, and changes nothing. */
 #ifndef BATCHER_H
@@ -21,12 +21,16 @@ struct batcher_round {
     void *at; /* null: none */
 };
 
+struct batcher_node {
+    void *at; /* null: none */
+};
+
 /* What calls answer. */
 enum batcher_code {
     BATCHER_DONE, /* of a construction: a batch was made */
     BATCHER_NONE, /* the handle is empty */
     BATCHER_MALFORMED, /* a code that means nothing, or no participant */
-    BATCHER_ELSEWHERE, /* of another round */
+    BATCHER_ELSEWHERE, /* of another round; of a node, of another epoch or outside of its window */
     BATCHER_OUT_OF_MEMORY, /* all is as it was, but for the verdicts of a construction */
     BATCHER_LEADER_CHANGED, /* another leader was named before */
     BATCHER_NOT_VERIFIED, /* an own vote without a verdict that it attests */
@@ -37,7 +41,14 @@ enum batcher_code {
     BATCHER_FINALIZE_AFTER_NULLIFY, /* its signer has nullified before */
     BATCHER_IDLE, /* nothing is to be done, or there is none */
     BATCHER_VERIFY, /* verdicts are wanted on the attestations of the list */
-    BATCHER_VERIFY_TOGETHER /* one verdict is wanted on those of the list as a whole */
+    BATCHER_VERIFY_TOGETHER, /* one verdict is wanted on those of the list as a whole */
+    /* Of nodes alone. */
+    BATCHER_DROPPED, /* of a peer that was blocked before, so it wasn't looked at */
+    BATCHER_UNKNOWN, /* of a peer that takes no part, so it wasn't looked at */
+    BATCHER_PASSED, /* the view is before the finalized one */
+    BATCHER_KNOWN, /* one of its kind was there, so an own vote isn't to be sent */
+    BATCHER_FORGED, /* a certificate that doesn't certify what it names, so its peer is blocked */
+    BATCHER_RESTS /* a construction gave no batch, so its view rests; others may not */
 };
 
 enum batcher_kind { BATCHER_NOTARIZATION, BATCHER_NULLIFICATION, BATCHER_FINALIZATION };
@@ -57,6 +68,14 @@ enum batcher_block {
     BATCHER_BLOCK_INVALID_SIGNATURE,
     BATCHER_BLOCK_NULLIFY_AFTER_FINALIZE,
     BATCHER_BLOCK_FINALIZE_AFTER_NULLIFY
+};
+
+/* Why a node has blocked a participant, if it has: for a vote, by the numbers of `enum batcher_block`,
+ * or for one of two more reasons. */
+enum batcher_cause {
+    BATCHER_CAUSE_NONE,
+    BATCHER_CAUSE_CERTIFICATE = 11, /* it sent a certificate that doesn't certify what it names */
+    BATCHER_CAUSE_SIGNATURE /* a construction found that a vote that it sent doesn't attest */
 };
 
 /* What a report is of, if there is one. */
@@ -98,7 +117,7 @@ struct batcher_admission {
     uint8_t report;
     uint8_t block;
     bool added;
-    bool retained; /* of an own vote, whether votes of its kind are kept in full; else false */
+    bool retained; /* of a round's own vote, whether votes of its kind are kept in full; else false */
 };
 
 /* What a construction comes to. Of one that wants verdicts: what the attestations are to attest, how many
@@ -179,5 +198,87 @@ uint8_t batcher_round_missing_voters(struct batcher_round *round,
 uint8_t batcher_round_try_construct(struct batcher_round *round, struct batcher_step *out,
                                     struct batcher_attestation *list, size_t list_length,
                                     uint32_t *signers, size_t signers_length);
+
+/* A validator's rounds over the views of a window: from the one that was finalized last to so many
+ * beyond the current one. Its participants, its scheme and its verdicts are as those of a round; one
+ * number isn't given to two attestations of different views either. Votes are kept in full to their
+ * round's end where historical votes are tracked, else until their kind is certified. */
+uint8_t batcher_node_new(struct batcher_node *node, uint64_t epoch, uint32_t participants,
+                         uint64_t finalized, uint64_t ahead, bool track_historical_votes,
+                         bool batchable, bool aggregates);
+
+void batcher_node_free(struct batcher_node *node);
+
+uint8_t batcher_node_record_verdict(struct batcher_node *node, uint64_t number, bool attests);
+
+uint8_t batcher_node_record_verdict_together(struct batcher_node *node,
+                                             const struct batcher_attestation *list,
+                                             size_t list_length, bool passes);
+
+/* A vote of the peer whose key is the number. Where it gives cause, the peer is blocked from then on. */
+uint8_t batcher_node_receive_vote(struct batcher_node *node, uint64_t peer,
+                                  const struct batcher_vote *vote, struct batcher_admission *out);
+
+/* A certificate of a peer, under a number of its own, and whether it certifies what it names. DONE: it
+ * is recorded, as that of a round is. Where it is FORGED, the peer is blocked from then on. */
+uint8_t batcher_node_receive_certificate(struct batcher_node *node, uint64_t peer, uint8_t kind,
+                                         const struct batcher_proposal *proposal, uint64_t number,
+                                         bool certifies, bool *selected_anew);
+
+/* A vote of the node's own, of which a verdict says that it attests. DONE: it is to be sent. */
+uint8_t batcher_node_cast_vote(struct batcher_node *node, const struct batcher_vote *vote,
+                               struct batcher_admission *out);
+
+/* A view that passes over others makes their rounds skipped ones, where nothing was said there yet. */
+uint8_t batcher_node_enter(struct batcher_node *node, uint64_t view, uint32_t leader);
+
+/* The rounds of the views before it are freed. An earlier view than the last one changes nothing. */
+uint8_t batcher_node_finalize(struct batcher_node *node, uint64_t view);
+
+/* The next construction, as that of a round, in the lowest view that changed: which one is in out. IDLE:
+ * all views rest. Whose votes a batch found not to attest is blocked from then on. */
+uint8_t batcher_node_try_construct(struct batcher_node *node, struct batcher_step *out,
+                                   struct batcher_attestation *list, size_t list_length,
+                                   uint32_t *signers, size_t signers_length);
+
+uint8_t batcher_node_try_forward_proposal(struct batcher_node *node, uint64_t view, uint32_t me,
+                                          struct batcher_proposal *out);
+
+/* The last finalized view, the current one, and how many beyond that are in the window. */
+uint8_t batcher_node_window(struct batcher_node *node, uint64_t *finalized, uint64_t *current,
+                            uint64_t *ahead);
+
+uint8_t batcher_node_rounds_kept(struct batcher_node *node, uint64_t *count);
+
+/* Of each participant by its index why it is blocked. The count is that of participants. */
+uint8_t batcher_node_blocked(struct batcher_node *node, uint8_t *causes, size_t causes_length,
+                             uint64_t *count);
+
+/* What is asked of a round is asked of a view. Where nothing was said in it, there is none of it. */
+uint8_t batcher_node_leader(struct batcher_node *node, uint64_t view, uint32_t *out);
+
+uint8_t batcher_node_proposal(struct batcher_node *node, uint64_t view,
+                              struct batcher_proposal *out);
+
+uint8_t batcher_node_has_certificate(struct batcher_node *node, uint64_t view, uint8_t kind,
+                                     bool *out);
+
+uint8_t batcher_node_has_nullify(struct batcher_node *node, uint64_t view, uint32_t signer,
+                                 bool *out);
+
+uint8_t batcher_node_is_missing_voter(struct batcher_node *node, uint64_t view,
+                                      const struct batcher_proposal *proposal,
+                                      uint32_t participant, bool *out);
+
+/* IDLE: nothing was said in the view, so nobody is known to have it. */
+uint8_t batcher_node_missing_voters(struct batcher_node *node, uint64_t view,
+                                    const struct batcher_proposal *proposal, uint32_t *list,
+                                    size_t list_length, uint64_t *count);
+
+/* The signer that two votes convict: they are of one of so many participants, contradict each other,
+ * and both attest, as the caller has verified. IDLE: they convict nobody. It takes no node's word. */
+uint8_t batcher_convicted(uint32_t participants, const struct batcher_vote *first,
+                          const struct batcher_vote *second, bool first_attests,
+                          bool second_attests, uint32_t *out);
 
 #endif

@@ -1,4 +1,4 @@
-//! What a round answers.
+//! What rounds and nodes answer.
 
 use crate::messages::{Activity, Certificate};
 use crate::positions::Participant;
@@ -64,7 +64,8 @@ pub struct Admission<G> {
     /// Whether it was taken as its signer's first of its kind.
     pub added: bool,
     /// Why its sender is to be blocked, if it is. It is the sender, also where the vote names
-    /// another signer. To block it is the caller's matter: a round goes on taking in its votes.
+    /// another signer. To block it is the caller's matter: a round goes on taking in its votes. A
+    /// node has blocked it.
     pub block: Option<BlockReason>,
     /// The vote, where it was added, or evidence of two that contradict each other.
     pub report: Option<Activity<G>>,
@@ -137,7 +138,7 @@ pub struct Batch<C> {
     pub fallback: bool,
 }
 
-/// Why a call was refused. The round is as it was, but where it is `Gone`.
+/// Why a call was refused. The round or node is as it was, but where it is `Gone`.
 #[derive(Clone, Copy, Debug, PartialEq, Eq, Hash)]
 pub enum Error {
     /// The scheme has no participant.
@@ -161,8 +162,8 @@ pub enum Error {
     /// The own vote is refused beside an earlier one.
     Own(OwnFault),
     /// The thread on which the value lives has ended, or a job of it has panicked, which took the
-    /// value with it. Where that was a round, what it knew of own votes is gone too: see
-    /// [`Round::accept_vote`](crate::Round::accept_vote).
+    /// value with it. Where that was a round or a node, what it knew of own votes is gone too: see
+    /// [`Round::accept_vote`](crate::Round::accept_vote) and [`Node::new`](crate::Node::new).
     Gone,
     /// The system gives no thread.
     NoThread,

@@ -10,7 +10,7 @@ use crate::scheme::Scheme;
 use crate::table::{Kept, Numbers, Table};
 
 /// Attestations of one subject, on each of which a verdict is wanted. It is plain data: it may go
-/// to another thread, and the round goes on meanwhile.
+/// to another thread, and the round or node goes on meanwhile.
 #[derive(Clone, Debug)]
 pub struct Wanted<G> {
     subject: Subject,
@@ -33,7 +33,7 @@ impl<G> Wanted<G> {
 }
 
 /// Attestations of one subject, on which one verdict is wanted, as a whole. It is plain data: it
-/// may go to another thread, and the round goes on meanwhile.
+/// may go to another thread, and the round or node goes on meanwhile.
 #[derive(Clone, Debug)]
 pub struct WantedTogether<G> {
     pub(crate) wanted: Wanted<G>,
@@ -62,22 +62,12 @@ pub(crate) trait Library {
     fn record_verdict(&mut self, number: u64, attests: bool) -> u8;
 }
 
-/// A vote on its way to the library.
-pub(crate) struct Numbered<G> {
-    pub(crate) vote: Vote<G>,
-    pub(crate) number: u64,
-    /// Whether the library keeps it in full, if it is added.
+/// What the library is told of a vote in place of its signature.
+#[derive(Clone, Copy)]
+pub(crate) struct Numbered {
+    pub(crate) listed: ffi::Attestation,
+    /// Whether the library keeps the vote in full, if it is added.
     may_keep: bool,
-}
-
-impl<G> Numbered<G> {
-    pub(crate) fn listed(&self) -> ffi::Attestation {
-        let signer = self.vote.signer().get();
-        ffi::Attestation {
-            number: self.number,
-            signer,
-        }
-    }
 }
 
 pub(crate) struct Book<G> {
@@ -85,7 +75,6 @@ pub(crate) struct Book<G> {
     releases: bool,
     /// Of which kinds the library keeps votes in full.
     keeps: [bool; 3],
-    certified: [bool; 3],
 }
 
 impl<G: Clone + Eq> Book<G> {
@@ -94,7 +83,6 @@ impl<G: Clone + Eq> Book<G> {
             table: Table::new(),
             releases: mode == Mode::Releasing,
             keeps: [mode != Mode::Skipped; 3],
-            certified: [false; 3],
         }
     }
 
@@ -112,14 +100,14 @@ impl<G: Clone + Eq> Book<G> {
     /// of no vote that isn't from its signer.
     pub(crate) fn number(
         &mut self,
-        vote: Vote<G>,
+        vote: &Vote<G>,
         sender: Option<Participant>,
         numbers: &mut Numbers,
         participants: u32,
-    ) -> Result<Numbered<G>, Error> {
+    ) -> Result<Numbered, Error> {
         let (kind, signer) = (vote.kind(), vote.signer());
         let (number, is_first) = match self.table.get(kind, signer) {
-            Some(kept) if kept.vote == vote => (kept.number, false),
+            Some(kept) if kept.vote == *vote => (kept.number, false),
             Some(_) => (numbers.unused(), false),
             None => (numbers.unused(), true),
         };
@@ -127,34 +115,35 @@ impl<G: Clone + Eq> Book<G> {
         if may_keep {
             self.table.reserve(kind, participants)?;
         }
-        Ok(Numbered {
-            vote,
+        let listed = ffi::Attestation {
             number,
-            may_keep,
-        })
+            signer: signer.get(),
+        };
+        Ok(Numbered { listed, may_keep })
     }
 
     /// What the library has answered to a network vote.
     pub(crate) fn admission(
         &mut self,
         answer: &ffi::Admission,
-        numbered: Numbered<G>,
+        numbered: Numbered,
+        vote: Vote<G>,
     ) -> Result<Admission<G>, Error> {
         let admission = Admission {
             added: answer.added,
             block: block_of(answer.block)?,
-            report: self.report(answer, &numbered)?,
+            report: self.report(answer, numbered, &vote)?,
         };
         if answer.added {
-            self.keep(numbered, None);
+            self.keep(numbered, vote, None);
         }
         Ok(admission)
     }
 
     /// Keeps a vote that was added.
-    pub(crate) fn keep(&mut self, numbered: Numbered<G>, verdict: Option<bool>) {
+    pub(crate) fn keep(&mut self, numbered: Numbered, vote: Vote<G>, verdict: Option<bool>) {
         if numbered.may_keep {
-            self.table.insert(numbered.vote, numbered.number, verdict);
+            self.table.insert(vote, numbered.listed.number, verdict);
         }
     }
 
@@ -162,11 +151,12 @@ impl<G: Clone + Eq> Book<G> {
     pub(crate) fn report(
         &self,
         answer: &ffi::Admission,
-        numbered: &Numbered<G>,
+        numbered: Numbered,
+        vote: &Vote<G>,
     ) -> Result<Option<Activity<G>>, Error> {
         let of = |flat: &ffi::Vote| {
-            if flat.attestation.number == numbered.number {
-                return Ok(numbered.vote.clone());
+            if flat.attestation.number == numbered.listed.number {
+                return Ok(vote.clone());
             }
             match self.kept(kind_of(flat.kind)?, &flat.attestation) {
                 Some(kept) => Ok(kept.vote.clone()),
@@ -175,10 +165,11 @@ impl<G: Clone + Eq> Book<G> {
         };
         Ok(Some(match answer.report {
             0 => return Ok(None),
-            1..=3 => match of(&answer.first)? {
-                Vote::Notarize(vote) => Activity::Notarize(vote),
-                Vote::Nullify(vote) => Activity::Nullify(vote),
-                Vote::Finalize(vote) => Activity::Finalize(vote),
+            // Of one vote it is this one, which is new.
+            1..=3 => match vote {
+                Vote::Notarize(vote) => Activity::Notarize(vote.clone()),
+                Vote::Nullify(vote) => Activity::Nullify(vote.clone()),
+                Vote::Finalize(vote) => Activity::Finalize(vote.clone()),
             },
             report => match (report, of(&answer.first)?, of(&answer.second)?) {
                 (4, Vote::Notarize(first), Vote::Notarize(second)) => {
@@ -252,16 +243,13 @@ impl<G: Clone + Eq> Book<G> {
     pub(crate) fn wanted(
         &self,
         step: &ffi::Step,
-        list: &[ffi::Attestation],
+        listed: Vec<ffi::Attestation>,
         owner: u64,
     ) -> Result<Wanted<G>, Error> {
         let kind = kind_of(step.kind)?;
-        let mut listed = Vec::new();
-        reserve(&mut listed, list.len())?;
-        listed.extend_from_slice(list);
         Ok(Wanted {
             subject: subject_of(kind, &step.proposal),
-            attestations: self.attestations(kind, list)?,
+            attestations: self.attestations(kind, &listed)?,
             listed,
             owner,
         })
@@ -274,8 +262,11 @@ impl<G: Clone + Eq> Book<G> {
         list: &[ffi::Attestation],
         owner: u64,
     ) -> Result<WantedTogether<G>, Error> {
+        let mut listed = Vec::new();
+        reserve(&mut listed, list.len())?;
+        listed.extend_from_slice(list);
         Ok(WantedTogether {
-            wanted: self.wanted(step, list, owner)?,
+            wanted: self.wanted(step, listed, owner)?,
             verified: step.verified as usize,
         })
     }
@@ -315,7 +306,6 @@ impl<G: Clone + Eq> Book<G> {
     /// Notes that a certificate of the kind is there. The library keeps none of its votes in full
     /// from then on, where it releases them.
     pub(crate) fn certified(&mut self, kind: Kind) {
-        self.certified[kind as usize] = true;
         if self.releases {
             self.keeps[kind as usize] = false;
             self.table.forget(kind);
@@ -341,14 +331,6 @@ impl<G: Clone + Eq> Book<G> {
             attestations.push(kept.vote.attestation().clone());
         }
         Ok(attestations)
-    }
-}
-
-#[cfg(feature = "node")]
-impl<G> Book<G> {
-    /// Whether a certificate of the kind is there.
-    pub(crate) fn is_certified(&self, kind: Kind) -> bool {
-        self.certified[kind as usize]
     }
 }
 

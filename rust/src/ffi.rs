@@ -7,7 +7,6 @@ use std::cell::UnsafeCell;
 use std::ffi::c_void;
 use std::ptr;
 
-#[cfg(feature = "node")]
 pub(crate) mod node;
 
 /// Codes that calls answer.
@@ -25,6 +24,12 @@ pub(crate) mod code {
     pub(crate) const IDLE: u8 = 12;
     pub(crate) const VERIFY: u8 = 13;
     pub(crate) const VERIFY_TOGETHER: u8 = 14;
+    pub(crate) const DROPPED: u8 = 15;
+    pub(crate) const UNKNOWN: u8 = 16;
+    pub(crate) const PASSED: u8 = 17;
+    pub(crate) const KNOWN: u8 = 18;
+    pub(crate) const FORGED: u8 = 19;
+    pub(crate) const RESTS: u8 = 20;
 }
 
 /// `struct batcher_proposal`
@@ -164,6 +169,35 @@ unsafe extern "C" {
         signers: *mut u32,
         signers_length: usize,
     ) -> u8;
+    fn batcher_convicted(
+        participants: u32,
+        first: *const Vote,
+        second: *const Vote,
+        first_attests: bool,
+        second_attests: bool,
+        convicted: *mut u32,
+    ) -> u8;
+}
+
+/// Whom two votes convict, where each attests or doesn't.
+pub(crate) fn convicted(
+    participants: u32,
+    [first, second]: [&Vote; 2],
+    [first_attests, second_attests]: [bool; 2],
+    convicted: &mut u32,
+) -> u8 {
+    // SAFETY: each pointer is to a live value of its type, which is the call's alone where it
+    // writes. The call keeps none.
+    unsafe {
+        batcher_convicted(
+            participants,
+            first,
+            second,
+            first_attests,
+            second_attests,
+            convicted,
+        )
+    }
 }
 
 impl Drop for Round {

@@ -26,13 +26,10 @@ pub(crate) fn flat_subject(subject: &Subject) -> ffi::Proposal {
     }
 }
 
-pub(crate) fn flat_vote<G>(vote: &Vote<G>, number: u64) -> ffi::Vote {
+pub(crate) fn flat_vote<G>(vote: &Vote<G>, listed: ffi::Attestation) -> ffi::Vote {
     ffi::Vote {
         proposal: flat_subject(&vote.subject()),
-        attestation: ffi::Attestation {
-            number,
-            signer: vote.signer().get(),
-        },
+        attestation: listed,
         kind: vote.kind() as u8,
     }
 }
@@ -102,6 +99,7 @@ pub(crate) fn error_of(answer: u8) -> Error {
         code::CONFLICTING => Error::Own(OwnFault::Conflicting),
         code::NULLIFY_AFTER_FINALIZE => Error::Own(OwnFault::NullifyAfterFinalize),
         code::FINALIZE_AFTER_NULLIFY => Error::Own(OwnFault::FinalizeAfterNullify),
+        code::PASSED => Error::Passed,
         other => Error::Unknown(other),
     }
 }

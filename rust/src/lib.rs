@@ -9,8 +9,11 @@
 //! A [`Scheme`] says what signatures are worth, and a [`Round`] is one view: votes go in by
 //! [`Round::add_network`] and [`Round::accept_vote`], certificates come out of
 //! [`Round::try_construct`]. Who verifies elsewhere, as on other threads, takes [`Round::step`] in
-//! its place. A round stays on its thread; [`thread`] has a handle that doesn't. The examples
-//! `view` and `mailbox` of this crate are whole programs.
+//! its place. A [`Node`] keeps the rounds of many views, and blocks whom they have cause to block;
+//! [`node`] says how a validator uses one. Both stay on their thread; [`thread`] has a handle that
+//! doesn't. Of two votes that a round or a node reports, [`convicted`] says whether they show others
+//! too that their signer broke the rules. The examples `view`, `node` and `mailbox` of this crate
+//! are whole programs.
 //!
 //! The number of a round has the name of what happens in it, so import it by another one:
 //! `use batcher::positions::Round as Number;`
@@ -53,11 +56,12 @@
 
 mod answers;
 mod book;
+mod books;
+mod evidence;
 #[allow(unsafe_code)]
 mod ffi;
 mod flat;
 pub mod messages;
-#[cfg(feature = "node")]
 pub mod node;
 pub mod positions;
 pub mod round;
@@ -66,18 +70,18 @@ mod table;
 pub mod thread;
 
 pub use answers::{Admission, Batch, BlockReason, Error, Mode, Outcome, OwnFault};
+pub use evidence::convicted;
 pub use messages::{
     Activity, Attestation, Certificate, Finalization, Finalize, Kind, Notarization, Notarize,
     Nullification, Nullify, Proposal, Sha256Digest, Subject, Vote,
 };
-#[cfg(feature = "node")]
 pub use node::Node;
 pub use positions::{Epoch, Participant, Set, SetFault, View, quorum};
 pub use round::{Round, Step, Wanted, WantedTogether};
 pub use scheme::Scheme;
 
-/// What a round answers isn't dropped without a warning. The first three programs are refused for
-/// that alone: the fourth makes the same calls, says that it drops their answers, and compiles.
+/// What a round or a node answers isn't dropped without a warning. The first programs are refused
+/// for that alone: the last makes the same calls, says that it drops their answers, and compiles.
 ///
 /// ```compile_fail
 /// #![deny(unused_must_use)]
@@ -109,14 +113,40 @@ pub use scheme::Scheme;
 /// # }
 /// ```
 ///
+/// ```compile_fail
+/// #![deny(unused_must_use)]
+/// # include!(concat!(env!("CARGO_MANIFEST_DIR"), "/tests/toy/mod.rs"));
+/// # use batcher::{Epoch, View};
+/// # fn main() -> Result<(), batcher::Error> {
+/// let mut node = batcher::Node::new(Epoch::zero(), Toy::new(4), View::zero(), 4, true)?;
+/// node.cast_vote(notarize(0, 7))?;
+/// # Ok(())
+/// # }
+/// ```
+///
+/// ```compile_fail
+/// #![deny(unused_must_use)]
+/// # include!(concat!(env!("CARGO_MANIFEST_DIR"), "/tests/toy/mod.rs"));
+/// # use batcher::{Epoch, View};
+/// # fn main() -> Result<(), batcher::Error> {
+/// let mut node = batcher::Node::new(Epoch::zero(), Toy::new(4), View::zero(), 4, true)?;
+/// node.receive_vote(&"ada", notarize(0, 7))?;
+/// # Ok(())
+/// # }
+/// ```
+///
 /// ```
 /// #![deny(unused_must_use)]
 /// # include!(concat!(env!("CARGO_MANIFEST_DIR"), "/tests/toy/mod.rs"));
+/// # use batcher::{Epoch, View};
 /// # fn main() -> Result<(), batcher::Error> {
 /// let mut round = batcher::Round::new(ROUND, Toy::new(4), true)?;
 /// let _ = round.accept_vote(notarize(0, 7))?;
 /// let _ = round.add_network(&"ada", notarize(0, 7))?;
 /// let _ = round.step()?;
+/// let mut node = batcher::Node::new(Epoch::zero(), Toy::new(4), View::zero(), 4, true)?;
+/// let _ = node.cast_vote(notarize(0, 7))?;
+/// let _ = node.receive_vote(&"ada", notarize(0, 7))?;
 /// # Ok(())
 /// # }
 /// ```

@@ -1,16 +1,67 @@
 //! A validator's rounds over many views.
+//!
+//! A [`Node`] keeps a round for each view of a window in which something was said, and takes votes
+//! and certificates of any of them. It verifies certificates, blocks who gave cause for it, drops
+//! what such peers send, and says of own votes whether they are to be sent.
+//!
+//! A validator does this with it:
+//!
+//! 1. It makes the node, [`Node::new`], and [enters](Node::enter) its first view with its leader.
+//! 2. It hands on each [vote](Node::receive_vote) and each [certificate](Node::receive_certificate)
+//!    that a peer sends, under the key that the transport has authenticated.
+//! 3. It writes each own vote down, [casts](Node::cast_vote) it, and sends it where that answers
+//!    [`Cast::ToSend`], and only then.
+//! 4. After each of these it [constructs](Node::try_construct) until there is no answer, and sends
+//!    each certificate that a batch has.
+//! 5. Where a certificate ends a view, it [enters](Node::enter) the next one. Where a view is final,
+//!    it [says so](Node::finalize), which lets go of the rounds before it.
+//!
+//! ```
+//! # include!(concat!(env!("CARGO_MANIFEST_DIR"), "/tests/toy/mod.rs"));
+//! use batcher::node::{Cast, Node, Receipt};
+//! use batcher::{Epoch, Kind, Participant, View};
+//! # fn main() -> Result<(), batcher::Error> {
+//! // It looks at four views beyond the current one.
+//! let mut node = Node::new(Epoch::zero(), Toy::new(4), View::zero(), 4, false)?;
+//! let leader = Participant::new(2);
+//! node.enter(View::new(1), leader)?;
+//! // The leader's proposal comes, and another vote for it. This validator casts its own.
+//! for vote in [notarize(2, 7), notarize(3, 7)] {
+//!     let sender = KEYS[usize::from(vote.signer())];
+//!     let Receipt::Answered(admission) = node.receive_vote(&sender, vote)? else {
+//!         panic!("the view is in the window")
+//!     };
+//!     assert!(admission.added);
+//! }
+//! let vote = notarize(0, 7);
+//! assert!(matches!(node.cast_vote(vote)?, Cast::ToSend(_)));
+//! // The three make a notarization.
+//! let mut made = Vec::new();
+//! while let Some(construction) = node.try_construct()? {
+//!     made.extend(construction.batch.and_then(|batch| batch.certificate));
+//! }
+//! assert!(made.iter().map(|it| it.kind()).eq([Kind::Notarization]));
+//! # Ok(())
+//! # }
+//! ```
+//!
+//! A node that fell behind learns nothing from what is of views beyond its window, which is
+//! answered [`Receipt::Outside`]. [`Node::verifies`] is for that.
+//!
+//! A node stays on its thread, as a round does; [`crate::thread`] has a handle that doesn't.
 
 use crate::answers::{Admission, Batch, BlockReason, Error, Mode};
-use crate::book::{Book, Library, Wanted, WantedTogether, reserve_each};
-use crate::ffi::node::code;
-use crate::ffi::{self, node};
-use crate::flat::{block_of, done, error_of, flat_subject, flat_vote, proposal_of, some};
-use crate::messages::{Activity, Certificate, Proposal, Vote};
+use crate::book::{Library, Wanted, WantedTogether, reserve_each};
+use crate::books::Books;
+use crate::ffi::{self, code, node};
+use crate::flat::{
+    block_of, done, error_of, flat_proposal, flat_subject, flat_vote, proposal_of, some,
+};
+use crate::messages::{Activity, Certificate, Kind, Proposal, Vote};
 use crate::positions::{self, Epoch, Participant, View};
 use crate::round::{NOBODY, identity};
 use crate::scheme::Scheme;
 use crate::table::Numbers;
-use std::collections::BTreeMap;
 use std::fmt;
 use std::sync::Arc;
 
@@ -122,7 +173,26 @@ pub enum Step<G, C> {
 /// enters and with those that are final. It blocks whom its rounds have cause to block, and drops
 /// what they send.
 ///
-/// It stays on the thread on which it was made, as rounds do.
+/// Its answers are the proved library's. It stays on the thread on which it was made;
+/// [`crate::thread`] has a handle that goes anywhere.
+///
+/// ```
+/// # include!(concat!(env!("CARGO_MANIFEST_DIR"), "/tests/toy/mod.rs"));
+/// use batcher::node::{Cause, Node, Receipt};
+/// use batcher::{BlockReason, Epoch, Participant, View};
+/// # fn main() -> Result<(), batcher::Error> {
+/// let mut node = Node::new(Epoch::zero(), Toy::new(4), View::zero(), 4, false)?;
+/// node.enter(View::new(1), Participant::new(0))?;
+/// // Who votes both ways is blocked, and what it sends after that isn't looked at.
+/// let _ = node.receive_vote(&KEYS[1], notarize(1, 7))?;
+/// let _ = node.receive_vote(&KEYS[1], notarize(1, 8))?;
+/// let cause = Cause::Vote(BlockReason::ConflictingNotarize);
+/// assert_eq!(node.blocked(Participant::new(1)), Some(cause));
+/// assert_eq!(node.receive_vote(&KEYS[1], nullify(1))?, Receipt::Dropped);
+/// assert_eq!(node.blocked(Participant::new(2)), None);
+/// # Ok(())
+/// # }
+/// ```
 pub struct Node<S: Scheme> {
     library: node::Node,
     scheme: Arc<S>,
@@ -130,12 +200,16 @@ pub struct Node<S: Scheme> {
     mode: Mode,
     identity: u64,
     numbers: Numbers,
-    books: BTreeMap<View, Book<S::Signature>>,
+    /// Of each view in which something was said, also where the library refused it.
+    books: Books<S::Signature>,
+    /// As the library says.
+    window: Window,
     /// Of each participant why it is blocked, as the library says.
     causes: Vec<u8>,
-    /// A batch that the library has made, and that memory was refused for here. It stands in the
-    /// lists.
+    /// A batch that the library has made, and that memory was refused for here. It is in the lists.
     unfinished: Option<ffi::Step>,
+    // Where the library lists attestations and signers: a place for each participant, once one is
+    // wanted.
     list: Vec<ffi::Attestation>,
     signers: Vec<u32>,
 }
@@ -143,6 +217,15 @@ pub struct Node<S: Scheme> {
 impl<S: Scheme> Node<S> {
     /// A node that was told nothing, with `finalized` as its current view. The window goes from it
     /// to so many views beyond the current one.
+    ///
+    /// Where historical votes are tracked, votes are kept in full until their view is passed, else
+    /// until their kind is certified.
+    ///
+    /// A node that is made after a restart knows no own vote of before. Enter the views that aren't
+    /// final again, each with its leader, the lowest first. Then cast all that was sent, as the same
+    /// bytes, before any other vote: what is answered `ToSend` once more keeps each vote that
+    /// contradicts it from being sent. Where one is answered `Outside`, the node doesn't know it:
+    /// cast nothing else in that view.
     ///
     /// # Errors
     ///
@@ -182,7 +265,12 @@ impl<S: Scheme> Node<S> {
             mode,
             identity: identity(),
             numbers: Numbers::new(),
-            books: BTreeMap::new(),
+            books: Books::new(),
+            window: Window {
+                finalized,
+                current: finalized,
+                ahead,
+            },
             causes,
             unfinished: None,
             list: Vec::new(),
@@ -190,12 +278,54 @@ impl<S: Scheme> Node<S> {
         })
     }
 
-    /// Takes in a vote that a peer sent, in the round of its view. Where the vote gives cause for
-    /// it, the peer is blocked from then on. The peer is who the transport has authenticated.
+    /// The epoch of its views.
+    pub fn epoch(&self) -> Epoch {
+        self.epoch
+    }
+
+    /// The scheme that it was made with.
+    pub fn scheme(&self) -> &Arc<S> {
+        &self.scheme
+    }
+
+    /// Whether the vote is of the node's epoch and of a view in its window. It needn't be asked
+    /// before: a vote that isn't is answered `Outside`.
+    pub fn belongs(&self, vote: &Vote<S::Signature>) -> bool {
+        self.is_within(vote.round())
+    }
+
+    /// Whether the certificate is of the node's epoch and of a view in its window.
+    pub fn belongs_certificate(&self, certificate: &Certificate<S::Certificate>) -> bool {
+        self.is_within(certificate.round())
+    }
+
+    /// Takes in a vote that a peer sent, in the round of its view. The peer is who the transport has
+    /// authenticated. Where the vote gives cause for it, the peer is blocked from then on.
+    ///
+    /// What isn't `Answered` changes nothing and takes no memory: a vote outside of the window, one
+    /// of a peer that is blocked, and one of a peer that takes no part. After a vote that was added,
+    /// construct.
+    ///
+    /// Votes come from their signers alone. Where the network gossips, don't hand in a vote under
+    /// the key of who relays it, who would be blocked for it.
+    ///
+    /// ```
+    /// # include!(concat!(env!("CARGO_MANIFEST_DIR"), "/tests/toy/mod.rs"));
+    /// use batcher::node::{Node, Receipt};
+    /// use batcher::{Epoch, View};
+    /// # fn main() -> Result<(), batcher::Error> {
+    /// // Views 7 to 11 are in the window, and this vote is of view 1.
+    /// let mut node = Node::new(Epoch::zero(), Toy::new(4), View::new(7), 4, false)?;
+    /// assert_eq!(node.receive_vote(&KEYS[1], notarize(1, 7))?, Receipt::Outside);
+    /// // Who takes no part isn't looked at, whatever it sends.
+    /// assert_eq!(node.receive_vote(&"zoe", notarize(1, 7))?, Receipt::Unknown);
+    /// # Ok(())
+    /// # }
+    /// ```
     ///
     /// # Errors
     ///
-    /// `OutOfMemory`.
+    /// `OutOfMemory`, after which the same call can be made again.
     pub fn receive_vote(
         &mut self,
         peer: &S::PublicKey,
@@ -205,14 +335,13 @@ impl<S: Scheme> Node<S> {
             Ok(sender) => sender,
             Err(receipt) => return Ok(receipt),
         };
-        let (view, participants) = (vote.round().view, self.scheme.participants().len());
-        let book = self
-            .books
-            .entry(view)
-            .or_insert_with(|| Book::new(self.mode));
-        let numbered = book.number(vote, Some(sender), &mut self.numbers, participants)?;
+        let view = vote.round().view;
+        let participants = self.scheme.participants().len();
+        self.books.reserve()?;
+        let book = self.books.open(view, self.mode_of(view));
+        let numbered = book.number(&vote, Some(sender), &mut self.numbers, participants)?;
         let mut answer = ffi::Admission::default();
-        let flat = flat_vote(&numbered.vote, numbered.number);
+        let flat = flat_vote(&vote, numbered.listed);
         match self
             .library
             .receive_vote(u64::from(sender.get()), &flat, &mut answer)
@@ -223,7 +352,7 @@ impl<S: Scheme> Node<S> {
             code::UNKNOWN => return Ok(Receipt::Unknown),
             other => return Err(error_of(other)),
         }
-        let admission = book.admission(&answer, numbered)?;
+        let admission = book.admission(&answer, numbered, vote)?;
         if admission.block.is_some() {
             self.note_blocked()?;
         }
@@ -234,9 +363,31 @@ impl<S: Scheme> Node<S> {
     /// round of its view. Where that has one of its kind, it isn't verified, and nothing changes.
     /// Where it doesn't certify what it names, the peer is blocked from then on.
     ///
+    /// After one that was recorded, construct. A certificate may come from any peer, whoever made
+    /// it.
+    ///
+    /// ```
+    /// # include!(concat!(env!("CARGO_MANIFEST_DIR"), "/tests/toy/mod.rs"));
+    /// use batcher::node::{Cause, Node, Receipt, Verdict};
+    /// use batcher::{Epoch, Kind, Participant, Subject, View};
+    /// # fn main() -> Result<(), batcher::Error> {
+    /// let mut node = Node::new(Epoch::zero(), Toy::new(4), View::zero(), 4, false)?;
+    /// let subject = Subject::Nullify { round: ROUND };
+    /// // Two signers are no quorum.
+    /// let forged = certificate(subject, 0..2);
+    /// let receipt = node.receive_certificate(&KEYS[3], &forged)?;
+    /// assert_eq!(receipt, Receipt::Answered(Verdict::Forged));
+    /// assert_eq!(node.blocked(Participant::new(3)), Some(Cause::Certificate));
+    /// let receipt = node.receive_certificate(&KEYS[2], &certificate(subject, 0..3))?;
+    /// assert_eq!(receipt, Receipt::Answered(Verdict::Recorded(false)));
+    /// assert!(node.has_certificate(View::new(1), Kind::Nullification));
+    /// # Ok(())
+    /// # }
+    /// ```
+    ///
     /// # Errors
     ///
-    /// `OutOfMemory`.
+    /// `OutOfMemory`, after which the same call can be made again.
     pub fn receive_certificate(
         &mut self,
         peer: &S::PublicKey,
@@ -257,22 +408,47 @@ impl<S: Scheme> Node<S> {
         peer: &S::PublicKey,
         certificate: &Certificate<S::Certificate>,
     ) -> Option<Receipt<Verdict>> {
+        let (round, kind) = (certificate.round(), certificate.kind());
         // A certificate has no signer that is likely to have sent it.
-        match self.look_at(peer, Participant::new(u32::MAX), certificate.round()) {
+        match self.look_at(peer, Participant::new(u32::MAX), round) {
             Err(receipt) => Some(receipt),
-            Ok(_) => {
-                let book = self.books.get(&certificate.round().view)?;
-                let is_known = book.is_certified(certificate.kind());
-                is_known.then_some(Receipt::Answered(Verdict::Known))
-            }
+            Ok(_) => self
+                .has_certificate(round.view, kind)
+                .then_some(Receipt::Answered(Verdict::Known)),
         }
     }
 
-    /// The same of a certificate of which the caller says whether it certifies what it names.
+    /// The same as [`Node::receive_certificate`], of a certificate of which the caller says whether
+    /// it certifies what it names, as it was verified elsewhere. **Where that is wrongly said to be
+    /// so, a proposal that nobody voted for may be selected; where it is wrongly said not to be so,
+    /// the peer is blocked.**
+    ///
+    /// ```
+    /// # include!(concat!(env!("CARGO_MANIFEST_DIR"), "/tests/toy/mod.rs"));
+    /// use batcher::node::{Node, Receipt, Verdict};
+    /// use batcher::{Epoch, Scheme, Subject, View};
+    /// # fn main() -> Result<(), batcher::Error> {
+    /// let mut node = Node::new(Epoch::zero(), Toy::new(4), View::zero(), 4, false)?;
+    /// let (peer, certificate) = (KEYS[1], certificate(Subject::Nullify { round: ROUND }, 0..3));
+    /// if node.answers_unverified(&peer, &certificate).is_none() {
+    ///     let scheme = node.scheme().clone();
+    ///     let verifier = std::thread::spawn(move || {
+    ///         let certifies =
+    ///             scheme.verify_certificate(&certificate.subject(), certificate.content());
+    ///         (certificate, certifies)
+    ///     });
+    ///     let (certificate, certifies) = verifier.join().unwrap();
+    ///     let receipt = node.receive_verified_certificate(&peer, &certificate, certifies)?;
+    ///     assert_eq!(receipt, Receipt::Answered(Verdict::Recorded(false)));
+    /// }
+    /// # assert!(node.has_certificate(View::new(1), batcher::Kind::Nullification));
+    /// # Ok(())
+    /// # }
+    /// ```
     ///
     /// # Errors
     ///
-    /// `OutOfMemory`.
+    /// `OutOfMemory`, after which the same call can be made again.
     pub fn receive_verified_certificate(
         &mut self,
         peer: &S::PublicKey,
@@ -283,8 +459,10 @@ impl<S: Scheme> Node<S> {
             Some(sender) => u64::from(sender.get()),
             None => NOBODY,
         };
-        let (kind, number) = (certificate.kind(), self.numbers.unused());
+        let (kind, view) = (certificate.kind(), certificate.round().view);
+        let (number, mode) = (self.numbers.unused(), self.mode_of(view));
         let proposal = flat_subject(&certificate.subject());
+        self.books.reserve()?;
         let mut selected_anew = false;
         let answer = self.library.receive_certificate(
             name,
@@ -296,17 +474,7 @@ impl<S: Scheme> Node<S> {
         );
         Ok(Receipt::Answered(match answer {
             code::DONE => {
-                let view = certificate.round().view;
-                let book = self
-                    .books
-                    .entry(view)
-                    .or_insert_with(|| Book::new(self.mode));
-                // The votes of a batch that isn't finished are needed until it is.
-                let is_needed =
-                    |step: ffi::Step| step.view == view.get() && step.kind == kind as u8;
-                if !self.unfinished.is_some_and(is_needed) {
-                    book.certified(kind);
-                }
+                self.books.open(view, mode).certified(kind);
                 Verdict::Recorded(selected_anew)
             }
             code::KNOWN => Verdict::Known,
@@ -322,13 +490,40 @@ impl<S: Scheme> Node<S> {
     }
 
     /// Takes in a vote of the node's own, which the scheme is asked to verify, and says whether it
-    /// is to be sent. **Only `ToSend` says so.** What is asked of own votes by
-    /// [`Round::accept_vote`](crate::Round::accept_vote) is asked here too: keep the bytes of each
-    /// before it is sent.
+    /// is to be sent. **Only `ToSend` says so.** After that, construct.
+    ///
+    /// Hand in votes of one's own participant alone, and a finalize only of a proposal that is
+    /// notarized. Keep the bytes of each own vote before it is sent: to send it again send these,
+    /// and never sign it anew. [`Node::new`] says what to do with them after a restart.
+    ///
+    /// ```
+    /// # include!(concat!(env!("CARGO_MANIFEST_DIR"), "/tests/toy/mod.rs"));
+    /// use batcher::node::{Cast, Node};
+    /// use batcher::{Epoch, Error, OwnFault, View};
+    /// # fn main() -> Result<(), batcher::Error> {
+    /// let mut node = Node::new(Epoch::zero(), Toy::new(4), View::zero(), 4, false)?;
+    /// let (mut written, mut sent) = (Vec::new(), Vec::new());
+    /// for vote in [nullify(0), nullify(0), finalize(0, 7)] {
+    ///     // It is kept first, so that a restart finds what may have been sent.
+    ///     written.push(vote);
+    ///     match node.cast_vote(vote) {
+    ///         Ok(Cast::ToSend(_)) => sent.push(vote),
+    ///         // The second nullify, and whatever is of a view outside of the window.
+    ///         Ok(Cast::Known | Cast::Outside) => {}
+    ///         // Who gave the view up finalizes nothing in it.
+    ///         Err(Error::Own(fault)) => assert_eq!(fault, OwnFault::FinalizeAfterNullify),
+    ///         Err(error) => return Err(error),
+    ///     }
+    /// }
+    /// assert_eq!(sent, [nullify(0)]);
+    /// # Ok(())
+    /// # }
+    /// ```
     ///
     /// # Errors
     ///
-    /// `OutOfMemory`, `NotVerified` where the scheme says that it doesn't attest, and `Own`.
+    /// `OutOfMemory`, after which the same call can be made again, `NotVerified` where the scheme
+    /// says that it doesn't attest, and `Own`.
     pub fn cast_vote(&mut self, vote: Vote<S::Signature>) -> Result<Cast<S::Signature>, Error> {
         if self.scheme.participants().key(vote.signer()).is_none() {
             return Err(Error::NotVerified);
@@ -349,7 +544,8 @@ impl<S: Scheme> Node<S> {
     ///
     /// # Errors
     ///
-    /// As of [`Node::cast_vote`].
+    /// As of [`Node::cast_vote`]. `NotVerified` where its signer takes no part, or where the very
+    /// same vote was found not to attest before.
     pub fn cast_verified_vote(
         &mut self,
         vote: Vote<S::Signature>,
@@ -359,27 +555,25 @@ impl<S: Scheme> Node<S> {
             return Err(Error::NotVerified);
         }
         let participants = participants.len();
-        if !self.is_within(vote.round()) {
+        if !self.belongs(&vote) {
             return Ok(Cast::Outside);
         }
-        let (kind, signer) = (vote.kind(), Some(vote.signer()));
-        let book = self
-            .books
-            .entry(vote.round().view)
-            .or_insert_with(|| Book::new(self.mode));
-        let numbered = book.number(vote, signer, &mut self.numbers, participants)?;
-        book.record_verdict(&mut self.library, kind, numbered.listed(), true)?;
+        let (kind, signer, view) = (vote.kind(), Some(vote.signer()), vote.round().view);
+        self.books.reserve()?;
+        let book = self.books.open(view, self.mode_of(view));
+        let numbered = book.number(&vote, signer, &mut self.numbers, participants)?;
+        book.record_verdict(&mut self.library, kind, numbered.listed, true)?;
         let mut answer = ffi::Admission::default();
-        let flat = flat_vote(&numbered.vote, numbered.number);
+        let flat = flat_vote(&vote, numbered.listed);
         match self.library.cast_vote(&flat, &mut answer) {
             code::DONE => {}
             code::KNOWN => return Ok(Cast::Known),
             code::ELSEWHERE => return Ok(Cast::Outside),
             other => return Err(error_of(other)),
         }
-        match book.report(&answer, &numbered)? {
+        match book.report(&answer, numbered, &vote)? {
             Some(report) => {
-                book.keep(numbered, Some(true));
+                book.keep(numbered, vote, Some(true));
                 Ok(Cast::ToSend(report))
             }
             None => Err(Error::Unknown(code::DONE)),
@@ -387,37 +581,59 @@ impl<S: Scheme> Node<S> {
     }
 
     /// Enters a view with its leader. Views that are passed over by it, and in which nothing was
-    /// said, get skipped rounds where something is. What is promised of honest peers rests on the
-    /// right leader.
+    /// said, get skipped rounds where something is: facts of votes are kept there, and no
+    /// certificate is made. What is promised of honest peers rests on the right leader.
+    ///
+    /// A view below the current one can be entered too, as after a restart, which leaves the current
+    /// view as it was. If the leader's notarize is kept, that may select its proposal, so construct
+    /// after this.
+    ///
+    /// ```
+    /// # include!(concat!(env!("CARGO_MANIFEST_DIR"), "/tests/toy/mod.rs"));
+    /// use batcher::node::Node;
+    /// use batcher::{Epoch, Error, Participant, View};
+    /// # fn main() -> Result<(), batcher::Error> {
+    /// let mut node = Node::new(Epoch::zero(), Toy::new(4), View::new(3), 4, false)?;
+    /// let leader = Participant::new(1);
+    /// node.enter(View::new(5), leader)?;
+    /// assert_eq!((node.window().current, node.leader(View::new(5))), (View::new(5), Some(leader)));
+    /// let other = Participant::new(2);
+    /// assert_eq!(node.enter(View::new(5), other), Err(Error::LeaderChanged));
+    /// assert_eq!(node.enter(View::new(2), other), Err(Error::Passed));
+    /// # Ok(())
+    /// # }
+    /// ```
     ///
     /// # Errors
     ///
-    /// `Passed`, `LeaderChanged`, `OutOfMemory`, and `UnknownParticipant` where the leader's index
-    /// is no participant's.
+    /// `Passed` for a view before the finalized one, `LeaderChanged` where another leader of it was
+    /// named before, `OutOfMemory`, and `UnknownParticipant` where the leader's index is no
+    /// participant's.
     pub fn enter(&mut self, view: View, leader: Participant) -> Result<(), Error> {
         if self.scheme.participants().key(leader).is_none() {
             return Err(Error::UnknownParticipant);
         }
-        match self.library.enter(view.get(), leader.get()) {
-            code::DONE => Ok(()),
-            code::PASSED => Err(Error::Passed),
-            other => Err(error_of(other)),
-        }
+        let mode = self.mode_of(view);
+        self.books.reserve()?;
+        done(self.library.enter(view.get(), leader.get()))?;
+        self.books.open(view, mode);
+        self.note_window();
+        Ok(())
     }
 
-    /// A view was finalized: the rounds before it are dropped, and the window begins with it.
+    /// A view was finalized: the rounds before it are dropped, the window begins with it, and the
+    /// current view is it at least. An earlier view than the last that was finalized changes
+    /// nothing. It takes no memory.
+    ///
+    /// **Never finalize for a certificate that doesn't certify**: the window doesn't go back.
     ///
     /// # Errors
     ///
     /// Only `Unknown`.
     pub fn finalize(&mut self, view: View) -> Result<(), Error> {
         done(self.library.finalize(view.get()))?;
-        let finalized = self.window().finalized;
-        // The votes of a batch that isn't finished are needed until it is.
-        let first = self
-            .unfinished
-            .map_or(finalized, |step| finalized.min(View::new(step.view)));
-        self.books = self.books.split_off(&first);
+        self.note_window();
+        self.forget_passed();
         Ok(())
     }
 
@@ -479,27 +695,25 @@ impl<S: Scheme> Node<S> {
             let answer = self
                 .library
                 .try_construct(&mut step, &mut self.list, &mut self.signers);
-            let list = &self.list[..step.listed as usize];
             let view = View::new(step.view);
-            let book = self.books.entry(view);
             match answer {
                 code::IDLE => return Ok(Step::Idle),
-                code::UNKNOWN => return Ok(Step::Made(Construction { view, batch: None })),
+                code::RESTS => return Ok(Step::Made(Construction { view, batch: None })),
                 code::DONE => return self.finish(step),
-                code::VERIFY => {
-                    let book = book.or_insert_with(|| Book::new(self.mode));
-                    let unknown = book.without_known(&mut self.library, &step, list)?;
-                    if !unknown.is_empty() {
-                        let wanted = book.wanted(&step, &unknown, self.identity)?;
-                        return Ok(Step::Verify(wanted));
-                    }
-                }
-                code::VERIFY_TOGETHER => {
-                    let book = book.or_insert_with(|| Book::new(self.mode));
-                    let wanted = book.wanted_together(&step, list, self.identity)?;
-                    return Ok(Step::VerifyTogether(wanted));
-                }
+                code::VERIFY | code::VERIFY_TOGETHER => {}
                 answer => return Err(error_of(answer)),
+            }
+            let list = &self.list[..step.listed as usize];
+            // What is to be verified are votes of the view, which the crate keeps.
+            let book = self.books.get_mut(view).ok_or(Error::Unknown(answer))?;
+            if answer == code::VERIFY_TOGETHER {
+                let wanted = book.wanted_together(&step, list, self.identity)?;
+                return Ok(Step::VerifyTogether(wanted));
+            }
+            let unknown = book.without_known(&mut self.library, &step, list)?;
+            if !unknown.is_empty() {
+                let wanted = book.wanted(&step, unknown, self.identity)?;
+                return Ok(Step::Verify(wanted));
             }
         }
     }
@@ -530,9 +744,9 @@ impl<S: Scheme> Node<S> {
         if wanted.owner != self.identity {
             return Err(Error::Elsewhere);
         }
-        match self.books.get_mut(&wanted.subject().round().view) {
+        match self.books.get_mut(wanted.subject().round().view) {
             Some(book) => book.record_verdicts(&mut self.library, wanted, verdicts),
-            // The view was finalized meanwhile.
+            // A later view was finalized meanwhile.
             None => Ok(()),
         }
     }
@@ -568,18 +782,119 @@ impl<S: Scheme> Node<S> {
         me: Participant,
     ) -> Result<Option<Proposal>, Error> {
         let mut proposal = ffi::Proposal::default();
-        match self
+        let answer = self
             .library
-            .try_forward_proposal(view.get(), me.get(), &mut proposal)
-        {
-            // Nothing has happened in the view, or it isn't in the window.
-            code::UNKNOWN | code::ELSEWHERE => Ok(None),
-            answer => Ok(some(answer)?.then(|| proposal_of(&proposal))),
+            .try_forward_proposal(view.get(), me.get(), &mut proposal);
+        Ok(some(answer)?.then(|| proposal_of(&proposal)))
+    }
+
+    /// The leader of a view, once it was named.
+    pub fn leader(&self, view: View) -> Option<Participant> {
+        let mut leader = 0;
+        (self.library.leader(view.get(), &mut leader) == code::DONE)
+            .then(|| Participant::new(leader))
+    }
+
+    /// The selected proposal of a view: the leader's, or one that evidence fixed.
+    pub fn proposal(&self, view: View) -> Option<Proposal> {
+        let mut proposal = ffi::Proposal::default();
+        (self.library.proposal(view.get(), &mut proposal) == code::DONE)
+            .then(|| proposal_of(&proposal))
+    }
+
+    /// Whether a certificate of the kind is there for a view of the window.
+    pub fn has_certificate(&self, view: View, kind: Kind) -> bool {
+        let mut has = false;
+        let answer = self
+            .library
+            .has_certificate(view.get(), kind as u8, &mut has);
+        answer == code::DONE && has
+    }
+
+    /// Whether the signer's nullify of a view is kept in full.
+    pub fn has_nullify(&self, view: View, signer: Participant) -> bool {
+        let mut has = false;
+        let answer = self.library.has_nullify(view.get(), signer.get(), &mut has);
+        answer == code::DONE && has
+    }
+
+    /// Whether nothing that was said in a view shows that the participant has the proposal's block:
+    /// neither a notarize nor a finalize for it. A vote shows that also where it doesn't attest.
+    pub fn is_missing_voter(
+        &self,
+        view: View,
+        proposal: &Proposal,
+        participant: Participant,
+    ) -> bool {
+        let (proposal, mut is_missing) = (flat_proposal(proposal), false);
+        let answer = self.library.is_missing_voter(
+            view.get(),
+            &proposal,
+            participant.get(),
+            &mut is_missing,
+        );
+        answer != code::DONE || is_missing
+    }
+
+    /// The participants of whom [`Node::is_missing_voter`] is true, in ascending order.
+    ///
+    /// # Errors
+    ///
+    /// `OutOfMemory`.
+    pub fn missing_voters(
+        &self,
+        view: View,
+        proposal: &Proposal,
+    ) -> Result<Vec<Participant>, Error> {
+        let participants = self.scheme.participants().len();
+        let mut list = Vec::new();
+        reserve_each(&mut list, participants, 0)?;
+        let mut count = 0;
+        let proposal = flat_proposal(proposal);
+        let answer = self
+            .library
+            .missing_voters(view.get(), &proposal, &mut list, &mut count);
+        if !some(answer)? {
+            // Nothing was said in the view, so nobody is known to have it.
+            return Ok((0..participants).map(Participant::new).collect());
         }
+        list.truncate(count as usize);
+        Ok(list.into_iter().map(Participant::new).collect())
     }
 
     /// Whether the certificate certifies what it names, by the scheme: also of a view or an epoch
     /// that the node doesn't look at, so that one who fell behind may learn what is final.
+    ///
+    /// Where it does, and is a finalization of the node's epoch, [`Node::finalize`] of its view
+    /// moves the window there. Then hand it to [`Node::receive_certificate`], which records it
+    /// unless its peer is blocked or takes no part, and enter the view that comes next with its
+    /// leader.
+    ///
+    /// ```
+    /// # include!(concat!(env!("CARGO_MANIFEST_DIR"), "/tests/toy/mod.rs"));
+    /// use batcher::node::{Node, Receipt, Verdict};
+    /// use batcher::positions::Round as Number;
+    /// use batcher::{Epoch, Kind, Participant, Proposal, Sha256Digest, Subject, View};
+    /// # fn main() -> Result<(), batcher::Error> {
+    /// let mut node = Node::new(Epoch::zero(), Toy::new(4), View::zero(), 4, false)?;
+    /// let number = Number::new(Epoch::zero(), View::new(90));
+    /// let proposal = Proposal::new(number, View::new(89), Sha256Digest([7; 32]));
+    /// let finalization = certificate(Subject::Finalize { proposal }, 1..4);
+    /// assert_eq!(node.receive_certificate(&KEYS[1], &finalization)?, Receipt::Outside);
+    /// let round = finalization.round();
+    /// if round.epoch == node.epoch()
+    ///     && finalization.kind() == Kind::Finalization
+    ///     && node.verifies(&finalization)
+    /// {
+    ///     node.finalize(round.view)?;
+    ///     let receipt = node.receive_certificate(&KEYS[1], &finalization)?;
+    ///     assert_eq!(receipt, Receipt::Answered(Verdict::Recorded(false)));
+    ///     node.enter(View::new(91), Participant::new(3))?;
+    /// }
+    /// assert_eq!(node.window().finalized, View::new(90));
+    /// # Ok(())
+    /// # }
+    /// ```
     pub fn verifies(&self, certificate: &Certificate<S::Certificate>) -> bool {
         self.scheme
             .verify_certificate(&certificate.subject(), certificate.content())
@@ -587,14 +902,7 @@ impl<S: Scheme> Node<S> {
 
     /// Which views it keeps rounds of.
     pub fn window(&self) -> Window {
-        let (mut finalized, mut current, mut ahead) = (0, 0, 0);
-        self.library
-            .window([&mut finalized, &mut current, &mut ahead]);
-        Window {
-            finalized: View::new(finalized),
-            current: View::new(current),
-            ahead,
-        }
+        self.window
     }
 
     /// How many rounds it keeps: no more than its window has views, whatever was sent.
@@ -611,7 +919,7 @@ impl<S: Scheme> Node<S> {
 
     /// How many votes the crate keeps, each with its signature.
     pub fn votes_kept(&self) -> usize {
-        self.books.values().map(Book::len).sum()
+        self.books.votes_kept()
     }
 
     // Hands over a batch that the library has made.
@@ -620,13 +928,11 @@ impl<S: Scheme> Node<S> {
         let view = View::new(step.view);
         let list = &self.list[..step.listed as usize];
         let signers = &self.signers[..step.invalid as usize];
-        let book = self
-            .books
-            .entry(view)
-            .or_insert_with(|| Book::new(self.mode));
+        let book = self.books.get_mut(view).ok_or(Error::Unknown(code::DONE))?;
         let made = book.made(&*self.scheme, &step, list, signers);
         if !matches!(made, Err(Error::OutOfMemory)) {
             self.unfinished = None;
+            self.forget_passed();
         }
         let batch = made?;
         if !batch.invalid.is_empty() {
@@ -638,8 +944,26 @@ impl<S: Scheme> Node<S> {
         }))
     }
 
+    // Forgets the votes of views before the window. Those of a batch that isn't finished are needed
+    // until it is.
+    fn forget_passed(&mut self) {
+        let finalized = self.window.finalized;
+        let unfinished = self.unfinished.map(|step| View::new(step.view));
+        self.books
+            .drop_before(unfinished.map_or(finalized, |view| view.min(finalized)));
+    }
+
     fn is_within(&self, round: positions::Round) -> bool {
-        round.epoch == self.epoch && self.window().contains(round.view)
+        round.epoch == self.epoch && self.window.contains(round.view)
+    }
+
+    // The mode of a round that is made now.
+    fn mode_of(&self, view: View) -> Mode {
+        if view < self.window.current {
+            Mode::Skipped
+        } else {
+            self.mode
+        }
     }
 
     // The participant that sent a message, where the message is looked at.
@@ -661,6 +985,18 @@ impl<S: Scheme> Node<S> {
         Ok(sender)
     }
 
+    // Asks the library for its window, after a call that may have moved it.
+    fn note_window(&mut self) {
+        let (mut finalized, mut current, mut ahead) = (0, 0, 0);
+        self.library
+            .window([&mut finalized, &mut current, &mut ahead]);
+        self.window = Window {
+            finalized: View::new(finalized),
+            current: View::new(current),
+            ahead,
+        };
+    }
+
     // Asks the library who is blocked, after a call that may have blocked somebody.
     fn note_blocked(&mut self) -> Result<(), Error> {
         let mut count = 0;
@@ -680,6 +1016,7 @@ impl<S: Scheme> fmt::Debug for Node<S> {
             .field("epoch", &self.epoch)
             .field("window", &self.window())
             .field("rounds_kept", &self.rounds_kept())
+            .field("votes_kept", &self.votes_kept())
             .finish_non_exhaustive()
     }
 }

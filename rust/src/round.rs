@@ -210,11 +210,11 @@ impl<S: Scheme> Round<S> {
         let name = sender.map_or(NOBODY, |index| u64::from(index.get()));
         let numbered = self
             .book
-            .number(vote, sender, &mut self.numbers, participants.len())?;
+            .number(&vote, sender, &mut self.numbers, participants.len())?;
         let mut answer = ffi::Admission::default();
-        let flat = flat_vote(&numbered.vote, numbered.number);
+        let flat = flat_vote(&vote, numbered.listed);
         done(self.library.add_network(name, &flat, &mut answer))?;
-        self.book.admission(&answer, numbered)
+        self.book.admission(&answer, numbered, vote)
     }
 
     /// Takes in a vote of the node's own, which the scheme is asked to verify. **It is to be sent
@@ -305,20 +305,20 @@ impl<S: Scheme> Round<S> {
         let signer = Some(vote.signer());
         let numbered = self
             .book
-            .number(vote, signer, &mut self.numbers, participants)?;
+            .number(&vote, signer, &mut self.numbers, participants)?;
         self.book
-            .record_verdict(&mut self.library, kind, numbered.listed(), true)?;
+            .record_verdict(&mut self.library, kind, numbered.listed, true)?;
         let mut answer = ffi::Admission::default();
-        let flat = flat_vote(&numbered.vote, numbered.number);
+        let flat = flat_vote(&vote, numbered.listed);
         done(self.library.accept_vote(&flat, &mut answer))?;
-        let report = self.book.report(&answer, &numbered)?;
+        let report = self.book.report(&answer, numbered, &vote)?;
         let retained = answer.retained;
         if !answer.added {
             return Ok(Outcome::Duplicate { retained });
         }
         // A vote that was added is reported.
         let report = report.ok_or(Error::Unknown(code::DONE))?;
-        self.book.keep(numbered, Some(true));
+        self.book.keep(numbered, vote, Some(true));
         Ok(Outcome::ToSend { report, retained })
     }
 
@@ -638,7 +638,7 @@ impl<S: Scheme> Round<S> {
                 code::VERIFY => {
                     let unknown = self.book.without_known(&mut self.library, &step, list)?;
                     if !unknown.is_empty() {
-                        let wanted = self.book.wanted(&step, &unknown, self.identity)?;
+                        let wanted = self.book.wanted(&step, unknown, self.identity)?;
                         return Ok(Step::Verify(wanted));
                     }
                 }

@@ -85,8 +85,10 @@ impl<G: Eq> Table<G> {
             index.resize(participants as usize, 0);
         }
         if kept.len() == kept.capacity() {
-            // An eighth more at a time, so that what is unused stays small beside the votes.
-            let more = 1 + kept.len() / 8;
+            // A quarter more at a time, and no more than the participants, so that what is unused
+            // stays small beside the votes.
+            let left = (participants as usize).saturating_sub(kept.len());
+            let more = left.min(8.max(kept.len() / 4));
             kept.try_reserve_exact(more)
                 .map_err(|_| Error::OutOfMemory)?;
         }

@@ -1,10 +1,10 @@
-//! Rounds on a thread of their own, for callers on many threads and for tasks.
+//! Rounds and nodes on a thread of their own, for callers on many threads and for tasks.
 //!
-//! A round stays on the thread on which it was made, since the library counts references without
-//! atomics. A [`Host`] is a thread that holds any number of rounds, and a [`Mailbox`] a handle to
-//! one of them that may be cloned and sent anywhere. Each job is run on the round alone, in the
-//! order in which jobs were handed in. Its answer can be waited for by blocking or as a future, on
-//! any executor.
+//! A [`Round`](crate::Round) or a [`Node`](crate::Node) stays on the thread on which it was made,
+//! since the library counts references without atomics. A [`Host`] is a thread that holds any
+//! number of them, and a [`Mailbox`] a handle to one that may be cloned and sent anywhere. Each job
+//! is run on it alone, in the order in which jobs were handed in. Its answer can be waited for by
+//! blocking or as a future, on any executor.
 //!
 //! A call that waits for its answer takes two switches of threads, some ten microseconds, where the
 //! call itself takes less than one. So hand over what has piled up in one job, as in the example.
@@ -43,9 +43,11 @@
 //! and so does a job that constructs again and is refused then. Where that may be, as in a task
 //! that can be cancelled, send on from within the job what is made.
 //!
-//! `try_construct` verifies on the host's thread, and the other rounds of the host wait meanwhile.
-//! Where there are any, use [`Round::step`](crate::Round::step), and verify elsewhere: the example
-//! `mailbox` of this crate does so.
+//! `try_construct` verifies on the host's thread, and what else lives there waits meanwhile. Where
+//! that isn't to be, use [`Round::step`](crate::Round::step) or [`Node::step`](crate::Node::step),
+//! and verify elsewhere: the example `mailbox` of this crate does so. A node verifies certificates
+//! too, unless they go by
+//! [`receive_verified_certificate`](crate::Node::receive_verified_certificate).
 
 use crate::answers::Error;
 use std::any::Any;
@@ -65,7 +67,7 @@ type Values = HashMap<u64, Box<dyn Any>>;
 
 type Job = Box<dyn FnOnce(&mut Values) + Send>;
 
-/// A thread on which values live that can't leave it, as rounds. It ends once the host and all
+/// A thread on which values live that can't leave it, as rounds and nodes. It ends once the host and all
 /// mailboxes to it are dropped.
 #[derive(Clone)]
 pub struct Host {

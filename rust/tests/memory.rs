@@ -1,109 +1,18 @@
 //! Each request for memory of a script is refused in turn, of the library and of the crate: the call
 //! says so, and made again it goes on as if nothing had been.
 
+mod refusing;
+
 use batcher::positions::Round as Number;
 use batcher::{
-    Attestation, Certificate, Epoch, Error, Mode, Participant, Proposal, Round, Scheme, Set,
-    Sha256Digest, Step, Subject, View, Vote, quorum,
+    Certificate, Epoch, Mode, Participant, Proposal, Round, Sha256Digest, Step, Subject, View,
 };
-use std::alloc::{GlobalAlloc, Layout, System};
-use std::cell::Cell;
-use std::sync::Arc;
-
-thread_local! {
-    /// How many requests are granted before one is refused, where that is counted.
-    static GRANTED: Cell<Option<u32>> = const { Cell::new(None) };
-}
-
-/// Whether the next request is refused. After one is, all are granted.
-fn refuses() -> bool {
-    let left = GRANTED.get();
-    GRANTED.set(match left {
-        Some(0) | None => None,
-        Some(left) => Some(left - 1),
-    });
-    left == Some(0)
-}
-
-struct Refusing;
-
-// SAFETY: it answers what the system's heap answers, or null, which says that there is no memory.
-unsafe impl GlobalAlloc for Refusing {
-    unsafe fn alloc(&self, layout: Layout) -> *mut u8 {
-        if refuses() {
-            return std::ptr::null_mut();
-        }
-        // SAFETY: as the caller promises.
-        unsafe { System.alloc(layout) }
-    }
-
-    unsafe fn realloc(&self, at: *mut u8, layout: Layout, size: usize) -> *mut u8 {
-        if refuses() {
-            return std::ptr::null_mut();
-        }
-        // SAFETY: as the caller promises.
-        unsafe { System.realloc(at, layout, size) }
-    }
-
-    unsafe fn dealloc(&self, at: *mut u8, layout: Layout) {
-        // SAFETY: as the caller promises.
-        unsafe { System.dealloc(at, layout) }
-    }
-}
-
-#[global_allocator]
-static HEAP: Refusing = Refusing;
-
-/// A signature is whether it is good. The scheme's calls that a round makes take no memory.
-struct Plain {
-    participants: Set<u32>,
-    aggregates: bool,
-}
-
-impl Scheme for Plain {
-    type PublicKey = u32;
-    type Signature = bool;
-    type Certificate = usize;
-
-    fn participants(&self) -> &Set<u32> {
-        &self.participants
-    }
-
-    fn aggregates(&self) -> bool {
-        self.aggregates
-    }
-
-    fn verify_attestations(&self, _: &Subject, attestations: &[Attestation<bool>]) -> Vec<bool> {
-        attestations.iter().map(|it| it.signature).collect()
-    }
-
-    fn assemble(&self, _: &Subject, attestations: &[Attestation<bool>]) -> usize {
-        attestations.len()
-    }
-
-    fn verify_certificate(&self, _: &Subject, certificate: &usize) -> bool {
-        *certificate >= quorum(self.participants.len()) as usize
-    }
-}
+use refusing::{Plain, again, each_refused_in_turn, vote};
 
 /// A round with what it has answered, as text.
 struct Player {
     round: Round<Plain>,
     answers: Vec<String>,
-}
-
-/// Counts only while a call runs, and makes it once more where memory was refused.
-fn again<R>(
-    granted: &mut Option<u32>,
-    mut call: impl FnMut() -> Result<R, Error>,
-) -> Result<R, Error> {
-    GRANTED.set(*granted);
-    let answer = call();
-    *granted = GRANTED.take();
-    match answer {
-        Err(Error::OutOfMemory) => call(),
-        answer => answer,
-    }
 }
 
 const NUMBER: Number = Number::new(Epoch::zero(), View::new(1));
@@ -118,7 +27,7 @@ impl Player {
     }
 
     fn hear(&mut self, granted: &mut Option<u32>, signer: u32, subject: Subject, is_good: bool) {
-        let vote = Vote::new(subject, Attestation::new(Participant::new(signer), is_good));
+        let vote = vote(subject, signer, is_good);
         let answer = again(granted, || self.round.add_network(&signer, vote));
         self.note(answer);
     }
@@ -149,15 +58,9 @@ impl Player {
     }
 }
 
-/// Plays a script, and gives what was answered and whether a request was refused.
-fn play(mode: Mode, aggregates: bool, granted: u32) -> (Vec<String>, bool) {
-    let participants = Set::new((0..4).collect()).unwrap();
-    let scheme = Arc::new(Plain {
-        participants,
-        aggregates,
-    });
-    let mut left = Some(granted);
-    let granted = &mut left;
+/// Plays a script, and gives what was answered.
+fn play(mode: Mode, aggregates: bool, granted: &mut Option<u32>) -> Vec<String> {
+    let scheme = Plain::new(4, aggregates);
     let round = again(granted, || Round::in_mode(NUMBER, scheme.clone(), mode)).unwrap();
     let mut player = Player {
         round,
@@ -192,7 +95,7 @@ fn play(mode: Mode, aggregates: bool, granted: u32) -> (Vec<String>, bool) {
     let subject = Subject::Notarize {
         proposal: proposal(2),
     };
-    let own = Vote::new(subject, Attestation::new(Participant::new(3), true));
+    let own = vote(subject, 3, true);
     let answer = again(granted, || player.round.accept_verified_vote(own));
     player.note(answer);
     for signer in 0..3 {
@@ -219,30 +122,16 @@ fn play(mode: Mode, aggregates: bool, granted: u32) -> (Vec<String>, bool) {
     player.construct(granted);
     let missing = again(granted, || player.round.missing_voters(&proposal(2)));
     player.note(missing);
-    // A request that was refused has ended the count.
-    (player.answers, left.is_none())
+    player.answers
 }
 
 #[test]
 fn a_refusal_changes_nothing() {
     for mode in [Mode::Retaining, Mode::Releasing, Mode::Skipped] {
         for aggregates in [false, true] {
-            let (wanted, is_refused) = play(mode, aggregates, u32::MAX);
-            assert!(!is_refused);
-            let mut granted = 0;
-            loop {
-                let (answers, is_refused) = play(mode, aggregates, granted);
-                assert_eq!(answers, wanted, "{mode:?}, {aggregates}, request {granted}");
-                if !is_refused {
-                    break;
-                }
-                granted += 1;
-            }
-            // A script that asks for nothing would show nothing. A skipped round asks for the least.
-            assert!(
-                granted > 5,
-                "{mode:?}, {aggregates}: {granted} requests alone"
-            );
+            each_refused_in_turn(&format!("{mode:?}, {aggregates}"), |granted| {
+                play(mode, aggregates, granted)
+            });
         }
     }
 }

@@ -2,7 +2,8 @@
 -- are made of. Assumes `Logic`.
 --     word p h             the struct of the pointer p and the machine value h of the allocator
 --     parts_out, parts_in  what such a struct owns is what its parts own, both ways
-use Rattle.std.proofs.Common.{◌≡◌, ◌&&◌, ◌∙◌, ℕ, true, List, [], ◌∷◌, ◌++◌, refl, subst, lit<}
+--     with_one             what runs with one machine value runs with a list of it
+use Rattle.std.proofs.Common.{◌≡◌, ◌&&◌, ◌∙◌, ℕ, true, List, [], ◌∷◌, ◌++◌, refl, sym, subst, lit<}
 use lib.Dec.{T}
 use seplogic.Ra.Ura.{Ura}
 use mir.Syntax.{impl, tnil, dnil}
@@ -10,10 +11,10 @@ use mir.Raw.{raw as bare}
 use mir.Val.{Val, vstruct, of_list, has_ty, WT}
 use base.Fml.{Fml, fsep}
 use base.Fraction.{full_share}
-use base.Logic.{ent, via, guard, guard_i, never, fst∗, snd∗}
+use base.Logic.{SProp, ent, via, guard, guard_i, never, id⊢, fst∗, snd∗}
 use contract.Monad.{fact_use}
 use types.Logic.{Logic, sem}
-use types.Kit.{Item, Goal, Seq, Step, step, ‵, given, ◌$◌, move, drop, fsplit, fjoin, fpick, fpack, feq_i, feq_l, learn, use1}
+use types.Kit.{Item, Goal, prop, Seq, Step, step, ‵, given, ◌$◌, move, drop, fsplit, fjoin, fpick, fpack, feq_i, feq_l, learn, suffices, use1}
 use denote.RattleType.{RattleType, Valss}
 use denote.Memory.{lone}
 use denote.RawPtr.{Ptr, RawPtr, block_ptr, null_ptr, ptr_val, in_a_block, lies_at, Testable}
@@ -36,6 +37,13 @@ use Rattle.batcher_c.specs.contracts.unboxed.Unboxed as unboxed
 
 abbrev pub word : Ptr → Val → Val
 word p h = vstruct (of_list (ptr_val p ∷ h ∷ []))
+
+module _ {M : Type 1} {𝓤 : Ura M} {𝓛 : Logic 𝓤} {K : Type 0} {Γ : List (Item 𝓤)} where
+  pub with_one : K → (Runs : List Val → SProp 𝓤) (vs : List Val) (v : Val) → vs ≡ v ∷ []
+      → Step K 𝓛 Γ (prop (Runs (v ∷ []))) Γ (prop (Runs (vs ++ [])))
+  with_one t Runs vs v is =
+      suffices t (Runs (v ∷ [])) (subst (λ (ws : List Val). ent 𝓤 (Runs (v ∷ [])) (Runs ws))
+      (sym (λ i. is i ++ [])) (id⊢ 𝓤 (Runs (v ∷ []))))
 
 -- an allocator's row, whatever its calls are
 abbrev pub bare_alloc : (Z : RattleType) → Laws Z → Ghosts Z.Denot → Al

@@ -1,6 +1,6 @@
 -- What flat values and codes mean.
 use Rattle.std.specs.Prelude.{◌==◌, ℕ, if◌then◌else◌, Option, Some, None, option_and_then}
-use Rattle.std.specs.Option.{option_map}
+use Rattle.std.specs.Option.{option_map, option_or}
 use Rattle.batcher_types.specs.declared.positions.Round.{Round}
 use Rattle.batcher_types.specs.declared.messages.Sha256Digest.{Sha256Digest}
 use Rattle.batcher_types.specs.declared.messages.Proposal.{Proposal}
@@ -25,6 +25,12 @@ use Rattle.batcher_histories.specs.declared.answers.Admission.{Admission}
 use Rattle.batcher_histories.specs.declared.answers.BlockReason.{BlockReason}
 use Rattle.batcher_histories.specs.declared.answers.BlockReason.TheVariants.{UnknownParticipant, NotarizeSignerMismatch, NullifySignerMismatch, FinalizeSignerMismatch, ConflictingNotarize}
 use Rattle.batcher_histories.specs.declared.answers.BlockReason.TheVariants.{ConflictingNullify, ConflictingFinalize, InvalidSignature, NullifyAfterFinalize, FinalizeAfterNullify}
+use Rattle.batcher_histories.specs.declared.answers.OwnFault.{OwnFault}
+use Rattle.batcher_histories.specs.declared.answers.OwnFault.TheVariants.{OutOfMemory as OutOfMemoryFault, DuplicateNotarize as DuplicateNotarizeFault, DuplicateFinalize as DuplicateFinalizeFault, Conflicting as ConflictingFault}
+use Rattle.batcher_histories.specs.declared.answers.OwnFault.TheVariants.{NullifyAfterFinalize as NullifyAfterFinalizeFault, FinalizeAfterNullify as FinalizeAfterNullifyFault}
+use Rattle.batcher_node.specs.declared.answers.Cause.{Cause}
+use Rattle.batcher_node.specs.declared.answers.Cause.TheVariants.{Vote as ForVote, Certificate as ForCertificate, Signature as ForSignature}
+use Rattle.batcher_c.specs.declared.codes.TheConstants.{OUT_OF_MEMORY, DUPLICATE_NOTARIZE, DUPLICATE_FINALIZE, CONFLICTING, NULLIFY_AFTER_FINALIZE, FINALIZE_AFTER_NULLIFY, CAUSE_CERTIFICATE, CAUSE_SIGNATURE}
 use Rattle.batcher_c.specs.declared.codes.TheConstants.{NOTARIZATION, NULLIFICATION, FINALIZATION, RETAINING, RELEASING, SKIPPED}
 use Rattle.batcher_c.specs.declared.codes.TheConstants.{BLOCK_UNKNOWN_PARTICIPANT, BLOCK_NOTARIZE_SIGNER_MISMATCH, BLOCK_NULLIFY_SIGNER_MISMATCH, BLOCK_FINALIZE_SIGNER_MISMATCH}
 use Rattle.batcher_c.specs.declared.codes.TheConstants.{BLOCK_CONFLICTING_NOTARIZE, BLOCK_CONFLICTING_NULLIFY, BLOCK_CONFLICTING_FINALIZE, BLOCK_INVALID_SIGNATURE, BLOCK_NULLIFY_AFTER_FINALIZE}
@@ -59,6 +65,23 @@ block_in code =
     if code == BLOCK_INVALID_SIGNATURE then Some InvalidSignature else
     if code == BLOCK_NULLIFY_AFTER_FINALIZE then Some NullifyAfterFinalize else
     if code == BLOCK_FINALIZE_AFTER_NULLIFY then Some FinalizeAfterNullify else None
+
+-- why a participant of a node is blocked, if it is
+abbrev pub cause_in : ℕ → Option Cause
+cause_in code =
+    option_or (option_map ForVote (block_in code))
+    (if code == CAUSE_CERTIFICATE then Some ForCertificate else
+    if code == CAUSE_SIGNATURE then Some ForSignature else None)
+
+-- why a round refuses an own vote, where the code is of that
+abbrev pub fault_in : ℕ → Option OwnFault
+fault_in code =
+    if code == OUT_OF_MEMORY then Some OutOfMemoryFault else
+    if code == DUPLICATE_NOTARIZE then Some DuplicateNotarizeFault else
+    if code == DUPLICATE_FINALIZE then Some DuplicateFinalizeFault else
+    if code == CONFLICTING then Some ConflictingFault else
+    if code == NULLIFY_AFTER_FINALIZE then Some NullifyAfterFinalizeFault else
+    if code == FINALIZE_AFTER_NULLIFY then Some FinalizeAfterNullifyFault else None
 
 abbrev pub round_in : FlatProposal → Round
 round_in flat = record { epoch = record { 0 = flat.epoch }; view = record { 0 = flat.view } }

@@ -3,4 +3,7 @@ pub mod Truths
 pub mod Rows
 pub mod Flat
 pub mod Written
+pub mod Handles
 pub mod Rounds
+pub mod Nodes
+pub mod Convicted

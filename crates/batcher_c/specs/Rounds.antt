@@ -1,11 +1,11 @@
 -- What the calls of a round do and answer, by codes and flat values.
-use Rattle.std.specs.Prelude.{◌≡◌, ◌≢◌, ◌↔◌, ◌≤◌, ◌==◌, not, ℕ, Bool, true, List, [], ◌∷◌, length, map, Option, Some, None, Ok, IfSome, IsSomeAnd}
+use Rattle.std.specs.Prelude.{◌≡◌, ◌≢◌, ◌↔◌, ◌≤◌, ◌==◌, not, ℕ, Bool, true, false, List, [], ◌∷◌, length, map, Option, Some, None, Ok, IfSome, IsSomeAnd}
 use Rattle.std.specs.List.{list_any}
 use Rattle.batcher_types.specs.declared.messages.Sha256Digest.{Sha256Digest}
 use Rattle.batcher_types.specs.declared.positions.Participant.{Participant}
 use Rattle.batcher_types.specs.declared.scheme.keyed.Name.{Name}
 use Rattle.batcher_types.specs.Keys.{participant}
-use Rattle.batcher_types.specs.Votes.{subject_of, subject_certified, content_of, round_in as round_signed}
+use Rattle.batcher_types.specs.Votes.{attestation_of, subject_of, subject_certified, content_of, round_in as round_signed}
 use Rattle.batcher_votes.specs.declared.verifier.Batch.{Batch}
 use Rattle.batcher_histories.specs.declared.calls.Call.TheVariants.{Network as NetworkCall, Own as OwnCall, Construct as ConstructCall, Leader as LeaderCall, Forward as ForwardCall, Certificate as CertificateCall, Missing as MissingCall}
 use Rattle.batcher_histories.specs.declared.answers.Answer.TheVariants.{Network as NetworkAnswer, Own as OwnAnswer, Construct as ConstructAnswer, Leader as LeaderAnswer, Forward as ForwardAnswer}
@@ -15,32 +15,26 @@ use Rattle.batcher_histories.specs.Stands.{Stands}
 use Rattle.batcher_histories.specs.Setting.{Setting}
 use Rattle.batcher_histories.specs.Selection.{leader_of, selected_proposal, is_certified}
 use Rattle.batcher_histories.specs.Comparison.{has_block}
-use Rattle.batcher_histories.specs.Answers.{keeps_nullify}
+use Rattle.batcher_histories.specs.declared.answers.OwnFault.{OwnFault}
+use Rattle.batcher_histories.specs.Steps.{fault_or_memory}
+use Rattle.batcher_histories.specs.Answers.{keeps_nullify, own_answer}
 use Rattle.batcher_round.specs.Next.{subject_next}
 use Rattle.batcher_external.specs.declared.scheme.Content.{Content}
 use Rattle.batcher_external.specs.declared.scheme.Content.TheVariants.{Listed, Received}
-use Rattle.batcher_session.specs.Ledgers.{SameScheme, known_in, known_together}
+use Rattle.batcher_session.specs.Ledgers.{SameScheme, known_in, known_together, is_known_to_attest}
 use Rattle.batcher_session.specs.Sessions.{SessionView, judged, GoesOn, AfterAnyHistory, SameRound}
 use Rattle.batcher_session.specs.Wants.{Asked, asked_next}
 use Rattle.batcher_c.specs.contracts.caller.CallerTruth.TheImpl.{ghosts}
 use Rattle.batcher_c.specs.declared.caller.Caller.{Caller}
-use Rattle.batcher_c.specs.declared.codes.TheConstants.{DONE, NONE, MALFORMED, ELSEWHERE, OUT_OF_MEMORY, LEADER_CHANGED, NOT_VERIFIED, DUPLICATE_NOTARIZE, DUPLICATE_FINALIZE, CONFLICTING}
+use Rattle.batcher_c.specs.declared.codes.TheConstants.{DONE, MALFORMED, ELSEWHERE, OUT_OF_MEMORY, LEADER_CHANGED, NOT_VERIFIED, DUPLICATE_NOTARIZE, DUPLICATE_FINALIZE, CONFLICTING}
 use Rattle.batcher_c.specs.declared.codes.TheConstants.{NULLIFY_AFTER_FINALIZE, FINALIZE_AFTER_NULLIFY, IDLE, VERIFY, VERIFY_TOGETHER}
 use Rattle.batcher_c.specs.declared.flat.FlatProposal.{FlatProposal}
 use Rattle.batcher_c.specs.declared.flat.FlatAttestation.{FlatAttestation}
 use Rattle.batcher_c.specs.declared.flat.FlatVote.{FlatVote}
 use Rattle.batcher_c.specs.declared.flat.FlatAdmission.{FlatAdmission}
 use Rattle.batcher_c.specs.declared.flat.FlatStep.{FlatStep}
-use Rattle.batcher_c.specs.Flat.{kind_in, mode_in, vote_in, subject_in, attestation_in, admission_in, outcome_in, report_in, proposal_in}
+use Rattle.batcher_c.specs.Flat.{kind_in, fault_in, mode_in, vote_in, subject_in, attestation_in, admission_in, outcome_in, report_in, proposal_in}
 use Rattle.batcher_c.specs.Written.{Made, IsWritten, WritesBatch}
-
--- A call on an empty handle leaves it empty, and what it writes to as it was, and the code says so.
--- Else the handle has a round before and after, of which it holds.
-abbrev pub OnRound : Option SessionView → Option SessionView → ℕ → Type 0
-    → (SessionView → SessionView → Type 0) → Type 0
-OnRound None None code stays holds = (code ≡ NONE) × stays
-OnRound (Some before) (Some after) code stays holds = (code ≢ NONE) × holds before after
-OnRound before after code stays holds = ⊥
 
 abbrev pub is_one_of : List ℕ → ℕ → Bool
 is_one_of codes code = list_any (λ c. c == code) codes
@@ -185,7 +179,14 @@ module _ (before : SessionView) (code : ℕ) (after : SessionView) where
         (code ≡ ELSEWHERE) ↔ (round_signed (subject_of typed) ≢ before.round.number))
     pub done : code ≡ DONE → IfSome (vote_in vote) (λ typed.
         Goes (OwnCall typed, OwnAnswer (outcome_in out) (report_in out)))
-    pub stays : code ≢ DONE → code ≢ CONFLICTING → after ≡ before
+    pub verified : code ≡ DONE → IfSome (vote_in vote) (λ typed.
+        is_known_to_attest before.ledger (attestation_of typed) ≡ true)
+    pub not_verified : code ≡ NOT_VERIFIED → IfSome (vote_in vote) (λ typed.
+        is_known_to_attest before.ledger (attestation_of typed) ≡ false)
+    pub named : (fault : OwnFault) → fault_in code ≡ Some fault → IfSome (vote_in vote) (λ typed.
+        AfterAny before (λ past. fault
+        ≡ fault_or_memory (own_answer (setting_of before) past typed)))
+    pub stays : code ≢ DONE → after ≡ before
     pub out_stays : code ≢ DONE → out ≡ old
     pub verdicts : after.ledger ≡ before.ledger
     pub same : SameRound before.round after.round

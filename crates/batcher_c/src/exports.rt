@@ -1,8 +1,9 @@
-//! The functions that C calls. Each answers a code of the header.
+//! The functions of a round that C calls. Each answers a code of the header.
 
 ghost use Rattle.std.specs.Prelude.{◌≡◌, ⊤, true, map, None};
 ghost use Rattle.batcher_c.specs.Flat.{attestation_in};
-ghost use Rattle.batcher_c.specs.Rounds.{OnRound, MakesRound, RecordsVerdict, RecordsTogether, AddsNetwork, AcceptsVote, RecordsCertificate, SetsLeader, Forwards, AsksLeader, AsksProposal};
+ghost use Rattle.batcher_c.specs.Handles.{OnRound};
+ghost use Rattle.batcher_c.specs.Rounds.{MakesRound, RecordsVerdict, RecordsTogether, AddsNetwork, AcceptsVote, RecordsCertificate, SetsLeader, Forwards, AsksLeader, AsksProposal};
 ghost use Rattle.batcher_c.specs.Rounds.{AsksCertificate, AsksNullify, AsksMissing, ListsMissing, Constructs};
 ghost use Rattle.batcher_c.specs.Truths.{number_attests, list_passes, number_certifies};
 

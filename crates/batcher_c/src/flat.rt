@@ -1,18 +1,22 @@
 //! What crosses to C: structs of numbers, and codes in place of enums.
 
-ghost use Rattle.std.specs.Prelude.{◌≡◌, Some, if◌then◌else◌};
-ghost use Rattle.batcher_c.specs.Flat.{kind_in, mode_in, block_in, round_in, proposal_in, attestation_in, vote_in, report_in, admission_in, outcome_in, subject_in};
+ghost use Rattle.std.specs.Prelude.{◌≡◌, ◌≢◌, true, Some, None, if◌then◌else◌};
+ghost use Rattle.batcher_c.specs.Rounds.{is_one_of, refusals};
+ghost use Rattle.batcher_c.specs.Flat.{kind_in, mode_in, block_in, cause_in, fault_in, round_in, proposal_in, attestation_in, vote_in, report_in, admission_in, outcome_in, subject_in};
 
 use crate::codes::{
     BLOCK_CONFLICTING_FINALIZE, BLOCK_CONFLICTING_NOTARIZE, BLOCK_CONFLICTING_NULLIFY,
     BLOCK_FINALIZE_AFTER_NULLIFY, BLOCK_FINALIZE_SIGNER_MISMATCH, BLOCK_INVALID_SIGNATURE,
     BLOCK_NONE, BLOCK_NOTARIZE_SIGNER_MISMATCH, BLOCK_NULLIFY_AFTER_FINALIZE,
-    BLOCK_NULLIFY_SIGNER_MISMATCH, BLOCK_UNKNOWN_PARTICIPANT, FINALIZATION, NOTARIZATION,
-    NULLIFICATION, RELEASING, REPORT_CONFLICTING_FINALIZE, REPORT_CONFLICTING_NOTARIZE,
-    REPORT_FINALIZE, REPORT_NONE, REPORT_NOTARIZE, REPORT_NULLIFY, REPORT_NULLIFY_FINALIZE,
-    RETAINING, SKIPPED,
+    BLOCK_NULLIFY_SIGNER_MISMATCH, BLOCK_UNKNOWN_PARTICIPANT, CAUSE_CERTIFICATE, CAUSE_NONE,
+    CAUSE_SIGNATURE, CONFLICTING, DONE, DUPLICATE_FINALIZE, DUPLICATE_NOTARIZE, ELSEWHERE,
+    FINALIZATION, FINALIZE_AFTER_NULLIFY, KNOWN, MALFORMED, NOT_VERIFIED, NOTARIZATION,
+    NULLIFICATION, NULLIFY_AFTER_FINALIZE, OUT_OF_MEMORY, RELEASING, REPORT_CONFLICTING_FINALIZE,
+    REPORT_CONFLICTING_NOTARIZE, REPORT_FINALIZE, REPORT_NONE, REPORT_NOTARIZE, REPORT_NULLIFY,
+    REPORT_NULLIFY_FINALIZE, RETAINING, SKIPPED,
 };
-use batcher_histories::answers::{Admission, BlockReason};
+use batcher_histories::answers::{Admission, BlockReason, OwnFault};
+use batcher_node::Cause;
 use batcher_types::messages::{
     Activity, Attestation, Finalize, Kind, Notarize, Nullify, Proposal, Sha256Digest, Subject, Vote,
 };
@@ -122,6 +126,38 @@ fn block_code(block: Option<BlockReason>) -> u8
         BlockReason::InvalidSignature => BLOCK_INVALID_SIGNATURE,
         BlockReason::NullifyAfterFinalize => BLOCK_NULLIFY_AFTER_FINALIZE,
         BlockReason::FinalizeAfterNullify => BLOCK_FINALIZE_AFTER_NULLIFY,
+    }
+}
+
+/// The code of why a participant of a node is blocked, or that it isn't.
+pub fn cause_code(cause: Option<Cause>) -> u8
+    ensures { cause_in result ≡ cause }
+{
+    match cause {
+        None => CAUSE_NONE,
+        Some(Cause::Vote(reason)) => block_code(Some(reason)),
+        Some(Cause::Certificate) => CAUSE_CERTIFICATE,
+        Some(Cause::Signature) => CAUSE_SIGNATURE,
+    }
+}
+
+/// The code of why an own vote is refused, which says nothing else.
+pub fn fault_code(fault: OwnFault) -> u8
+    ensures fault { fault_in result ≡ Some fault }
+    ensures codes { is_one_of refusals result ≡ true }
+    ensures done { result ≢ DONE }
+    ensures known { result ≢ KNOWN }
+    ensures malformed { result ≢ MALFORMED }
+    ensures elsewhere { result ≢ ELSEWHERE }
+    ensures not_verified { result ≢ NOT_VERIFIED }
+{
+    match fault {
+        OwnFault::OutOfMemory => OUT_OF_MEMORY,
+        OwnFault::DuplicateNotarize => DUPLICATE_NOTARIZE,
+        OwnFault::DuplicateFinalize => DUPLICATE_FINALIZE,
+        OwnFault::Conflicting => CONFLICTING,
+        OwnFault::NullifyAfterFinalize => NULLIFY_AFTER_FINALIZE,
+        OwnFault::FinalizeAfterNullify => FINALIZE_AFTER_NULLIFY,
     }
 }
 
@@ -312,6 +348,14 @@ impl FlatAdmission {
         ensures report { report_in result ≡ report.now }
     {
         FlatAdmission::with(added, retained, None, report)
+    }
+
+    /// An own vote that is to be sent, flat, by what is reported of it: it is added.
+    pub fn of_sent(report: Activity<u64, Sha256Digest>) -> Self
+        ensures { admission_in result
+            ≡ record { added = true; block = None; report = Some report } }
+    {
+        FlatAdmission::with(true, false, None, &Some(report))
     }
 
     fn with(

@@ -1,11 +1,15 @@
-//! A static library: rounds of the batcher for C, and for what calls C. Its header is
+//! A static library: rounds and nodes of the batcher for C, and for what calls C. Its header is
 //! `include/batcher.h`.
 #![tactic(auto)]
 
 mod caller;
 mod codes;
+mod evidence;
 mod exports;
 mod flat;
 mod handle;
+mod node_exports;
+mod nodes;
 mod rounds;
 mod unboxed;
+mod writing;

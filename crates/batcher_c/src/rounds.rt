@@ -1,32 +1,28 @@
 //! The calls of a round, over flat values. Each answers a code.
 
-ghost use Rattle.std.specs.Prelude.{◌≡◌, ◌≢◌, ◌↔◌, true, length, map, Some, IfOk};
-ghost use Rattle.batcher_types.specs.Keys.{participant};
-ghost use Rattle.batcher_c.specs.Flat.{attestation_in, subject_in};
+ghost use Rattle.std.specs.Prelude.{◌≡◌, ◌≢◌, ◌↔◌, true, map, Some};
+ghost use Rattle.batcher_histories.specs.declared.answers.OwnFault.{OwnFault as TheFault};
+ghost use Rattle.batcher_c.specs.Flat.{attestation_in, fault_in};
 ghost use Rattle.batcher_c.specs.Truths.{number_attests, list_passes, number_certifies};
-ghost use Rattle.batcher_c.specs.Written.{IsWritten, WritesContent, WritesBatch};
 ghost use Rattle.batcher_c.specs.Rounds.{is_one_of, refusals, RecordsVerdict, RecordsTogether, AddsNetwork, AcceptsVote, RecordsCertificate, SetsLeader, Forwards, AsksLeader, AsksProposal};
 ghost use Rattle.batcher_c.specs.Rounds.{AsksCertificate, AsksNullify, AsksMissing, ListsMissing, Constructs};
 
-use crate::caller::Caller;
 use crate::codes::{
-    CONFLICTING, DONE, DUPLICATE_FINALIZE, DUPLICATE_NOTARIZE, ELSEWHERE, FINALIZE_AFTER_NULLIFY,
-    IDLE, LEADER_CHANGED, MALFORMED, NOT_VERIFIED, NULLIFY_AFTER_FINALIZE, OUT_OF_MEMORY, VERIFY,
-    VERIFY_TOGETHER,
+    CONFLICTING, DONE, ELSEWHERE, IDLE, LEADER_CHANGED, MALFORMED, NOT_VERIFIED, OUT_OF_MEMORY,
+    VERIFY, VERIFY_TOGETHER,
 };
 use crate::flat::{
-    FlatAdmission, FlatAttestation, FlatProposal, FlatStep, FlatVote, flat_subject, kind_of,
+    FlatAdmission, FlatAttestation, FlatProposal, FlatStep, FlatVote, fault_code, kind_of,
     subject_of,
 };
 use crate::handle::Session;
+use crate::writing::{attestations_of, write_batch, write_signers, write_wanted};
 use batcher_external::{CertificateVerdict, Content};
-use batcher_histories::answers::OwnFault;
-use batcher_session::{OwnRefusal, Step, Wanted};
-use batcher_types::messages::{Attestation, Certificate, Sha256Digest};
+use batcher_session::{OwnRefusal, Step};
+use batcher_types::messages::Certificate;
 use batcher_types::positions::Participant;
-use batcher_votes::verifier::Batch;
 use batcher_votes::votes::Outcome;
-use std::alloc::{AllocError, Global};
+use std::alloc::Global;
 
 /// Records a verdict on the attestation of a number.
 pub fn record_verdict(session: &mut Session, number: u64, attests: bool) -> u8
@@ -107,16 +103,14 @@ fn refusal_code(refusal: OwnRefusal) -> u8
     ensures done { result ≢ DONE }
     ensures malformed { result ≢ MALFORMED }
     ensures elsewhere { (result ≡ ELSEWHERE) ↔ (refusal ≡ OwnRefusal.Elsewhere) }
+    ensures not_verified { result ≡ NOT_VERIFIED → refusal ≡ OwnRefusal.NotVerified }
+    ensures fault { (fault : TheFault) → fault_in result ≡ Some fault
+        → refusal ≡ OwnRefusal.Fault fault }
 {
     match refusal {
         OwnRefusal::Elsewhere => ELSEWHERE,
         OwnRefusal::NotVerified => NOT_VERIFIED,
-        OwnRefusal::Fault(OwnFault::OutOfMemory) => OUT_OF_MEMORY,
-        OwnRefusal::Fault(OwnFault::DuplicateNotarize) => DUPLICATE_NOTARIZE,
-        OwnRefusal::Fault(OwnFault::DuplicateFinalize) => DUPLICATE_FINALIZE,
-        OwnRefusal::Fault(OwnFault::Conflicting) => CONFLICTING,
-        OwnRefusal::Fault(OwnFault::NullifyAfterFinalize) => NULLIFY_AFTER_FINALIZE,
-        OwnRefusal::Fault(OwnFault::FinalizeAfterNullify) => FINALIZE_AFTER_NULLIFY,
+        OwnRefusal::Fault(fault) => fault_code(fault),
     }
 }
 
@@ -279,88 +273,4 @@ pub fn try_construct(
         }
         Err(_) => OUT_OF_MEMORY,
     }
-}
-
-fn write_wanted(wanted: &Wanted, step: &mut FlatStep, list: &mut [FlatAttestation])
-    ensures subject { subject_in step.new.kind step.new.proposal ≡ Some wanted.now.subject }
-    ensures listed { step.new.listed ≡ length wanted.now.attestations.items }
-    ensures verified { step.new.verified ≡ wanted.now.verified }
-    ensures list { IsWritten attestation_in wanted.now.attestations.items list.old list.new }
-{
-    let (kind, proposal) = flat_subject(&wanted.subject);
-    step.kind = kind;
-    step.proposal = proposal;
-    step.listed = wanted.attestations.len() as u64;
-    step.verified = wanted.verified as u64;
-    write_attestations(wanted.attestations.as_slice(), list);
-}
-
-fn write_batch(
-    batch: &Batch<Certificate<Content<Caller>, Sha256Digest>>,
-    step: &mut FlatStep,
-    list: &mut [FlatAttestation],
-    signers: &mut [u32],
-)
-    ensures { WritesBatch step.new list.old list.new signers.old signers.new batch.now }
-{
-    step.processed = batch.processed as u64;
-    step.fallback = batch.fallback;
-    step.invalid = batch.invalid.len() as u64;
-    write_signers(batch.invalid.as_slice(), signers);
-    match &batch.certificate {
-        Some(certificate) => {
-            step.certified = true;
-            let (kind, proposal) = flat_subject(&certificate.subject());
-            step.kind = kind;
-            step.proposal = proposal;
-            write_content(certificate.content(), step, list);
-        }
-        None => step.certified = false,
-    }
-}
-
-// The attestations that a certificate is made of. One that came from elsewhere shows none.
-fn write_content(content: &Content<Caller>, step: &mut FlatStep, list: &mut [FlatAttestation])
-    ensures content { WritesContent step.new list.old list.new content.now }
-    ensures others { step.new ≡ record step.old { listed = step.new.listed } }
-{
-    match content {
-        Content::Listed(parts) => {
-            let attestations = parts.attestations();
-            step.listed = attestations.len() as u64;
-            write_attestations(attestations, list);
-        }
-        Content::Received(_) => step.listed = 0,
-    }
-}
-
-// Writes as many as there is room for.
-fn write_attestations(from: &[Attestation<u64>], to: &mut [FlatAttestation])
-    ensures { IsWritten attestation_in from.now to.old to.new }
-{
-    for index in 0..from.len().min(to.len()) {
-        to[index] = FlatAttestation::of(from[index]);
-    }
-}
-
-// Writes as many as there is room for.
-fn write_signers(from: &[Participant], to: &mut [u32])
-    ensures { IsWritten participant from.now to.old to.new }
-{
-    for index in 0..from.len().min(to.len()) {
-        to[index] = from[index].0;
-    }
-}
-
-fn attestations_of(
-    alloc: Global,
-    list: &[FlatAttestation],
-) -> Result<Vec<Attestation<u64>>, AllocError>
-    ensures { IfOk result (λ all. all.items ≡ map attestation_in list.now) }
-{
-    let mut all = Vec::with_capacity(alloc, list.len())?;
-    for flat in list {
-        all.push(flat.attestation())?;
-    }
-    Ok(all)
 }

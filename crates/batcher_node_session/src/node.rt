@@ -6,8 +6,8 @@ ghost use Rattle.batcher.specs.Comparison.{has_block};
 ghost use Rattle.batcher.specs.Selection.{is_certified, leader_of, selected_proposal};
 ghost use Rattle.batcher.specs.Steps.{fault_or_memory};
 ghost use Rattle.batcher.specs.Verifiers.{certifies_itself};
-ghost use Rattle.batcher.specs.Votes.{subject_of, subject_certified, round_in};
-ghost use Rattle.batcher_session.specs.Ledgers.{SameScheme, known_in, known_together};
+ghost use Rattle.batcher.specs.Votes.{attestation_of, subject_of, subject_certified, round_in};
+ghost use Rattle.batcher_session.specs.Ledgers.{SameScheme, known_in, known_together, is_known_to_attest};
 ghost use Rattle.batcher_node.specs.Events.{started, vote_came, certificate_came, view_entered, view_finalized, constructed, told};
 ghost use Rattle.batcher_node.specs.Nodes.{SameNode, IsAtRest, IsNext, IsLedByAnother, slot_at};
 ghost use Rattle.batcher_node.specs.Promised.{KeepsPromises, IsComplete};
@@ -222,6 +222,10 @@ impl<T: Truth> NodeSession<T> {
     ) -> Result<Cast<u64, Sha256Digest>, CastRefusal>
         ensures meets { IfOk result (λ cast. MeetsCast (judged T.Truth self.old.node) self.old.node
             vote cast self.new.node) }
+        ensures verified { IfOk result (λ _.
+            is_known_to_attest self.old.ledger (attestation_of vote) ≡ true) }
+        ensures not_verified { result ≡ Err CastRefusal.NotVerified
+            → is_known_to_attest self.old.ledger (attestation_of vote) ≡ false }
         ensures named { (fault : OwnFault) → result ≡ Err (CastRefusal.Fault fault)
             → WhereverNodeStands (judged T.Truth self.old.node) self.old.node (λ past.
             let view = (round_in (subject_of vote)).view.0 in

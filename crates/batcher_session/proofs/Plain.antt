@@ -1,5 +1,5 @@
 -- Verdicts are known of the scheme's own and of their data alike.
-use Rattle.std.proofs.Common.{◌≡◌, ◌∙◌, ◌==◌, ℕ, Bool, true, false, cond, List, [], ◌∷◌, length, filter, arith, Option, Some, None, is_none, ap, refl, Result, Ok, Err}
+use Rattle.std.proofs.Common.{◌≡◌, ◌∙◌, ◌==◌, ◌&&◌, nat_lt, sym, ℕ, Bool, true, false, cond, List, [], ◌∷◌, length, filter, arith, Option, Some, None, is_none, ap, refl, Result, Ok, Err}
 use Rattle.std.specs.Prelude.{OnOk}
 use Rattle.std.specs.Ordering.{nat_cmp}
 use Rattle.std.specs.Map.{lookup}
@@ -13,7 +13,7 @@ use Rattle.batcher_external.specs.declared.truth.Verdict.{Verdict}
 use Rattle.batcher_external.specs.declared.truth.Whole.{Whole}
 use Rattle.batcher_external.specs.Known.{known_of_whole}
 use Rattle.batcher_external.specs.Known as theirs
-use Rattle.batcher_session.specs.Ledgers.{Single, single_of, singles_of, together_of, known_in, known_together, unknown_among}
+use Rattle.batcher_session.specs.Ledgers.{Single, single_of, singles_of, together_of, known_in, known_together, unknown_among, or_false}
 use Rattle.batcher_session.specs.Wants.{asked_singly}
 
 module _ {T : Type 0} {truth : Ghosts T} where
@@ -30,6 +30,13 @@ module _ {T : Type 0} {truth : Ghosts T} where
       ap (option_and_then (λ (v : Single). cond (v.number == number) (Some v.attests) None))
       (lookup-map_values single_of (is_at (nat_cmp number)) singles)
       ∙ found number (lookup (is_at (nat_cmp number)) singles)
+
+  -- What is known of an attestation, of a signer that takes part, is what the verdicts say.
+  pub known_by : (singles : List (ℕ × Verdict T truth)) (signer n number : ℕ) (found : Option Bool)
+      → nat_lt signer n ≡ true → found ≡ theirs.known_in singles number
+      → or_false found ≡ (nat_lt signer n && or_false (known_in (singles_of singles) number))
+  known_by singles signer n number found lower is =
+      rw (lower, same_known singles number, sym is) refl
 
   pub same_unknown : (singles : List (ℕ × Verdict T truth)) (attestations : List (Attestation ℕ))
       → unknown_among (singles_of singles) attestations

@@ -1,5 +1,5 @@
 -- The verdicts that are recorded, as data.
-use Rattle.std.specs.Prelude.{◌≡◌, ◌==◌, ℕ, Bool, cond, List, map, filter, Option, Some, None, is_none, option_and_then}
+use Rattle.std.specs.Prelude.{◌≡◌, ◌==◌, ◌&&◌, ℕ, Bool, false, nat_lt, cond, List, map, filter, Option, Some, None, is_none, option_and_then}
 use Rattle.std.specs.Ordering.{nat_cmp}
 use Rattle.std.specs.Option.{option_map}
 use Rattle.std.specs.Map.{lookup}
@@ -45,6 +45,15 @@ is_unknown_in singles a = is_none (known_in singles a.signature)
 
 abbrev pub unknown_among : List (ℕ × Single) → List (Attestation ℕ) → List (Attestation ℕ)
 unknown_among singles attestations = filter (is_unknown_in singles) attestations
+
+abbrev pub or_false : Option Bool → Bool
+or_false None = false
+or_false (Some found) = found
+
+-- whether a verdict says that it attests, and its signer is a participant
+abbrev pub is_known_to_attest : LedgerView → Attestation ℕ → Bool
+is_known_to_attest ledger a =
+    nat_lt a.signer.0 ledger.participants && or_false (known_in ledger.singles a.signature)
 
 -- the verdict on these attestations as a whole, where the last such verdict is on them
 abbrev pub known_together : Option Together → List (Attestation ℕ) → Option Bool

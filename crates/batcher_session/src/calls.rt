@@ -1,11 +1,15 @@
 //! The calls of a round over a scheme of either sort, by what is seen of it.
 
-ghost use Rattle.std.specs.Prelude.{◌≡◌, ◌≢◌, ◌≤◌, ◌↔◌, [], length, IfOk, IfSome, OnErr, None, Ok, Err};
-ghost use Rattle.batcher.specs.Votes.{subject_of, subject_certified, round_in};
+ghost use Rattle.std.specs.Prelude.{◌≡◌, ◌≢◌, ◌≤◌, ◌↔◌, [], true, false, length, IfOk, IfSome, OnErr, None, Ok, Err};
+ghost use Rattle.batcher.specs.Answers.{own_answer};
+ghost use Rattle.batcher.specs.Steps.{fault_or_memory};
+ghost use Rattle.batcher.specs.Votes.{attestation_of, subject_of, subject_certified, round_in};
 ghost use Rattle.batcher.specs.Ran.{IsPromised};
 ghost use Rattle.batcher.specs.Stands.{Stands};
 ghost use Rattle.batcher.specs.calls.Call.TheVariants.{Network as NetworkCall, Own as OwnCall, Construct as ConstructCall, Certificate as CertificateCall};
 ghost use Rattle.batcher.specs.answers.Answer.TheVariants.{Network as NetworkAnswer, Own as OwnAnswer, Construct as ConstructAnswer, Certificate as CertificateAnswer};
+ghost use Rattle.batcher_session.specs.Ledgers.{is_known_to_attest};
+ghost use Rattle.batcher.specs.answers.OwnFault.{OwnFault as TheFault};
 ghost use Rattle.batcher_session.specs.Sessions.{seen, judged, AfterAnyHistory, GoesOn, SameRound};
 
 use crate::ledger::Ledger;
@@ -74,6 +78,14 @@ pub(crate) fn accept_vote<T: Truth, const BATCHABLE: bool>(
         (OwnCall vote, OwnAnswer answer.0 answer.1) (seen BATCHABLE round.new)) }
     ensures elsewhere { (result ≡ Err OwnRefusal.Elsewhere)
         ↔ (round_in (subject_of vote) ≢ round.old.number) }
+    ensures verified { IfOk result (λ _.
+        is_known_to_attest ledger.now (attestation_of vote) ≡ true) }
+    ensures not_verified { result ≡ Err OwnRefusal.NotVerified
+        → is_known_to_attest ledger.now (attestation_of vote) ≡ false }
+    ensures named { (fault : TheFault) → result ≡ Err (OwnRefusal.Fault fault)
+        → AfterAnyHistory T.Truth (seen BATCHABLE round.old) (λ past. fault
+        ≡ fault_or_memory (own_answer (judged T.Truth (seen BATCHABLE round.old)) past vote)) }
+    ensures outcome { IfOk result (λ answer. answer.0 ≢ Outcome.Conflicting) }
     ensures refused { OnErr result (round.new ≡ round.old) }
     ensures same { SameRound (seen BATCHABLE round.old) (seen BATCHABLE round.new) }
 {

@@ -3,7 +3,7 @@
 ghost use Rattle.std.specs.Prelude.{◌≡◌, ◌≢◌, ◌≤◌, ◌++◌, ℕ, length, IfOk, IfSome, OnOk, OnErr, None, Some, is_some, true, option_and_then};
 ghost use Rattle.batcher_external.specs.External.{attests};
 ghost use Rattle.batcher_round.specs.Next.{subject_next};
-ghost use Rattle.batcher_session.specs.Ledgers.{SameScheme, known_in, known_together, unknown_among};
+ghost use Rattle.batcher_session.specs.Ledgers.{SameScheme, known_in, known_together, unknown_among, is_known_to_attest};
 ghost use Rattle.batcher_session.specs.Wants.{asked_next, asked_singly, known_first};
 ghost use Rattle.batcher_session.specs.Steps.{asked_by, subject_asked};
 
@@ -131,11 +131,17 @@ impl<T: Truth> Ledger<T> {
 
     /// Whether a verdict says that it attests, and its signer is a participant.
     pub fn is_known_to_attest(&self, attestation: Attestation<u64>) -> bool
-        ensures { result ≡ true → attests T.Truth self.now.participants
+        ensures known { result ≡ is_known_to_attest self.now attestation }
+        ensures attests { result ≡ true → attests T.Truth self.now.participants
             attestation ≡ true }
     {
-        attestation.signer.0 < self.participants
-            && self.verdicts.single(attestation.signature) == Some(true)
+        if attestation.signer.0 >= self.participants {
+            return false;
+        }
+        match self.verdicts.single(attestation.signature) {
+            Some(attests) => attests,
+            None => false,
+        }
     }
 
     /// On what the next construction of a round of its scheme wants verdicts first.

@@ -1,17 +1,19 @@
 //! A round of one sort of scheme, with the verdicts that are recorded.
 
-ghost use Rattle.std.specs.Prelude.{◌≡◌, ◌≢◌, ◌≤◌, ◌↔◌, ℕ, length, [], not, true, IfOk, IfSome, OnOk, OnErr, None, Some, Ok, Err, is_some, IsTrue, option_and_then};
-ghost use Rattle.batcher.specs.Votes.{subject_of, subject_certified, round_in};
+ghost use Rattle.std.specs.Prelude.{◌≡◌, ◌≢◌, ◌≤◌, ◌↔◌, ℕ, length, [], not, true, IfOk, IfSome, OnOk, OnErr, None, Some, Ok, Err, is_some, IsTrue, option_and_then, false};
+ghost use Rattle.batcher.specs.Votes.{attestation_of, subject_of, subject_certified, round_in};
 ghost use Rattle.batcher.specs.Selection.{is_certified, leader_of, selected_proposal};
 ghost use Rattle.batcher.specs.Comparison.{has_block};
-ghost use Rattle.batcher.specs.Answers.{keeps_nullify};
+ghost use Rattle.batcher.specs.answers.OwnFault.{OwnFault as TheFault};
+ghost use Rattle.batcher.specs.Answers.{keeps_nullify, own_answer};
+ghost use Rattle.batcher.specs.Steps.{fault_or_memory};
 ghost use Rattle.batcher.specs.Ran.{IsPromised};
 ghost use Rattle.batcher.specs.Stands.{Stands, Follows, Meets};
 ghost use Rattle.batcher.specs.calls.Call.TheVariants.{Network as NetworkCall, Own as OwnCall, Construct as ConstructCall, Leader as LeaderCall, Forward as ForwardCall, Certificate as CertificateCall, Missing as MissingCall};
 ghost use Rattle.batcher.specs.answers.Answer.TheVariants.{Network as NetworkAnswer, Own as OwnAnswer, Construct as ConstructAnswer, Leader as LeaderAnswer};
 ghost use Rattle.batcher.specs.answers.Answer.TheVariants.{Forward as ForwardAnswer, Certificate as CertificateAnswer, Missing as MissingAnswer};
 ghost use Rattle.batcher_round.specs.Next.{subject_next};
-ghost use Rattle.batcher_session.specs.Ledgers.{SameScheme, known_in, known_together};
+ghost use Rattle.batcher_session.specs.Ledgers.{SameScheme, known_in, known_together, is_known_to_attest};
 ghost use Rattle.batcher_session.specs.Sessions.{judged, GoesOn, AfterAnyHistory, SameRound};
 ghost use Rattle.batcher_session.specs.Sorts.{view_of};
 ghost use Rattle.batcher_session.specs.Steps.{asked_by, subject_asked, IfAnswered};
@@ -164,6 +166,14 @@ impl<T: Truth> Session<T> {
             (OwnCall vote, OwnAnswer answer.0 answer.1) self.new.round) }
         ensures elsewhere { (result ≡ Err OwnRefusal.Elsewhere)
             ↔ (round_in (subject_of vote) ≢ self.old.round.number) }
+        ensures verified { IfOk result (λ _.
+            is_known_to_attest self.old.ledger (attestation_of vote) ≡ true) }
+        ensures not_verified { result ≡ Err OwnRefusal.NotVerified
+            → is_known_to_attest self.old.ledger (attestation_of vote) ≡ false }
+        ensures named { (fault : TheFault) → result ≡ Err (OwnRefusal.Fault fault)
+            → AfterAnyHistory T.Truth self.old.round (λ past. fault
+            ≡ fault_or_memory (own_answer (judged T.Truth self.old.round) past vote)) }
+        ensures outcome { IfOk result (λ answer. answer.0 ≢ Outcome.Conflicting) }
         ensures refused { OnErr result (self.new ≡ self.old) }
         ensures verdicts { self.new.ledger ≡ self.old.ledger }
         ensures same { SameRound self.old.round self.new.round }

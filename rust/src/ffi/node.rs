@@ -1,20 +1,9 @@
-//! What is declared of nodes. `tools/header` compares these with the header too, once it has nodes.
+//! What is declared of nodes. `tools/header` compares these declarations with the header too.
 
-use super::{Admission, Attestation, Proposal, Step, Vote};
+use super::{Admission, Attestation, Proposal, Step, Vote, code};
 use std::cell::UnsafeCell;
 use std::ffi::c_void;
 use std::ptr;
-
-/// Codes that calls of nodes answer, beside those of rounds.
-pub(crate) mod code {
-    pub(crate) use crate::ffi::code::*;
-
-    pub(crate) const DROPPED: u8 = 15;
-    pub(crate) const UNKNOWN: u8 = 16;
-    pub(crate) const PASSED: u8 = 17;
-    pub(crate) const KNOWN: u8 = 18;
-    pub(crate) const FORGED: u8 = 19;
-}
 
 /// `struct batcher_node`
 #[repr(C)]
@@ -92,6 +81,35 @@ unsafe extern "C" {
     fn batcher_node_blocked(
         node: *mut NodeHandle,
         causes: *mut u8,
+        length: usize,
+        count: *mut u64,
+    ) -> u8;
+    fn batcher_node_leader(node: *mut NodeHandle, view: u64, leader: *mut u32) -> u8;
+    fn batcher_node_proposal(node: *mut NodeHandle, view: u64, proposal: *mut Proposal) -> u8;
+    fn batcher_node_has_certificate(
+        node: *mut NodeHandle,
+        view: u64,
+        kind: u8,
+        has: *mut bool,
+    ) -> u8;
+    fn batcher_node_has_nullify(
+        node: *mut NodeHandle,
+        view: u64,
+        signer: u32,
+        has: *mut bool,
+    ) -> u8;
+    fn batcher_node_is_missing_voter(
+        node: *mut NodeHandle,
+        view: u64,
+        proposal: *const Proposal,
+        participant: u32,
+        is_missing: *mut bool,
+    ) -> u8;
+    fn batcher_node_missing_voters(
+        node: *mut NodeHandle,
+        view: u64,
+        proposal: *const Proposal,
+        list: *mut u32,
         length: usize,
         count: *mut u64,
     ) -> u8;
@@ -241,5 +259,64 @@ impl Node {
     pub(crate) fn blocked(&self, causes: &mut [u8], count: &mut u64) -> u8 {
         // SAFETY: as of a round.
         unsafe { batcher_node_blocked(self.handle.get(), causes.as_mut_ptr(), causes.len(), count) }
+    }
+
+    pub(crate) fn leader(&self, view: u64, leader: &mut u32) -> u8 {
+        // SAFETY: as of a round.
+        unsafe { batcher_node_leader(self.handle.get(), view, leader) }
+    }
+
+    pub(crate) fn proposal(&self, view: u64, proposal: &mut Proposal) -> u8 {
+        // SAFETY: as of a round.
+        unsafe { batcher_node_proposal(self.handle.get(), view, proposal) }
+    }
+
+    pub(crate) fn has_certificate(&self, view: u64, kind: u8, has: &mut bool) -> u8 {
+        // SAFETY: as of a round.
+        unsafe { batcher_node_has_certificate(self.handle.get(), view, kind, has) }
+    }
+
+    pub(crate) fn has_nullify(&self, view: u64, signer: u32, has: &mut bool) -> u8 {
+        // SAFETY: as of a round.
+        unsafe { batcher_node_has_nullify(self.handle.get(), view, signer, has) }
+    }
+
+    pub(crate) fn is_missing_voter(
+        &self,
+        view: u64,
+        proposal: &Proposal,
+        participant: u32,
+        is_missing: &mut bool,
+    ) -> u8 {
+        // SAFETY: as of a round.
+        unsafe {
+            batcher_node_is_missing_voter(
+                self.handle.get(),
+                view,
+                proposal,
+                participant,
+                is_missing,
+            )
+        }
+    }
+
+    pub(crate) fn missing_voters(
+        &self,
+        view: u64,
+        proposal: &Proposal,
+        list: &mut [u32],
+        count: &mut u64,
+    ) -> u8 {
+        // SAFETY: as of a round.
+        unsafe {
+            batcher_node_missing_voters(
+                self.handle.get(),
+                view,
+                proposal,
+                list.as_mut_ptr(),
+                list.len(),
+                count,
+            )
+        }
     }
 }

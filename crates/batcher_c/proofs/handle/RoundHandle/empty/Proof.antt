@@ -1,10 +1,10 @@
 -- `empty` makes a null pointer.
-use Rattle.std.proofs.Common.{◌≡◌, List, [], ◌∷◌, ◌++◌, refl, sym, subst}
+use Rattle.std.proofs.Common.{◌≡◌, List, [], ◌∷◌, refl}
 use mir.Val.{Val}
-use base.Logic.{SProp, ent, emp, id⊢}
+use base.Logic.{SProp, emp}
 use base.Fml.{ftrue}
 use prog.Wp.{WpFn}
-use types.Kit.{‵, raw, ◌⊛◌, ◌$◌, ◌∵◌, !, qed, by, move, keep, split, fsplit, fjoin, feq_i, suffices, use0}
+use types.Kit.{‵, raw, ◌⊛◌, ◌$◌, ◌∵◌, !, qed, by, move, keep, split, fsplit, fjoin, feq_i, use0}
 use types.Run.{lit, no_more, and_then, returns, enter}
 use types.ByLocal.{alloc_all, pass_all, free_all, look_at, get, sets}
 use types.Part.{agg}
@@ -23,7 +23,7 @@ use Rattle.std.specs.contracts.alloc.Global as heap
 use Rattle.std.specs.contracts.impls.GlobalAllocator.TheImpl.{ghosts}
 use Rattle.std.proofs.alloc.Global.TheLaws as heap_laws
 use Rattle.std.proofs.raw_atomic.Walks.{proved_at, leaves}
-use Rattle.batcher_c.proofs.Pointers.{word, bare_alloc, fits_null, handle_in}
+use Rattle.batcher_c.proofs.Pointers.{word, with_one, bare_alloc, fits_null, handle_in}
 use Rattle.batcher_c.specs.Rows.{session_row as R}
 use Rattle.batcher_c.specs.contracts.handle.RoundHandle.empty.{ended, clauses}
 use Rattle.batcher_c.specs.contracts.handle.RoundHandle.empty.Key.{name}
@@ -51,8 +51,7 @@ empty_spec 𝓤 𝓛 𝓜 𝓡 wired =
     split ! $ move ! (1 ∷ []) $ fsplit ! $
     handle_tells (bare_alloc Z LZ ghosts) ! a z.0.4.0 (λ h is fits.
     let typed = fits_null Z LZ ghosts h fits in
-    suffices ! (Runs (h ∷ [])) (subst (λ (ws : List Val). ent 𝓤 (Runs (h ∷ [])) (Runs ws))
-    (sym (λ i. is i ++ [])) (id⊢ 𝓤 (Runs (h ∷ [])))) $
+    with_one ! Runs z.0.4.0 h is $
     enter ! 𝓣.C 𝓣.Λ body (h ∷ []) Post $ alloc_all ! (λ l. pass_all ! refl (fits, tt) $
     sets ! (agg ! (and_then ! (lit ! tt) (and_then ! (get ! refl) (no_more !)))) refl typed $
     feq_i ! Ptr null_ptr null_ptr refl $ handle_in R ! null_ptr a none h $

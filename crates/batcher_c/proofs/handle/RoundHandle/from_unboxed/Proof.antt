@@ -1,10 +1,10 @@
 -- `from_unboxed` keeps the pointer.
-use Rattle.std.proofs.Common.{◌≡◌, List, [], ◌∷◌, ◌++◌, refl, sym, subst}
+use Rattle.std.proofs.Common.{◌≡◌, List, [], ◌∷◌, refl}
 use mir.Val.{Val}
-use base.Logic.{SProp, ent, emp, id⊢}
+use base.Logic.{SProp, emp}
 use base.Fml.{ftrue}
 use prog.Wp.{WpFn}
-use types.Kit.{‵, raw, ◌⊛◌, ◌$◌, ◌∵◌, !, qed, by, move, keep, split, fsplit, fjoin, suffices, use0}
+use types.Kit.{‵, raw, ◌⊛◌, ◌$◌, ◌∵◌, !, qed, by, move, keep, split, fsplit, fjoin, use0}
 use types.Run.{stop, fld, of_opd, no_more, and_then, returns, enter}
 use types.ByLocal.{alloc_all, pass_all, free_all, look_at, get, get_in, sets}
 use types.Part.{agg, sub, whole}
@@ -22,7 +22,7 @@ use Rattle.std.specs.contracts.alloc.Global as heap
 use Rattle.std.specs.contracts.impls.GlobalAllocator.TheImpl.{ghosts}
 use Rattle.std.proofs.alloc.Global.TheLaws as heap_laws
 use Rattle.std.proofs.raw_atomic.Walks.{proved_at, leaves}
-use Rattle.batcher_c.proofs.Pointers.{word, fits_at, Unboxed, unboxed_out, handle_in}
+use Rattle.batcher_c.proofs.Pointers.{word, with_one, fits_at, Unboxed, unboxed_out, handle_in}
 use Rattle.batcher_c.specs.Rows.{session_row as R}
 use Rattle.batcher_c.specs.contracts.handle.RoundHandle.from_unboxed.{ended, clauses}
 use Rattle.batcher_c.specs.contracts.handle.RoundHandle.from_unboxed.Key.{name}
@@ -51,8 +51,7 @@ from_unboxed_spec 𝓤 𝓛 𝓜 𝓡 wired =
     split ! $ move ! (1 ∷ []) $ fsplit ! $ unboxed_out R Z LZ ghosts ! u z.0.4.0 (λ b o h is fits.
     let v : Val = word (block_ptr b o) h in
     let typed = fits_at Z LZ ghosts b o h fits in
-    suffices ! (Runs (v ∷ [])) (subst (λ (ws : List Val). ent 𝓤 (Runs (v ∷ [])) (Runs ws))
-    (sym (λ i. is i ++ [])) (id⊢ 𝓤 (Runs (v ∷ [])))) $
+    with_one ! Runs z.0.4.0 v is $
     enter ! 𝓣.C 𝓣.Λ body (v ∷ []) Post $ alloc_all ! (λ l. pass_all ! refl (typed, tt) $
     sets ! (of_opd ! (get_in ! (fld ! refl (stop !)) (sub ! 0 refl (whole !)))) refl (tt, tt) $
     sets ! (of_opd ! (get_in ! (fld ! refl (stop !)) (sub ! 1 refl (whole !)))) refl fits $

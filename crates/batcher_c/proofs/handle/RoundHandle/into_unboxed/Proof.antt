@@ -1,10 +1,10 @@
 -- `into_unboxed` compares the pointer with null.
-use Rattle.std.proofs.Common.{◌≡◌, List, [], ◌∷◌, ◌++◌, refl, sym, subst, lit<}
+use Rattle.std.proofs.Common.{◌≡◌, List, [], ◌∷◌, refl, subst, lit<}
 use mir.Val.{Val, vcons, vnil}
-use base.Logic.{SProp, ent, emp, id⊢}
+use base.Logic.{SProp, emp}
 use base.Fml.{ftrue}
 use prog.Wp.{WpFn}
-use types.Kit.{‵, raw, ◌⊛◌, at_ret, ◌$◌, ◌∵◌, !, qed, by, move, keep, split, fsplit, fjoin, suffices, use0, use1}
+use types.Kit.{‵, raw, ◌⊛◌, at_ret, ◌$◌, ◌∵◌, !, qed, by, move, keep, split, fsplit, fjoin, use0, use1}
 use types.Run.{stop, fld, lit, of_opd, bin, no_more, and_then, first, branches, exec, returns, enter}
 use types.ByLocal.{alloc_all, pass_all, free_all, look_at, get, get_in, sets, sets_last, env}
 use types.Part.{agg, sub, whole}
@@ -27,7 +27,7 @@ use Rattle.std.specs.contracts.impls.GlobalAllocator.TheImpl.{ghosts}
 use Rattle.std.proofs.alloc.Global.TheLaws as heap_laws
 use Rattle.std_alloc.proofs.ResultValues.{and_tt}
 use Rattle.std.proofs.raw_atomic.Walks.{proved_at, leaves}
-use Rattle.batcher_c.proofs.Pointers.{word, fits_at, fits_null, Unboxed, unboxed_in, handle_out, either}
+use Rattle.batcher_c.proofs.Pointers.{word, with_one, fits_at, fits_null, Unboxed, unboxed_in, handle_out, either}
 use Rattle.batcher_c.specs.Rows.{session_row as R}
 use Rattle.batcher_c.specs.contracts.handle.RoundHandle.{the_row as Handle}
 use Rattle.batcher_c.specs.contracts.handle.RoundHandle.into_unboxed.{ended, clauses}
@@ -62,8 +62,7 @@ into_unboxed_spec 𝓤 𝓛 𝓜 𝓡 wired =
     let typed = fits_null Z LZ ghosts h fits in
     let is' = subst (λ (p : Ptr). z.0.4.0 ≡ word p h ∷ []) null is in
     let none_fits : Good (layout Out) (live 0 vnil) = (tt, (record { fits = lit< tt }, tt)) in
-    suffices ! (Runs (v ∷ [])) (subst (λ (ws : List Val). ent 𝓤 (Runs (v ∷ [])) (Runs ws))
-    (sym (λ i. is' i ++ [])) (id⊢ 𝓤 (Runs (v ∷ [])))) $
+    with_one ! Runs z.0.4.0 v is' $
     enter ! 𝓣.C 𝓣.Λ body (v ∷ []) Post $ alloc_all ! (λ l. pass_all ! refl (typed, tt) $
     let En = env body.locals l in
     sets ! (of_opd ! (get_in ! (fld ! refl (stop !)) (sub ! 0 refl (whole !)))) refl
@@ -87,8 +86,7 @@ into_unboxed_spec 𝓤 𝓛 𝓜 𝓡 wired =
     let r : U.Denot = record { at = block_ptr b o; alloc = a; value = x } in
     let good : Good (layout Out) w =
     (and_tt _ typed.0, (record { fits = lit< tt }, (typed.1, tt))) in
-    suffices ! (Runs (v ∷ [])) (subst (λ (ws : List Val). ent 𝓤 (Runs (v ∷ [])) (Runs ws))
-    (sym (λ i. is' i ++ [])) (id⊢ 𝓤 (Runs (v ∷ [])))) $
+    with_one ! Runs z.0.4.0 v is' $
     enter ! 𝓣.C 𝓣.Λ body (v ∷ []) Post $ alloc_all ! (λ l. pass_all ! refl (typed, tt) $
     let En = env body.locals l in
     sets ! (of_opd ! (get_in ! (fld ! refl (stop !)) (sub ! 0 refl (whole !)))) refl (tt, tt) $

@@ -1,12 +1,12 @@
 -- `of` takes what `into_raw_with_allocator` gives.
-use Rattle.std.proofs.Common.{◌≡◌, List, [], ◌∷◌, ◌++◌, refl, sym, ap, ◌∙◌, subst}
+use Rattle.std.proofs.Common.{◌≡◌, List, [], ◌∷◌, refl, ap, ◌∙◌}
 use mir.Syntax.{Fn, a_type, dcons, dnil}
 use mir.Val.{Val}
 use mir.MapTy.{inst_fn}
-use base.Logic.{SProp, ent, emp, id⊢}
+use base.Logic.{SProp, emp, id⊢}
 use base.Fml.{ftrue, fsep, flft}
 use prog.Wp.{WpFn}
-use types.Kit.{‵, raw, ◌⊛◌, some, later, ◌$◌, ◌∵◌, !, qed, by, move, keep, drop, split, split3, join, fsplit, fjoin, pick, suffices, use0, use1, await, rewrite}
+use types.Kit.{‵, raw, ◌⊛◌, some, later, ◌$◌, ◌∵◌, !, qed, by, move, keep, drop, split, split3, join, fsplit, fjoin, pick, use0, use1, await, rewrite}
 use types.Run.{stop, fld, of_opd, no_more, and_then, returns, enter}
 use types.ByLocal.{alloc_all, pass_all, free_all, look_at, get, get_in, sets, lands_as}
 use types.Part.{agg, sub, whole}
@@ -27,7 +27,7 @@ use Rattle.core.proofs.atomic.Steps.{fm}
 use Rattle.std_alloc.proofs.BoxSteps.Form as box
 use Rattle.std_alloc.proofs.BoxSteps.Steps.{box_out, box_in}
 use Rattle.std.proofs.raw_atomic.Walks.{proved_at, leaves}
-use Rattle.batcher_c.proofs.Pointers.{word, fits_at, Parts, parts_out, there, somewhere, unboxed_in}
+use Rattle.batcher_c.proofs.Pointers.{word, with_one, fits_at, Parts, parts_out, there, somewhere, unboxed_in}
 use Rattle.std_alloc.specs.contracts.boxed.Box.into_raw_with_allocator as callee
 use Rattle.std_alloc.proofs.boxed.Box.into_raw_with_allocator.Met.{met}
 use Rattle.batcher_c.specs.contracts.unboxed.Unboxed.of.{ended, clauses}
@@ -71,8 +71,7 @@ of_spec 𝓤 𝓛 𝓜 𝓡 wired T A L LA g d dx dd allocator glue glued =
     (callee.spec T A g d dd dx 𝓛 𝓜.mem 𝓡.returns) in
     let y : apart.Ghost = ((κs, qs, tt, (w, tt), (v ∷ [], tt)), tt) in
     fjoin ! $ move ! (1 ∷ 0 ∷ []) $ join ! $ join ! $ use1 𝓛 (raw (apart.pre y)) (id⊢ 𝓤 _) $
-    suffices ! (Runs (v ∷ [])) (subst (λ (ws : List Val). ent 𝓤 (Runs (v ∷ [])) (Runs ws))
-    (sym (λ i. is i ++ [])) (id⊢ 𝓤 (Runs (v ∷ [])))) $
+    with_one ! Runs z.0.4.0 v is $
     enter ! 𝓣.C 𝓣.Λ body (v ∷ []) Post $ alloc_all ! (λ l. pass_all ! refl (typed, tt) $
     sets ! (of_opd ! (get ! refl)) refl typed $
     calls_at ! (fm 𝓛 𝓜 𝓡) apart

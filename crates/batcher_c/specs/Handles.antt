@@ -1,0 +1,22 @@
+-- What a call does to a handle, and to what it is of.
+use Rattle.std.specs.Prelude.{◌≡◌, ◌≢◌, ℕ, Option, Some, None}
+use Rattle.batcher_session.specs.Sessions.{SessionView}
+use Rattle.batcher_node_session.specs.Seen.{NodeSessionView}
+use Rattle.batcher_c.specs.declared.codes.TheConstants.{NONE}
+
+-- A call on an empty handle leaves it empty, and what it writes to as it was, and the code says so.
+-- Else the handle has a value before and after, of which it holds.
+abbrev pub OnHandle : {V : Type 0} → Option V → Option V → ℕ → Type 0 → (V → V → Type 0) → Type 0
+OnHandle None None code stays holds = (code ≡ NONE) × stays
+OnHandle (Some before) (Some after) code stays holds = (code ≢ NONE) × holds before after
+OnHandle before after code stays holds = ⊥
+
+-- of a round
+abbrev pub OnRound : Option SessionView → Option SessionView → ℕ → Type 0
+    → (SessionView → SessionView → Type 0) → Type 0
+OnRound = OnHandle
+
+-- of a node
+abbrev pub OnNode : Option NodeSessionView → Option NodeSessionView → ℕ → Type 0
+    → (NodeSessionView → NodeSessionView → Type 0) → Type 0
+OnNode = OnHandle
