@@ -6,13 +6,13 @@ use Rattle.batcher_votes.specs.Held.{Held}
 use Rattle.batcher_votes.specs.Tracking.{is_seen_for, observed}
 use Rattle.batcher_histories.specs.Steps.{has_block}
 use Rattle.batcher_histories.proofs.Right.Missing.{missing_one, missing_none}
-use Rattle.batcher_round.proofs.round.both.missing_among.Goals as goal
-use Rattle.batcher_round.proofs.round.both.missing_among.Goals.{then-is_ok, else-is_ok, then-not-has_block_at, else-not-has_block_at}
+use Rattle.batcher_round.proofs.round.ballots.missing_among.Goals as goal
+use Rattle.batcher_round.proofs.round.ballots.missing_among.Goals.{then-is_ok, else-is_ok, then-not-has_block_at, else-not-has_block_at}
 
 pub loop-index-init : goal.loop-index-init
 loop-index-init g c = record {
   found = λ held same. c.in_ok-missing.ensures.items;
-  lower = sym (none_below c.args.votes.now.signers);
+  lower = sym (none_below c.args.tracker.now.signers);
   low = omega arith;
   few = rw c.in_ok-missing.ensures.items (omega arith);
   room = c.in_ok-missing.ensures.capacity;
@@ -23,11 +23,11 @@ loop-index-preserved g c =
     let same = g.D.PartialEq.eq in
     let p = c.args.proposal.now in
     let i = c.from_usize-participant.result in
-    let signers = c.args.votes.now.signers in
+    let signers = c.args.tracker.now.signers in
     let next = subst (λ n. count (λ s. nat_lt s (n + 1)) signers ≡ c.loop-index.lower + cond (is_ok c.place_after-place.result) 1 0)
     c.from_usize-participant.ensures c.place_after-place.ensures.next in
     let seen = c.has_block_at.ensures i.0 c.place_after-place.ensures.place in
-    let block : (held : Held g.row.G.Denot g.row.D.Denot) → held.tracked ≡ c.args.votes.now.holds
+    let block : (held : Held g.row.G.Denot g.row.D.Denot) → held.tracked ≡ c.args.tracker.now.holds
     → has_block same held i.0 p ≡ c.has_block_at.result = λ held is.
     ap (λ t. is_seen_for same p (observed t Notarization i.0) || is_seen_for same p (observed t Finalization i.0)) is ∙ sym seen in
     let lower : c.if-is_ok.lower ≡ count (λ s. nat_lt s (c.loop-index.index + 1)) signers = elim c.if-is_ok.branch [
