@@ -1,4 +1,2 @@
 pub mod Seen
 pub mod Next
-pub mod BallotsView
-pub mod RoundWords

@@ -1,5 +1,4 @@
 pub mod Certifications
-pub mod Changes
 pub mod Constructing
 pub mod Counts
 pub mod Keeping

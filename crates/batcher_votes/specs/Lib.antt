@@ -4,8 +4,7 @@ pub mod Tracking
 pub mod Buffering
 pub mod Waiting
 pub mod Sound
-pub mod Kinds
-pub mod Certifications
+pub mod States
 pub mod Verifiers
 pub mod Entries
 pub mod Looked

@@ -2,6 +2,5 @@
 //! verifier those that wait.
 #![tactic(auto)]
 
-mod per_kind;
 pub mod verifier;
 pub mod votes;

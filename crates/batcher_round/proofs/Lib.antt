@@ -1,4 +1,0 @@
-pub mod OwnVotes
-pub mod OwnCertificates
-pub mod InRound
-pub mod Construction
