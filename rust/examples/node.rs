@@ -8,8 +8,8 @@ mod toy;
 use batcher::node::{Cast, Node, Receipt, Verdict};
 use batcher::positions::Round as Number;
 use batcher::{
-    Attestation, Certificate, Epoch, Error, Participant, Proposal, Sha256Digest, Subject, View,
-    Vote,
+    Attestation, Certificate, Epoch, Error, Kind, Participant, Proposal, Sha256Digest, Subject,
+    View, Vote,
 };
 use std::sync::Arc;
 use toy::{KEYS, Signature, Toy};
@@ -18,6 +18,10 @@ const EPOCH: Epoch = Epoch::zero();
 
 /// How many views beyond the current one are looked at.
 const AHEAD: u64 = 4;
+
+/// Whether votes are kept in full after their kind is certified too, so that those which contradict
+/// them can still be reported.
+const TRACK_HISTORICAL_VOTES: bool = false;
 
 /// Who proposes nothing.
 const SILENT: Participant = Participant::new(2);
@@ -41,51 +45,58 @@ fn proposal_of(view: View, payload: u8) -> Proposal {
     )
 }
 
+/// What a validator has on a disk, so that it may start again.
+struct Disk {
+    /// Its own votes in their order, each added before it is cast.
+    votes: Vec<Vote<Signature>>,
+    finalized: View,
+    current: View,
+}
+
 struct Validator {
     node: Node<Toy>,
     me: Participant,
-    /// Its own votes. A validator has them on a disk before it sends them.
-    written: Vec<Vote<Signature>>,
+    disk: Disk,
     /// What is to be sent to all others.
     outbox: Vec<Message>,
 }
 
 impl Validator {
     fn start(scheme: &Arc<Toy>, me: Participant) -> Result<Self, Error> {
-        let node = Node::new(EPOCH, scheme.clone(), View::zero(), AHEAD, false)?;
-        let mut validator = Validator {
-            node,
-            me,
-            written: Vec::new(),
-            outbox: Vec::new(),
+        let disk = Disk {
+            votes: Vec::new(),
+            finalized: View::zero(),
+            current: View::zero(),
         };
+        let mut validator = Validator::restart(disk, me, scheme)?;
         validator.enter(View::new(1))?;
         Ok(validator)
     }
 
-    /// Starts again, with what it wrote down. Each view that isn't final is entered, the lowest first,
-    /// and what may have been sent is cast before anything else.
-    fn restart(self, scheme: &Arc<Toy>) -> Result<Self, Error> {
-        let window = self.node.window();
-        let mut node = Node::new(EPOCH, scheme.clone(), window.finalized, AHEAD, false)?;
-        for view in window.finalized.get() + 1..=window.current.get() {
+    /// Starts by what is on the disk. Each view that isn't final is entered, the lowest first, and the
+    /// votes are cast before anything else.
+    fn restart(disk: Disk, me: Participant, scheme: &Arc<Toy>) -> Result<Self, Error> {
+        let (finalized, current) = (disk.finalized, disk.current);
+        let scheme = scheme.clone();
+        let mut node = Node::new(EPOCH, scheme, finalized, AHEAD, TRACK_HISTORICAL_VOTES)?;
+        for view in finalized.get() + 1..=current.get() {
             node.enter(View::new(view), leader_of(View::new(view)))?;
         }
         let mut validator = Validator {
             node,
+            me,
+            disk,
             outbox: Vec::new(),
-            ..self
         };
-        for vote in validator.written.clone() {
+        for vote in validator.disk.votes.clone() {
             validator.send(vote)?;
         }
-        let count = validator.outbox.len();
-        validator.say(&format!("starts again, and sends {count} votes"));
         Ok(validator)
     }
 
     /// Enters a view, in which its leader proposes something.
     fn enter(&mut self, view: View) -> Result<(), Error> {
+        self.disk.current = view;
         self.node.enter(view, leader_of(view))?;
         self.say(&format!("enters view {view}"));
         if leader_of(view) == self.me && self.me != SILENT {
@@ -95,14 +106,14 @@ impl Validator {
         Ok(())
     }
 
-    /// Casts a vote of its own, which is written down first.
+    /// Casts a vote of its own, which is on the disk first: the next certificate may have it.
     fn cast(&mut self, subject: Subject) -> Result<(), Error> {
         let vote = toy::vote(subject, self.me.get());
-        self.written.push(vote);
+        self.disk.votes.push(vote);
         self.send(vote)
     }
 
-    /// Sends a vote that is written down, where it is to be sent.
+    /// Sends a vote that is on the disk, where it is to be sent.
     fn send(&mut self, vote: Vote<Signature>) -> Result<(), Error> {
         match self.node.cast_vote(vote) {
             Ok(Cast::ToSend(_)) => self.outbox.push(Message::Vote(vote)),
@@ -163,11 +174,14 @@ impl Validator {
             let Some(proposal) = self.node.proposal(self.node.window().current) else {
                 return Ok(());
             };
-            let subject = Subject::Notarize { proposal };
-            if self.written.contains(&toy::vote(subject, self.me.get())) {
+            // Subjects are compared: a vote that is signed anew may have other bytes.
+            let is_notarize = |vote: &Vote<Signature>| {
+                vote.kind() == Kind::Notarization && vote.round() == proposal.round
+            };
+            if self.disk.votes.iter().any(is_notarize) {
                 return Ok(());
             }
-            self.cast(subject)?;
+            self.cast(Subject::Notarize { proposal })?;
         }
     }
 
@@ -182,6 +196,7 @@ impl Validator {
             Subject::Nullify { .. } => {}
             Subject::Finalize { .. } => {
                 self.node.finalize(view)?;
+                self.disk.finalized = self.node.window().finalized;
                 self.say(&format!("knows that view {view} is final"));
             }
         }
@@ -236,7 +251,10 @@ fn main() -> Result<(), Error> {
     for validator in &mut validators {
         validator.give_up()?;
     }
-    let ada = validators.remove(0).restart(&scheme)?;
+    let ada = validators.remove(0);
+    let ada = Validator::restart(ada.disk, ada.me, &scheme)?;
+    let count = ada.outbox.len();
+    ada.say(&format!("starts again, and sends {count} votes"));
     validators.insert(0, ada);
     // The leader of view 3, dot, notarizes two proposals.
     let other = Subject::Notarize {

@@ -67,7 +67,8 @@ pub struct Admission<G> {
     /// another signer. To block it is the caller's matter: a round goes on taking in its votes. A
     /// node has blocked it.
     pub block: Option<BlockReason>,
-    /// The vote, where it was added, or evidence of two that contradict each other.
+    /// The vote, where it was added, or evidence of two that contradict each other. It may be none
+    /// beside a block: the earlier vote isn't kept in full for ever.
     pub report: Option<Activity<G>>,
 }
 

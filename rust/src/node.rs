@@ -99,7 +99,8 @@ pub enum Cast<G> {
     /// it.
     ToSend(Activity<G>),
     /// There was one before, and nothing that is kept shows that the two differ. It **isn't to be
-    /// sent**: if it differs, whoever has the earlier one blocks this node.
+    /// sent**: to send it could get this node blocked. It may be taken for the earlier one from then
+    /// on, so no vote is to be tried out.
     Known,
     /// It is of a view outside of the window, or of another epoch, and wasn't looked at.
     Outside,
@@ -163,7 +164,7 @@ pub enum Step<G, C> {
     /// A verdict on each is wanted first: [`Node::record_verdicts`]. The node is as it was.
     Verify(Wanted<G>),
     /// One verdict on all of them as a whole is wanted first: [`Node::record_verdict_together`].
-    /// The node is as it was.
+    /// Only a scheme that aggregates is asked so. The node is as it was.
     VerifyTogether(WantedTogether<G>),
     /// One was made in a view.
     Made(Construction<C>),
@@ -222,8 +223,8 @@ impl<S: Scheme> Node<S> {
     /// until their kind is certified.
     ///
     /// A node that is made after a restart knows no own vote of before. Enter the views that aren't
-    /// final again, each with its leader, the lowest first. Then cast all that was sent, as the same
-    /// bytes, before any other vote: what is answered `ToSend` once more keeps each vote that
+    /// final again, each with its leader, the lowest first. Then cast all that was cast, as the same
+    /// bytes and in the same order, before any other vote: what is answered `ToSend` once more keeps each vote that
     /// contradicts it from being sent. Where one is answered `Outside`, the node doesn't know it:
     /// cast nothing else in that view.
     ///
@@ -400,9 +401,9 @@ impl<S: Scheme> Node<S> {
         self.receive_verified_certificate(peer, certificate, certifies)
     }
 
-    /// What is answered to a certificate that needn't be verified: its peer is blocked or takes no
-    /// part, it is of a view outside of the window, or one of its kind is there. Where there is
-    /// none, it is to be verified, and handed in with what was found.
+    /// The answer to a certificate, where nothing has to be verified for it: its peer is blocked or
+    /// takes no part, it is of a view outside of the window, or one of its kind is there. None says
+    /// that it is to be verified, and handed in with what was found.
     pub fn answers_unverified(
         &self,
         peer: &S::PublicKey,
@@ -493,8 +494,8 @@ impl<S: Scheme> Node<S> {
     /// is to be sent. **Only `ToSend` says so.** After that, construct.
     ///
     /// Hand in votes of one's own participant alone, and a finalize only of a proposal that is
-    /// notarized. Keep the bytes of each own vote before it is sent: to send it again send these,
-    /// and never sign it anew. [`Node::new`] says what to do with them after a restart.
+    /// notarized, which the node doesn't look at. Keep the bytes of each own vote before it is cast,
+    /// since the next certificate may have it: to send it again send these, and never sign it anew. [`Node::new`] says what to do with them after a restart.
     ///
     /// ```
     /// # include!(concat!(env!("CARGO_MANIFEST_DIR"), "/tests/toy/mod.rs"));
@@ -585,7 +586,8 @@ impl<S: Scheme> Node<S> {
     /// certificate is made. What is promised of honest peers rests on the right leader.
     ///
     /// A view below the current one can be entered too, as after a restart, which leaves the current
-    /// view as it was. If the leader's notarize is kept, that may select its proposal, so construct
+    /// view as it was. One that was passed over stays skipped, so that a restart enters the lowest
+    /// view first. If the leader's notarize is kept, that may select its proposal, so construct
     /// after this.
     ///
     /// ```
@@ -719,8 +721,9 @@ impl<S: Scheme> Node<S> {
     }
 
     /// Records a verdict on each of the attestations that a step has handed out, in their order.
-    /// Then step again. **A verdict can't be taken back, and false has its signer blocked.** Of two
-    /// verdicts on one attestation the first counts. Where the verification failed to run, record
+    /// Then step again. **A verdict can't be taken back, and after false the next batch has its
+    /// signer blocked**, unless a certificate comes first. Of two verdicts on one attestation the
+    /// first counts. Those of a view that was finalized meanwhile change nothing. Where the verification failed to run, record
     /// nothing, and step again.
     ///
     /// # Errors
@@ -865,8 +868,9 @@ impl<S: Scheme> Node<S> {
     /// Whether the certificate certifies what it names, by the scheme: also of a view or an epoch
     /// that the node doesn't look at, so that one who fell behind may learn what is final.
     ///
-    /// Where it does, and is a finalization of the node's epoch, [`Node::finalize`] of its view
-    /// moves the window there. Then hand it to [`Node::receive_certificate`], which records it
+    /// Where it does, and is a finalization of the node's epoch and of a view beyond the finalized
+    /// one, [`Node::finalize`] of its view moves the window there. Of an earlier view it says nothing
+    /// new, and the next view can't be entered. Then hand it to [`Node::receive_certificate`], which records it
     /// unless its peer is blocked or takes no part, and enter the view that comes next with its
     /// leader.
     ///
@@ -883,6 +887,7 @@ impl<S: Scheme> Node<S> {
     /// assert_eq!(node.receive_certificate(&KEYS[1], &finalization)?, Receipt::Outside);
     /// let round = finalization.round();
     /// if round.epoch == node.epoch()
+    ///     && round.view > node.window().finalized
     ///     && finalization.kind() == Kind::Finalization
     ///     && node.verifies(&finalization)
     /// {

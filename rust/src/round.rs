@@ -230,10 +230,10 @@ impl<S: Scheme> Round<S> {
     /// proposal count no more.
     ///
     /// A round knows the own votes that it was handed, and no others. So keep the bytes of each own
-    /// vote before it is sent. A round that is made again for the same view, as after a restart or
-    /// after [`Error::Gone`], knows none of them, and would let another be sent that contradicts
-    /// them. Cast those first, as the same bytes. Where that can't be done, cast nothing more in
-    /// that view.
+    /// vote before it is handed in, since the next certificate may have it. A round that is made
+    /// again for the same view, as after a restart or after [`Error::Gone`], knows none of them, and
+    /// would let another be sent that contradicts them. Hand those in first, as the same bytes and
+    /// in the same order. Where that can't be done, cast nothing more in that view.
     ///
     /// ```
     /// # include!(concat!(env!("CARGO_MANIFEST_DIR"), "/tests/toy/mod.rs"));
