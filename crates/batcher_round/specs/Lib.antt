@@ -1,2 +1,4 @@
 pub mod Seen
 pub mod Next
+pub mod BallotsView
+pub mod RoundWords

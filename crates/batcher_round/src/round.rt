@@ -4,50 +4,27 @@ ghost use Rattle.std.specs.Prelude.{◌≡◌, ◌≤◌, ◌<◌, ◌||◌, ◌
 ghost use Rattle.std.specs.Option.{option_map};
 ghost use Rattle.batcher_types.specs.declared.messages.Kind.TheVariants.{Nullification as NullifyKind};
 ghost use Rattle.batcher_types.specs.declared.messages.Kind.{Kind as TheKind};
-ghost use Rattle.batcher_types.specs.declared.positions.Round.{Round as TheNumber};
-ghost use Rattle.batcher_votes.specs.declared.votes.Mode.{Mode as TheMode};
-ghost use Rattle.batcher_types.specs.Items.{place_of};
-ghost use Rattle.batcher_types.specs.Meaning.{Meaning};
-ghost use Rattle.batcher_histories.specs.Setting.{setting};
 ghost use Rattle.batcher_round.specs.Next.{subject_next, pending_next, verified_next};
-ghost use Rattle.batcher_types.specs.Votes.{kind_of, signer_of, attestation_of, subject_of, round_in, subject_certified};
-ghost use Rattle.batcher_votes.specs.Held.{of_kind, SameRound};
-ghost use Rattle.batcher_votes.specs.Tracking.{nothing_tracked, observed, observed_opposite, kept_vote};
-ghost use Rattle.batcher_votes.specs.Buffering.{selected_in};
-ghost use Rattle.batcher_types.specs.Quorum.{quorum_of};
-ghost use Rattle.batcher_votes.specs.Sound.{IsSound};
-ghost use Rattle.batcher_histories.specs.Steps.{nothing_held, has_block as has_block_held, missing_in, leader_set_answer, forward_answer, AfterLeader, AfterNetwork, admission, objection_by, kind_tried, restored_with, AfterConstruct};
-ghost use Rattle.batcher_histories.specs.Steps.{TriesHeld, is_ready_in, IsRight, AfterOwn, own_result, fault_or_memory, is_added, AfterCertificate};
-ghost use Rattle.batcher_histories.specs.Selection.{is_certified, leader_of, selected_proposal};
-ghost use Rattle.batcher_histories.specs.Comparison.{has_block};
-ghost use Rattle.batcher_histories.specs.Answers.{keeps_nullify, own_answer, needs_memory};
+ghost use Rattle.batcher_round.specs.RoundWords.{IfGiven, attestation_of, subject_of, round_in, subject_certified, of_kind, kept_vote, selected_in, nothing_held, missing_in, leader_set_answer, forward_answer, admission, kind_tried};
+ghost use Rattle.batcher_round.specs.RoundWords.{SameRound, restored_with, own_result, fault_or_memory, is_added, has_block_held, has_block, is_certified, leader_of, selected_proposal, keeps_nullify, own_answer, needs_memory};
+ghost use Rattle.batcher_round.specs.RoundWords.{BatchCertifies, AfterLeader, AfterNetwork, AfterConstruct, AfterOwn, AfterCertificate, MayCall, WhereverItStands, FollowsAlways, MeetsAlways, FollowsOnOk, IsRefusedForNeed, Stands};
 ghost use Rattle.batcher_histories.specs.declared.calls.Call.TheVariants.{Network as NetworkCall, Own as OwnCall, Construct as ConstructCall, Leader as LeaderCall, Forward as ForwardCall, Missing as MissingCall};
 ghost use Rattle.batcher_histories.specs.declared.calls.Call.TheVariants.{Certificate as CertificateCall};
 ghost use Rattle.batcher_histories.specs.declared.answers.Answer.TheVariants.{Network as NetworkAnswer, Own as OwnAnswer, Construct as ConstructAnswer, Leader as LeaderAnswer, Forward as ForwardAnswer, Missing as MissingAnswer};
 ghost use Rattle.batcher_histories.specs.declared.answers.Answer.TheVariants.{Certificate as CertificateAnswer};
-ghost use Rattle.batcher_histories.specs.Runs.{MayCall};
-ghost use Rattle.batcher_histories.specs.Judged.{WhereverItStands, FollowsAlways, MeetsAlways, FollowsOnOk, IsRefusedForNeed};
-ghost use Rattle.batcher_histories.specs.Stands.{Stands};
 ghost use Rattle.batcher_histories.specs.declared.answers.OwnFault.TheVariants.{OutOfMemory as OutOfMemoryFault};
-ghost use Rattle.batcher_votes.specs.Verifiers.{IfGiven, BatchCertifies};
 
 mod answers;
-mod both;
+mod ballots;
 
-use answers::{
-    added, admission_of, after_facts, after_opposite, beside, blocked, is_selected_anew,
-    mismatch_reason, report_by,
-};
+use answers::{added, admission_of, blocked, mismatch_reason, report_by};
+use ballots::Ballots;
 pub use batcher_histories::answers::{Admission, BlockReason, OwnFault};
-use batcher_types::messages::{Activity, Certificate, Digest, Kind, Place, Proposal, Vote};
-use batcher_types::positions::{self, Participant, Participants, quorum};
+use batcher_types::messages::{Activity, Certificate, Digest, Kind, Proposal, Vote};
+use batcher_types::positions::{self, Participant, Participants};
 use batcher_types::scheme::Scheme;
-use batcher_votes::verifier::{Batch, LeaderFault, NextAttempt, Verifier};
-use batcher_votes::votes::{Mode, ObservedVote, Outcome, VoteTracker};
-use both::{
-    admit, fixed_by, is_first, make_room_to_accept, make_room_to_fix, may_fix, missing_among,
-    own_result, saw_opposite, settle, take_in,
-};
+use batcher_votes::verifier::{Batch, LeaderFault, NextAttempt};
+use batcher_votes::votes::{Mode, Outcome};
 use rand_core::CryptoRng;
 use std::alloc::{AllocError, Global};
 use std::marker::Model;
@@ -72,34 +49,29 @@ impl<D: Digest, S: Scheme<D>> Judge<D> for S {
 /// The votes of one round, and the certificates that they have made.
 #[derive(Drop)]
 pub struct Round<S: Scheme<D>, D: Digest> {
-    /// Votes that wait for a certificate, for one proposal once one is selected.
-    verifier: Verifier<S, D>,
-    /// The first vote of each kind and signer, or facts of it. Some votes wait no longer, and are
-    /// here alone: those for another proposal, which a replacement restores.
-    votes: VoteTracker<S::Signature, D>,
+    ballots: Ballots<S, D>,
     /// Whether the selected proposal was handed on.
     forwarded: bool,
 }
 
 impl<S: Scheme<D>, D: Digest> Model for Round<S, D> {
+    ghost use Rattle.std.specs.Prelude.{◌≤◌, length};
     ghost use Rattle.batcher_votes.specs.Held.{RoundView};
-    ghost use Rattle.batcher_histories.specs.Steps.{IsRight};
 
     ghost Value = { RoundView S S.Signature D };
 
     ghost view = { λ r. record {
-      scheme = r.verifier.scheme;
-      number = r.verifier.number;
-      mode = r.votes.mode;
+      scheme = r.ballots.verifier.scheme;
+      number = r.ballots.verifier.number;
+      mode = r.ballots.tracker.mode;
       holds = record {
-        tracked = r.votes.holds;
-        buffered = r.verifier.holds;
+        tracked = r.ballots.tracker.holds;
+        buffered = r.ballots.verifier.holds;
         forwarded = r.forwarded;
       };
     } };
 
-    ghost invariant = { λ r.
-        IsRight (S.meaning r.verifier.scheme) r.votes r.verifier.holds r.verifier.quorum };
+    ghost invariant = { λ r. 1 ≤ length (S.meaning r.ballots.verifier.scheme).participants };
 }
 
 impl<S: Scheme<D>, D: Digest> Round<S, D> {
@@ -122,8 +94,12 @@ impl<S: Scheme<D>, D: Digest> Round<S, D> {
         ensures holds { result.holds ≡ nothing_held result.mode }
         ensures stands { Stands (⟦<S as Judge<D>>⟧.of result) [] result.holds }
     {
-        let votes = VoteTracker::new(alloc, scheme.participants().len(), track_historical_votes);
-        Round::with_votes(alloc, round, scheme, votes)
+        let mode = if track_historical_votes {
+            Mode::Retaining
+        } else {
+            Mode::Releasing
+        };
+        Round::in_mode(alloc, round, scheme, mode)
     }
 
     /// A round of a view that was skipped. It keeps facts of the votes alone and makes no
@@ -136,8 +112,7 @@ impl<S: Scheme<D>, D: Digest> Round<S, D> {
         ensures holds { result.holds ≡ nothing_held result.mode }
         ensures stands { Stands (⟦<S as Judge<D>>⟧.of result) [] result.holds }
     {
-        let votes = VoteTracker::skipped(alloc, scheme.participants().len());
-        Round::with_votes(alloc, round, scheme, votes)
+        Round::in_mode(alloc, round, scheme, Mode::Skipped)
     }
 
     /// A round in a mode: `new` for those that track votes in full, else `skipped`. It takes no
@@ -150,32 +125,8 @@ impl<S: Scheme<D>, D: Digest> Round<S, D> {
         ensures holds { result.holds ≡ nothing_held result.mode }
         ensures stands { Stands (⟦<S as Judge<D>>⟧.of result) [] result.holds }
     {
-        match mode {
-            Mode::Retaining => Round::new(alloc, round, scheme, true),
-            Mode::Releasing => Round::new(alloc, round, scheme, false),
-            Mode::Skipped => Round::skipped(alloc, round, scheme),
-        }
-    }
-
-    // A round over a tracker in which nothing was recorded.
-    fn with_votes(
-        alloc: Global,
-        round: positions::Round,
-        scheme: Rc<S>,
-        votes: VoteTracker<S::Signature, D>,
-    ) -> Self
-        requires some { 1 ≤ votes.participants }
-        requires bound { votes.participants ≡ length (S.meaning scheme.value).participants }
-        requires fresh { votes.holds ≡ nothing_tracked votes.mode }
-        ensures scheme { result.scheme ≡ scheme.value }
-        ensures number { result.number ≡ round }
-        ensures mode { result.mode ≡ votes.mode }
-        ensures holds { result.holds ≡ nothing_held votes.mode }
-    {
-        let quorum = quorum(scheme.participants().len() as u32);
         Round {
-            verifier: Verifier::new(alloc, round, scheme, quorum),
-            votes,
+            ballots: Ballots::new(alloc, round, scheme, mode),
             forwarded: false,
         }
     }
@@ -185,14 +136,14 @@ impl<S: Scheme<D>, D: Digest> Round<S, D> {
         ensures number { result ≡ self.now.number }
         ensures participants { 1 ≤ length (S.meaning self.now.scheme).participants }
     {
-        self.verifier.round()
+        self.ballots.verifier().round()
     }
 
     /// How the round keeps its votes.
     pub fn mode(&self) -> Mode
         ensures { result ≡ self.now.mode }
     {
-        self.votes.mode()
+        self.ballots.mode()
     }
 
     /// The leader, once it is set.
@@ -201,7 +152,7 @@ impl<S: Scheme<D>, D: Digest> Round<S, D> {
         ensures meets { WhereverItStands ⟦<S as Judge<D>>⟧.of self.now
             (λ _ past. result ≡ leader_of past) }
     {
-        self.verifier.leader()
+        self.ballots.verifier().leader()
     }
 
     /// The selected proposal: the leader's, or one that evidence fixed.
@@ -210,7 +161,7 @@ impl<S: Scheme<D>, D: Digest> Round<S, D> {
         ensures meets { WhereverItStands ⟦<S as Judge<D>>⟧.of self.now
             (λ x past. result ≡ selected_proposal x past) }
     {
-        self.verifier.proposal().copied()
+        self.ballots.verifier().proposal().copied()
     }
 
     /// Whether the vote is of this round. Its parent view isn't looked at.
@@ -220,7 +171,7 @@ impl<S: Scheme<D>, D: Digest> Round<S, D> {
             → IsTrue result ↔ MayCall (S.meaning self.now.scheme) self.now.number
             (NetworkCall sender vote.now) }
     {
-        self.verifier.round() == vote.round()
+        self.ballots.verifier().round() == vote.round()
     }
 
     /// Whether the certificate is of this round. Its parent view isn't looked at.
@@ -230,7 +181,7 @@ impl<S: Scheme<D>, D: Digest> Round<S, D> {
         ensures may { IsTrue result ↔ MayCall (S.meaning self.now.scheme) self.now.number
             (CertificateCall certificate.now) }
     {
-        self.verifier.round() == certificate.round()
+        self.ballots.verifier().round() == certificate.round()
     }
 
     /// Whether a certificate of the kind is there.
@@ -239,7 +190,7 @@ impl<S: Scheme<D>, D: Digest> Round<S, D> {
         ensures meets { WhereverItStands ⟦<S as Judge<D>>⟧.of self.now
             (λ _ past. result ≡ is_certified past kind) }
     {
-        self.verifier.has_certificate(kind)
+        self.ballots.verifier().has_certificate(kind)
     }
 
     /// Records a certificate that the caller has verified. It completes its kind, fixes its
@@ -267,13 +218,7 @@ impl<S: Scheme<D>, D: Digest> Round<S, D> {
         ensures refused { OnErr result (self.new ≡ self.old) }
         ensures same { SameRound self.old self.new }
     {
-        let kind = certificate.kind();
-        let proposal = certificate.proposal();
-        make_room_to_fix(&mut self.verifier, &self.votes, proposal, Some(kind))?;
-        self.verifier.record_certificate(kind);
-        let changed = may_fix(&mut self.verifier, &self.votes, proposal);
-        self.votes.release(kind, self.verifier.proposal().copied());
-        Ok(is_selected_anew(kind, changed))
+        self.ballots.complete(certificate)
     }
 
     /// Takes in a vote that the network brought from a sender.
@@ -301,53 +246,27 @@ impl<S: Scheme<D>, D: Digest> Round<S, D> {
     {
         // As a rule a vote comes from its signer, whose key is therefore looked at first.
         let signer = vote.signer();
-        let Some(index) = self.verifier.participants().index_near(&sender, signer) else {
+        let participants = self.ballots.verifier().participants();
+        let Some(index) = participants.index_near(&sender, signer) else {
             return Ok(blocked(BlockReason::UnknownParticipant, None));
         };
         if index != signer {
             return Ok(blocked(mismatch_reason(vote.kind()), None));
         }
-        let place = self.votes.place(index);
+        let slot = self.ballots.slot(index);
         // Nearly every vote is one that nothing excludes. Its answer is built here, since it would
         // be copied if it were handed up from below.
-        if is_first(&self.votes, place, &vote) {
-            admit(&mut self.verifier, &mut self.votes, place, &vote)?;
+        if self.ballots.is_first(slot, &vote) {
+            self.ballots.admit(slot, &vote)?;
             return Ok(added(&vote));
         }
-        match Self::objection(&self.votes, place, &vote) {
+        match self.ballots.objection(slot, &vote) {
             Some(answer) => Ok(answer),
             // Facts are left of an earlier vote: this one repeats it, or contradicts it.
             None => {
-                let outcome = admit(&mut self.verifier, &mut self.votes, place, &vote)?;
+                let outcome = self.ballots.admit(slot, &vote)?;
                 Ok(admission_of(outcome, &vote))
             }
-        }
-    }
-
-    // What is answered to a vote that is not to be recorded. Only a vote that isn't the first comes
-    // here, so its code is kept out of the way of the others.
-    #[cold]
-    #[inline(never)]
-    fn objection(
-        votes: &VoteTracker<S::Signature, D>,
-        place: Place,
-        vote: &Vote<S::Signature, D>,
-    ) -> Option<Admission<S::Signature, D>>
-        requires { place ≡ place_of votes.now.signers (signer_of vote.now) }
-        ensures { (m : Meaning D S.PublicKey S.Signature S.Certificate) (number : TheNumber)
-            (mode : TheMode) → result ≡ objection_by
-            (setting m S.PublicKey.cmp S.Signature.eq D.eq number mode)
-            (observed_opposite votes.now.holds vote.now)
-            (observed votes.now.holds (kind_of vote.now) (signer_of vote.now)) vote.now }
-    {
-        match saw_opposite(votes, place, vote) {
-            Some(ObservedVote::Retained(earlier)) => Some(after_opposite(earlier, *vote)),
-            Some(ObservedVote::Compacted) => Some(after_facts(vote)),
-            None => match votes.saw_at(place, vote.kind()) {
-                Some(ObservedVote::Retained(kept)) => Some(beside(kept, *vote)),
-                Some(ObservedVote::Compacted) => None,
-                None => None,
-            },
         }
     }
 
@@ -383,11 +302,7 @@ impl<S: Scheme<D>, D: Digest> Round<S, D> {
         ensures refused { OnErr result (self.new ≡ self.old) }
         ensures same { SameRound self.old self.new }
     {
-        let place = self.votes.place(vote.signer());
-        let outcome = own_result(&self.verifier, &self.votes, place, &vote)?;
-        make_room_to_accept(&mut self.verifier, &mut self.votes, place, &vote, outcome)?;
-        may_fix(&mut self.verifier, &self.votes, fixed_by(&vote));
-        take_in(&mut self.verifier, &mut self.votes, place, &vote, true)?;
+        let outcome = self.ballots.accept(&vote)?;
         Ok((outcome, report_by(outcome, vote)))
     }
 
@@ -406,10 +321,7 @@ impl<S: Scheme<D>, D: Digest> Round<S, D> {
         ensures refused { OnErr result (self.new ≡ self.old) }
         ensures same { SameRound self.old self.new }
     {
-        // Its notarize may have come before the leader was known. The tracker finds it by its
-        // signer, and tells it also where no buffer has it, as once notarizes are certified.
-        let notarize = self.votes.notarize(leader);
-        self.verifier.set_leader(leader, notarize.as_ref())
+        self.ballots.set_leader(leader)
     }
 
     /// The selected proposal, to hand on: once at most, and not where the known leader is `me`.
@@ -422,10 +334,10 @@ impl<S: Scheme<D>, D: Digest> Round<S, D> {
             { forwarded = is_some result || self.old.holds.forwarded } }
         ensures same { SameRound self.old self.new }
     {
-        if self.forwarded || self.verifier.leader() == Some(me) {
+        if self.forwarded || self.ballots.verifier().leader() == Some(me) {
             return None;
         }
-        let proposal = self.verifier.proposal().copied()?;
+        let proposal = self.ballots.verifier().proposal().copied()?;
         self.forwarded = true;
         Some(proposal)
     }
@@ -442,13 +354,14 @@ impl<S: Scheme<D>, D: Digest> Round<S, D> {
         ensures verified { IfSome result (λ a. a.verified.now
             ≡ verified_next (⟦<S as Judge<D>>⟧.of self.now) self.now.holds) }
     {
-        if let Some(attempt) = self.verifier.next_attempt(Kind::Notarization) {
+        let verifier = self.ballots.verifier();
+        if let Some(attempt) = verifier.next_attempt(Kind::Notarization) {
             return Some(attempt);
         }
-        if let Some(attempt) = self.verifier.next_attempt(Kind::Nullification) {
+        if let Some(attempt) = verifier.next_attempt(Kind::Nullification) {
             return Some(attempt);
         }
-        self.verifier.next_attempt(Kind::Finalization)
+        verifier.next_attempt(Kind::Finalization)
     }
 
     /// Tries to make a certificate of the first kind that is ready, of notarize, nullify and
@@ -471,42 +384,13 @@ impl<S: Scheme<D>, D: Digest> Round<S, D> {
         ensures refused { OnErr result (self.new ≡ self.old) }
         ensures same { SameRound self.old self.new }
     {
-        if let Some(batch) = self.try_kind(Kind::Notarization, rng)? {
+        if let Some(batch) = self.ballots.construct(Kind::Notarization, rng)? {
             return Ok(Some(batch));
         }
-        if let Some(batch) = self.try_kind(Kind::Nullification, rng)? {
+        if let Some(batch) = self.ballots.construct(Kind::Nullification, rng)? {
             return Ok(Some(batch));
         }
-        self.try_kind(Kind::Finalization, rng)
-    }
-
-    // Tries to make a certificate of the kind, where it is ready.
-    fn try_kind<R: CryptoRng>(
-        &mut self,
-        kind: Kind,
-        rng: &mut R,
-    ) -> Result<Option<Batch<Certificate<S::Certificate, D>>>, AllocError>
-        ensures ready { IfOk result (λ given. is_some given
-            ≡ is_ready_in (⟦<S as Judge<D>>⟧.of self.old) self.old.holds kind) }
-        ensures tries { IfGiven result (λ batch. TriesHeld (⟦<S as Judge<D>>⟧.of self.old)
-            self.old.holds kind (R.stream rng.old) batch self.new.holds (R.stream rng.new)) }
-        ensures sound { IsSound (S.meaning self.old.scheme) D.eq self.old.number
-            (quorum_of (length (S.meaning self.old.scheme).participants)) self.old.holds.buffered }
-        ensures none { is_ready_in (⟦<S as Judge<D>>⟧.of self.old) self.old.holds kind ≡ false
-            → (IsOk result) × (self.new ≡ self.old) × (R.stream rng.new ≡ R.stream rng.old) }
-        ensures certifies { IfGiven result (BatchCertifies (S.meaning self.old.scheme)) }
-        ensures refused { OnErr result (self.new ≡ self.old) }
-        ensures same { SameRound self.old self.new }
-    {
-        let Some(batch) = self.verifier.try_construct(kind, rng)? else {
-            return Ok(None);
-        };
-        if let Some(certificate) = &batch.certificate {
-            let proposal = certificate.proposal();
-            settle(&mut self.verifier, proposal);
-            self.votes.release(kind, proposal);
-        }
-        Ok(Some(batch))
+        self.ballots.construct(Kind::Finalization, rng)
     }
 
     /// Whether a nullify of the signer is kept in full.
@@ -515,7 +399,7 @@ impl<S: Scheme<D>, D: Digest> Round<S, D> {
         ensures meets { WhereverItStands ⟦<S as Judge<D>>⟧.of self.now
             (λ x past. result ≡ keeps_nullify x past signer.0) }
     {
-        self.votes.has_nullify(signer)
+        self.ballots.has_nullify(signer)
     }
 
     /// Whether the participant isn't known to have the proposal's block, which its notarize or
@@ -530,15 +414,7 @@ impl<S: Scheme<D>, D: Digest> Round<S, D> {
         ensures meets { WhereverItStands ⟦<S as Judge<D>>⟧.of self.now
             (λ x past. result ≡ not (has_block x past participant.0 proposal.now)) }
     {
-        !self.has_block(proposal, participant)
-    }
-
-    // Whether its notarize or its finalize shows that the participant has the proposal's block.
-    fn has_block(&self, proposal: &Proposal<D>, participant: Participant) -> bool
-        ensures { result ≡ has_block_held D.eq self.now.holds participant.0 proposal.now }
-    {
-        let place = self.votes.place(participant);
-        self.votes.has_block_at(place, proposal)
+        !self.ballots.has_block(proposal, participant)
     }
 
     /// The participants that aren't known to have the proposal's block, in ascending order.
@@ -549,9 +425,7 @@ impl<S: Scheme<D>, D: Digest> Round<S, D> {
         ensures meets { FollowsOnOk ⟦<S as Judge<D>>⟧.of self.now
             (MissingCall proposal.now) MissingAnswer result self.now.holds }
     {
-        let alloc = self.verifier.alloc();
-        let participants = self.verifier.participants().len();
-        let missing = missing_among(alloc, &self.votes, participants, proposal)?;
+        let missing = self.ballots.missing(proposal)?;
         Ok(Participants::from(missing))
     }
 }

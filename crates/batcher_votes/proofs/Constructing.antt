@@ -15,6 +15,7 @@ use Rattle.batcher_types.specs.declared.messages.Subject.TheVariants.{Notarize a
 use Rattle.batcher_types.specs.declared.messages.Vote.{Vote}
 use Rattle.batcher_types.specs.declared.messages.Vote.TheVariants.{Notarize as NotarizeVote, Nullify as NullifyVote, Finalize as FinalizeVote}
 use Rattle.batcher_types.specs.declared.messages.Certificate.{Certificate}
+use Rattle.batcher_types.specs.declared.messages.Certificate.TheVariants.{Notarization as NotarizationCertificate, Nullification as NullificationCertificate, Finalization as FinalizationCertificate}
 use Rattle.batcher_types.specs.declared.messages.Kind.{Kind}
 use Rattle.batcher_types.specs.declared.messages.Kind.TheVariants.{Notarization, Nullification, Finalization}
 use Rattle.batcher_votes.specs.declared.verifier.Batch.{Batch}
@@ -22,16 +23,17 @@ use Rattle.batcher_types.specs.Quorum.{quorum_of}
 use Rattle.batcher_types.specs.Lists.{count, EachOnce}
 use Rattle.batcher_types.specs.Attestations.{index_of_signer}
 use Rattle.batcher_types.specs.Meaning.{Meaning, IsLawful}
-use Rattle.batcher_types.specs.Votes.{is_kind, is_of_kind, signer_of, subject_of, attestation_of, proposal_in, same_round, same_proposal, same_subject}
+use Rattle.batcher_types.specs.Votes.{is_kind, is_of_kind, signer_of, subject_of, attestation_of, proposal_in, same_round, same_proposal, same_subject, subject_certified, content_of}
 use Rattle.batcher_votes.specs.Selected.{proposal_of}
 use Rattle.batcher_votes.specs.Held.{of_kind, Buffered}
 use Rattle.batcher_types.specs.Attempts.{Tried, attempt_of}
 use Rattle.batcher_votes.specs.Buffering.{attestations_of, vote_for, subject_from, first_proposal, is_enough, is_ready, CompletesKind, certificate_for, subject_tried, batch_of, TriesKind, SameBuffered}
-use Rattle.batcher_votes.specs.Sound.{IsSound, IsSoundKind, attests_itself, is_about, may_stand, Absorbs}
-use Rattle.batcher_votes.specs.Verifiers.{subject_ready, certifies_itself}
+use Rattle.batcher_votes.specs.Sound.{IsSound, IsSoundKind, attests_itself, is_about, may_stand}
+use Rattle.batcher_votes.proofs.Changes.{Absorbs}
+use Rattle.batcher_votes.specs.Verifiers.{subject_ready, certifies_itself, BatchCertifies, NamesSomebody}
 use Rattle.batcher_votes.proofs.Counts.{count-map}
 use Rattle.batcher_votes.proofs.Pairing.{vote_again, attestation_again, subject_again}
-use Rattle.batcher_votes.proofs.Waits.{proposal_is, round_is, kind_is}
+use Rattle.batcher_votes.proofs.Waits.{proposal_is, round_is, kind_is, self_kind}
 use Rattle.batcher_votes.proofs.Trying.{IsFine, fine}
 
 none_at_all : {X : Type 0} (P : X → Type 0) → All P []
@@ -330,6 +332,12 @@ none_reached false rest b e = rw e
 quorum_some : (n q : ℕ) → 1 ≤ n → quorum_of n ≤ q → nat_le q 0 ≡ false
 quorum_some n q some enough = let more : 1 ≤ q = omega arith in grind (arith, nat_tests)
 
+-- where something is there to try, it is what is tried
+pub some_left : {X : Type 0} (b : Bool) (tried o : Option X) → is_some (cond b tried None) ≡ b
+    → b ≡ true → o ≡ tried → is_some o ≡ b
+some_left true tried o some h e = ap is_some e ∙ some
+some_left false tried o some h e = absurd (cc)
+
 module _ {G D : Type 0} (same : D → D → Bool) (number : Round) where
   some_notarize : (x : Vote G D) (b : Bool) → is_of_kind Notarization x ≡ true
       → is_some (cond b (option_map NotarizeSubject (proposal_in (subject_of x))) None) ≡ b
@@ -374,11 +382,6 @@ module _ {G D : Type 0} (same : D → D → Bool) (number : Round) where
 pub not_true : (b : Bool) → not b ≡ true → b ≡ false
 not_true true h = absurd (cc)
 not_true false h = refl
-
-pub self_kind : (kind : Kind) → is_kind kind kind ≡ true
-self_kind Notarization = refl
-self_kind Nullification = refl
-self_kind Finalization = refl
 
 pub untouched : {X : Type 0} (b : Bool) (x y z : X) → b ≡ false → z ≡ cond b x y → z ≡ y
 untouched true x y z e h = absurd (cc)
@@ -471,16 +474,35 @@ fine_attempt m lawful same number q old kind subject s about before after t atte
     (once_attestations verified pending (s.kinds kind).once) (attested_about m same number subject verified about (s.kinds kind).attested) before in
     subst (λ x. IsFine m subject x) (sym (ap (λ r. r.0) attempted)) it
 
--- a certificate that was given certifies what it names
-pub named_certifies : {D K G C : Type 0} (m : Meaning D K G C) (subject : Subject D) (t : Tried G C)
-    (content : C) (named : Certificate C D) → IsFine m subject t → t.certificate ≡ Some content
-    → named ≡ certificate_for subject content → certifies_itself m named ≡ true
-named_certifies m subject t content named fine e is =
-    let h : m.certifies subject content ≡ true = subst (λ o. IfSome o (λ c. m.certifies subject c ≡ true)) e fine.certifies in
-    rw is (certified_itself m subject content h)
+-- What a construction answers and leaves.
+pub record Constructs {D K G C : Type 0} (m : Meaning D K G C) (same : D → D → Bool)
+    (number : Round) (q : ℕ) (old : Buffered G D) (kind : Kind) (before : Stream)
+    (batch : Batch (Certificate C D)) (after : Stream) (new : Buffered G D) : Type 0 where
+  pub tries : TriesKind m number q old kind before batch after new
+  pub certifies : BatchCertifies m batch
+  pub names : NamesSomebody batch
+  pub sound : IsSound m same number q new
 
-module _ {D K G C : Type 0} (m : Meaning D K G C) (same : D → D → Bool) (number : Round) (q : ℕ)
-    (old new : Buffered G D) (kind : Kind) (subject : Subject D)
+some_mapped : {X Y : Type 0} (f : X → Y) (o : Option X) → is_some (option_map f o) ≡ is_some o
+some_mapped f None = refl
+some_mapped f (Some x) = refl
+
+none_is : {X : Type 0} (o : Option X) → is_some o ≡ false → o ≡ None
+none_is None h = refl
+none_is (Some x) h = absurd (cc)
+
+-- a certificate is that of its subject, with its content
+pub certificate_is : {C D : Type 0} (certificate : Certificate C D) (subject : Subject D)
+    (content : C) → subject_certified certificate ≡ subject → content_of certificate ≡ content
+    → certificate ≡ certificate_for subject content
+certificate_is (NotarizationCertificate it) subject content e f = rw (← e, ← f) refl
+certificate_is (NullificationCertificate it) subject content e f = rw (← e, ← f) refl
+certificate_is (FinalizationCertificate it) subject content e f = rw (← e, ← f) refl
+
+module _ {D K G C : Type 0} (m : Meaning D K G C) (lawful : IsLawful m) (same : D → D → Bool)
+    (identical : (a b : D) → same a b ≡ true → a ≡ b) (reflexive : (a : D) → same a a ≡ true)
+    (number : Round) (q : ℕ) (old new : Buffered G D) (sound : IsSound m same number q old)
+    (kind : Kind) (subject : Subject D)
     (ready : subject_ready same m.batchable q old number kind ≡ Some subject)
     (before after : Stream) (processed : ℕ) (invalid : List Participant) (certificate : Option C)
     (fallback : Bool) (joining : List (Attestation G)) where
@@ -496,36 +518,42 @@ module _ {D K G C : Type 0} (m : Meaning D K G C) (same : D → D → Bool) (num
             (attestations_of (of_kind old.verified kind) ++ joining);
       }
 
-  -- that it is what the attempt gives
-  abbrev pub Gave : Type 0
-  Gave = (gave, after) ≡ attempt_of m subject q (attestations_of (of_kind old.verified kind)) (attestations_of (of_kind old.pending kind)) before
+  module _ (attempted : (gave, after) ≡ attempt_of m subject q
+      (attestations_of (of_kind old.verified kind)) (attestations_of (of_kind old.pending kind))
+      before) (batch : Batch (Certificate C D)) (batch_is : batch ≡ batch_of subject gave) where
+    about : All (λ v. subject_of v ≡ subject) (of_kind old.verified kind)
+    about = verified_about same identical number subject m.batchable q old kind ready (sound.kinds kind).verified
 
-  abbrev pub tries_with :
-      Gave → (content : C) (named : Certificate C D) → certificate ≡ Some content → named
-      ≡ certificate_for subject content → CompletesKind same old kind new
-      → TriesKind m number q old kind before
-      (record {
-        processed = processed;
-        invalid = invalid;
-        certificate = Some named;
-        fallback = fallback;
-      }) after new
-  tries_with attempted content named e is c =
-      tries_given m same number q old new kind subject ready before after
-      (record { processed = processed; invalid = invalid; certificate = Some named; fallback = fallback }) gave attempted
-      (rw (e, is) refl) (ap is_some e) (rw e refl) c
+    fine_gave : IsFine m subject gave
+    fine_gave = fine_attempt m lawful same number q old kind subject sound about before after gave attempted
 
-  abbrev pub tries_without_one :
-      Gave → certificate ≡ None → All (λ v. subject_of v ≡ subject) (of_kind old.verified kind)
-      → Absorbs old kind subject joining new
-      → TriesKind m number q old kind before
-      (record {
-        processed = processed;
-        invalid = invalid;
-        certificate = None;
-        fallback = fallback;
-      }) after new
-  tries_without_one attempted e about a =
-      tries_without m same number q old new kind subject ready before after
-      (record { processed = processed; invalid = invalid; certificate = None; fallback = fallback }) gave attempted
-      (rw e refl) joining e (rw e refl) about a
+    given_some : is_some batch.certificate ≡ is_some certificate
+    given_some = ap (λ b. is_some b.certificate) batch_is ∙ some_mapped (certificate_for subject) certificate
+
+    constructs : (t : TriesKind m number q old kind before batch after new)
+        → IsFine m t.subject t.outcome → Constructs m same number q old kind before batch after new
+    constructs t is_fine =
+        record {
+          tries = t;
+          certifies = rw batch_is (batch_certifies m subject certificate fine_gave.certifies);
+          names = rw batch_is fine_gave.names;
+          sound = sound_tries m same reflexive number q old new kind before after batch sound t is_fine;
+        }
+
+    -- a certificate was given
+    pub constructs_one : is_some batch.certificate ≡ true → CompletesKind same old kind new
+        → Constructs m same number q old kind before batch after new
+    constructs_one there c =
+        let some : is_some certificate ≡ true = sym given_some ∙ there in
+        constructs
+        (tries_given m same number q old new kind subject ready before after batch gave attempted batch_is some
+        (ap (λ b. cond b [] (attestations_of (of_kind old.verified kind) ++ joining)) some) c) fine_gave
+
+    -- none was given
+    pub constructs_none : is_some batch.certificate ≡ false → Absorbs old kind subject joining new
+        → Constructs m same number q old kind before batch after new
+    constructs_none none a =
+        let absent : certificate ≡ None = none_is certificate (sym given_some ∙ none) in
+        constructs
+        (tries_without m same number q old new kind subject ready before after batch gave attempted batch_is joining absent
+        (ap (λ o. cond (is_some o) [] (attestations_of (of_kind old.verified kind) ++ joining)) absent) about a) fine_gave

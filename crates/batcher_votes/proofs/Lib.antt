@@ -1,4 +1,5 @@
 pub mod Certifications
+pub mod Changes
 pub mod Constructing
 pub mod Counts
 pub mod Keeping

@@ -19,7 +19,8 @@ use Rattle.batcher_votes.specs.Selected.{proposal_of, updated, same_selected, re
 use Rattle.batcher_votes.specs.Held.{of_kind, Tracked, Buffered}
 use Rattle.batcher_votes.specs.Tracking.{KeepsEach, kept_vote}
 use Rattle.batcher_votes.specs.Buffering.{Buffers, SetsProposal, FixesProposal, still_waiting}
-use Rattle.batcher_votes.specs.Sound.{IsSound, IsSoundKind, IsTidy, Restores, may_stand, WaitsWhereKept}
+use Rattle.batcher_votes.specs.Sound.{IsSound, IsSoundKind, may_stand, WaitsWhereKept}
+use Rattle.batcher_votes.proofs.Changes.{IsTidy, Restores}
 use Rattle.batcher_votes.proofs.Counts.{count-append, count-filter_le}
 use Rattle.batcher_votes.proofs.Waits.{each_kind, kind_is, all_left, proposal_is, still_selected}
 use Rattle.batcher_votes.proofs.Soundness.{all_more, sound_buffers, sound_left}

@@ -1,9 +1,8 @@
 -- What is true of the votes that wait stays true.
-use Rattle.std.proofs.Common.{◌≡◌, ◌≤◌, ◌+◌, ℕ, Bool, true, false, not, cond, ◌&&◌, ◌||◌, ◌==◌, List, [], ◌∷◌, ◌++◌, length, filter, Option, Some, None, Result, Ok, Err, OnOk, OnErr, refl, sym, ap, subst, ◌∙◌, arith}
+use Rattle.std.proofs.Common.{◌≡◌, ◌≤◌, ◌+◌, ℕ, Bool, true, false, not, cond, ◌&&◌, ◌||◌, ◌==◌, List, [], ◌∷◌, ◌++◌, length, filter, Option, Some, None, append-nil, refl, sym, ap, subst, ◌∙◌, arith}
 use Rattle.std.specs.List.{AllPass, list_any}
 use Rattle.std.proofs.lemmas.List.Elements.{All-append, All-cons, All-filter, All-head, All-tail, filter_passes}
 use Rattle.std.proofs.lemmas.Bool.Decides.{nat_tests}
-use Rattle.batcher_types.specs.declared.positions.Participant.{Participant}
 use Rattle.batcher_types.specs.declared.positions.Round.{Round}
 use Rattle.batcher_types.specs.declared.messages.Proposal.{Proposal}
 use Rattle.batcher_types.specs.declared.messages.Vote.{Vote}
@@ -11,17 +10,19 @@ use Rattle.batcher_types.specs.declared.messages.Vote.TheVariants.{Notarize as N
 use Rattle.batcher_types.specs.declared.messages.Kind.{Kind}
 use Rattle.batcher_types.specs.declared.messages.Kind.TheVariants.{Notarization, Nullification, Finalization}
 use Rattle.batcher_votes.specs.declared.verifier.ProposalState.{ProposalState}
+use Rattle.batcher_types.specs.Lawful.{filter_all}
 use Rattle.batcher_types.specs.Lists.{count, EachOnce}
 use Rattle.batcher_types.specs.Quorum.{quorum_of}
 use Rattle.batcher_types.specs.Meaning.{Meaning}
 use Rattle.batcher_types.specs.Votes.{is_kind, kind_of, is_of_kind, is_vote_of, signer_of, waits}
 use Rattle.batcher_votes.specs.Selected.{proposal_of}
 use Rattle.batcher_votes.specs.Held.{of_kind, Buffered}
-use Rattle.batcher_votes.specs.Buffering.{Buffers, is_buffered, nothing_buffered, AddsVote, CompletesKind, SetsProposal, SetsLeader}
-use Rattle.batcher_votes.specs.Sound.{IsSound, IsSoundKind, IsTidy, attests_itself, may_stand}
+use Rattle.batcher_votes.specs.Buffering.{Buffers, is_buffered, nothing_buffered, CompletesKind, SetsProposal}
+use Rattle.batcher_votes.specs.Sound.{IsSound, IsSoundKind, attests_itself, may_stand}
+use Rattle.batcher_votes.proofs.Changes.{IsTidy, Places}
 use Rattle.batcher_votes.specs.Verifiers.{is_of_round}
 use Rattle.batcher_votes.proofs.Counts.{count-append, count-filter_le, once_fewer, once_none}
-use Rattle.batcher_votes.proofs.Waits.{kind_is, each_kind}
+use Rattle.batcher_votes.proofs.Waits.{kind_is, each_kind, placed_buffers}
 
 pub all_more : {X : Type 0} (p q : X → Bool) → ((x : X) → p x ≡ true → q x ≡ true) → (xs : List X)
     → AllPass p xs → AllPass q xs
@@ -356,10 +357,14 @@ module _ {D K G C : Type 0} (m : Meaning D K G C) (same : D → D → Bool) (num
     pub of_round : is_of_round number vote ≡ true
     pub fresh : is_buffered held (kind_of vote) (signer_of vote) ≡ false
 
-  pub sound_adds : (q : ℕ) (old new : Buffered G D) (vote : Vote G D) (is_verified : Bool)
+  -- The vote joins those that wait.
+  sound_joins : (q : ℕ) (old new : Buffered G D) (vote : Vote G D) (is_verified : Bool)
       → IsSound m same number q old → MayJoin old vote is_verified
-      → AddsVote same old vote is_verified new → IsSound m same number q new
-  sound_adds q old new vote is_verified s may adds =
+      → ((kind : Kind) → Buffers same old new kind
+      (cond (is_of_kind kind vote && not is_verified) (vote ∷ []) [])
+      (cond (is_of_kind kind vote && is_verified) (vote ∷ []) []))
+      → IsSound m same number q new
+  sound_joins q old new vote is_verified s may buffers =
       record {
         some = s.some;
         enough = s.enough;
@@ -368,7 +373,7 @@ module _ {D K G C : Type 0} (m : Meaning D K G C) (same : D → D → Bool) (num
             let stands : fits ≡ true → may_stand same number None kind vote ≡ true
             = λ e. subst (λ k. may_stand same number None k vote ≡ true) (kind_is (kind_of vote) kind e) (stands_first same number vote may.of_round) in
             sound_buffers old new kind (cond (fits && not is_verified) (vote ∷ []) []) (cond (fits && is_verified) (vote ∷ []) []) (s.kinds kind)
-            (adds.buffers kind)
+            (buffers kind)
             (joins_none (fits && not is_verified) (may_stand same number None kind) vote (λ e. stands (first fits (not is_verified) e)))
             (joins_none (fits && is_verified) (may_stand same number None kind) vote (λ e. stands (first fits is_verified e)))
             (joins_none (fits && is_verified) (attests_itself m same number) vote (λ e. may.attests (second fits is_verified e)))
@@ -377,12 +382,50 @@ module _ {D K G C : Type 0} (m : Meaning D K G C) (same : D → D → Bool) (num
             (subst (λ k. is_buffered old k (signer_of vote) ≡ false) (kind_is (kind_of vote) kind e) may.fresh)));
       }
 
-  pub sound_added : {E : Type 0} (q : ℕ) (old new : Buffered G D) (vote : Vote G D)
-      (is_verified : Bool) (r : Result (Unit {0}) E) → IsSound m same number q old
-      → MayJoin old vote is_verified → OnOk r (AddsVote same old vote is_verified new)
-      → OnErr r (new ≡ old) → IsSound m same number q new
-  sound_added q old new vote is_verified (Ok u) s may adds same_held = sound_adds q old new vote is_verified s may adds
-  sound_added q old new vote is_verified (Err e) s may adds same_held = rw same_held s
+  none_left : (test keeps : Vote G D → Bool) (certified : Bool) (xs : List (Vote G D))
+      → list_any test xs ≡ false → list_any test (cond certified [] (filter keeps (xs ++ [])))
+      ≡ false
+  none_left test keeps true xs none = refl
+  none_left test keeps false xs none = rw append-nil (none_kept xs none) where
+    not_this : (b : Bool) (x : Vote G D) (ys : List (Vote G D)) → test x ≡ false
+        → list_any test ys ≡ false → list_any test (cond b (x ∷ ys) ys) ≡ false
+    not_this true x ys e rest = rw e rest
+    not_this false x ys e rest = rest
+
+    none_kept : (xs : List (Vote G D)) → list_any test xs ≡ false
+        → list_any test (filter keeps xs) ≡ false
+    none_kept [] h = refl
+    none_kept (x ∷ xs) h =
+        let parts = neither (test x) (list_any test xs) h in
+        not_this (keeps x) x (filter keeps xs) parts.0 (none_kept xs parts.1)
+
+  -- who has no vote in the buffers has none where votes went
+  fresh_still : (old mid : Buffered G D) (kind : Kind) (i : ℕ) → Buffers same old mid kind [] []
+      → is_buffered old kind i ≡ false → is_buffered mid kind i ≡ false
+  fresh_still old mid kind i b h =
+      let test = is_vote_of kind i in
+      let keeps = waits same (proposal_of mid.selection) in
+      let parts = neither (list_any test (of_kind old.verified kind)) (list_any test (of_kind old.pending kind)) h in
+      rw (
+        b.verified,
+        b.pending,
+        none_left test keeps (of_kind mid.certified kind) (of_kind old.verified kind) parts.0,
+        none_left test keeps (of_kind mid.certified kind) (of_kind old.pending kind) parts.1,
+      )
+
+  -- The proposal is selected first, and the vote placed then.
+  pub sound_placed : (q : ℕ) (old mid new : Buffered G D) (vote : Vote G D) (is_verified : Bool)
+      → IsSound m same number q mid → MayJoin old vote is_verified
+      → ((kind : Kind) → Buffers same old mid kind [] []) → Places mid vote is_verified new
+      → waits same (proposal_of mid.selection) vote ≡ true → IsSound m same number q new
+  sound_placed q old mid new vote is_verified s may sets places fits =
+      sound_joins q mid new vote is_verified s
+      (record {
+        attests = may.attests;
+        of_round = may.of_round;
+        fresh = fresh_still old mid (kind_of vote) (signer_of vote) (sets (kind_of vote)) may.fresh;
+      })
+      (placed_buffers same mid new vote is_verified places fits (λ kind. tidy_from mid kind (s.kinds kind)))
 
   pub sound_sets : (q : ℕ) (old new : Buffered G D) (selection : ProposalState D)
       → IsSound m same number q old → SetsProposal same old selection new
@@ -395,20 +438,17 @@ module _ {D K G C : Type 0} (m : Meaning D K G C) (same : D → D → Bool) (num
             (s.kinds kind) (sets.buffers kind);
       }
 
-  pub sound_leads :
-      {E : Type 0} (q : ℕ) (old new : Buffered G D) (leader : Participant)
-      (proposal : Option (Proposal D)) (b : Bool) (r : Result (Unit {0}) E)
-      → IsSound m same number q old
-      → (b ≡ true → new ≡ old) → OnErr r (new ≡ old)
-      → (b ≡ false → OnOk r (SetsLeader same old leader proposal new))
-      → IsSound m same number q new
-  sound_leads q old new leader proposal true r s again refused sets = rw (again refl) s
-  sound_leads q old new leader proposal false (Err e) s again refused sets = rw refused s
-  sound_leads q old new leader proposal false (Ok u) s again refused sets =
-      let led = sets refl in
-      record {
-        some = s.some;
-        enough = s.enough;
-        kinds = λ kind. sound_left old new kind
-            (s.kinds kind) (led.buffers kind);
-      }
+-- nullifies are for no proposal
+nullifies_wait : {G D : Type 0} (same : D → D → Bool) (number : Round) (o : Option (Proposal D))
+    (p : Proposal D) (v : Vote G D) → may_stand same number o Nullification v ≡ true
+    → waits same (Some p) v ≡ true
+nullifies_wait same number o p (NotarizeVote v) h = absurd (cc)
+nullifies_wait same number o p (NullifyVote v) h = refl
+nullifies_wait same number o p (FinalizeVote v) h = absurd (cc)
+
+pub nullifies_stay : {G D : Type 0} (same : D → D → Bool) (number : Round) (o : Option (Proposal D))
+    (p : Proposal D) (xs : List (Vote G D)) → AllPass (may_stand same number o Nullification) xs
+    → filter (waits same (Some p)) xs ≡ xs
+nullifies_stay same number o p xs pass =
+    filter_all (waits same (Some p)) xs
+    (all_more (may_stand same number o Nullification) (waits same (Some p)) (nullifies_wait same number o p) xs pass)

@@ -1,6 +1,7 @@
 -- Which votes wait, before and after a change of the selected proposal.
-use Rattle.std.proofs.Common.{◌≡◌, ℕ, Bool, true, false, not, cond, ◌&&◌, ◌||◌, ◌==◌, List, [], ◌∷◌, ◌++◌, filter, Option, Some, None, is_some, append-nil, refl, ap, subst, sym, ◌∙◌, arith}
+use Rattle.std.proofs.Common.{◌≡◌, ℕ, Bor, Bool, true, false, not, cond, ◌&&◌, ◌||◌, ◌==◌, List, [], ◌∷◌, ◌++◌, filter, Option, Some, None, is_some, append-nil, refl, ap, subst, ◌∙◌, arith}
 use Rattle.std.specs.List.{AllPass}
+use Rattle.std.specs.Option.{option_copied}
 use Rattle.std.proofs.lemmas.Bool.Decides.{nat_tests}
 use Rattle.std.proofs.lemmas.List.Elements.{filter-append}
 use Rattle.batcher_types.specs.Lawful.{filter_all}
@@ -11,11 +12,11 @@ use Rattle.batcher_types.specs.declared.messages.Kind.{Kind}
 use Rattle.batcher_types.specs.declared.messages.Kind.TheVariants.{Notarization, Nullification, Finalization}
 use Rattle.batcher_votes.specs.declared.verifier.ProposalState.{ProposalState}
 use Rattle.batcher_votes.specs.declared.verifier.ProposalState.TheVariants.{Unknown, Leader as LeadersProposal, Certificate as FixedProposal}
-use Rattle.batcher_types.specs.Votes.{is_kind, kind_of, is_of_kind, same_round, same_proposal, waits}
+use Rattle.batcher_types.specs.Votes.{is_kind, is_of_kind, same_round, same_proposal, waits}
 use Rattle.batcher_votes.specs.Selected.{proposal_of, updated, selects, same_selected}
 use Rattle.batcher_votes.specs.Held.{of_kind, Buffered}
-use Rattle.batcher_votes.specs.Buffering.{leaders_vote, is_dropped, AddsVote, SetsProposal}
-use Rattle.batcher_votes.specs.Sound.{IsTidy, Places, Retains}
+use Rattle.batcher_votes.specs.Buffering.{leaders_vote, Buffers, AddsVote, SetsProposal}
+use Rattle.batcher_votes.proofs.Changes.{IsTidy, Places, Retains}
 
 -- a fact for each kind
 pub each_kind : (P : Kind → Type 0) → P Notarization → P Nullification → P Finalization
@@ -70,16 +71,6 @@ module _ {D : Type 0} (same : D → D → Bool) (identical : (a b : D) → same 
   no_change (Some p) None known h = let wrong = known refl in absurd (cc)
   no_change (Some p) (Some q) known h = ap Some (kept_as_it_was p q (same_proposal same p q) refl h)
 
--- what `updated` gives where the vote of the leader is taken into account once more
-pub updated_selects : {D : Type 0} (state : ProposalState D) (vote : Option (Proposal D))
-    → updated state (selects state vote) ≡ selects state vote
-updated_selects Unknown None = refl
-updated_selects Unknown (Some p) = refl
-updated_selects (LeadersProposal q) None = refl
-updated_selects (LeadersProposal q) (Some p) = refl
-updated_selects (FixedProposal q) None = refl
-updated_selects (FixedProposal q) (Some p) = refl
-
 -- where a proposal is selected, one stays selected
 pub still_selected : {D : Type 0} (before next : ProposalState D) → is_some (proposal_of before)
     ≡ true → is_some (proposal_of (updated before next)) ≡ true
@@ -102,34 +93,17 @@ module _ {X : Type 0} (test : X → Bool) where
   all_left true xs h pass = h refl
   all_left false xs h pass = rw (append-nil, filter_all test xs pass)
 
-  kept_more : (certified fits : Bool) (xs ys : List X) (x : X) → ys
-      ≡ cond certified [] (filter test (xs ++ [])) → (fits ≡ true → certified ≡ false)
-      → (fits ≡ true → test x ≡ true) → ys ++ cond fits (x ∷ []) []
-      ≡ cond certified [] (filter test (xs ++ cond fits (x ∷ []) []))
-  kept_more true true xs ys x h none waits_too = let wrong = none refl in absurd (cc)
-  kept_more true false xs ys x h none waits_too = rw append-nil h
-  kept_more false true xs ys x h none waits_too =
-      let alone : filter test (x ∷ []) ≡ x ∷ [] = rw (waits_too refl) in
-      rw (filter-append test xs (x ∷ []), alone) (ap (λ zs. zs ++ x ∷ []) (rw append-nil at h))
-  kept_more false false xs ys x h none waits_too = rw append-nil h
-
-  -- an element that is kept joins those that were left
+  -- an element that is kept joins those that were left, unless the kind is certified
   pub joins : (certified fits : Bool) (xs ys : List X) (x : X) → ys
-      ≡ cond certified [] (filter test (xs ++ [])) → (fits ≡ true → certified ≡ false)
-      → (fits ≡ true → test x ≡ true) → ys ++ cond fits (x ∷ []) []
+      ≡ cond certified [] (filter test (xs ++ [])) → (fits ≡ true → test x ≡ true)
+      → ys ++ cond (fits && not certified) (x ∷ []) []
       ≡ cond certified [] (filter test (xs ++ cond fits (x ∷ []) []))
-  joins = kept_more
-
-  -- an element that is dropped makes no difference
-  pub leaves : (certified fits : Bool) (xs ys : List X) (x : X) → ys
-      ≡ cond certified [] (filter test (xs ++ []))
-      → (fits ≡ true → certified ≡ false → test x ≡ false) → ys
-      ≡ cond certified [] (filter test (xs ++ cond fits (x ∷ []) []))
-  leaves true fits xs ys x h none = h
-  leaves false true xs ys x h none =
-      let alone : filter test (x ∷ []) ≡ [] = rw (none refl refl) in
-      rw (filter-append test xs (x ∷ []), alone, append-nil) (rw append-nil at h)
-  leaves false false xs ys x h none = h
+  joins true true xs ys x h passes = rw append-nil h
+  joins true false xs ys x h passes = rw append-nil h
+  joins false true xs ys x h passes =
+      let alone : filter test (x ∷ []) ≡ x ∷ [] = rw (passes refl) in
+      rw (filter-append test xs (x ∷ []), alone) (ap (λ zs. zs ++ x ∷ []) (rw append-nil at h))
+  joins false false xs ys x h passes = rw append-nil h
 
 module _ {G D : Type 0} (same : D → D → Bool) where
   pub sets_same : (old : Buffered G D) (after : ProposalState D) → proposal_of old.selection
@@ -187,102 +161,87 @@ kind_is Finalization Notarization h = absurd (cc)
 kind_is Finalization Nullification h = absurd (cc)
 kind_is Finalization Finalization h = refl
 
+pub self_kind : (kind : Kind) → is_kind kind kind ≡ true
+self_kind Notarization = refl
+self_kind Nullification = refl
+self_kind Finalization = refl
+
 pub not_both : (a b : Bool) → (a || not b) ≡ false → (a ≡ false) × (b ≡ true)
 not_both true b h = absurd (cc)
 not_both false true h = (refl, refl)
 not_both false false h = absurd (cc)
 
-either_one : (a b : Bool) → (a || not b) ≡ true → a ≡ false → b ≡ false
-either_one true b h none = absurd (cc)
-either_one false true h none = absurd (cc)
-either_one false false h none = refl
-
 module _ {G D : Type 0} (same : D → D → Bool) (old new : Buffered G D) (vote : Vote G D)
     (is_verified : Bool) where
-  -- the proposal is selected, and the vote dropped
-  pub adds_dropped : SetsProposal same old (selects old.selection (leaders_vote same old vote)) new
-      → is_dropped same old vote ≡ true → AddsVote same old vote is_verified new
-  adds_dropped sets dropped =
-      record {
-        leader = sets.leader;
-        selection = sets.selection_is;
-        buffers = λ kind.
-            let certified = (sets.buffers kind).certified in
-            let sel = selects old.selection (leaders_vote same old vote) in
-            let none : (rest : Bool) → (is_of_kind kind vote && rest) ≡ true → of_kind old.certified kind ≡ false → waits same (proposal_of sel) vote ≡ false
-            = λ rest fits open_kind.
-            let is = kind_is (kind_of vote) kind ((both (is_of_kind kind vote) rest fits).0) in
-            either_one (of_kind old.certified (kind_of vote)) (waits same (proposal_of sel) vote) dropped (rw is open_kind) in
-            record {
-              certified = certified;
-              pending =
-                  rw (sets.selection_is, certified) (leaves (waits same (proposal_of sel)) (of_kind old.certified kind)
-                  (is_of_kind kind vote && not is_verified) (of_kind old.pending kind) (of_kind new.pending kind) vote
-                  (rw (sets.selection_is, certified) at (sets.buffers kind).pending) (none (not is_verified)));
-              verified =
-                  rw (sets.selection_is, certified) (leaves (waits same (proposal_of sel)) (of_kind old.certified kind) (is_of_kind kind vote && is_verified)
-                  (of_kind old.verified kind) (of_kind new.verified kind) vote (rw (sets.selection_is, certified) at (sets.buffers kind).verified)
-                  (none is_verified));
-            };
-      }
-
   -- the proposal is selected, and the vote joins those that wait
   pub adds_placed : (mid : Buffered G D)
       → SetsProposal same old (selects old.selection (leaders_vote same old vote)) mid
-      → Places mid vote is_verified new → is_dropped same old vote ≡ false
+      → Places mid vote is_verified new
+      → waits same (proposal_of (selects old.selection (leaders_vote same old vote))) vote ≡ true
       → AddsVote same old vote is_verified new
-  adds_placed mid sets places dropped =
+  adds_placed mid sets p fits =
       record {
-        leader = places.leader ∙ sets.leader;
-        selection = places.selection ∙ sets.selection_is;
+        leader = p.leader ∙ sets.leader;
+        selection = p.selection ∙ sets.selection_is;
         buffers = λ kind.
-            let p = places.kinds kind in
-            let certified = p.certified ∙ (sets.buffers kind).certified in
-            let selection = places.selection ∙ sets.selection_is in
-            let sel = selects old.selection (leaders_vote same old vote) in
-            let free = not_both (of_kind old.certified (kind_of vote)) (waits same (proposal_of sel) vote) dropped in
-            let open_kind : (rest : Bool) → (is_of_kind kind vote && rest) ≡ true → of_kind old.certified kind ≡ false
-            = λ rest fits. rw (← (kind_is (kind_of vote) kind ((both (is_of_kind kind vote) rest fits).0))) free.0 in
+            let b = sets.buffers kind in
+            let certified = p.certified kind ∙ b.certified in
+            let selection = p.selection ∙ sets.selection_is in
+            let test = waits same (proposal_of (selects old.selection (leaders_vote same old vote))) in
             record {
               certified = certified;
               pending =
-                  rw (selection, certified, p.pending) (joins (waits same (proposal_of sel)) (of_kind old.certified kind)
-                  (is_of_kind kind vote && not is_verified) (of_kind old.pending kind) (of_kind mid.pending kind) vote
-                  (rw (sets.selection_is, (sets.buffers kind).certified) at (sets.buffers kind).pending) (open_kind (not is_verified)) (λ _. free.1));
+                  rw (selection, certified, p.pending kind, b.certified) (joins test (of_kind old.certified kind) (is_of_kind kind vote && not is_verified)
+                  (of_kind old.pending kind) (of_kind mid.pending kind) vote (rw (sets.selection_is, b.certified) at b.pending) (λ _. fits));
               verified =
-                  rw (selection, certified, p.verified) (joins (waits same (proposal_of sel)) (of_kind old.certified kind) (is_of_kind kind vote && is_verified)
-                  (of_kind old.verified kind) (of_kind mid.verified kind) vote
-                  (rw (sets.selection_is, (sets.buffers kind).certified) at (sets.buffers kind).verified) (open_kind is_verified) (λ _. free.1));
+                  rw (selection, certified, p.verified kind, b.certified) (joins test (of_kind old.certified kind) (is_of_kind kind vote && is_verified)
+                  (of_kind old.verified kind) (of_kind mid.verified kind) vote (rw (sets.selection_is, b.certified) at b.verified) (λ _. fits));
             };
       }
 
-neither : (a b : Bool) → (not a && b) ≡ not (a || not b)
-neither true b = refl
-neither false true = refl
-neither false false = refl
+-- where a proposal is selected the leader's vote selects no other
+pub selects_again : {D : Type 0} (state : ProposalState D) (vote : Option (Proposal D))
+    → is_some (proposal_of state) ≡ true → selects state vote ≡ state
+selects_again Unknown vote h = absurd (cc)
+selects_again (LeadersProposal q) None h = refl
+selects_again (LeadersProposal q) (Some p) h = refl
+selects_again (FixedProposal q) None h = refl
+selects_again (FixedProposal q) (Some p) h = refl
 
-other_way : (a : Bool) → not a ≡ true → a ≡ false
-other_way true h = absurd (cc)
-other_way false h = refl
+-- a vote that is placed joins those that wait
+pub placed_buffers :
+    {G D : Type 0} (same : D → D → Bool) (old new : Buffered G D) (vote : Vote G D)
+    (is_verified : Bool) → Places old vote is_verified new
+    → waits same (proposal_of old.selection) vote ≡ true → ((kind : Kind) → IsTidy same old kind)
+    → (kind : Kind) → Buffers same old new kind
+    (cond (is_of_kind kind vote && not is_verified) (vote ∷ []) [])
+    (cond (is_of_kind kind vote && is_verified) (vote ∷ []) [])
+placed_buffers same old new vote is_verified p fits tidy kind =
+    let test = waits same (proposal_of old.selection) in
+    let certified = of_kind old.certified kind in
+    let t = tidy kind in
+    record {
+      certified = p.certified kind;
+      pending =
+          rw (p.selection, p.certified kind, p.pending kind)
+          (joins test certified (is_of_kind kind vote && not is_verified) (of_kind old.pending kind) (of_kind old.pending kind) vote
+          (all_left test certified (of_kind old.pending kind) t.none_pending t.pending) (λ _. fits));
+      verified =
+          rw (p.selection, p.certified kind, p.verified kind)
+          (joins test certified (is_of_kind kind vote && is_verified) (of_kind old.verified kind) (of_kind old.verified kind) vote
+          (all_left test certified (of_kind old.verified kind) t.none_verified t.verified) (λ _. fits));
+    }
 
-this_way : (a : Bool) → not a ≡ false → a ≡ true
-this_way true h = refl
-this_way false h = absurd (cc)
+pub some_copied : {X : Type 0} (lent : Option (Bor X)) (o : Option X) → option_copied lent ≡ o
+    → is_some o ≡ is_some lent
+some_copied None o e = rw (← e) refl
+some_copied (Some x) o e = rw (← e) refl
 
--- What is needed once the proposal is selected is what isn't dropped.
-module _ {G D : Type 0} (same : D → D → Bool) (old mid : Buffered G D) (vote : Vote G D)
-    (sets : SetsProposal same old (selects old.selection (leaders_vote same old vote)) mid)
-    (needed : Bool)
-    (is : needed ≡ (not (of_kind mid.certified (kind_of vote))
-    && waits same (proposal_of mid.selection) vote)) where
-  needs : needed ≡ not (is_dropped same old vote)
-  needs =
-      is ∙ ap (λ c. not c && waits same (proposal_of mid.selection) vote) (sets.buffers (kind_of vote)).certified
-      ∙ ap (λ s. not (of_kind old.certified (kind_of vote)) && waits same (proposal_of s) vote) sets.selection_is
-      ∙ neither (of_kind old.certified (kind_of vote)) (waits same (proposal_of (selects old.selection (leaders_vote same old vote))) vote)
+pub changed_so : {X : Type 0} (b : Bool) (after : Option X) (p : X) → cond b None after ≡ Some p
+    → b ≡ false
+changed_so true after p h = absurd (cc)
+changed_so false after p h = refl
 
-  pub needed_stays : needed ≡ true → is_dropped same old vote ≡ false
-  needed_stays h = other_way (is_dropped same old vote) (sym needs ∙ h)
-
-  pub not_needed_goes : needed ≡ false → is_dropped same old vote ≡ true
-  not_needed_goes h = this_way (is_dropped same old vote) (sym needs ∙ h)
+pub other_too : (a b : Bool) → a ≡ false → b ≡ true → (not a && b) ≡ true
+other_too true b e h = absurd (cc)
+other_too false b e h = h

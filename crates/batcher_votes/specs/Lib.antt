@@ -4,7 +4,8 @@ pub mod Tracking
 pub mod Buffering
 pub mod Waiting
 pub mod Sound
-pub mod States
+pub mod Kinds
+pub mod Certifications
 pub mod Verifiers
 pub mod Entries
 pub mod Looked

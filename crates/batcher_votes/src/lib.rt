@@ -2,5 +2,6 @@
 //! verifier those that wait.
 #![tactic(auto)]
 
+mod per_kind;
 pub mod verifier;
 pub mod votes;

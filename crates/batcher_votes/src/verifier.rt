@@ -1,7 +1,7 @@
 //! Votes on their way to a certificate: the selected proposal, two buffers of votes a kind, and
 //! the attempts to make certificates out of them.
 
-ghost use Rattle.std.specs.Prelude.{◌≡◌, ◌≢◌, ◌+◌, ◌≤◌, ◌&&◌, not, cond, true, false, ◌++◌, [], if◌then◌else◌, length, filter, Some, is_some, IsOk, IfOk, IfSome, OnOk, OnErr};
+ghost use Rattle.std.specs.Prelude.{◌≡◌, ◌≢◌, ◌+◌, ◌≤◌, ◌&&◌, not, cond, true, false, ◌++◌, [], if◌then◌else◌, length, filter, Some, None, is_some, is_none, IsOk, IfOk, IfSome, OnOk, OnErr};
 ghost use Rattle.std.specs.Option.{option_copied, option_map};
 ghost use Rattle.batcher_types.specs.declared.messages.Kind.{Kind as TheKind};
 ghost use Rattle.batcher_types.specs.declared.messages.Kind.TheVariants.{Notarization as TheNotarization, Nullification as TheNullification, Finalization as TheFinalization};
@@ -10,29 +10,29 @@ ghost use Rattle.batcher_types.specs.Quorum.{quorum_of};
 ghost use Rattle.std.specs.List.{AllPass};
 ghost use Rattle.batcher_types.specs.Lists.{EachOnce};
 ghost use Rattle.batcher_types.specs.Votes.{is_kind, kind_of, is_of_kind, has_proposals, signer_of, subject_of, attestation_of, waits};
-ghost use Rattle.batcher_votes.specs.Selected.{proposal_of, updated, same_selected, replaces};
+ghost use Rattle.batcher_votes.specs.Selected.{proposal_of, selects, updated, same_selected, replaces};
 ghost use Rattle.batcher_votes.specs.Held.{of_kind, SameVerifier};
 ghost use Rattle.batcher_types.specs.Attempts.{attempt_of};
-ghost use Rattle.batcher_votes.specs.Buffering.{attestations_of, nothing_buffered, is_buffered, is_dropped, leader_answer, is_ready, certificate_for, Buffers, TriesKind, AddsVote, SetsLeader, SetsProposal, CompletesKind};
+ghost use Rattle.batcher_votes.specs.Buffering.{attestations_of, nothing_buffered, subject_from, is_buffered, is_dropped, leaders_vote, leader_answer, is_ready, subject_tried, certificate_for};
+ghost use Rattle.batcher_votes.specs.Buffering.{Buffers, TriesKind, AddsVote, SetsLeader, SetsProposal, CompletesKind};
 ghost use Rattle.batcher_votes.specs.Looked.{pending_tried, verified_tried};
 ghost use Rattle.batcher_votes.specs.Sound.{IsSound, KeepsAllRoom, KeepsOtherRoom, RestoresRoom};
 ghost use Rattle.batcher_votes.specs.Verifiers.{is_of_round, subject_ready, IfGiven, BatchCertifies, NamesSomebody};
 
 mod attempt;
 mod buffer;
-mod state;
+mod certification;
 
+use crate::per_kind::PerKind;
 use crate::votes::KeptVotes;
 use attempt::{Attempted, attempt, looked_at};
 use batcher_types::messages::{
-    Attestation, Certificate, Digest, Finalization, Kind, Notarization, Notarize, Nullification,
-    Proposal, Subject, Vote,
+    Attestation, Certificate, Digest, Kind, Notarize, Proposal, Subject, Vote,
 };
 use batcher_types::positions::{Participant, Participants, Round, Set};
 use batcher_types::scheme::Scheme;
+use certification::Certification;
 use rand_core::CryptoRng;
-pub use state::ProposalUpdate;
-use state::{State, selected};
 use std::alloc::{AllocError, Global};
 use std::marker::Model;
 use std::rc::Rc;
@@ -47,6 +47,15 @@ pub enum ProposalState<D> {
     Leader(Proposal<D>),
     /// From a certificate or an own finalize: fixed for good.
     Certificate(Proposal<D>),
+}
+
+/// What a new source did to the selected proposal.
+#[derive(Clone, Copy, Debug, PartialEq, Eq)]
+pub struct ProposalUpdate {
+    /// Whether the proposal is another than before, or the first.
+    pub changed: bool,
+    /// Whether it took another's place, whose votes were dropped.
+    pub replaced: bool,
 }
 
 /// What one attempt at a certificate did.
@@ -93,7 +102,9 @@ pub struct Verifier<S: Scheme<D>, D: Digest> {
     scheme: Rc<S>,
     round: Round,
     quorum: usize,
-    state: State<S::Signature, D>,
+    leader: Option<Participant>,
+    proposal: ProposalState<D>,
+    kinds: PerKind<Certification<S::Signature, D>>,
 }
 
 impl<S: Scheme<D>, D: Digest> Model for Verifier<S, D> {
@@ -101,21 +112,22 @@ impl<S: Scheme<D>, D: Digest> Model for Verifier<S, D> {
 
     ghost Value = { Verifying S S.Signature D };
 
-    ghost use Rattle.batcher_votes.specs.States.{held_by, pending_room_of, verified_room_of};
+    ghost use Rattle.batcher_votes.specs.Certifications.{map_kinds, pending_room, verified_room, held_by};
     ghost use Rattle.batcher_votes.specs.Sound.{IsSound};
 
     ghost view = { λ v. record {
       scheme = v.scheme.value;
       number = v.round;
       quorum = v.quorum;
-      holds = held_by v.state;
-      pending_room = pending_room_of v.state;
-      verified_room = verified_room_of
-          v.state;
+      holds = held_by v.leader v.proposal v.kinds;
+      pending_room = map_kinds pending_room v.kinds;
+      verified_room = map_kinds verified_room
+          v.kinds;
     } };
 
     ghost invariant = { λ v.
-        IsSound (S.meaning v.scheme.value) D.eq v.round v.quorum (held_by v.state) };
+        IsSound (S.meaning v.scheme.value) D.eq v.round v.quorum
+        (held_by v.leader v.proposal v.kinds) };
 }
 
 impl<S: Scheme<D>, D: Digest> Verifier<S, D> {
@@ -133,7 +145,13 @@ impl<S: Scheme<D>, D: Digest> Verifier<S, D> {
             scheme,
             round,
             quorum: quorum as usize,
-            state: State::new(alloc),
+            leader: None,
+            proposal: ProposalState::Unknown,
+            kinds: PerKind::new(
+                Certification::new(alloc),
+                Certification::new(alloc),
+                Certification::new(alloc),
+            ),
         }
     }
 
@@ -141,21 +159,21 @@ impl<S: Scheme<D>, D: Digest> Verifier<S, D> {
     pub fn leader(&self) -> Option<Participant>
         ensures { result ≡ self.now.holds.leader }
     {
-        self.state.leader
+        self.leader
     }
 
     /// The selected proposal.
     pub fn proposal(&self) -> Option<&Proposal<D>>
         ensures { option_copied result ≡ proposal_of self.now.holds.selection }
     {
-        selected(&self.state.proposal)
+        self.proposal.selected()
     }
 
     /// Whether a vote of the kind and signer is buffered.
     pub fn buffered(&self, kind: Kind, signer: Participant) -> bool
         ensures { result ≡ is_buffered self.now.holds kind signer.0 }
     {
-        self.state.buffers(kind).contains(signer)
+        self.kinds.get(kind).contains(signer)
     }
 
     /// Takes a vote in, where it can still count. The leader's notarize selects its proposal.
@@ -175,8 +193,14 @@ impl<S: Scheme<D>, D: Digest> Verifier<S, D> {
             ≤ of_kind self.new.verified_room kind + cond (is_of_kind kind vote && verified) 1 0 }
         ensures same { SameVerifier self.old self.new }
     {
-        let most = self.scheme.participants().len();
-        self.state.add(vote, verified, most)
+        if !self.drops(&vote) {
+            self.make_room(vote.kind(), verified, 1)?;
+        }
+        self.select_by(&vote);
+        if self.proposal.may_wait(&vote) {
+            self.kinds.get_mut(vote.kind()).place(&vote, verified);
+        }
+        Ok(())
     }
 
     /// Takes a vote in as `add` does, with the room that it may need. It takes no memory.
@@ -193,7 +217,10 @@ impl<S: Scheme<D>, D: Digest> Verifier<S, D> {
         ensures adds { AddsVote D.eq self.old.holds vote.now verified self.new.holds }
         ensures same { SameVerifier self.old self.new }
     {
-        self.state.take(vote, verified);
+        self.select_by(vote);
+        if self.proposal.may_wait(vote) {
+            self.kinds.get_mut(vote.kind()).place(vote, verified);
+        }
     }
 
     /// Sets the leader, whose notarize selects its proposal. It takes no memory.
@@ -212,7 +239,27 @@ impl<S: Scheme<D>, D: Digest> Verifier<S, D> {
         ensures room { KeepsAllRoom self.old self.new }
         ensures same { SameVerifier self.old self.new }
     {
-        self.state.set_leader(leader, notarize)
+        if let Some(known) = self.leader {
+            return if known.0 == leader.0 {
+                Ok(())
+            } else {
+                Err(LeaderFault::LeaderChanged)
+            };
+        }
+        match notarize {
+            None => {
+                self.leader = Some(leader);
+                Ok(())
+            }
+            Some(notarize) => {
+                if notarize.attestation.signer.0 != leader.0 {
+                    return Err(LeaderFault::NotFromLeader);
+                }
+                self.set_proposal(ProposalState::Leader(notarize.proposal));
+                self.leader = Some(leader);
+                Ok(())
+            }
+        }
     }
 
     /// Changes the selected proposal as the new source allows. It takes no memory.
@@ -230,14 +277,30 @@ impl<S: Scheme<D>, D: Digest> Verifier<S, D> {
         ensures room { KeepsAllRoom self.old self.new }
         ensures same { SameVerifier self.old self.new }
     {
-        self.state.set_proposal(next)
+        let before = self.proposal;
+        self.proposal = before.updated(next);
+        match self.proposal.changed_from(before) {
+            None => ProposalUpdate {
+                changed: false,
+                replaced: false,
+            },
+            Some(proposal) => {
+                // Nullifies are for no proposal, and stay.
+                self.kinds.get_mut(Kind::Notarization).retain(&proposal);
+                self.kinds.get_mut(Kind::Finalization).retain(&proposal);
+                ProposalUpdate {
+                    changed: true,
+                    replaced: before.selected().is_some(),
+                }
+            }
+        }
     }
 
     /// The selected proposal once this one is fixed, where none is.
     pub fn selected_with(&self, proposal: Proposal<D>) -> Option<Proposal<D>>
         ensures { result ≡ proposal_of (updated self.now.holds.selection (FixedProposal proposal)) }
     {
-        match self.state.proposal {
+        match self.proposal {
             ProposalState::Certificate(fixed) => Some(fixed),
             _ => Some(proposal),
         }
@@ -247,7 +310,7 @@ impl<S: Scheme<D>, D: Digest> Verifier<S, D> {
     pub fn replaces(&self, proposal: &Proposal<D>) -> bool
         ensures { result ≡ replaces D.eq self.now.holds.selection proposal.now }
     {
-        match self.state.proposal {
+        match self.proposal {
             ProposalState::Leader(earlier) => earlier != *proposal,
             _ => false,
         }
@@ -275,8 +338,8 @@ impl<S: Scheme<D>, D: Digest> Verifier<S, D> {
             self.new.pending_room self.new.verified_room }
         ensures same { SameVerifier self.old self.new }
     {
-        if let Some(proposal) = selected(&self.state.proposal).copied() {
-            self.state.restore(kind, votes, &proposal);
+        if let Some(proposal) = self.proposal.selected().copied() {
+            self.kinds.get_mut(kind).restore(votes, &proposal);
         }
     }
 
@@ -288,14 +351,14 @@ impl<S: Scheme<D>, D: Digest> Verifier<S, D> {
             self.new.pending_room self.new.verified_room }
         ensures same { SameVerifier self.old self.new }
     {
-        self.state.record_certificate(kind);
+        self.kinds.get_mut(kind).finish();
     }
 
     /// Whether a certificate of the kind is there.
     pub fn has_certificate(&self, kind: Kind) -> bool
         ensures { result ≡ of_kind self.now.holds.certified kind }
     {
-        self.state.buffers(kind).complete
+        self.kinds.get(kind).is_complete()
     }
 
     /// The round of which the votes are.
@@ -322,8 +385,7 @@ impl<S: Scheme<D>, D: Digest> Verifier<S, D> {
         ensures pending { result.0 ≡ length (of_kind self.now.holds.pending kind) }
         ensures verified { result.1 ≡ length (of_kind self.now.holds.verified kind) }
     {
-        let buffers = self.state.buffers(kind);
-        (buffers.pending.len(), buffers.verified.len())
+        self.kinds.get(kind).lengths()
     }
 
     /// Makes room for so many more votes in one buffer of a kind, and changes nothing else.
@@ -343,7 +405,9 @@ impl<S: Scheme<D>, D: Digest> Verifier<S, D> {
         ensures same { SameVerifier self.old self.new }
     {
         let most = self.scheme.participants().len();
-        self.state.make_room(kind, verified, additional, most)
+        self.kinds
+            .get_mut(kind)
+            .make_room(verified, additional, most)
     }
 
     /// One attempt at a notarization, with the votes that are buffered, where the kind is ready.
@@ -453,14 +517,57 @@ impl<S: Scheme<D>, D: Digest> Verifier<S, D> {
             ≡ verified_tried self.now.holds kind) }
     {
         let subject = self.subject_ready(kind)?;
-        let buffers = self.state.buffers(kind);
-        let verified = buffers.verified.attestations();
-        let pending = looked_at(self.quorum, verified, buffers.pending.attestations());
+        let certification = self.kinds.get(kind);
+        let verified = certification.verified();
+        let pending = looked_at(self.quorum, verified, certification.pending());
         Some(NextAttempt {
             subject,
             pending,
             verified,
         })
+    }
+
+    // The proposal of a notarize of the leader.
+    fn leaders_proposal(&self, vote: &Vote<S::Signature, D>) -> Option<Proposal<D>>
+        ensures { result ≡ leaders_vote D.eq self.now.holds vote.now }
+    {
+        match (vote, self.leader) {
+            (Vote::Notarize(vote), Some(leader)) => {
+                if leader.0 == vote.attestation.signer.0 {
+                    Some(vote.proposal)
+                } else {
+                    None
+                }
+            }
+            _ => None,
+        }
+    }
+
+    // The leader's notarize selects its proposal, where none is selected. Another vote changes
+    // nothing.
+    fn select_by(&mut self, vote: &Vote<S::Signature, D>)
+        ensures sets { SetsProposal D.eq self.old.holds
+            (selects self.old.holds.selection (leaders_vote D.eq self.old.holds vote.now))
+            self.new.holds }
+        ensures room { KeepsAllRoom self.old self.new }
+        ensures same { SameVerifier self.old self.new }
+    {
+        if self.proposal.selected().is_none() {
+            if let Some(proposal) = self.leaders_proposal(vote) {
+                self.set_proposal(ProposalState::Leader(proposal));
+            }
+        }
+    }
+
+    // Whether `add` drops the vote: no vote of its kind is needed, or it is for another proposal.
+    fn drops(&self, vote: &Vote<S::Signature, D>) -> bool
+        ensures { result ≡ is_dropped D.eq self.now.holds vote.now }
+    {
+        let selection = match self.leaders_proposal(vote) {
+            Some(proposal) => self.proposal.updated(ProposalState::Leader(proposal)),
+            None => self.proposal,
+        };
+        self.kinds.get(vote.kind()).is_complete() || !selection.may_wait(vote)
     }
 
     // What is to be tried of a kind, where it is ready.
@@ -472,8 +579,33 @@ impl<S: Scheme<D>, D: Digest> Verifier<S, D> {
         ensures sound { IsSound (S.meaning self.now.scheme) D.eq self.now.number self.now.quorum
             self.now.holds }
     {
-        self.state
-            .subject_ready(S::is_batchable(), self.quorum, self.round, kind)
+        let any_proposal = self.waits_for_any(kind);
+        if !self
+            .kinds
+            .get(kind)
+            .is_ready(S::is_batchable(), self.quorum, any_proposal)
+        {
+            return None;
+        }
+        self.subject_tried(kind)
+    }
+
+    // Whether votes of the kind for any proposal wait.
+    fn waits_for_any(&self, kind: Kind) -> bool
+        ensures { result ≡ (has_proposals kind
+            && is_none (proposal_of self.now.holds.selection)) }
+    {
+        has_proposals(kind) && self.proposal.selected().is_none()
+    }
+
+    // What an attempt at a kind's certificate is about.
+    fn subject_tried(&self, kind: Kind) -> Option<Subject<D>>
+        ensures { result ≡ subject_tried self.now.holds self.now.number kind }
+    {
+        match self.proposal.selected() {
+            Some(proposal) => subject_from(kind, self.round, Some(*proposal)),
+            None => subject_from(kind, self.round, self.kinds.get(kind).first_proposal()),
+        }
     }
 
     // An attempt with the votes of a kind, which it leaves as they are.
@@ -502,15 +634,15 @@ impl<S: Scheme<D>, D: Digest> Verifier<S, D> {
             (attestations_of (of_kind self.now.holds.pending kind)) (R.stream rng.old)) }
     {
         let scheme: &S = &self.scheme;
-        let buffers = self.state.buffers(kind);
+        let certification = self.kinds.get(kind);
         attempt(
             self.alloc,
             scheme,
             rng,
             subject,
             self.quorum,
-            buffers.verified.attestations(),
-            buffers.pending.attestations(),
+            certification.verified(),
+            certification.pending(),
         )
     }
 
@@ -532,52 +664,130 @@ impl<S: Scheme<D>, D: Digest> Verifier<S, D> {
         ensures same { SameVerifier self.old self.new }
     {
         let Attempted { batch, joining } = self.attempt_at(kind, subject, rng)?;
+        let batch = batch.for_subject(subject);
+        let certification = self.kinds.get_mut(kind);
+        if batch.certificate.is_some() {
+            certification.finish();
+            return Ok(batch);
+        }
+        certification.make_room_for_run(joining.len())?;
+        certification.absorb(subject, joining.as_slice());
+        Ok(batch)
+    }
+}
+
+impl<C: Drop> Batch<C> {
+    // The batch of an attempt about this subject, with its certificate.
+    #[tactic(auto, using(crate::proofs::Constructing::certificate_is))]
+    fn for_subject<D: Digest>(self, subject: Subject<D>) -> Batch<Certificate<C, D>>
+        ensures { result ≡ record {
+          processed = self.processed;
+          invalid = self.invalid;
+          certificate = option_map (certificate_for subject) self.certificate;
+          fallback = self.fallback;
+        } }
+    {
         let Batch {
             processed,
             invalid,
             certificate,
             fallback,
-        } = batch;
-        match certificate {
-            Some(content) => {
-                self.state.record_certificate(kind);
-                Ok(Batch {
-                    processed,
-                    invalid,
-                    certificate: Some(certificate_of(subject, content)),
-                    fallback,
-                })
-            }
-            None => {
-                self.state.make_room_to_absorb(kind, joining.len())?;
-                self.state.absorb(kind, subject, joining.as_slice());
-                Ok(Batch {
-                    processed,
-                    invalid,
-                    certificate: None,
-                    fallback,
-                })
-            }
+        } = self;
+        let certificate = match certificate {
+            Some(content) => Some(Certificate::new(subject, content)),
+            None => None,
+        };
+        Batch {
+            processed,
+            invalid,
+            certificate,
+            fallback,
         }
     }
 }
 
-// The certificate of a subject.
-fn certificate_of<C: Drop, D: Digest>(subject: Subject<D>, content: C) -> Certificate<C, D>
-    ensures { result ≡ certificate_for subject content }
+impl<D> ProposalState<D> {
+    fn selected(&self) -> Option<&Proposal<D>>
+        ensures { option_copied result ≡ proposal_of self.now }
+    {
+        match self {
+            ProposalState::Unknown => None,
+            ProposalState::Leader(proposal) => Some(proposal),
+            ProposalState::Certificate(proposal) => Some(proposal),
+        }
+    }
+}
+
+impl<D: Digest> ProposalState<D> {
+    // What a new source makes of it: where none is selected it is taken, and what is certified
+    // takes the place of the leader's.
+    fn updated(self, next: ProposalState<D>) -> ProposalState<D>
+        ensures { result ≡ updated self next }
+    {
+        match self {
+            ProposalState::Unknown => next,
+            ProposalState::Leader(_) => match next {
+                ProposalState::Certificate(_) => next,
+                _ => self,
+            },
+            ProposalState::Certificate(_) => self,
+        }
+    }
+
+    // The selected proposal, where it is another than before.
+    fn changed_from(self, before: ProposalState<D>) -> Option<Proposal<D>>
+        requires { is_some (proposal_of before) ≡ true → is_some (proposal_of self) ≡ true }
+        ensures { result ≡ cond (same_selected D.eq (proposal_of before) (proposal_of self)) None
+            (proposal_of self) }
+    {
+        let proposal = *self.selected()?;
+        match before.selected() {
+            Some(known) => {
+                if *known == proposal {
+                    None
+                } else {
+                    Some(proposal)
+                }
+            }
+            None => Some(proposal),
+        }
+    }
+
+    // Whether the vote waits with what is selected.
+    fn may_wait<G: Copy>(&self, vote: &Vote<G, D>) -> bool
+        ensures { result ≡ waits D.eq (proposal_of self.now) vote.now }
+    {
+        match self.selected() {
+            None => true,
+            Some(proposal) => vote.waits_with(proposal),
+        }
+    }
+}
+
+// Whether votes of the kind carry a proposal.
+fn has_proposals(kind: Kind) -> bool
+    ensures { result ≡ has_proposals kind }
 {
-    match subject {
-        Subject::Notarize { proposal } => Certificate::Notarization(Notarization {
-            proposal,
-            certificate: content,
-        }),
-        Subject::Nullify { round } => Certificate::Nullification(Nullification {
-            round,
-            certificate: content,
-        }),
-        Subject::Finalize { proposal } => Certificate::Finalization(Finalization {
-            proposal,
-            certificate: content,
-        }),
+    kind != Kind::Nullification
+}
+
+// The subject of a kind, of the round or the proposal.
+fn subject_from<D: Digest>(
+    kind: Kind,
+    round: Round,
+    proposal: Option<Proposal<D>>,
+) -> Option<Subject<D>>
+    ensures { result ≡ subject_from kind round proposal }
+{
+    match kind {
+        Kind::Nullification => Some(Subject::Nullify { round }),
+        Kind::Notarization => match proposal {
+            None => None,
+            Some(proposal) => Some(Subject::Notarize { proposal }),
+        },
+        Kind::Finalization => match proposal {
+            None => None,
+            Some(proposal) => Some(Subject::Finalize { proposal }),
+        },
     }
 }

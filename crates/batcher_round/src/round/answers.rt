@@ -4,10 +4,10 @@ ghost use Rattle.std.specs.Prelude.{◌≡◌, ◌&&◌};
 ghost use Rattle.batcher_types.specs.declared.messages.Kind.TheVariants.{Notarization as NotarizeKind};
 ghost use Rattle.batcher_types.specs.Votes.{is_kind};
 ghost use Rattle.batcher_histories.specs.Admissions.{refusal, block_for, addition, report_of, mismatch_reason, conflict_reason, admission_of, admission_beside, admission_after, admission_after_facts};
-ghost use Rattle.batcher_histories.specs.Steps.{is_added, is_kept, opposite_fault, report_by, unopposed_result};
+ghost use Rattle.batcher_histories.specs.Steps.{fixed_by, is_added, is_kept, opposite_fault, report_by, unopposed_result};
 
 use crate::round::{Admission, BlockReason, OwnFault};
-use batcher_types::messages::{Activity, Digest, Kind, Vote};
+use batcher_types::messages::{Activity, Digest, Kind, Proposal, Vote};
 use batcher_votes::votes::Outcome;
 
 // The vote is refused, for no fault of its sender.
@@ -73,7 +73,7 @@ pub(super) fn report_by<G: Copy, D: Copy>(
 {
     match outcome {
         Outcome::Added { .. } => Some(report_of(vote)),
-        _ => None,
+        Outcome::Duplicate { .. } | Outcome::Conflicting => None,
     }
 }
 
@@ -83,7 +83,7 @@ pub(super) fn is_selected_anew(kind: Kind, changed: bool) -> bool
 {
     match kind {
         Kind::Notarization => changed,
-        _ => false,
+        Kind::Nullification | Kind::Finalization => false,
     }
 }
 
@@ -100,7 +100,7 @@ pub(super) fn is_kept(outcome: Outcome) -> bool
 {
     match outcome {
         Outcome::Added { retained } => retained,
-        _ => false,
+        Outcome::Duplicate { .. } | Outcome::Conflicting => false,
     }
 }
 
@@ -115,6 +115,19 @@ pub(super) fn opposite_fault(kind: Kind) -> OwnFault
     }
 }
 
+// The proposal that an own vote fixes. A finalize does, since the node finalizes a proposal only
+// once it knows it to be notarized: a quorum stands behind it, as where a certificate is recorded.
+// A notarize is for what the node has seen of the leader, who may have sent two.
+pub(super) fn fixed_by<G, D: Copy>(vote: &Vote<G, D>) -> Option<Proposal<D>>
+    ensures { result ≡ fixed_by vote.now }
+{
+    match vote {
+        Vote::Notarize(_) => None,
+        Vote::Nullify(_) => None,
+        Vote::Finalize(finalize) => Some(finalize.proposal),
+    }
+}
+
 // What comes of an own vote that isn't excluded so, or why it is refused. A node casts one notarize
 // and one finalize in a view, so a second is a fault of its own. A repeated nullify is none: a
 // driver casts it again at each retry, for peers that haven't got it.
@@ -122,13 +135,13 @@ pub(super) fn unopposed_result(kind: Kind, outcome: Outcome) -> Result<Outcome, 
     ensures { result ≡ unopposed_result kind outcome }
 {
     match outcome {
-        Outcome::Conflicting => Err(OwnFault::Conflicting),
+        Outcome::Added { .. } | Outcome::Duplicate { retained: false } => Ok(outcome),
         Outcome::Duplicate { retained: true } => match kind {
             Kind::Notarization => Err(OwnFault::DuplicateNotarize),
             Kind::Nullification => Ok(outcome),
             Kind::Finalization => Err(OwnFault::DuplicateFinalize),
         },
-        _ => Ok(outcome),
+        Outcome::Conflicting => Err(OwnFault::Conflicting),
     }
 }
 
@@ -168,7 +181,9 @@ pub(super) fn after_opposite<G: Copy, D: Copy>(
             BlockReason::FinalizeAfterNullify,
             Some(Activity::NullifyFinalize(nullify, finalize)),
         ),
-        _ => refused(),
+        (Vote::Notarize(_), _)
+        | (Vote::Nullify(_), Vote::Notarize(_) | Vote::Nullify(_))
+        | (Vote::Finalize(_), Vote::Notarize(_) | Vote::Finalize(_)) => refused(),
     }
 }
 
@@ -215,6 +230,8 @@ pub(super) fn beside<G: Copy + Eq, D: Digest>(kept: Vote<G, D>, vote: Vote<G, D>
                 blocked(BlockReason::InvalidSignature, None)
             }
         }
-        _ => refused(),
+        (Vote::Notarize(_), Vote::Nullify(_) | Vote::Finalize(_))
+        | (Vote::Nullify(_), Vote::Notarize(_) | Vote::Finalize(_))
+        | (Vote::Finalize(_), Vote::Notarize(_) | Vote::Nullify(_)) => refused(),
     }
 }

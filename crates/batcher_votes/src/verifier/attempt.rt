@@ -10,7 +10,7 @@ ghost use Rattle.batcher_types.specs.Attempts.{checked, attempt_of};
 use crate::verifier::Batch;
 use batcher_types::messages::{Attestation, Digest, Subject};
 use batcher_types::positions::Participants;
-use batcher_types::scheme::Scheme;
+use batcher_types::scheme::{Scheme, Verification};
 use rand_core::CryptoRng;
 use std::alloc::{AllocError, Global};
 
@@ -20,6 +20,29 @@ use std::alloc::{AllocError, Global};
 pub(crate) struct Attempted<C, G> {
     pub(crate) batch: Batch<C>,
     pub(crate) joining: Vec<Attestation<G>>,
+}
+
+impl<C, G> Attempted<C, G> {
+    // What was found of so many pending attestations, with the certificate, if there is one.
+    fn new(processed: usize, found: Verification<G>, certificate: Option<C>, fallback: bool) -> Self
+        ensures batch { result.batch ≡ record {
+          processed = processed;
+          invalid = found.invalid.items;
+          certificate = certificate;
+          fallback = fallback;
+        } }
+        ensures joining { result.joining ≡ found.verified }
+    {
+        Attempted {
+            batch: Batch {
+                processed,
+                invalid: Participants::from(found.invalid),
+                certificate,
+                fallback,
+            },
+            joining: found.verified,
+        }
+    }
 }
 
 /// The pending attestations that an attempt looks at: where the verified ones are a quorum by
@@ -66,17 +89,16 @@ pub(crate) fn attempt<S: Scheme<D>, D: Digest, R: CryptoRng>(
         (R.stream rng.old)) }
 {
     let pending = looked_at(quorum, verified, pending);
-    if verified.len().saturating_add(pending.len()) >= quorum {
+    let processed = pending.len();
+    if verified.len().saturating_add(processed) >= quorum {
         match scheme.optimistic_assemble(alloc, rng, subject, pending, verified)? {
-            Ok(certificate) => Ok(Attempted {
-                batch: Batch {
-                    processed: pending.len(),
-                    invalid: Participants::from(Vec::new(alloc)),
-                    certificate: Some(certificate),
-                    fallback: false,
-                },
-                joining: Vec::new(alloc),
-            }),
+            Ok(certificate) => {
+                let nothing = Verification {
+                    verified: Vec::new(alloc),
+                    invalid: Vec::new(alloc),
+                };
+                Ok(Attempted::new(processed, nothing, Some(certificate), false))
+            }
             Err(found) => {
                 if verified.len().saturating_add(found.verified.len()) >= quorum {
                     let certificate = scheme.assemble(
@@ -85,38 +107,14 @@ pub(crate) fn attempt<S: Scheme<D>, D: Digest, R: CryptoRng>(
                         verified,
                         found.verified.as_slice(),
                     )?;
-                    Ok(Attempted {
-                        batch: Batch {
-                            processed: pending.len(),
-                            invalid: Participants::from(found.invalid),
-                            certificate: Some(certificate),
-                            fallback: true,
-                        },
-                        joining: Vec::new(alloc),
-                    })
+                    Ok(Attempted::new(processed, found, Some(certificate), true))
                 } else {
-                    Ok(Attempted {
-                        batch: Batch {
-                            processed: pending.len(),
-                            invalid: Participants::from(found.invalid),
-                            certificate: None,
-                            fallback: true,
-                        },
-                        joining: found.verified,
-                    })
+                    Ok(Attempted::new(processed, found, None, true))
                 }
             }
         }
     } else {
         let found = scheme.verify_attestations(alloc, rng, subject, pending)?;
-        Ok(Attempted {
-            batch: Batch {
-                processed: pending.len(),
-                invalid: Participants::from(found.invalid),
-                certificate: None,
-                fallback: false,
-            },
-            joining: found.verified,
-        })
+        Ok(Attempted::new(processed, found, None, false))
     }
 }

@@ -178,16 +178,6 @@ impl<G: Copy, D: Digest> Buffer<G, D> {
         self.runs.clear();
         self.attestations.clear();
     }
-
-    /// Drops all votes, and gives their memory back.
-    pub(crate) fn free(&mut self)
-        ensures { self.new.votes ≡ [] }
-    {
-        self.runs.clear();
-        self.runs.shrink_to_fit();
-        self.attestations.clear();
-        self.attestations.shrink_to_fit();
-    }
 }
 
 // Whether there is an attestation of the signer.

@@ -1,113 +1,53 @@
-use Rattle.std.proofs.Common.{◌≡◌, ◌∙◌, ◌&&◌, not, ap, subst, refl, true, is_some, sym}
-use Rattle.batcher_types.specs.declared.messages.Kind.{Kind}
-use Rattle.batcher_types.specs.declared.messages.Kind.TheVariants.{Notarization, Finalization}
-use Rattle.batcher_types.specs.Votes.{is_kind, kind_certified}
-use Rattle.batcher_votes.specs.Selected.{proposal_of, same_selected}
-use Rattle.batcher_votes.specs.Tracking.{ReleasesKind, is_released_in}
-use Rattle.batcher_votes.specs.Buffering.{MayFix, CompletesKind}
+use Rattle.std.proofs.Common.{Bool}
 use Rattle.batcher_histories.specs.Setting.{setting}
+use Rattle.batcher_histories.specs.Steps.{AfterCertificate}
+use Rattle.batcher_histories.specs.Stands.{Follows}
+use Rattle.batcher_histories.specs.declared.calls.Call.TheVariants.{Certificate as CertificateCall}
+use Rattle.batcher_histories.specs.declared.answers.Answer.TheVariants.{Certificate as CertificateAnswer}
 use Rattle.batcher_votes.specs.Held.{Held}
 use Rattle.batcher_histories.proofs.History.Laws.{HasLaws}
 use Rattle.batcher_histories.proofs.Follow.Recorded.{certificate_follows}
-use Rattle.batcher_histories.proofs.Right.Own.{right_certified}
-use Rattle.batcher_histories.proofs.Right.Room.{no_room_with, room_left}
 use Rattle.batcher_histories.proofs.Memory.Needed.{certificate_needed}
+use Rattle.batcher_round.proofs.InRound.{if_ok, certificate_in_round}
+use Rattle.batcher_round.proofs.OwnVotes.{held_by}
 use Rattle.batcher_round.proofs.round.Round.record_certificate.Goals as goal
-use Rattle.batcher_votes.proofs.Fixing.{finalization_for}
-
-pub invariant_of-self-2 : goal.invariant_of-self-2
-invariant_of-self-2 g c =
-    let b = c.self.inside in
-    let same = g.D.PartialEq.eq in
-    let kind = c.kind-kind.result in
-    let made = c.in_ok-make_room_to_fix.ensures in
-    let completes : CompletesKind same b.verifier.holds kind c.record_certificate.new.self.holds = subst
-    (λ h. CompletesKind same h kind c.record_certificate.new.self.holds) made.holds c.record_certificate.ensures.completes in
-    let f = c.may_fix-changed.ensures in
-    rw (f.same.0, c.record_certificate.ensures.same.0, made.same.0, f.same.2, c.record_certificate.ensures.same.2, made.same.2)
-    (right_certified (g.S.Scheme.meaning b.verifier.scheme) same b.votes c.release.new.self b.verifier.holds c.record_certificate.new.self.holds
-    c.may_fix-changed.new.verifier.holds b.verifier.quorum kind
-    c.proposal-proposal.result _ c.self.invariant completes f.fixes f.within c.release.ensures.participants c.release.ensures.mode
-    c.release.ensures.releases c.release.ensures.others
-    (λ h. ap is_some c.proposal-proposal.ensures
-    ∙ finalization_for c.args.certificate.now (ap (λ k. is_kind k Finalization) (sym c.kind-kind.ensures) ∙ h)))
-
-pub may_fix-changed-requires-clause-room : goal.may_fix-changed-requires-clause-room
-may_fix-changed-requires-clause-room g c =
-    let b = c.self.inside in
-    let same = g.D.PartialEq.eq in
-    let kind = c.kind-kind.result in
-    let made = c.in_ok-make_room_to_fix.ensures in
-    let completes : CompletesKind same b.verifier.holds kind c.record_certificate.new.self.holds = subst
-    (λ h. CompletesKind same h kind c.record_certificate.new.self.holds) made.holds c.record_certificate.ensures.completes in
-    room_left same b.verifier.holds c.record_certificate.new.self.holds kind b.votes.holds.kept c.proposal-proposal.result _ _ _ _ completes
-    c.record_certificate.ensures.room made.room
 
 pub returns-clause-step : goal.returns-clause-step
 returns-clause-step g c =
     let b = c.self.inside in
-    let same = g.D.PartialEq.eq in
-    let made = c.in_ok-make_room_to_fix.ensures in
-    let old = b.verifier.holds in
-    let certificate = c.args.certificate.now in
-    let completed = c.record_certificate.new.self.holds in
-    let new = c.may_fix-changed.new.verifier.holds in
-    let completes : CompletesKind same old (kind_certified certificate) completed =
-    subst (λ h. CompletesKind same h (kind_certified certificate) completed) made.holds
-    (subst (λ k. CompletesKind same c.make_room_to_fix.new.verifier.holds k completed) c.kind-kind.ensures c.record_certificate.ensures.completes) in
-    let before : proposal_of completed.selection ≡ proposal_of old.selection = ap proposal_of completes.selection in
-    let answer = c.is_selected_anew.ensures ∙ ap (λ k. is_kind Notarization k && c.may_fix-changed.result) c.kind-kind.ensures
-    ∙ ap (λ d. is_kind Notarization (kind_certified certificate) && d)
-    (c.may_fix-changed.ensures.changed ∙ ap (λ s. not (same_selected same s (proposal_of new.selection))) before) in
-    let selected = c.copied.ensures ∙ c.proposal.ensures in
-    let releases = λ (kind : Kind).
-    subst (λ k. ReleasesKind same b.votes.holds c.release.new.self.holds (proposal_of new.selection) (is_kind k kind && is_released_in b.votes.mode true) kind)
-    c.kind-kind.ensures
-    (subst (λ s. ReleasesKind same b.votes.holds c.release.new.self.holds s (is_kind c.kind-kind.result kind && is_released_in b.votes.mode true) kind) selected
-    (c.release.ensures.releases kind)) in
+    let v = b.ballots.verifier in
+    let x = setting (g.S.Scheme.meaning v.scheme) g.S.PublicKey.Ord.cmp g.S.Signature.PartialEq.eq g.D.PartialEq.eq v.number b.ballots.tracker.mode in
+    let after = c.complete.new.self in
     rw (← c.self.view_is)
-    (record {
-      answer_is = answer;
-      forwarded = refl;
-      completed = completed;
-      completes = completes;
-      fixes = subst (λ p. MayFix same completed b.votes.holds.kept p new) c.proposal-proposal.ensures c.may_fix-changed.ensures.fixes;
-      releases = releases;
-    })
+    (certificate_in_round x b.forwarded (held_by b.ballots.tracker v.holds) (held_by after.tracker after.verifier.holds) c.args.certificate.now
+    c.complete.result c.complete.ensures.step)
 
 pub returns-clause-meets : goal.returns-clause-meets
 returns-clause-meets g c =
     let b = c.self.inside in
-    let x = setting (g.S.Scheme.meaning b.verifier.scheme) g.S.PublicKey.Ord.cmp g.S.Signature.PartialEq.eq g.D.PartialEq.eq b.verifier.number b.votes.mode in
+    let v = b.ballots.verifier in
+    let x = setting (g.S.Scheme.meaning v.scheme) g.S.PublicKey.Ord.cmp g.S.Signature.PartialEq.eq g.D.PartialEq.eq v.number b.ballots.tracker.mode in
     let laws : HasLaws x = record {
-      scheme = g.met.S.Scheme.lawful b.verifier.scheme;
-      some_participant = c.self.invariant.some;
+      scheme = g.met.S.Scheme.lawful v.scheme;
+      some_participant = c.self.invariant;
       digests_equal = g.met.D.Digest.identical;
       digests_same = g.met.D.Eq.laws.refl;
     } in
-    let held : Held g.row.S-Signature.Denot g.row.D.Denot = record { tracked = b.votes.holds; buffered = b.verifier.holds; forwarded = b.forwarded } in
+    let held : Held g.row.S-Signature.Denot g.row.D.Denot = record { tracked = b.ballots.tracker.holds; buffered = v.holds; forwarded = b.forwarded } in
+    let after = c.complete.new.self in
+    let new : Held g.row.S-Signature.Denot g.row.D.Denot = record { tracked = after.tracker.holds; buffered = after.verifier.holds; forwarded = b.forwarded } in
+    let certificate = c.args.certificate.now in
     let step = rw (← c.self.view_is) at (returns-clause-step g c) in
     let allowed = rw (← c.self.view_is) at c.requires in
-    rw (← c.self.view_is) (λ past stands. certificate_follows x laws past held c.args.certificate.now _ _ stands step allowed)
-
-pub returns-in_err-make_room_to_fix-clause-no_memory :
-    goal.returns-in_err-make_room_to_fix-clause-no_memory
-returns-in_err-make_room_to_fix-clause-no_memory g c =
-    let b = c.self.inside in
-    let x = setting (g.S.Scheme.meaning b.verifier.scheme) g.S.PublicKey.Ord.cmp g.S.Signature.PartialEq.eq g.D.PartialEq.eq b.verifier.number b.votes.mode in
     rw (← c.self.view_is)
-    (λ none.
-    let wrong =
-    c.in_err-make_room_to_fix.ensures.no_memory
-    (λ fixed is takes kind has own full. no_room_with x (record { tracked = b.votes.holds; buffered = b.verifier.holds; forwarded = b.forwarded }) fixed kind _
-    takes has c.args.certificate.now _ _ c.kind-kind.ensures c.proposal-proposal.ensures is own (none kind)) in
-    absurd (cc))
+    (λ past stands. if_ok (λ (answer : Bool). AfterCertificate x held certificate answer new)
+    (λ (answer : Bool). Follows x past held (CertificateCall certificate, CertificateAnswer answer) new) c.complete.result
+    (λ answer done. certificate_follows x laws past held certificate answer new stands done allowed) step)
 
-pub returns-in_err-make_room_to_fix-clause-needed :
-    goal.returns-in_err-make_room_to_fix-clause-needed
-returns-in_err-make_room_to_fix-clause-needed g c =
+pub returns-clause-needed : goal.returns-clause-needed
+returns-clause-needed g c =
     let b = c.self.inside in
-    let x = setting (g.S.Scheme.meaning b.verifier.scheme) g.S.PublicKey.Ord.cmp g.S.Signature.PartialEq.eq g.D.PartialEq.eq b.verifier.number b.votes.mode in
-    let held : Held g.row.S-Signature.Denot g.row.D.Denot = record { tracked = b.votes.holds; buffered = b.verifier.holds; forwarded = b.forwarded } in
-    let no_memory = rw (← c.self.view_is) at (returns-in_err-make_room_to_fix-clause-no_memory g c) in
-    rw (← c.self.view_is) (λ past stands. certificate_needed x past held c.args.certificate.now _ stands no_memory)
+    let v = b.ballots.verifier in
+    let x = setting (g.S.Scheme.meaning v.scheme) g.S.PublicKey.Ord.cmp g.S.Signature.PartialEq.eq g.D.PartialEq.eq v.number b.ballots.tracker.mode in
+    let held : Held g.row.S-Signature.Denot g.row.D.Denot = record { tracked = b.ballots.tracker.holds; buffered = v.holds; forwarded = b.forwarded } in
+    rw (← c.self.view_is) (λ past stands. certificate_needed x past held c.args.certificate.now c.complete.result stands c.complete.ensures.no_memory)

@@ -1,51 +1,42 @@
-use Rattle.std.proofs.Common.{◌∙◌, ap, is_some, refl}
-use Rattle.batcher_votes.specs.Buffering.{leader_answer}
-use Rattle.batcher_histories.specs.Setting.{setting}
+use Rattle.std.proofs.Common.{◌∙◌, ap}
 use Rattle.batcher_votes.specs.Held.{Held}
-use Rattle.batcher_histories.proofs.History.Laws.{HasLaws}
-use Rattle.batcher_histories.proofs.Follow.Resting.{leader_step, leader_meets}
+use Rattle.batcher_histories.specs.Setting.{setting}
 use Rattle.batcher_histories.specs.Steps.{leader_set_answer}
-use Rattle.batcher_histories.proofs.Right.Kept.{right_led, led_by}
+use Rattle.batcher_histories.proofs.History.Laws.{HasLaws}
+use Rattle.batcher_histories.proofs.Follow.Resting.{leader_meets}
+use Rattle.batcher_round.proofs.InRound.{first_on_err, leader_in_round, leader_tracks}
+use Rattle.batcher_round.proofs.OwnVotes.{held_by}
 use Rattle.batcher_round.proofs.round.Round.set_leader.Goals as goal
-
-pub invariant_of-self : goal.invariant_of-self
-invariant_of-self g c =
-    let v = c.self.inside.verifier in
-    rw (c.set_leader.ensures.same.0, c.set_leader.ensures.same.2)
-    (right_led (g.S.Scheme.meaning v.scheme) c.self.inside.votes v.holds c.set_leader.new.self.holds v.quorum c.self.invariant
-    g.D.PartialEq.eq c.args.leader _ (is_some v.holds.leader) c.set_leader.result refl c.set_leader.ensures.again c.set_leader.ensures.refused
-    c.set_leader.ensures.sets)
-
-pub returns-clause-answer : goal.returns-clause-answer
-returns-clause-answer g c =
-    rw (← c.self.view_is)
-    (c.set_leader.ensures.answer ∙ ap (λ o. leader_answer c.self.inside.verifier.holds.leader c.args.leader o) c.as_ref.ensures.value
-    ∙ led_by c.self.inside.votes.holds c.self.inside.verifier.holds.leader c.args.leader c.notarize-notarize.result c.notarize-notarize.ensures)
 
 pub returns-clause-step : goal.returns-clause-step
 returns-clause-step g c =
     let b = c.self.inside in
-    let x = setting (g.S.Scheme.meaning b.verifier.scheme) g.S.PublicKey.Ord.cmp g.S.Signature.PartialEq.eq g.D.PartialEq.eq b.verifier.number b.votes.mode in
-    let held : Held g.row.S-Signature.Denot g.row.D.Denot = record { tracked = b.votes.holds; buffered = b.verifier.holds; forwarded = b.forwarded } in
+    let v = b.ballots.verifier in
+    let x = setting (g.S.Scheme.meaning v.scheme) g.S.PublicKey.Ord.cmp g.S.Signature.PartialEq.eq g.D.PartialEq.eq v.number b.ballots.tracker.mode in
+    let after = c.set_leader.new.self in
     rw (← c.self.view_is)
-    (leader_step x held c.args.leader c.notarize-notarize.result c.set_leader.result c.set_leader.new.self.holds c.notarize-notarize.ensures
-    c.set_leader.ensures.again (rw c.as_ref.ensures.value at c.set_leader.ensures.sets))
+    (leader_in_round x b.forwarded (held_by b.ballots.tracker v.holds) (held_by after.tracker after.verifier.holds) c.args.leader
+    c.set_leader.result c.set_leader.ensures.step)
 
 pub returns-clause-meets : goal.returns-clause-meets
 returns-clause-meets g c =
     let b = c.self.inside in
-    let x = setting (g.S.Scheme.meaning b.verifier.scheme) g.S.PublicKey.Ord.cmp g.S.Signature.PartialEq.eq g.D.PartialEq.eq b.verifier.number b.votes.mode in
+    let v = b.ballots.verifier in
+    let x = setting (g.S.Scheme.meaning v.scheme) g.S.PublicKey.Ord.cmp g.S.Signature.PartialEq.eq g.D.PartialEq.eq v.number b.ballots.tracker.mode in
     let laws : HasLaws x = record {
-      scheme = g.met.S.Scheme.lawful b.verifier.scheme;
-      some_participant = c.self.invariant.some;
+      scheme = g.met.S.Scheme.lawful v.scheme;
+      some_participant = c.self.invariant;
       digests_equal = g.met.D.Digest.identical;
       digests_same = g.met.D.Eq.laws.refl;
     } in
-    let held : Held g.row.S-Signature.Denot g.row.D.Denot = record { tracked = b.votes.holds; buffered = b.verifier.holds; forwarded = b.forwarded } in
-    let named = rw (← c.self.view_is) at (returns-clause-answer g c) in
-    let step = rw (← c.self.view_is) at (returns-clause-step g c) in
-    rw (← c.self.view_is) (λ past stands. leader_meets x laws past held c.args.leader c.set_leader.result c.set_leader.new.self.holds stands named step
-    c.set_leader.ensures.refused)
+    let held : Held g.row.S-Signature.Denot g.row.D.Denot = record { tracked = b.ballots.tracker.holds; buffered = v.holds; forwarded = b.forwarded } in
+    let after = c.set_leader.new.self in
+    let tracks = leader_tracks x b.forwarded (held_by b.ballots.tracker v.holds) (held_by after.tracker after.verifier.holds) c.args.leader c.set_leader.result
+    c.set_leader.ensures.step c.set_leader.ensures.all.2 in
+    let step = rw tracks at (rw (← c.self.view_is) at (returns-clause-step g c)) in
+    rw (← c.self.view_is, tracks)
+    (λ past stands. leader_meets x laws past held c.args.leader c.set_leader.result after.verifier.holds stands c.set_leader.ensures.answer step
+    (first_on_err _ _ c.set_leader.result c.set_leader.ensures.all.2))
 
 pub returns-clause-named : goal.returns-clause-named
-returns-clause-named g c = λ past stands. returns-clause-answer g c ∙ ap (λ l. leader_set_answer l c.args.leader) stands.leader_is
+returns-clause-named g c = rw (← c.self.view_is) (λ past stands. c.set_leader.ensures.answer ∙ ap (λ l. leader_set_answer l c.args.leader) stands.leader_is)

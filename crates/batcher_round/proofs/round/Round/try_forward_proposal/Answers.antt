@@ -26,14 +26,15 @@ returns-clause-holds g c = search rules
 pub returns-then-self-clause-meets : goal.returns-then-self-clause-meets
 returns-then-self-clause-meets g c =
     let b = c.self.inside in
-    let x = setting (g.S.Scheme.meaning b.verifier.scheme) g.S.PublicKey.Ord.cmp g.S.Signature.PartialEq.eq g.D.PartialEq.eq b.verifier.number b.votes.mode in
+    let v = b.ballots.verifier in
+    let x = setting (g.S.Scheme.meaning v.scheme) g.S.PublicKey.Ord.cmp g.S.Signature.PartialEq.eq g.D.PartialEq.eq v.number b.ballots.tracker.mode in
     let laws : HasLaws x = record {
-      scheme = g.met.S.Scheme.lawful b.verifier.scheme;
-      some_participant = c.self.invariant.some;
+      scheme = g.met.S.Scheme.lawful b.ballots.verifier.scheme;
+      some_participant = c.self.invariant;
       digests_equal = g.met.D.Digest.identical;
       digests_same = g.met.D.Eq.laws.refl;
     } in
-    let held : Held g.row.S-Signature.Denot g.row.D.Denot = record { tracked = b.votes.holds; buffered = b.verifier.holds; forwarded = b.forwarded } in
+    let held : Held g.row.S-Signature.Denot g.row.D.Denot = record { tracked = b.ballots.tracker.holds; buffered = v.holds; forwarded = b.forwarded } in
     let named = rw (← c.self.view_is) at (returns-then-self-clause-answer g c) in
     let moved = rw (← c.self.view_is) at (returns-then-self-clause-holds g c) in
     rw (← c.self.view_is) (λ past stands. forward_follows x laws past held _ c.args.me _ stands named moved)
@@ -41,14 +42,15 @@ returns-then-self-clause-meets g c =
 pub returns-in_err-proposal-clause-meets : goal.returns-in_err-proposal-clause-meets
 returns-in_err-proposal-clause-meets g c =
     let b = c.self.inside in
-    let x = setting (g.S.Scheme.meaning b.verifier.scheme) g.S.PublicKey.Ord.cmp g.S.Signature.PartialEq.eq g.D.PartialEq.eq b.verifier.number b.votes.mode in
+    let v = b.ballots.verifier in
+    let x = setting (g.S.Scheme.meaning v.scheme) g.S.PublicKey.Ord.cmp g.S.Signature.PartialEq.eq g.D.PartialEq.eq v.number b.ballots.tracker.mode in
     let laws : HasLaws x = record {
-      scheme = g.met.S.Scheme.lawful b.verifier.scheme;
-      some_participant = c.self.invariant.some;
+      scheme = g.met.S.Scheme.lawful b.ballots.verifier.scheme;
+      some_participant = c.self.invariant;
       digests_equal = g.met.D.Digest.identical;
       digests_same = g.met.D.Eq.laws.refl;
     } in
-    let held : Held g.row.S-Signature.Denot g.row.D.Denot = record { tracked = b.votes.holds; buffered = b.verifier.holds; forwarded = b.forwarded } in
+    let held : Held g.row.S-Signature.Denot g.row.D.Denot = record { tracked = b.ballots.tracker.holds; buffered = v.holds; forwarded = b.forwarded } in
     let named = rw (← c.self.view_is) at (returns-in_err-proposal-clause-answer g c) in
     let moved = rw (← c.self.view_is) at (returns-in_err-proposal-clause-holds g c) in
     rw (← c.self.view_is) (λ past stands. forward_follows x laws past held _ c.args.me _ stands named moved)
@@ -56,14 +58,15 @@ returns-in_err-proposal-clause-meets g c =
 pub returns-clause-meets : goal.returns-clause-meets
 returns-clause-meets g c =
     let b = c.self.inside in
-    let x = setting (g.S.Scheme.meaning b.verifier.scheme) g.S.PublicKey.Ord.cmp g.S.Signature.PartialEq.eq g.D.PartialEq.eq b.verifier.number b.votes.mode in
+    let v = b.ballots.verifier in
+    let x = setting (g.S.Scheme.meaning v.scheme) g.S.PublicKey.Ord.cmp g.S.Signature.PartialEq.eq g.D.PartialEq.eq v.number b.ballots.tracker.mode in
     let laws : HasLaws x = record {
-      scheme = g.met.S.Scheme.lawful b.verifier.scheme;
-      some_participant = c.self.invariant.some;
+      scheme = g.met.S.Scheme.lawful b.ballots.verifier.scheme;
+      some_participant = c.self.invariant;
       digests_equal = g.met.D.Digest.identical;
       digests_same = g.met.D.Eq.laws.refl;
     } in
-    let held : Held g.row.S-Signature.Denot g.row.D.Denot = record { tracked = b.votes.holds; buffered = b.verifier.holds; forwarded = b.forwarded } in
+    let held : Held g.row.S-Signature.Denot g.row.D.Denot = record { tracked = b.ballots.tracker.holds; buffered = v.holds; forwarded = b.forwarded } in
     let named = rw (← c.self.view_is) at (returns-clause-answer g c) in
     let moved = rw (← c.self.view_is) at (returns-clause-holds g c) in
     rw (← c.self.view_is) (λ past stands. forward_follows x laws past held _ c.args.me _ stands named moved)

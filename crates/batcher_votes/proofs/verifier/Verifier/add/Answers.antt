@@ -1,19 +1,59 @@
-use Rattle.batcher_votes.specs.States.{held_by}
-use Rattle.batcher_votes.proofs.Soundness.{MayJoin, sound_added}
+use Rattle.std.proofs.Common.{◌≡◌, ◌∙◌, ◌&&◌, ◌++◌, ◌∷◌, [], true, not, cond, refl, ap, sym}
+use Rattle.batcher_types.specs.Votes.{waits}
+use Rattle.batcher_votes.specs.Selected.{proposal_of}
+use Rattle.batcher_votes.specs.Held.{SameVerifier}
+use Rattle.batcher_votes.specs.Certifications.{is_complete, pending_of, verified_of, held_by}
+use Rattle.batcher_votes.proofs.Certifications.{places}
+use Rattle.batcher_votes.proofs.Soundness.{MayJoin, sound_placed}
+use Rattle.batcher_votes.proofs.Waits.{adds_placed}
+use Rattle.batcher_votes.proofs.verifier.Verifier.add.Goals.{then-not-drops+in_ok-make_room, else-not-drops}
 use Rattle.batcher_votes.proofs.verifier.Verifier.add.Goals as goal
 
 pub invariant_of-self : goal.invariant_of-self
 invariant_of-self g c =
     let v = c.self.inside in
+    let same = g.D.PartialEq.eq in
     let m = g.S.Scheme.meaning v.scheme.value in
-    let may : MayJoin m g.D.PartialEq.eq v.round (held_by v.state) c.args.vote c.args.verified
-    =
-    record {
-      attests = rw (← c.self.view_is) at c.requires.attests;
-      of_round = rw
-          (← c.self.view_is) at c.requires.of_round;
-      fresh = rw (← c.self.view_is)
-          at c.requires.fresh;
-    } in
-    sound_added m g.D.PartialEq.eq v.round v.quorum (held_by v.state) (held_by c.add.new.self) c.args.vote c.args.verified c.add.result c.self.invariant may
-    c.add.ensures.adds c.add.ensures.unchanged
+    let old = c.args.self.now.holds in
+    let mid = held_by v.leader v.proposal v.kinds in
+    let vote = c.args.vote in
+    let is_verified = c.args.verified in
+    let own = c.get_mut.ensures.value in
+    let kept : (c.if-not-drops.self.holds ≡ old) × SameVerifier c.args.self.now c.if-not-drops.self
+    = elim c.if-not-drops.branch [
+      | then-not-drops+in_ok-make_room w ↦ rw w.self-is (w.make_room.ensures.holds, w.make_room.ensures.same)
+      | else-not-drops w ↦ rw w.self-is (refl, (refl, refl, refl))
+    ] in
+    let place_sets = rw (← c.self.view_is, kept.0) at c.select_by.ensures.sets in
+    let fits : waits same (proposal_of v.proposal) vote ≡ true = sym c.may_wait.ensures ∙ c.if-may_wait.true in
+    let placed = places v.leader v.proposal v.kinds c.kind-then-may_wait.result c.place.new.self vote is_verified (sym c.kind-then-may_wait.ensures)
+    (c.place.ensures.complete ∙ ap is_complete own)
+    (c.place.ensures.pending ∙ ap (λ one. pending_of one ++ cond (not is_verified && not (is_complete one)) (vote ∷ []) []) own)
+    (c.place.ensures.verified ∙ ap (λ one. verified_of one ++ cond (is_verified && not (is_complete one)) (vote ∷ []) []) own) in
+    let after = rw (← c.self.view_is) at c.select_by.ensures.same in
+    let may : MayJoin m same v.round old vote is_verified
+    = record { attests = rw (after.0 ∙ kept.1.0) c.requires.attests; of_round = rw (after.1 ∙ kept.1.1) c.requires.of_round; fresh = c.requires.fresh } in
+    sound_placed m same v.round v.quorum old mid _ vote is_verified c.self.invariant may (λ kind. place_sets.buffers kind) placed fits
+
+pub returns-then-may_wait-clause-adds : goal.returns-then-may_wait-clause-adds
+returns-then-may_wait-clause-adds g c =
+    let v = c.self.inside in
+    let same = g.D.PartialEq.eq in
+    let m = g.S.Scheme.meaning v.scheme.value in
+    let old = c.args.self.now.holds in
+    let mid = held_by v.leader v.proposal v.kinds in
+    let vote = c.args.vote in
+    let is_verified = c.args.verified in
+    let own = c.get_mut.ensures.value in
+    let kept : (c.if-not-drops.self.holds ≡ old) × SameVerifier c.args.self.now c.if-not-drops.self
+    = elim c.if-not-drops.branch [
+      | then-not-drops+in_ok-make_room w ↦ rw w.self-is (w.make_room.ensures.holds, w.make_room.ensures.same)
+      | else-not-drops w ↦ rw w.self-is (refl, (refl, refl, refl))
+    ] in
+    let place_sets = rw (← c.self.view_is, kept.0) at c.select_by.ensures.sets in
+    let fits : waits same (proposal_of v.proposal) vote ≡ true = sym c.may_wait.ensures ∙ c.if-may_wait.true in
+    let placed = places v.leader v.proposal v.kinds c.kind-then-may_wait.result c.place.new.self vote is_verified (sym c.kind-then-may_wait.ensures)
+    (c.place.ensures.complete ∙ ap is_complete own)
+    (c.place.ensures.pending ∙ ap (λ one. pending_of one ++ cond (not is_verified && not (is_complete one)) (vote ∷ []) []) own)
+    (c.place.ensures.verified ∙ ap (λ one. verified_of one ++ cond (is_verified && not (is_complete one)) (vote ∷ []) []) own) in
+    adds_placed same old _ vote is_verified mid place_sets placed (ap (λ s. waits same (proposal_of s) vote) (sym place_sets.selection_is) ∙ fits)

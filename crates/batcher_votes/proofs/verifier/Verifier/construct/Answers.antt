@@ -1,122 +1,157 @@
-use Rattle.std.proofs.Common.{◌≡◌, Some}
-use Rattle.batcher_votes.specs.States.{held_by}
+use Rattle.std.proofs.Common.{◌≡◌, ◌∙◌, Some, ap, sym}
+use Rattle.batcher_votes.specs.Kinds.{with_kind}
+use Rattle.batcher_votes.specs.Certifications.{is_complete, pending_of, verified_of, held_by}
 use Rattle.batcher_votes.specs.Verifiers.{subject_ready}
-use Rattle.batcher_votes.proofs.Constructing.{verified_about, fine_attempt, named_certifies, tries_with, tries_without_one, sound_tries}
+use Rattle.batcher_votes.proofs.Certifications.{completes, absorbs, holds_same}
+use Rattle.batcher_votes.proofs.Constructing.{constructs_one, constructs_none}
 use Rattle.batcher_votes.proofs.verifier.Verifier.construct.Goals as goal
-
-pub returns-in-Some-clause-tries : goal.returns-in-Some-clause-tries
-returns-in-Some-clause-tries g c =
-    let v = c.self.inside in
-    let m = g.S.Scheme.meaning v.scheme.value in
-    let same = g.D.PartialEq.eq in
-    let held = held_by v.state in
-    let kind = c.args.kind in
-    let subject = c.args.subject in
-    let b = c.in_ok-batch.field-0.batch in
-    let ready : subject_ready same m.batchable v.quorum held v.round kind ≡ Some subject = rw (← c.self.view_is) at c.requires in
-    let attempted = rw (← c.self.view_is) at c.in_ok-batch.ensures in
-    rw (← c.self.view_is)
-    (tries_with m same v.round v.quorum held (held_by c.record_certificate.new.self) kind subject ready _ _ b.processed b.invalid b.certificate b.fallback
-    c.in_ok-batch.field-0.joining.items attempted c.in-Some.content c.certificate_of.result c.in-Some.is c.certificate_of.ensures
-    c.record_certificate.ensures.completes)
-
-pub returns-clause-tries : goal.returns-clause-tries
-returns-clause-tries g c =
-    let v = c.self.inside in
-    let m = g.S.Scheme.meaning v.scheme.value in
-    let same = g.D.PartialEq.eq in
-    let held = held_by v.state in
-    let kind = c.args.kind in
-    let subject = c.args.subject in
-    let b = c.in_ok-batch.field-0.batch in
-    let ready : subject_ready same m.batchable v.quorum held v.round kind ≡ Some subject = rw (← c.self.view_is) at c.requires in
-    let attempted = rw (← c.self.view_is) at c.in_ok-batch.ensures in
-    let about = verified_about same g.met.D.Digest.identical v.round subject m.batchable v.quorum held kind ready (c.self.invariant.kinds kind).verified in
-    let absorbs = rw (c.in_ok-make_room_to_absorb-in-None.ensures.held, c.as_slice.ensures.value) at c.absorb.ensures in
-    rw (← c.self.view_is)
-    (tries_without_one m same v.round v.quorum held (held_by c.absorb.new.self) kind subject ready _ _ b.processed b.invalid b.certificate b.fallback
-    c.in_ok-batch.field-0.joining.items attempted c.in-None.is about absorbs)
 
 pub invariant_of-self : goal.invariant_of-self
 invariant_of-self g c =
     let v = c.self.inside in
     let m = g.S.Scheme.meaning v.scheme.value in
     let same = g.D.PartialEq.eq in
-    let held = held_by v.state in
+    let held = held_by v.leader v.proposal v.kinds in
     let kind = c.args.kind in
     let subject = c.args.subject in
     let b = c.in_ok-batch.field-0.batch in
     let ready : subject_ready same m.batchable v.quorum held v.round kind ≡ Some subject = rw (← c.self.view_is) at c.requires in
     let attempted = rw (← c.self.view_is) at c.in_ok-batch.ensures in
-    let about = verified_about same g.met.D.Digest.identical v.round subject m.batchable v.quorum held kind ready (c.self.invariant.kinds kind).verified in
-    let fine = fine_attempt m (g.met.S.Scheme.lawful v.scheme.value) same v.round v.quorum held kind subject c.self.invariant about _ _ _ attempted in
-    sound_tries m same g.met.D.Eq.laws.refl v.round v.quorum held (held_by c.record_certificate.new.self) kind _ _ _ c.self.invariant
-    (tries_with m same v.round v.quorum held (held_by c.record_certificate.new.self) kind subject ready _ _ b.processed b.invalid b.certificate b.fallback
-    c.in_ok-batch.field-0.joining.items attempted c.in-Some.content c.certificate_of.result c.in-Some.is c.certificate_of.ensures
-    c.record_certificate.ensures.completes)
-    fine
+    let made = constructs_one m (g.met.S.Scheme.lawful v.scheme.value) same g.met.D.Digest.identical g.met.D.Eq.laws.refl v.round v.quorum held
+    (held_by v.leader v.proposal (with_kind v.kinds kind c.finish.new.self)) c.self.invariant kind subject ready _ _
+    b.processed b.invalid b.certificate b.fallback c.in_ok-batch.field-0.joining.items attempted c.for_subject-batch.result c.for_subject-batch.ensures
+    (sym c.is_some.ensures ∙ c.if-is_some.true)
+    (completes v.leader v.proposal v.kinds kind c.finish.new.self same c.finish.ensures.complete c.finish.ensures.pending
+    c.finish.ensures.verified) in
+    made.sound
 
-pub invariant_of-self-in-None : goal.invariant_of-self-in-None
-invariant_of-self-in-None g c =
+pub returns-then-is_some-clause-tries : goal.returns-then-is_some-clause-tries
+returns-then-is_some-clause-tries g c =
     let v = c.self.inside in
     let m = g.S.Scheme.meaning v.scheme.value in
     let same = g.D.PartialEq.eq in
-    let held = held_by v.state in
+    let held = held_by v.leader v.proposal v.kinds in
     let kind = c.args.kind in
     let subject = c.args.subject in
     let b = c.in_ok-batch.field-0.batch in
     let ready : subject_ready same m.batchable v.quorum held v.round kind ≡ Some subject = rw (← c.self.view_is) at c.requires in
     let attempted = rw (← c.self.view_is) at c.in_ok-batch.ensures in
-    let about = verified_about same g.met.D.Digest.identical v.round subject m.batchable v.quorum held kind ready (c.self.invariant.kinds kind).verified in
-    let fine = fine_attempt m (g.met.S.Scheme.lawful v.scheme.value) same v.round v.quorum held kind subject c.self.invariant about _ _ _ attempted in
-    let absorbs = rw (c.in_ok-make_room_to_absorb-in-None.ensures.held, c.as_slice.ensures.value) at c.absorb.ensures in
-    sound_tries m same g.met.D.Eq.laws.refl v.round v.quorum held (held_by c.absorb.new.self) kind _ _ _ c.self.invariant
-    (tries_without_one m same v.round v.quorum held (held_by c.absorb.new.self) kind subject ready _ _ b.processed b.invalid b.certificate b.fallback
-    c.in_ok-batch.field-0.joining.items attempted c.in-None.is about absorbs)
-    fine
+    let made = constructs_one m (g.met.S.Scheme.lawful v.scheme.value) same g.met.D.Digest.identical g.met.D.Eq.laws.refl v.round v.quorum held
+    (held_by v.leader v.proposal (with_kind v.kinds kind c.finish.new.self)) c.self.invariant kind subject ready _ _
+    b.processed b.invalid b.certificate b.fallback c.in_ok-batch.field-0.joining.items attempted c.for_subject-batch.result c.for_subject-batch.ensures
+    (sym c.is_some.ensures ∙ c.if-is_some.true)
+    (completes v.leader v.proposal v.kinds kind c.finish.new.self same c.finish.ensures.complete c.finish.ensures.pending
+    c.finish.ensures.verified) in
+    rw (← c.self.view_is) made.tries
 
-pub returns-in-Some-clause-certifies : goal.returns-in-Some-clause-certifies
-returns-in-Some-clause-certifies g c =
+pub returns-then-is_some-clause-certifies : goal.returns-then-is_some-clause-certifies
+returns-then-is_some-clause-certifies g c =
     let v = c.self.inside in
     let m = g.S.Scheme.meaning v.scheme.value in
     let same = g.D.PartialEq.eq in
-    let held = held_by v.state in
+    let held = held_by v.leader v.proposal v.kinds in
     let kind = c.args.kind in
     let subject = c.args.subject in
     let b = c.in_ok-batch.field-0.batch in
     let ready : subject_ready same m.batchable v.quorum held v.round kind ≡ Some subject = rw (← c.self.view_is) at c.requires in
     let attempted = rw (← c.self.view_is) at c.in_ok-batch.ensures in
-    let about = verified_about same g.met.D.Digest.identical v.round subject m.batchable v.quorum held kind ready (c.self.invariant.kinds kind).verified in
-    let fine = fine_attempt m (g.met.S.Scheme.lawful v.scheme.value) same v.round v.quorum held kind subject c.self.invariant about _ _ _ attempted in
-    rw (← c.self.view_is)
-    (named_certifies m subject _ c.in-Some.content c.certificate_of.result fine c.in-Some.is c.certificate_of.ensures)
+    let made = constructs_one m (g.met.S.Scheme.lawful v.scheme.value) same g.met.D.Digest.identical g.met.D.Eq.laws.refl v.round v.quorum held
+    (held_by v.leader v.proposal (with_kind v.kinds kind c.finish.new.self)) c.self.invariant kind subject ready _ _
+    b.processed b.invalid b.certificate b.fallback c.in_ok-batch.field-0.joining.items attempted c.for_subject-batch.result c.for_subject-batch.ensures
+    (sym c.is_some.ensures ∙ c.if-is_some.true)
+    (completes v.leader v.proposal v.kinds kind c.finish.new.self same c.finish.ensures.complete c.finish.ensures.pending
+    c.finish.ensures.verified) in
+    rw (← c.self.view_is) made.certifies
 
-pub returns-in-Some-clause-names : goal.returns-in-Some-clause-names
-returns-in-Some-clause-names g c =
+pub returns-then-is_some-clause-names : goal.returns-then-is_some-clause-names
+returns-then-is_some-clause-names g c =
     let v = c.self.inside in
     let m = g.S.Scheme.meaning v.scheme.value in
     let same = g.D.PartialEq.eq in
-    let held = held_by v.state in
+    let held = held_by v.leader v.proposal v.kinds in
     let kind = c.args.kind in
     let subject = c.args.subject in
     let b = c.in_ok-batch.field-0.batch in
     let ready : subject_ready same m.batchable v.quorum held v.round kind ≡ Some subject = rw (← c.self.view_is) at c.requires in
     let attempted = rw (← c.self.view_is) at c.in_ok-batch.ensures in
-    let about = verified_about same g.met.D.Digest.identical v.round subject m.batchable v.quorum held kind ready (c.self.invariant.kinds kind).verified in
-    let fine = fine_attempt m (g.met.S.Scheme.lawful v.scheme.value) same v.round v.quorum held kind subject c.self.invariant about _ _ _ attempted in
-    fine.names
+    let made = constructs_one m (g.met.S.Scheme.lawful v.scheme.value) same g.met.D.Digest.identical g.met.D.Eq.laws.refl v.round v.quorum held
+    (held_by v.leader v.proposal (with_kind v.kinds kind c.finish.new.self)) c.self.invariant kind subject ready _ _
+    b.processed b.invalid b.certificate b.fallback c.in_ok-batch.field-0.joining.items attempted c.for_subject-batch.result c.for_subject-batch.ensures
+    (sym c.is_some.ensures ∙ c.if-is_some.true)
+    (completes v.leader v.proposal v.kinds kind c.finish.new.self same c.finish.ensures.complete c.finish.ensures.pending
+    c.finish.ensures.verified) in
+    made.names
+
+pub invariant_of-self-in_err-make_room_for_run : goal.invariant_of-self-in_err-make_room_for_run
+invariant_of-self-in_err-make_room_for_run g c =
+    let v = c.self.inside in
+    let own = c.get_mut-certification.ensures.value in
+    rw (holds_same v.leader v.proposal v.kinds c.args.kind c.make_room_for_run.new.self (c.make_room_for_run.ensures.complete ∙ ap is_complete own)
+    (c.make_room_for_run.ensures.pending ∙ ap pending_of own) (c.make_room_for_run.ensures.verified ∙ ap verified_of own))
+    c.self.invariant
+
+pub invariant_of-self-2 : goal.invariant_of-self-2
+invariant_of-self-2 g c =
+    let v = c.self.inside in
+    let m = g.S.Scheme.meaning v.scheme.value in
+    let same = g.D.PartialEq.eq in
+    let held = held_by v.leader v.proposal v.kinds in
+    let kind = c.args.kind in
+    let subject = c.args.subject in
+    let b = c.in_ok-batch.field-0.batch in
+    let ready : subject_ready same m.batchable v.quorum held v.round kind ≡ Some subject = rw (← c.self.view_is) at c.requires in
+    let attempted = rw (← c.self.view_is) at c.in_ok-batch.ensures in
+    let made = constructs_none m (g.met.S.Scheme.lawful v.scheme.value) same g.met.D.Digest.identical g.met.D.Eq.laws.refl v.round v.quorum held
+    (held_by v.leader v.proposal (with_kind v.kinds kind c.absorb.new.self)) c.self.invariant kind subject ready _ _
+    b.processed b.invalid b.certificate b.fallback c.in_ok-batch.field-0.joining.items attempted c.for_subject-batch.result c.for_subject-batch.ensures
+    (sym c.is_some.ensures ∙ c.if-is_some.false)
+    (absorbs v.leader v.proposal v.kinds kind c.absorb.new.self subject c.in_ok-batch.field-0.joining.items
+    (c.absorb.ensures.complete ∙ c.make_room_for_run.ensures.complete ∙ ap is_complete c.get_mut-certification.ensures.value)
+    c.absorb.ensures.pending
+    (rw (c.as_slice.ensures.value, c.make_room_for_run.ensures.verified, c.get_mut-certification.ensures.value)
+    at c.absorb.ensures.verified)) in
+    made.sound
+
+pub returns-clause-tries : goal.returns-clause-tries
+returns-clause-tries g c =
+    let v = c.self.inside in
+    let m = g.S.Scheme.meaning v.scheme.value in
+    let same = g.D.PartialEq.eq in
+    let held = held_by v.leader v.proposal v.kinds in
+    let kind = c.args.kind in
+    let subject = c.args.subject in
+    let b = c.in_ok-batch.field-0.batch in
+    let ready : subject_ready same m.batchable v.quorum held v.round kind ≡ Some subject = rw (← c.self.view_is) at c.requires in
+    let attempted = rw (← c.self.view_is) at c.in_ok-batch.ensures in
+    let made = constructs_none m (g.met.S.Scheme.lawful v.scheme.value) same g.met.D.Digest.identical g.met.D.Eq.laws.refl v.round v.quorum held
+    (held_by v.leader v.proposal (with_kind v.kinds kind c.absorb.new.self)) c.self.invariant kind subject ready _ _
+    b.processed b.invalid b.certificate b.fallback c.in_ok-batch.field-0.joining.items attempted c.for_subject-batch.result c.for_subject-batch.ensures
+    (sym c.is_some.ensures ∙ c.if-is_some.false)
+    (absorbs v.leader v.proposal v.kinds kind c.absorb.new.self subject c.in_ok-batch.field-0.joining.items
+    (c.absorb.ensures.complete ∙ c.make_room_for_run.ensures.complete ∙ ap is_complete c.get_mut-certification.ensures.value)
+    c.absorb.ensures.pending
+    (rw (c.as_slice.ensures.value, c.make_room_for_run.ensures.verified, c.get_mut-certification.ensures.value)
+    at c.absorb.ensures.verified)) in
+    rw (← c.self.view_is) made.tries
 
 pub returns-clause-names : goal.returns-clause-names
 returns-clause-names g c =
     let v = c.self.inside in
     let m = g.S.Scheme.meaning v.scheme.value in
     let same = g.D.PartialEq.eq in
-    let held = held_by v.state in
+    let held = held_by v.leader v.proposal v.kinds in
     let kind = c.args.kind in
     let subject = c.args.subject in
     let b = c.in_ok-batch.field-0.batch in
     let ready : subject_ready same m.batchable v.quorum held v.round kind ≡ Some subject = rw (← c.self.view_is) at c.requires in
     let attempted = rw (← c.self.view_is) at c.in_ok-batch.ensures in
-    let about = verified_about same g.met.D.Digest.identical v.round subject m.batchable v.quorum held kind ready (c.self.invariant.kinds kind).verified in
-    let fine = fine_attempt m (g.met.S.Scheme.lawful v.scheme.value) same v.round v.quorum held kind subject c.self.invariant about _ _ _ attempted in
-    fine.names
+    let made = constructs_none m (g.met.S.Scheme.lawful v.scheme.value) same g.met.D.Digest.identical g.met.D.Eq.laws.refl v.round v.quorum held
+    (held_by v.leader v.proposal (with_kind v.kinds kind c.absorb.new.self)) c.self.invariant kind subject ready _ _
+    b.processed b.invalid b.certificate b.fallback c.in_ok-batch.field-0.joining.items attempted c.for_subject-batch.result c.for_subject-batch.ensures
+    (sym c.is_some.ensures ∙ c.if-is_some.false)
+    (absorbs v.leader v.proposal v.kinds kind c.absorb.new.self subject c.in_ok-batch.field-0.joining.items
+    (c.absorb.ensures.complete ∙ c.make_room_for_run.ensures.complete ∙ ap is_complete c.get_mut-certification.ensures.value)
+    c.absorb.ensures.pending
+    (rw (c.as_slice.ensures.value, c.make_room_for_run.ensures.verified, c.get_mut-certification.ensures.value)
+    at c.absorb.ensures.verified)) in
+    made.names

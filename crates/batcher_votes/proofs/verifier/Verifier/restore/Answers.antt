@@ -1,29 +1,38 @@
-use Rattle.std.proofs.Common.{◌≡◌, ◌∙◌, Some, sym}
+use Rattle.std.proofs.Common.{◌≡◌, ◌∙◌, ◌++◌, [], cond, filter, Some, ap, sym}
+use Rattle.batcher_types.specs.declared.messages.Kind.{Kind}
+use Rattle.batcher_types.specs.Votes.{is_kind, waits}
 use Rattle.batcher_votes.specs.Selected.{proposal_of}
-use Rattle.batcher_votes.specs.States.{held_by}
+use Rattle.batcher_votes.specs.Buffering.{Buffers}
+use Rattle.batcher_votes.specs.Kinds.{with_kind}
+use Rattle.batcher_votes.specs.Certifications.{is_complete, pending_of, verified_of, held_by}
+use Rattle.batcher_votes.proofs.Certifications.{restores}
 use Rattle.batcher_votes.proofs.Soundness.{tidy_from}
 use Rattle.batcher_votes.proofs.Restoring.{restores_buffers, sound_restored}
 use Rattle.batcher_votes.proofs.verifier.Verifier.restore.Goals as goal
-
-pub invariant_of-self : goal.invariant_of-self
-invariant_of-self g c =
-    let v = c.self.inside in
-    let m = g.S.Scheme.meaning v.scheme.value in
-    let same = g.D.PartialEq.eq in
-    let held = held_by v.state in
-    let selected : proposal_of v.state.proposal ≡ Some c.in-Some.proposal = sym c.selected.ensures ∙ sym c.copied.ensures ∙ c.in-Some.is in
-    sound_restored m same v.round held (held_by c.restore.new.self) c.args.kind c.args.votes c.requires.proposals c.requires.kinds c.requires.once
-    (rw (← c.self.view_is) at c.requires.none_wait) v.quorum c.self.invariant
-    (restores_buffers same held (held_by c.restore.new.self) c.args.kind c.in-Some.proposal c.args.votes c.restore.ensures.restores selected
-    (λ kind. tidy_from m same v.round held kind (c.self.invariant.kinds kind)))
 
 pub returns-in-Some-clause-buffers : goal.returns-in-Some-clause-buffers
 returns-in-Some-clause-buffers g c =
     let v = c.self.inside in
     let m = g.S.Scheme.meaning v.scheme.value in
     let same = g.D.PartialEq.eq in
-    let held = held_by v.state in
-    let selected : proposal_of v.state.proposal ≡ Some c.in-Some.proposal = sym c.selected.ensures ∙ sym c.copied.ensures ∙ c.in-Some.is in
+    let held = held_by v.leader v.proposal v.kinds in
+    let kind = c.args.kind in
+    let p = c.in-Some.proposal in
+    let selected : proposal_of v.proposal ≡ Some p = sym c.selected.ensures ∙ sym c.copied.ensures ∙ c.in-Some.is in
+    let own = c.get_mut.ensures.value in
     rw (← c.self.view_is)
-    (restores_buffers same held (held_by c.restore.new.self) c.args.kind c.in-Some.proposal c.args.votes c.restore.ensures.restores selected
-    (λ kind. tidy_from m same v.round held kind (c.self.invariant.kinds kind)))
+    (restores_buffers same held _ kind p c.args.votes
+    (restores v.leader v.proposal v.kinds kind c.restore.new.self same p c.args.votes (c.restore.ensures.complete ∙ ap is_complete own)
+    (c.restore.ensures.pending ∙ ap (λ one. pending_of one ++ cond (is_complete one) [] (filter (waits same (Some p)) c.args.votes)) own)
+    (c.restore.ensures.verified ∙ ap verified_of own))
+    selected (λ kind. tidy_from m same v.round held kind (c.self.invariant.kinds kind)))
+
+pub invariant_of-self : goal.invariant_of-self
+invariant_of-self g c =
+    let v = c.self.inside in
+    let new = held_by v.leader v.proposal (with_kind v.kinds c.args.kind c.restore.new.self) in
+    let buffers : (other : Kind) → Buffers g.D.PartialEq.eq c.args.self.now.holds new other (cond (is_kind c.args.kind other) c.args.votes []) []
+    = returns-in-Some-clause-buffers g c in
+    sound_restored (g.S.Scheme.meaning v.scheme.value) g.D.PartialEq.eq v.round (held_by v.leader v.proposal v.kinds) _ c.args.kind c.args.votes
+    c.requires.proposals c.requires.kinds c.requires.once (rw (← c.self.view_is) at c.requires.none_wait) v.quorum c.self.invariant
+    (rw (← c.self.view_is) at buffers)

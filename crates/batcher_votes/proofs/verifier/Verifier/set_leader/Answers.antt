@@ -1,12 +1,19 @@
-use Rattle.std.proofs.Common.{is_some}
-use Rattle.std.specs.Option.{option_copied, option_map}
-use Rattle.batcher_votes.specs.States.{held_by}
-use Rattle.batcher_votes.proofs.Soundness.{sound_leads}
+use Rattle.std.proofs.Common.{refl}
+use Rattle.batcher_votes.specs.Certifications.{held_by}
+use Rattle.batcher_votes.proofs.Soundness.{tidy_from}
+use Rattle.batcher_votes.proofs.Waits.{sets_same}
 use Rattle.batcher_votes.proofs.verifier.Verifier.set_leader.Goals as goal
 
-pub invariant_of-self : goal.invariant_of-self
-invariant_of-self g c =
+pub returns-in-None-clause-sets : goal.returns-in-None-clause-sets
+returns-in-None-clause-sets g c = λ first.
     let v = c.self.inside in
-    sound_leads (g.S.Scheme.meaning v.scheme.value) g.D.PartialEq.eq v.round v.quorum (held_by v.state) (held_by c.set_leader.new.self) c.args.leader
-    (option_map (λ vote. vote.proposal) (option_copied c.args.notarize)) (is_some v.state.leader) c.set_leader.result c.self.invariant
-    c.set_leader.ensures.again c.set_leader.ensures.refused c.set_leader.ensures.sets
+    let same = g.D.PartialEq.eq in
+    let held = held_by v.leader v.proposal v.kinds in
+    let m = g.S.Scheme.meaning v.scheme.value in
+    let sets = sets_same same held v.proposal refl (λ kind. tidy_from m same v.round held kind (c.self.invariant.kinds kind)) in
+    rw (← c.self.view_is, c.in-None.is) (record {
+      leader_is = refl;
+      selection = refl;
+      buffers = λ kind. record
+          { certified = refl; pending = (sets.buffers kind).pending; verified = (sets.buffers kind).verified };
+    })

@@ -1,0 +1,91 @@
+-- What the votes of a round change, the round changes: whether its proposal was forwarded stays as
+-- it was.
+use Rattle.std.specs.Prelude.{◌≡◌, Bool, Option, Some, None, Result, Ok, Err, IfOk, OnOk, OnErr}
+use Rattle.std.proofs.Common.{ap, refl}
+use Rattle.rand_core.specs.Stream.{Stream}
+use Rattle.batcher_types.specs.declared.messages.Certificate.{Certificate}
+use Rattle.batcher_types.specs.declared.messages.Kind.{Kind}
+use Rattle.batcher_types.specs.declared.messages.Vote.{Vote}
+use Rattle.batcher_types.specs.declared.messages.Activity.{Activity}
+use Rattle.batcher_types.specs.declared.positions.Participant.{Participant}
+use Rattle.batcher_votes.specs.declared.verifier.Batch.{Batch}
+use Rattle.batcher_votes.specs.declared.votes.Outcome.{Outcome}
+use Rattle.batcher_votes.specs.Held.{Buffered, Held}
+use Rattle.batcher_histories.specs.Setting.{Setting}
+use Rattle.batcher_histories.specs.Steps.{AfterCertificate, AfterGiven, AfterLeader, AfterOwn, TriesHeld}
+
+pub if_ok : {A E : Type 0} (P Q : A → Type 0) (r : Result A E) → ((v : A) → P v → Q v) → IfOk r P
+    → IfOk r Q
+if_ok P Q (Ok v) then h = then v h
+if_ok P Q (Err e) then h = tt
+
+pub first_on_err : {A E : Type 0} (P Q : Type 0) (r : Result A E) → OnErr r (P × Q) → OnErr r P
+first_on_err P Q (Ok v) h = tt
+first_on_err P Q (Err e) h = h.0
+
+module _ {D K G C : Type 0} (x : Setting D K G C) (forwarded : Bool) (old new : Held G D) where
+  abbrev pub before : Held G D
+  before = record old { forwarded = forwarded }
+
+  abbrev pub after : Held G D
+  after = record new { forwarded = forwarded }
+
+  pub certificate_in_round : {E : Type 0} (certificate : Certificate C D) (r : Result Bool E)
+      → IfOk r (λ answer. AfterCertificate x old certificate answer new)
+      → IfOk r (λ answer. AfterCertificate x before certificate answer after)
+  certificate_in_round certificate (Ok answer) step = record {
+    answer_is = step.answer_is;
+    forwarded = refl;
+    completed = step.completed;
+    completes = step.completes;
+    fixes = step.fixes;
+    releases = step.releases;
+  }
+  certificate_in_round certificate (Err e) step = tt
+
+  pub own_in_round : (vote : Vote G D) (outcome : Outcome) (report : Option (Activity G D))
+      → AfterOwn x old vote outcome report new → AfterOwn x before vote outcome report after
+  own_in_round vote outcome report step = record {
+    outcome_is = step.outcome_is;
+    report_is = step.report_is;
+    forwarded = refl;
+    fixed = step.fixed;
+    fixes = step.fixes;
+    tracked = step.tracked;
+    buffered = step.buffered;
+  }
+
+  pub leader_in_round : {A E : Type 0} (leader : Participant) (r : Result A E)
+      → OnOk r (AfterLeader x old leader new) → OnOk r (AfterLeader x before leader after)
+  leader_in_round leader (Ok done) step = record {
+    tracked = step.tracked;
+    forwarded = refl;
+    buffered = step.buffered;
+  }
+  leader_in_round leader (Err fault) step = tt
+
+  -- setting a leader tracks nothing
+  pub leader_tracks : {A E : Type 0} (leader : Participant) (r : Result A E)
+      → OnOk r (AfterLeader x old leader new)
+      → OnErr r ((new.buffered ≡ old.buffered) × (new.tracked ≡ old.tracked))
+      → new.tracked ≡ old.tracked
+  leader_tracks leader (Ok done) step refused = step.tracked
+  leader_tracks leader (Err fault) step refused = refused.1
+
+  given_in_round : (left : Buffered G D) (kind : Kind) (o : Option (Certificate C D))
+      → AfterGiven x (record old { buffered = left }) kind o new
+      → AfterGiven x (record before { buffered = left }) kind o after
+  given_in_round left kind None step = ap (λ (h : Held G D). record h { forwarded = forwarded }) step
+  given_in_round left kind (Some certificate) step = record {
+    buffered = step.buffered;
+    tracked = step.tracked;
+    forwarded = refl;
+  }
+
+  pub tries_in_round : (kind : Kind) (s t : Stream) (batch : Batch (Certificate C D))
+      → TriesHeld x old kind s batch new t → TriesHeld x before kind s batch after t
+  tries_in_round kind s t batch step = record {
+    left = step.left;
+    tries = step.tries;
+    given = given_in_round step.left kind batch.certificate step.given;
+  }

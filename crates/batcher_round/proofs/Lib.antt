@@ -1,0 +1,4 @@
+pub mod OwnVotes
+pub mod OwnCertificates
+pub mod InRound
+pub mod Construction
