@@ -5,3 +5,4 @@ pub mod Distinct
 pub mod Past
 pub mod Selection
 pub mod Attempts
+pub mod ByFirst

@@ -1,6 +1,5 @@
 -- What may be answered to a call after a history.
-use Rattle.std.specs.Prelude.{◌≡◌, ℕ, Bool, true, false, not, cond, ◌&&◌, ◌||◌, ◌==◌, List, [], ◌∷◌, Option, Some, None, is_some, is_none, Result, Ok, Err, filter, map, ⊤}
-use Rattle.std.specs.List.{range_with_len}
+use Rattle.std.specs.Prelude.{◌≡◌, ℕ, Bool, true, false, not, ◌&&◌, ◌||◌, List, [], ◌∷◌, Option, Some, None, is_some, is_none, Result, Ok, Err, ⊤}
 use Rattle.std.specs.Result.{result_ok}
 use Rattle.batcher_types.specs.declared.positions.Participant.{Participant}
 use Rattle.batcher_types.specs.declared.messages.Proposal.{Proposal}
@@ -10,78 +9,36 @@ use Rattle.batcher_types.specs.declared.messages.Certificate.TheVariants.{Notari
 use Rattle.batcher_types.specs.declared.messages.Kind.{Kind}
 use Rattle.batcher_types.specs.declared.messages.Kind.TheVariants.{Notarization, Nullification, Finalization}
 use Rattle.batcher_histories.specs.declared.answers.Admission.{Admission}
-use Rattle.batcher_histories.specs.declared.answers.BlockReason.TheVariants.{UnknownParticipant}
 use Rattle.batcher_histories.specs.declared.answers.OwnFault.{OwnFault}
 use Rattle.batcher_votes.specs.declared.votes.Outcome.{Outcome}
-use Rattle.batcher_votes.specs.declared.votes.Outcome.TheVariants.{Added, Duplicate, Conflicting}
 use Rattle.batcher_histories.specs.declared.calls.Call.{Call}
 use Rattle.batcher_histories.specs.declared.calls.Call.TheVariants.{Network as NetworkCall, Own as OwnCall, Certificate as CertificateCall, Leader as LeaderCall, Construct as ConstructCall, Forward as ForwardCall, Missing as MissingCall}
 use Rattle.batcher_histories.specs.declared.answers.Answer.{Answer}
 use Rattle.batcher_histories.specs.declared.answers.Answer.TheVariants.{OutOfMemory, Network as NetworkAnswer, Own as OwnAnswer, OwnRefused, Certificate as CertificateAnswer, Leader as LeaderAnswer, Construct as ConstructAnswer}
 use Rattle.batcher_histories.specs.declared.answers.Answer.TheVariants.{Forward as ForwardAnswer, Missing as MissingAnswer}
-use Rattle.batcher_histories.specs.Setting.{Setting, participants_in, sender_in}
-use Rattle.batcher_types.specs.Keys.{participant}
+use Rattle.batcher_histories.specs.Setting.{Setting, participants_in}
 use Rattle.batcher_types.specs.Votes.{kind_of, signer_of}
 use Rattle.batcher_votes.specs.Selected.{replaces}
-use Rattle.batcher_histories.specs.Admissions.{addition, refusal, block_for, mismatch_reason, conflict_reason, admission_after, admission_after_facts, admission_beside}
-use Rattle.batcher_histories.specs.Steps.{is_added, is_participant, leader_set_answer, opposite_fault, unopposed_result, report_by}
+use Rattle.batcher_histories.specs.Steps.{is_added, leader_set_answer, report_by}
 use Rattle.batcher_histories.specs.Runs.{MayCall}
 use Rattle.batcher_types.specs.Lists.{is_empty, is_some_and}
 use Rattle.batcher_histories.specs.History.{History, is_made, history_after}
-use Rattle.batcher_histories.specs.FirstVotes.{first_vote, first_like, opposite_vote}
-use Rattle.batcher_histories.specs.Selection.{leader_of, was_forwarded, selection, selected_proposal, is_released, votes_restored_by}
-use Rattle.batcher_histories.specs.Comparison.{conflicts, has_block}
+use Rattle.batcher_histories.specs.FirstVotes.{first_vote}
+use Rattle.batcher_histories.specs.Selection.{leader_of, selection, selected_proposal, is_released, votes_restored_by}
+use Rattle.batcher_histories.specs.Comparison.{known_after}
+use Rattle.batcher_histories.specs.Known.{network_by, own_by, forward_by, missing_by}
 use Rattle.batcher_histories.specs.Standing.{ready_kind}
 use Rattle.batcher_histories.specs.Trying.{AttemptAfter}
 
 module _ {D K G C : Type 0} (x : Setting D K G C) where
-  -- What a network vote that names its sender is answered where no opposite one stands against it:
-  -- by the first one of its kind and signer, by whether the kind is released, and by whether the
-  -- vote conflicts.
-  abbrev pub admission_by_first : Option (Vote G D) → Bool → Bool → Vote G D → Admission G D
-  admission_by_first None released conflict vote = addition vote
-  admission_by_first (Some kept) false conflict vote =
-      admission_beside x.same_digest x.same_signature kept vote
-  admission_by_first (Some seen) true true vote = block_for (conflict_reason (kind_of vote)) None
-  admission_by_first (Some seen) true false vote = refusal
-
-  -- One after the opposite one of its signer is reported with that where it is kept in full.
-  abbrev pub admission_against : History D K G C → Option (Vote G D) → Vote G D → Admission G D
-  admission_against past (Some earlier) vote =
-      cond (is_released x past (kind_of earlier)) (admission_after_facts vote)
-      (admission_after earlier vote)
-  admission_against past None vote =
-      admission_by_first (first_like x past vote) (is_released x past (kind_of vote))
-      (conflicts x past vote) vote
-
-  abbrev pub admission_sent_by : History D K G C → Option Participant → Vote G D → Admission G D
-  admission_sent_by past None vote = block_for UnknownParticipant None
-  admission_sent_by past (Some i) vote =
-      cond (i.0 == signer_of vote) (admission_against past (opposite_vote x past vote) vote)
-      (block_for (mismatch_reason (kind_of vote)) None)
-
   -- what a network vote is answered after a history: whether it is added, whether its sender is
   -- blocked, and what is reported
   abbrev pub network_answer : History D K G C → K → Vote G D → Admission G D
-  network_answer past sender vote = admission_sent_by past (sender_in x sender) vote
-
-  -- what would come of recording an own vote, by the same
-  abbrev pub outcome_by_first : Option (Vote G D) → Bool → Bool → Outcome
-  outcome_by_first None released conflict = Added (not released)
-  outcome_by_first (Some kept) false conflict = Duplicate true
-  outcome_by_first (Some seen) true true = Conflicting
-  outcome_by_first (Some seen) true false = Duplicate false
-
-  abbrev pub own_answer_against : History D K G C → Option (Vote G D) → Vote G D
-      → Result Outcome OwnFault
-  own_answer_against past (Some earlier) vote = Err (opposite_fault (kind_of vote))
-  own_answer_against past None vote =
-      unopposed_result (kind_of vote) (outcome_by_first (first_like x past vote)
-      (is_released x past (kind_of vote)) (conflicts x past vote))
+  network_answer past sender vote = network_by x (known_after x past) sender vote
 
   -- what an own vote is answered after a history: its outcome, or the fault for which it is refused
   abbrev pub own_answer : History D K G C → Vote G D → Result Outcome OwnFault
-  own_answer past vote = own_answer_against past (opposite_vote x past vote) vote
+  own_answer past vote = own_by x.same_digest (known_after x past) vote
 
   -- A notarization changes the selected proposal where none is known, or where it replaces the
   -- leader's.
@@ -94,15 +51,12 @@ module _ {D K G C : Type 0} (x : Setting D K G C) where
 
   -- the selected proposal, unless one was forwarded or the leader asks
   abbrev pub forward_after : History D K G C → Participant → Option (Proposal D)
-  forward_after past me =
-      cond (was_forwarded past || is_participant (leader_of past) me) None
-      (selected_proposal x past)
+  forward_after past me = forward_by (known_after x past) me
 
   -- the participants without the block, ascending
   abbrev pub missing_after : History D K G C → Proposal D → List Participant
   missing_after past p =
-      filter (λ i. not (has_block x past i.0 p))
-      (map participant (range_with_len 0 (participants_in x)))
+      missing_by x.same_digest (known_after x past).observed p (participants_in x)
 
   -- whether a nullify of the participant is kept in full
   abbrev pub keeps_nullify : History D K G C → ℕ → Bool

@@ -1,17 +1,19 @@
--- Votes compared with the selected proposal once their kind is released, and what follows from
--- them.
-use Rattle.std.specs.Prelude.{ℕ, Bool, not, cond, ◌&&◌, ◌||◌, List, [], ◌∷◌, ◌++◌, is_some, is_none, filter}
+-- Votes compared with the selected proposal once their kind is released, and what is known after a
+-- history.
+use Rattle.std.specs.Prelude.{ℕ, Option, Some, None, Bool, not, ◌&&◌, List, [], ◌∷◌, ◌++◌, is_some, is_none, filter}
 use Rattle.std.specs.List.{list_any}
 use Rattle.batcher_types.specs.declared.messages.Proposal.{Proposal}
 use Rattle.batcher_types.specs.declared.messages.Vote.{Vote}
 use Rattle.batcher_types.specs.declared.messages.Kind.{Kind}
-use Rattle.batcher_types.specs.declared.messages.Kind.TheVariants.{Notarization, Finalization}
+use Rattle.batcher_votes.specs.Held.{Facts}
+use Rattle.batcher_votes.specs.Tracking.{Observed, unseen}
 use Rattle.batcher_histories.specs.Setting.{Setting}
+use Rattle.batcher_histories.specs.Known.{Known, known_by, has_block_by}
 use Rattle.batcher_types.specs.Lists.{is_empty, is_some_and, exactly_one}
 use Rattle.batcher_types.specs.Votes.{kind_of, signer_of, is_vote_of, has_proposals, is_for}
 use Rattle.batcher_histories.specs.History.{Event, History, cast_votes}
 use Rattle.batcher_histories.specs.FirstVotes.{first_votes, first_vote, opposite_vote}
-use Rattle.batcher_histories.specs.Selection.{selected_proposal, is_released}
+use Rattle.batcher_histories.specs.Selection.{leader_of, was_forwarded, selection, selected_proposal, is_released}
 
 module _ {D K G C : Type 0} (x : Setting D K G C) where
   -- A vote that a call casts is compared where its kind is released and a proposal is selected, by
@@ -56,14 +58,38 @@ module _ {D K G C : Type 0} (x : Setting D K G C) where
       is_some_and (selected_proposal x past)
       (differs_from (compared_votes_of past (kind_of vote) (signer_of vote)) vote)
 
-  -- Votes of a kind show that a participant has the block: while they are kept, by the proposal
-  -- that its first one carries;
-  -- once they are released, by a compared one for the selected proposal, whatever proposal is asked
-  -- for.
-  abbrev pub shows_block : History D K G C → Kind → ℕ → Proposal D → Bool
-  shows_block past kind i p =
-      cond (is_released x past kind) (is_matched past kind i)
-      (is_some_and (first_vote x past kind i) (is_for x.same_digest p))
+  -- what is known once votes of the kind are released: whether one was compared, and whether one of
+  -- the compared ones is for the selected proposal
+  abbrev pub facts_of : History D K G C → Kind → ℕ → Facts
+  facts_of past kind i =
+      record {
+        signer = i;
+        has_compared = not (is_empty (compared_votes_of past kind i));
+        has_matched = is_matched past kind i;
+      }
 
+  -- of the nullify that stands against a finalize, or the reverse
+  abbrev pub known_opposite : History D K G C → Option (Vote G D) → Observed G D
+  known_opposite past None = unseen
+  known_opposite past (Some earlier) =
+      known_by (is_released x past (kind_of earlier))
+      (facts_of past (kind_of earlier) (signer_of earlier)) (Some earlier)
+
+  -- what is known of the votes of a round, by the history of its calls
+  abbrev pub known_after : History D K G C → Known G D
+  known_after past =
+      record {
+        leader = leader_of past;
+        selection = selection x past;
+        forwarded = was_forwarded past;
+        is_released = λ kind. is_released x past kind;
+        observed = λ kind i. known_by (is_released x past kind) (facts_of past kind i)
+            (first_vote x past kind i);
+        opposite = λ vote. known_opposite past (opposite_vote x past vote);
+      }
+
+  -- A notarize or a finalize shows that a participant has the block: while its kind isn't released,
+  -- the first one by the proposal that it carries; then a compared one for the selected proposal,
+  -- whatever proposal is asked for.
   abbrev pub has_block : History D K G C → ℕ → Proposal D → Bool
-  has_block past i p = shows_block past Notarization i p || shows_block past Finalization i p
+  has_block past i p = has_block_by x.same_digest (known_after past).observed i p

@@ -1,6 +1,7 @@
 pub mod Setting
 pub mod Reasons
 pub mod Admissions
+pub mod Known
 pub mod Steps
 pub mod Runs
 pub mod History

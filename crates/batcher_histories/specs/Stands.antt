@@ -1,17 +1,17 @@
 -- When what a round holds stands after a history, and how it goes on with one more call.
-use Rattle.std.specs.Prelude.{◌≡◌, ℕ, Bool, not, cond, MatchBool, ◌&&◌, List, [], ◌∷◌, ◌++◌, Some, is_some, IfSome, filter, map}
+use Rattle.std.specs.Prelude.{◌≡◌, Bool, cond, MatchBool, ◌&&◌, List, [], ◌∷◌, ◌++◌, Some, is_some, IfSome, filter, map}
 use Rattle.batcher_types.specs.declared.messages.Vote.{Vote}
 use Rattle.batcher_types.specs.declared.messages.Kind.{Kind}
 use Rattle.batcher_histories.specs.declared.answers.Answer.{Answer}
 use Rattle.batcher_histories.specs.Setting.{Setting}
 use Rattle.batcher_types.specs.Ascending.{ordered_by}
-use Rattle.batcher_types.specs.Lists.{SameElements, is_empty, is_some_and}
+use Rattle.batcher_types.specs.Lists.{SameElements, is_some_and}
 use Rattle.batcher_types.specs.Votes.{is_kind, signer_of, is_of_kind}
-use Rattle.batcher_votes.specs.Held.{of_kind, Facts, Held}
+use Rattle.batcher_votes.specs.Held.{of_kind, Held}
 use Rattle.batcher_histories.specs.History.{Event, History, is_made, own_votes, sent_votes, batch_given}
 use Rattle.batcher_histories.specs.FirstVotes.{first_votes, is_free}
 use Rattle.batcher_histories.specs.Selection.{leader_of, selection, was_forwarded, is_certified, is_released, is_restored}
-use Rattle.batcher_histories.specs.Comparison.{compared_votes_of, is_matched}
+use Rattle.batcher_histories.specs.Comparison.{facts_of}
 use Rattle.batcher_histories.specs.Standing.{proven_votes, fresh_votes, waiting_votes, ready_kind}
 use Rattle.batcher_histories.specs.Trying.{Attempt, left_verified}
 use Rattle.batcher_histories.specs.Answers.{IsPossible}
@@ -21,14 +21,6 @@ module _ {D K G C : Type 0} (x : Setting D K G C) where
   abbrev pub first_by_signer : History D K G C → Kind → List (Vote G D)
   first_by_signer past kind = ordered_by signer_of (filter (is_of_kind kind) (first_votes x past))
 
-  abbrev pub facts_of : History D K G C → Kind → ℕ → Facts
-  facts_of past kind i =
-      record {
-        signer = i;
-        has_compared = not (is_empty (compared_votes_of x past kind i));
-        has_matched = is_matched x past kind i;
-      }
-
   pub record StandsForKind (past : History D K G C) (held : Held G D) (kind : Kind) : Type 0 where
     pub certified_is : of_kind held.buffered.certified kind ≡ is_certified past kind
     pub compacted_is : of_kind held.tracked.compacted kind ≡ is_released x past kind
@@ -37,7 +29,7 @@ module _ {D K G C : Type 0} (x : Setting D K G C) where
     pub facts_are :
         of_kind held.tracked.facts kind
         ≡ cond (is_released x past kind)
-        (map (λ v. facts_of past kind (signer_of v)) (first_by_signer past kind)) []
+        (map (λ v. facts_of x past kind (signer_of v)) (first_by_signer past kind)) []
     pub pending_are : SameElements (of_kind held.buffered.pending kind) (fresh_votes x past kind)
     pub verified_are : SameElements (of_kind held.buffered.verified kind) (proven_votes x past kind)
 

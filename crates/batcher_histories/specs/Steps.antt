@@ -1,6 +1,5 @@
 -- What each call of a round answers and changes, by what the round holds alone.
-use Rattle.std.specs.Prelude.{◌≡◌, ◌≤◌, ℕ, Bool, true, false, not, cond, ◌&&◌, ◌||◌, ◌==◌, List, [], length, Option, Some, None, is_some, Result, Ok, Err, MatchBool, filter, map}
-use Rattle.std.specs.List.{range_with_len}
+use Rattle.std.specs.Prelude.{◌≡◌, ◌≤◌, ℕ, Bool, true, false, not, cond, ◌&&◌, ◌==◌, List, [], length, Option, Some, None, is_some, Result, Ok, Err, MatchBool, filter}
 use Rattle.rand_core.specs.Stream.{Stream}
 use Rattle.batcher_types.specs.declared.positions.Participant.{Participant}
 use Rattle.batcher_types.specs.declared.messages.Proposal.{Proposal}
@@ -11,9 +10,8 @@ use Rattle.batcher_types.specs.declared.messages.Kind.{Kind}
 use Rattle.batcher_types.specs.declared.messages.Kind.TheVariants.{Notarization, Nullification, Finalization}
 use Rattle.batcher_histories.specs.declared.answers.Admission.{Admission}
 use Rattle.batcher_types.specs.declared.messages.Activity.{Activity}
-use Rattle.batcher_histories.specs.declared.answers.BlockReason.TheVariants.{UnknownParticipant}
 use Rattle.batcher_histories.specs.declared.answers.OwnFault.{OwnFault}
-use Rattle.batcher_histories.specs.declared.answers.OwnFault.TheVariants.{DuplicateNotarize, DuplicateFinalize, Conflicting as ConflictingFault, OutOfMemory, NullifyAfterFinalize, FinalizeAfterNullify}
+use Rattle.batcher_histories.specs.declared.answers.OwnFault.TheVariants.{OutOfMemory}
 use Rattle.batcher_votes.specs.declared.votes.Outcome.{Outcome}
 use Rattle.batcher_votes.specs.declared.votes.Outcome.TheVariants.{Added, Duplicate, Conflicting}
 use Rattle.batcher_votes.specs.declared.votes.Mode.{Mode}
@@ -22,16 +20,17 @@ use Rattle.batcher_votes.specs.declared.verifier.ProposalState.TheVariants.{Cert
 use Rattle.batcher_votes.specs.declared.verifier.LeaderFault.{LeaderFault}
 use Rattle.batcher_votes.specs.declared.verifier.LeaderFault.TheVariants.{LeaderChanged}
 use Rattle.batcher_types.specs.Lists.{is_some_and}
-use Rattle.batcher_types.specs.Keys.{participant}
 use Rattle.batcher_types.specs.Quorum.{quorum_of}
 use Rattle.batcher_types.specs.Meaning.{Meaning}
 use Rattle.batcher_histories.specs.Setting.{Setting, quorum_in, sender_in}
+pub use Rattle.batcher_histories.specs.Known.{is_participant, opposite_fault, duplicate_result, unopposed_result, own_result_by, admission_by, admission_named}
+use Rattle.batcher_histories.specs.Known.{known_in, forward_by, has_block_by, missing_by, own_by, network_by}
 use Rattle.batcher_types.specs.Votes.{is_kind, kind_of, signer_of, proposal_in, subject_of, kind_certified, subject_certified, waits}
 use Rattle.batcher_votes.specs.Selected.{proposal_of, is_fixed, updated, fixes, same_selected}
 use Rattle.batcher_votes.specs.Held.{of_kind, Buffered, Tracker, Held}
-use Rattle.batcher_votes.specs.Tracking.{Observed, unseen, in_full, as_facts, is_seen, is_seen_for, observed, observed_opposite, kept_vote, conflicts_with, outcome_by, RecordsKind, ReleasesKind, nothing_tracked, is_released_in}
+use Rattle.batcher_votes.specs.Tracking.{Observed, unseen, in_full, as_facts, is_seen, observed, observed_opposite, kept_vote, RecordsKind, ReleasesKind, nothing_tracked, is_released_in}
 use Rattle.batcher_votes.specs.Buffering.{nothing_buffered, AddsVote, SetsLeader, SetsProposal, MayFix, CompletesKind, TriesKind, is_ready, coming_back, selected_in}
-use Rattle.batcher_histories.specs.Admissions.{report_of, addition, refusal, block_for, mismatch_reason, conflict_reason, admission_after, admission_after_facts, admission_beside}
+use Rattle.batcher_histories.specs.Admissions.{report_of, admission_after, admission_after_facts, admission_beside}
 use Rattle.batcher_votes.specs.Sound.{WaitsWhereKept}
 
 module _ {G D : Type 0} where
@@ -58,57 +57,23 @@ pub record IsRight {D K G C : Type 0} (m : Meaning D K G C) (tracker : Tracker G
       ≡ is_released_in tracker.mode (of_kind held.certified kind)
   pub fixed : of_kind held.certified Finalization ≡ true → is_fixed held.selection ≡ true
 
--- whether it is the participant
-abbrev pub is_participant : Option Participant → Participant → Bool
-is_participant leader me = is_some_and leader (λ i. i.0 == me.0)
-
 -- another leader than the one that is set is refused
 abbrev pub leader_set_answer : Option Participant → Participant → Result (Unit {0}) LeaderFault
 leader_set_answer None leader = Ok tt
 leader_set_answer (Some known) leader = cond (known.0 == leader.0) (Ok tt) (Err LeaderChanged)
 
-module _ {G D : Type 0} where
-  -- what is handed on to a participant
-  abbrev pub forward_answer : Held G D → Participant → Option (Proposal D)
-  forward_answer held me =
-      cond (held.forwarded || is_participant held.buffered.leader me) None
-      (selected_in held.buffered)
+-- what is handed on to a participant
+abbrev pub forward_answer : {G D : Type 0} → Held G D → Participant → Option (Proposal D)
+forward_answer held me = forward_by (known_in held) me
 
 -- whether a participant is known to have the proposal's block
 abbrev pub has_block : {G D : Type 0} → (D → D → Bool) → Held G D → ℕ → Proposal D → Bool
-has_block same held i p =
-    is_seen_for same p (observed held.tracked Notarization i)
-    || is_seen_for same p (observed held.tracked Finalization i)
+has_block same held i p = has_block_by same (λ kind j. observed held.tracked kind j) i p
 
 -- the participants, of so many, that aren't known to have it
 abbrev pub missing_in : {G D : Type 0} → (D → D → Bool) → Held G D → Proposal D → ℕ
     → List Participant
-missing_in same held p n =
-    filter (λ i. not (has_block same held i.0 p)) (map participant (range_with_len 0 n))
-
--- The fault of an own vote that its index's other one of nullify and finalize excludes. A notarize
--- has no opposite.
-abbrev pub opposite_fault : Kind → OwnFault
-opposite_fault Notarization = FinalizeAfterNullify
-opposite_fault Nullification = NullifyAfterFinalize
-opposite_fault Finalization = FinalizeAfterNullify
-
--- An own notarize or finalize is refused where one of its index is kept.
-abbrev pub duplicate_result : Kind → Result Outcome OwnFault
-duplicate_result Notarization = Err DuplicateNotarize
-duplicate_result Nullification = Ok (Duplicate true)
-duplicate_result Finalization = Err DuplicateFinalize
-
-abbrev pub unopposed_result : Kind → Outcome → Result Outcome OwnFault
-unopposed_result kind (Added retained) = Ok (Added retained)
-unopposed_result kind (Duplicate true) = duplicate_result kind
-unopposed_result kind (Duplicate false) = Ok (Duplicate false)
-unopposed_result kind Conflicting = Err ConflictingFault
-
-abbrev pub own_result_by : {G D : Type 0} → Observed G D → Kind → Outcome → Result Outcome OwnFault
-own_result_by unseen kind outcome = unopposed_result kind outcome
-own_result_by (in_full earlier) kind outcome = Err (opposite_fault kind)
-own_result_by (as_facts facts) kind outcome = Err (opposite_fault kind)
+missing_in same held p n = missing_by same (λ kind j. observed held.tracked kind j) p n
 
 -- what is told where memory is refused, if nothing else stands against the vote
 abbrev pub fault_or_memory : Result Outcome OwnFault → OwnFault
@@ -150,14 +115,6 @@ module _ {D K G C : Type 0} (x : Setting D K G C) where
         (option_proposal (kept_vote old.tracked Notarization leader.0)) new.buffered)
 
   -- NETWORK
-  abbrev pub admission_by : Option (Proposal D) → Observed G D → Vote G D → Admission G D
-  admission_by selected unseen vote = addition vote
-  admission_by selected (in_full kept) vote =
-      admission_beside x.same_digest x.same_signature kept vote
-  admission_by selected (as_facts facts) vote =
-      cond (conflicts_with x.same_digest selected vote facts)
-      (block_for (conflict_reason (kind_of vote)) None) refusal
-
   -- What is answered to a vote that is not to be recorded: a nullify after a finalize or the
   -- reverse, and one beside a kept vote.
   abbrev pub objection_by : Observed G D → Observed G D → Vote G D → Option (Admission G D)
@@ -173,24 +130,9 @@ module _ {D K G C : Type 0} (x : Setting D K G C) where
       objection_by (observed_opposite held.tracked vote)
       (observed held.tracked (kind_of vote) (signer_of vote)) vote
 
-  -- What a vote that names its sender is answered: by what is known of its opposite, and then of
-  -- its own kind.
-  abbrev pub admission_named : Held G D → Observed G D → Vote G D → Admission G D
-  admission_named held unseen vote =
-      admission_by (selected_in held.buffered)
-      (observed held.tracked (kind_of vote) (signer_of vote)) vote
-  admission_named held (in_full earlier) vote = admission_after earlier vote
-  admission_named held (as_facts facts) vote = admission_after_facts vote
-
-  abbrev pub admission_from : Held G D → Option Participant → Vote G D → Admission G D
-  admission_from held None vote = block_for UnknownParticipant None
-  admission_from held (Some i) vote =
-      cond (i.0 == signer_of vote) (admission_named held (observed_opposite held.tracked vote) vote)
-      (block_for (mismatch_reason (kind_of vote)) None)
-
   -- what a network vote is answered
   abbrev pub admission : Held G D → K → Vote G D → Admission G D
-  admission held sender vote = admission_from held (sender_in x sender) vote
+  admission held sender vote = network_by x (known_in held) sender vote
 
   -- A vote is recorded where it names its sender and isn't opposed.
   abbrev pub is_recorded : Held G D → K → Vote G D → Bool
@@ -214,16 +156,11 @@ module _ {D K G C : Type 0} (x : Setting D K G C) where
   abbrev pub selected_with : Held G D → Vote G D → Option (Proposal D)
   selected_with held vote = proposal_of (fixes held.buffered.selection (fixed_by vote))
 
-  abbrev pub own_outcome : Held G D → Vote G D → Outcome
-  own_outcome held vote =
-      outcome_by x.same_digest (selected_with held vote)
-      (of_kind held.tracked.compacted (kind_of vote))
-      (observed held.tracked (kind_of vote) (signer_of vote)) vote
-
   -- what comes of an own vote, or why it is refused
   abbrev pub own_result : Held G D → Vote G D → Result Outcome OwnFault
   own_result held vote =
-      own_result_by (observed_opposite held.tracked vote) (kind_of vote) (own_outcome held vote)
+      own_by x.same_digest
+      (record (known_in held) { selection = fixes held.buffered.selection (fixed_by vote) }) vote
 
   pub record AfterOwn (old : Held G D) (vote : Vote G D) (outcome : Outcome)
       (report : Option (Activity G D)) (new : Held G D) : Type 0 where

@@ -11,12 +11,13 @@ use Rattle.batcher_types.specs.Ascending.{insert_by, ordered_by}
 use Rattle.batcher_types.specs.Lists.{is_some_and, is_empty}
 use Rattle.batcher_types.specs.Votes.{is_kind, kind_of, signer_of, has_proposals, is_of_kind, is_vote_of, is_for, excludes, opposes, are_opposite}
 use Rattle.batcher_votes.specs.Held.{of_kind, Facts, Tracked, Held}
-use Rattle.batcher_votes.specs.Tracking.{from_kept, from_facts, is_seen, observed, facts_with, facts_of_kept, no_facts, recorded_facts, RecordsKind}
+use Rattle.batcher_votes.specs.Tracking.{is_seen, observed, facts_with, facts_of_kept, no_facts, recorded_facts, RecordsKind}
 use Rattle.batcher_histories.specs.History.{Event, History, cast_votes}
 use Rattle.batcher_histories.specs.FirstVotes.{is_free, first_votes, first_vote, first_like, opposite_vote}
 use Rattle.batcher_histories.specs.Selection.{selected_proposal, is_released}
-use Rattle.batcher_histories.specs.Comparison.{compared_votes_of, is_compared, is_matched}
-use Rattle.batcher_histories.specs.Stands.{Stands, first_by_signer, facts_of}
+use Rattle.batcher_histories.specs.Known.{known_by}
+use Rattle.batcher_histories.specs.Comparison.{compared_votes_of, is_compared, is_matched, facts_of}
+use Rattle.batcher_histories.specs.Stands.{Stands, first_by_signer}
 use Rattle.batcher_histories.proofs.History.Distinct.{new_votes, is_kind-true, is_kind-refl}
 use Rattle.batcher_histories.proofs.Shown.Observed.{observed_is, facts_known, none_compared}
 use Rattle.batcher_histories.proofs.Follow.Frame.{facts_stay, matched_stays, compared_goes}
@@ -212,18 +213,16 @@ module _ {G D : Type 0} (same : D → D → Bool) where
 
 -- WHAT THE HISTORY NAMES
 module _ {D K G C : Type 0} (x : Setting D K G C) (past : History D K G C) where
-  seen_by : (kind : Kind) (i : ℕ) (r : Bool) (first : Option (Vote G D)) →
-      is_seen (cond r (from_facts (option_and_then (λ v. Some (facts_of x past kind i)) first))
-      (from_kept first)) ≡ is_some first
-  seen_by kind i true None = refl
-  seen_by kind i true (Some v) = refl
-  seen_by kind i false None = refl
-  seen_by kind i false (Some v) = refl
+  seen_by : (r : Bool) (facts : Facts) (first : Option (Vote G D)) →
+      is_seen (known_by r facts first) ≡ is_some first
+  seen_by r facts None = refl
+  seen_by true facts (Some v) = refl
+  seen_by false facts (Some v) = refl
 
   -- whether a vote of a kind and signer was seen
   pub seen_is : (held : Held G D) (kind : Kind) (i : ℕ) → Stands x past held
       → is_seen (observed held.tracked kind i) ≡ is_some (first_vote x past kind i)
-  seen_is held kind i stands = ap is_seen (observed_is x past held kind i stands) ∙ seen_by kind i (is_released x past kind) (first_vote x past kind i)
+  seen_is held kind i stands = ap is_seen (observed_is x past held kind i stands) ∙ seen_by (is_released x past kind) _ (first_vote x past kind i)
 
   module _ (event : Event D K G C) where
     -- A CALL THAT MAY CAST ONE VOTE

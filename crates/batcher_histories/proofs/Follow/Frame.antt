@@ -23,10 +23,10 @@ use Rattle.batcher_histories.specs.History.{Event, History, is_made, cast_votes}
 use Rattle.batcher_histories.specs.FirstVotes.{is_free, first_votes, first_vote}
 use Rattle.batcher_histories.specs.Selection.{selection_by, selection, selected_proposal, leader_of, leader_named, is_certified, certificate_of, finalized_by, fixed_proposal, fixing_evidence, leaders_proposal, was_forwarded, is_restored}
 use Rattle.batcher_histories.specs.Selection.{is_released}
-use Rattle.batcher_histories.specs.Comparison.{compared_votes, compared_votes_of, is_compared, is_compared_at_release, is_matched}
+use Rattle.batcher_histories.specs.Comparison.{compared_votes, compared_votes_of, is_compared, is_compared_at_release, is_matched, facts_of}
 use Rattle.batcher_histories.specs.Standing.{waiting_votes, is_trusted, stood_before, was_invalid, trials, fresh_votes, proven_votes}
 use Rattle.batcher_histories.specs.Answers.{MayAnswer}
-use Rattle.batcher_histories.specs.Stands.{Stands, Follows, TriesBuffers, first_by_signer, facts_of, pending_after, verified_after}
+use Rattle.batcher_histories.specs.Stands.{Stands, Follows, TriesBuffers, first_by_signer, pending_after, verified_after}
 use Rattle.batcher_votes.specs.Buffering.{still_waiting}
 use Rattle.batcher_types.specs.Ascending.{ordered_by}
 use Rattle.batcher_types.specs.declared.messages.Kind.TheVariants.{Notarization}

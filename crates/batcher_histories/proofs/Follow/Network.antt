@@ -25,7 +25,8 @@ use Rattle.batcher_histories.specs.History.{Event, History, names_sender}
 use Rattle.batcher_histories.specs.FirstVotes.{is_free, first_votes, first_like, opposite_vote}
 use Rattle.batcher_histories.specs.Selection.{is_released}
 use Rattle.batcher_histories.specs.Comparison.{conflicts}
-use Rattle.batcher_histories.specs.Answers.{network_answer, admission_sent_by, admission_against, admission_by_first}
+use Rattle.batcher_histories.specs.Answers.{network_answer}
+use Rattle.batcher_histories.proofs.History.ByFirst.{admission_sent_by, admission_against, admission_by_first, network_is}
 use Rattle.batcher_histories.specs.Standing.{waiting_votes}
 use Rattle.batcher_histories.specs.Stands.{Stands, Follows, pending_after, verified_after}
 use Rattle.batcher_votes.specs.Buffering.{selected_in}
@@ -113,7 +114,7 @@ module _ {D K G C : Type 0} (x : Setting D K G C) where
   pub added_is : (past : History D K G C) (sender : K) (vote : Vote G D)
       → (network_answer x past sender vote).added
       ≡ (names_sender x sender vote && is_free (first_votes x past) vote)
-  added_is past sender vote = added_sent_by past (sender_in x sender) vote
+  added_is past sender vote = ap (λ a. a.added) (network_is x past vote sender) ∙ added_sent_by past (sender_in x sender) vote
 
   -- WHAT IS RECORDED
   opposite_seen : (past : History D K G C) (held : Held G D) (vote : Vote G D) → Stands x past held

@@ -28,7 +28,8 @@ use Rattle.batcher_histories.specs.FirstVotes.{is_free, first_votes, first_like,
 use Rattle.batcher_histories.specs.Selection.{selection, fixing_evidence, is_restored, is_certified, is_released}
 use Rattle.batcher_histories.specs.Comparison.{conflicts}
 use Rattle.batcher_histories.specs.Standing.{waiting_votes}
-use Rattle.batcher_histories.specs.Answers.{own_answer, own_answer_against, outcome_by_first}
+use Rattle.batcher_histories.specs.Answers.{own_answer}
+use Rattle.batcher_histories.proofs.History.ByFirst.{own_answer_against, outcome_by_first, own_is}
 use Rattle.batcher_histories.specs.Stands.{Stands, Follows, pending_after, verified_after}
 use Rattle.batcher_histories.proofs.History.Laws.{HasLaws}
 use Rattle.batcher_histories.proofs.Shown.Named.{own_same}
@@ -59,9 +60,10 @@ module _ {D K G C : Type 0} (x : Setting D K G C) where
       → own_answer x past vote ≡ Ok outcome → is_kept outcome
       ≡ (is_free (first_votes x past) vote && not (is_released x past (kind_of vote)))
   kept_as_answered past vote outcome h =
-      let none : opposite_vote x past vote ≡ None = unopposed past (opposite_vote x past vote) vote outcome h in
+      let answer = sym (own_is x past vote) ∙ h in
+      let none : opposite_vote x past vote ≡ None = unopposed past (opposite_vote x past vote) vote outcome answer in
       kept_by_first (kind_of vote) (first_like x past vote) (is_released x past (kind_of vote)) (conflicts x past vote) outcome
-      (ap (λ o. own_answer_against x past o vote) (sym none) ∙ h)
+      (ap (λ o. own_answer_against x past o vote) (sym none) ∙ answer)
       ∙ ap (λ b. b && not (is_released x past (kind_of vote)))
       (sym (and-true (is_none (first_like x past vote)))
       ∙ (ap (λ o. is_none (first_like x past vote) && is_none o) (sym none) ∙ sym (free_is (first_votes x past) vote)))
@@ -86,7 +88,7 @@ module _ {D K G C : Type 0} (x : Setting D K G C) where
         (selected_with x old vote) (is_taken x past event vote true) vote kind
     records kind =
         subst (λ (b : Bool). RecordsKind x.same_digest old.tracked new.tracked (selected_with x old vote) b vote kind)
-        (sym (ap is_none (unopposed past (opposite_vote x past vote) vote outcome answered))) (step.tracked kind)
+        (sym (ap is_none (unopposed past (opposite_vote x past vote) vote outcome (sym (own_is x past vote) ∙ answered)))) (step.tracked kind)
 
     selected_is : selected_with x old vote ≡ proposal_of (state_fixed x past event)
     selected_is =

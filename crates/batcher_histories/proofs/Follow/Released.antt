@@ -30,8 +30,8 @@ use Rattle.batcher_votes.specs.Tracking.{is_released_in, no_facts, facts_of_kept
 use Rattle.batcher_histories.specs.History.{Event, History, cast_votes}
 use Rattle.batcher_histories.specs.FirstVotes.{first_votes, first_vote, opposite_vote}
 use Rattle.batcher_histories.specs.Selection.{selected_proposal, is_certified, is_released}
-use Rattle.batcher_histories.specs.Comparison.{compared_votes_of, is_compared, is_compared_at_release}
-use Rattle.batcher_histories.specs.Stands.{Stands, first_by_signer, facts_of}
+use Rattle.batcher_histories.specs.Comparison.{compared_votes_of, is_compared, is_compared_at_release, facts_of}
+use Rattle.batcher_histories.specs.Stands.{Stands, first_by_signer}
 use Rattle.batcher_histories.proofs.History.Distinct.{AreApart, IsAt, vote_at, found_behind, found_is_of, firsts_apart, is_kind-true, found_here}
 use Rattle.batcher_histories.proofs.Follow.Frame.{released_same, MovesKind, compared_parts, facts_same, first_by_same}
 use Rattle.batcher_votes.proofs.Counts.{none_both, filter_again, map_same}

@@ -35,8 +35,8 @@ use Rattle.batcher_histories.specs.Standing.{waiting_votes, ready_kind}
 use Rattle.batcher_histories.specs.Trying.{Attempt, left_verified}
 use Rattle.batcher_histories.specs.Answers.{MayAnswer}
 use Rattle.batcher_histories.specs.Stands.{Meets, Stands, Follows, TriesBuffers, arrivals, pending_after, verified_after}
-use Rattle.batcher_histories.proofs.Shown.Observed.{kept_is_first, missing_same}
-use Rattle.batcher_histories.proofs.Shown.Named.{forward_same, certified_fixes, released_where}
+use Rattle.batcher_histories.proofs.Shown.Observed.{kept_is_first}
+use Rattle.batcher_histories.proofs.Shown.Named.{forward_same, missing_same, certified_fixes, released_where}
 use Rattle.batcher_histories.proofs.History.Laws.{HasLaws}
 use Rattle.batcher_histories.proofs.Follow.Frame.{or_nothing, pending_wait, verified_wait, closed_pending, closed_verified, certified_same, no_evidence, none_back, MovesKind, followed, leaders_same, still_waits, fixed_waits, none_kept}
 use Rattle.batcher_histories.proofs.Follow.Frame.{no_firsts}

@@ -22,6 +22,7 @@ use Rattle.batcher_votes.specs.Buffering.{AddsVote, is_buffered, selected_in}
 use Rattle.batcher_histories.specs.Admissions.{addition, block_for, mismatch_reason, admission_beside, admission_after, admission_after_facts}
 use Rattle.std.specs.Prelude.{MatchBool}
 use Rattle.std.proofs.lemmas.Option.{none-some}
+use Rattle.batcher_histories.specs.Known.{known_in}
 use Rattle.batcher_histories.specs.Steps.{IsRight, AfterNetwork, objection_to, objection_by, admission, admission_by, admission_named, is_recorded}
 use Rattle.batcher_votes.proofs.Counts.{count-append}
 use Rattle.batcher_votes.proofs.Restoring.{count_buffers}
@@ -369,15 +370,15 @@ module _ {D K G C : Type 0} (x : Setting D K G C) (held : Held G D) (sender : K)
     (vote : Vote G D) (answer : Admission G D) (known : sender_in x sender ≡ Some i)
     (own : i.0 ≡ signer_of vote) where
   named : admission x held sender vote
-      ≡ admission_named x held (observed_opposite held.tracked vote) vote
+      ≡ admission_named x (known_in held) (observed_opposite held.tracked vote) vote
   named = let yes : (i.0 == signer_of vote) ≡ true = grind (arith, nat_tests) in rw (known, yes)
 
   opposed : (o : Observed G D) → observed_opposite held.tracked vote ≡ o → is_seen o ≡ true → answer
-      ≡ admission_named x held o vote → answer.added ≡ false
+      ≡ admission_named x (known_in held) o vote → answer.added ≡ false
       → AfterNetwork x held sender vote answer held
   opposed o e seen told refused =
       let none : is_recorded x held sender vote ≡ false = and_false _ (not (is_seen (observed_opposite held.tracked vote))) (rw (e, seen)) in record {
-        answer_is = told ∙ ap (λ w. admission_named x held w vote) (sym e) ∙ sym named;
+        answer_is = told ∙ ap (λ w. admission_named x (known_in held) w vote) (sym e) ∙ sym named;
         forwarded = refl;
         tracked = λ kind. subst (λ r. RecordsKind x.same_digest held.tracked held.tracked (selected_in held.buffered) r vote kind) (sym none) (record {
           compacted = refl;
@@ -419,7 +420,7 @@ module _ {D K G C : Type 0} (x : Setting D K G C) (held : Held G D) (sender : K)
     beside_kept : answer ≡ admission_beside x.same_digest x.same_signature kept vote
         → AfterNetwork x held sender vote answer held
     beside_kept told = record {
-      answer_is = told ∙ ap (λ w. admission_by x (selected_in held.buffered) w vote) (sym f) ∙ ap (λ w. admission_named x held w vote) (sym e) ∙ sym named;
+      answer_is = told ∙ ap (λ w. admission_by x (selected_in held.buffered) w vote) (sym f) ∙ ap (λ w. admission_named x (known_in held) w vote) (sym e) ∙ sym named;
       forwarded = refl;
       tracked = λ kind. recorded_any (is_recorded x held sender vote) kind (is_of_kind kind vote) refl;
       buffered =
@@ -472,7 +473,7 @@ module _ {D K G C : Type 0} (x : Setting D K G C) (old : Held G D) (sender : K) 
     (none : objection_to x old vote ≡ None) where
   unopposed : (o : Observed G D) → objection_by x o
       (observed old.tracked (kind_of vote) (signer_of vote)) vote ≡ None → (is_seen o ≡ false)
-      × (admission_named x old o vote ≡ admission_by x (selected_in old.buffered)
+      × (admission_named x (known_in old) o vote ≡ admission_by x (selected_in old.buffered)
       (observed old.tracked (kind_of vote) (signer_of vote)) vote)
   unopposed unseen h = (refl, refl)
   unopposed (in_full earlier) h = absurd (none-some _ (sym h))

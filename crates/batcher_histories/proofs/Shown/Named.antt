@@ -1,9 +1,9 @@
 -- What is answered by what is held is what the history names.
-use Rattle.std.proofs.Common.{◌≡◌, ℕ, Bool, true, false, not, cond, ◌&&◌, ◌||◌, List, [], ◌∷◌, ◌++◌, Option, Some, None, refl, ap, sym, ◌∙◌, ⊎_elim, eqb}
+use Rattle.std.proofs.Common.{◌≡◌, ℕ, Bool, true, false, not, cond, ◌&&◌, List, [], ◌∷◌, ◌++◌, Option, Some, None, refl, ap, sym, ◌∙◌, ⊎_elim, eqb}
 use Rattle.std.specs.Prelude.{filter, find, is_some, option_and_then}
 use Rattle.std.specs.Option.{option_or}
 use Rattle.std.specs.List.{list_any}
-use Rattle.std.proofs.lemmas.Bool.{cases_Bool, and_parts, false_from_ne_true, and_right, and_left}
+use Rattle.std.proofs.lemmas.Bool.{cases_Bool, and_parts, false_from_ne_true, and_right, and_left, eqb-true}
 use Rattle.std.proofs.Math.Bool.{and-true}
 use Rattle.batcher_types.specs.declared.positions.Participant.{Participant}
 use Rattle.batcher_types.specs.declared.messages.Proposal.{Proposal}
@@ -15,23 +15,21 @@ use Rattle.batcher_types.specs.declared.messages.Certificate.{Certificate}
 use Rattle.batcher_types.specs.declared.messages.Certificate.TheVariants.{Notarization as NotarizationCertificate, Nullification as NullificationCertificate, Finalization as FinalizationCertificate}
 use Rattle.batcher_votes.specs.declared.votes.Mode.{Mode}
 use Rattle.batcher_votes.specs.declared.votes.Mode.TheVariants.{Retaining, Releasing, Skipped}
-use Rattle.batcher_votes.specs.declared.votes.Outcome.{Outcome}
 use Rattle.batcher_votes.specs.declared.votes.Outcome.TheVariants.{Duplicate, Conflicting}
-use Rattle.batcher_histories.specs.Setting.{Setting, sender_in}
+use Rattle.batcher_histories.specs.Setting.{Setting, participants_in}
 use Rattle.batcher_types.specs.Lists.{is_some_and, is_empty, exactly_one}
 use Rattle.batcher_types.specs.Votes.{is_kind, kind_of, signer_of, proposal_in, kind_certified, subject_certified, has_proposals, is_vote_of, is_for, opposes, are_opposite}
 use Rattle.batcher_votes.specs.Selected.{proposal_of, fixes}
-use Rattle.batcher_votes.specs.Held.{of_kind, Held}
-use Rattle.batcher_votes.specs.Tracking.{unseen, from_kept, from_facts, observed, observed_opposite, conflicts_with, outcome_by, is_skipped, is_released_in}
-use Rattle.batcher_histories.specs.Admissions.{refusal, block_for, mismatch_reason, conflict_reason, admission_after, admission_after_facts}
-use Rattle.batcher_histories.specs.Steps.{admission, admission_by, admission_named, admission_from, own_result, own_result_by, own_outcome, fixed_by, unopposed_result, forward_answer, is_participant}
+use Rattle.batcher_votes.specs.Held.{Held}
+use Rattle.batcher_votes.specs.Tracking.{observed_opposite, conflicts_with, outcome_by, is_skipped, is_released_in}
+use Rattle.batcher_histories.specs.Steps.{admission, own_result, own_result_by, fixed_by, forward_answer, missing_in, has_block as has_block_held}
+use Rattle.batcher_histories.specs.Known.{known_in, known_by, forward_by, has_block_by, missing_by, network_by, own_by}
 use Rattle.batcher_histories.specs.History.{History, cast_votes}
 use Rattle.batcher_histories.specs.FirstVotes.{first_votes, first_vote, first_like, opposite_vote}
-use Rattle.batcher_histories.specs.Selection.{leader_of, selection_by, selection, selected_proposal, is_certified, certificate_of, finalized_by, fixed_proposal, fixing_evidence, leaders_proposal, was_forwarded, is_released}
-use Rattle.batcher_histories.specs.Comparison.{compared_votes, compared_votes_of, is_compared, is_compared_at_release, differs_from, conflicts}
-use Rattle.batcher_histories.specs.Answers.{network_answer, admission_sent_by, admission_against, admission_by_first, outcome_by_first, own_answer, own_answer_against, forward_after}
-use Rattle.batcher_histories.specs.Stands.{Stands, facts_of}
-use Rattle.batcher_votes.specs.Buffering.{selected_in}
+use Rattle.batcher_histories.specs.Selection.{selection_by, selection, selected_proposal, is_certified, certificate_of, finalized_by, fixed_proposal, fixing_evidence, leaders_proposal, is_released}
+use Rattle.batcher_histories.specs.Comparison.{compared_votes, is_compared, is_compared_at_release, facts_of, known_opposite, known_after, has_block}
+use Rattle.batcher_histories.specs.Answers.{network_answer, own_answer, forward_after, missing_after}
+use Rattle.batcher_histories.specs.Stands.{Stands}
 use Rattle.batcher_histories.proofs.History.Distinct.{found_is_of, is_kind-true}
 use Rattle.batcher_histories.proofs.Shown.Observed.{observed_is}
 use Rattle.batcher_votes.proofs.Counts.{filter_none}
@@ -172,99 +170,56 @@ module _ {D K G C : Type 0} (x : Setting D K G C) where
       find_same (λ w. opposes w (FinalizeVote v)) (is_vote_of Nullification v.attestation.signer.0) (first_votes x past)
       (λ w. and_swap (eqb (signer_of w) v.attestation.signer.0) _ _ (against_finalize (kind_of w)))
 
-  conflict_by : (i : ℕ) (vote : Vote G D) (selected : Option (Proposal D))
-      (others : List (Vote G D)) →
-      conflicts_with x.same_digest selected vote
-      (record {
-        signer = i;
-        has_compared = not (is_empty others);
-        has_matched = is_some_and
-            selected (λ q. list_any (is_for x.same_digest q) others);
-      })
-      ≡ is_some_and selected (differs_from x others vote)
-  conflict_by i vote None others = and_right (not (is_empty others)) false refl
-  conflict_by i vote (Some p) others = refl
+  -- What is known of a first vote is by its own kind and signer.
+  known_first : (past : History D K G C) (kind : Kind) (i : ℕ) (first : Option (Vote G D))
+      → first_vote x past kind i ≡ first
+      → known_by (is_released x past kind) (facts_of x past kind i) first
+      ≡ known_opposite x past first
+  known_first past kind i None found = refl
+  known_first past kind i (Some first) found =
+      let of = and_parts _ _ (found_is_of (first_votes x past) kind i first found) in
+      sym (ap (λ k. known_by (is_released x past k) (facts_of x past k (signer_of first)) (Some first)) (is_kind-true _ _ of.0)
+      ∙ ap (λ j. known_by (is_released x past kind) (facts_of x past kind j) (Some first)) (eqb-true _ _ of.1))
 
-  -- whether a vote conflicts with the facts of its signer
-  conflict_same : (past : History D K G C) (vote : Vote G D)
-      → conflicts_with x.same_digest (selected_proposal x past) vote
-      (facts_of x past (kind_of vote) (signer_of vote)) ≡ conflicts x past vote
-  conflict_same past vote = conflict_by (signer_of vote) vote (selected_proposal x past) (compared_votes_of x past (kind_of vote) (signer_of vote))
+  opposite_same : (past : History D K G C) (held : Held G D) (vote : Vote G D) → Stands x past held
+      → observed_opposite held.tracked vote ≡ (known_after x past).opposite vote
+  opposite_same past held (NotarizeVote v) stands = ap (known_opposite x past) (sym (opposite_is past (NotarizeVote v)))
+  opposite_same past held (NullifyVote v) stands =
+      observed_is x past held Finalization v.attestation.signer.0 stands ∙ known_first past Finalization v.attestation.signer.0 _ refl
+      ∙ ap (known_opposite x past) (sym (opposite_is past (NullifyVote v)))
+  opposite_same past held (FinalizeVote v) stands =
+      observed_is x past held Nullification v.attestation.signer.0 stands ∙ known_first past Nullification v.attestation.signer.0 _ refl
+      ∙ ap (known_opposite x past) (sym (opposite_is past (FinalizeVote v)))
 
-  -- NETWORK VOTES
-  by_first : (past : History D K G C) (vote : Vote G D) (r : Bool) (first : Option (Vote G D)) →
-      admission_by x (selected_proposal x past)
-      (cond r (from_facts (option_and_then
-      (λ v. Some (facts_of x past (kind_of vote) (signer_of vote))) first)) (from_kept first))
-      vote
-      ≡ admission_by_first x first r (conflicts x past vote) vote
-  by_first past vote true None = refl
-  by_first past vote false None = refl
-  by_first past vote false (Some k) = refl
-  by_first past vote true (Some k) =
-      by_conflict (conflicts_with x.same_digest (selected_proposal x past) vote (facts_of x past (kind_of vote) (signer_of vote))) (conflicts x past vote)
-      (conflict_same past vote)
-    where
-      by_conflict : (a b : Bool) → a ≡ b
-          → cond a (block_for (conflict_reason (kind_of vote)) None) refusal
-          ≡ admission_by_first x (Some k) true b vote
-      by_conflict true true e = refl
-      by_conflict true false e = absurd (cc)
-      by_conflict false true e = absurd (cc)
-      by_conflict false false e = refl
+  -- What is known by what is held is what is known by the history, and so are all answers by it.
+  pub known_is : (past : History D K G C) (held : Held G D) → Stands x past held
+      → known_in held ≡ known_after x past
+  known_is past held stands =
+      λ i. record {
+        leader = stands.leader_is i;
+        selection = stands.selection_is i;
+        forwarded = stands.forwarded_is i;
+        is_released = λ kind. (stands.each_kind kind).compacted_is i;
+        observed = λ kind signer. observed_is x past held kind signer stands i;
+        opposite = λ vote. opposite_same past held vote stands i;
+      }
 
-  named_same : (past : History D K G C) (held : Held G D) (vote : Vote G D) → Stands x past held
-      → admission_named x held unseen vote ≡ admission_against x past None vote
-  named_same past held vote stands =
-      ap (λ s. admission_by x (proposal_of s) (observed held.tracked (kind_of vote) (signer_of vote)) vote) stands.selection_is
-      ∙ (ap (λ o. admission_by x (selected_proposal x past) o vote) (observed_is x past held (kind_of vote) (signer_of vote) stands)
-      ∙ by_first past vote (is_released x past (kind_of vote)) (first_like x past vote))
+  pub forward_same : (past : History D K G C) (held : Held G D) (me : Participant)
+      → Stands x past held → forward_answer held me ≡ forward_after x past me
+  forward_same past held me stands = ap (λ known. forward_by known me) (known_is past held stands)
 
-  -- the answer by what is observed of the opposite votes
-  after_same : (past : History D K G C) (held : Held G D) (vote : Vote G D) (kind : Kind) (i : ℕ)
-      (r : Bool) (o : Option (Vote G D)) → is_released x past kind ≡ r
-      → ((earlier : Vote G D) → o ≡ Some earlier → kind_of earlier ≡ kind) → Stands x past held →
-      admission_named x held (cond r (from_facts
-      (option_and_then (λ v. Some (facts_of x past kind i)) o)) (from_kept o)) vote
-      ≡ admission_against x past o vote
-  after_same past held vote kind i true None er only stands = named_same past held vote stands
-  after_same past held vote kind i false None er only stands = named_same past held vote stands
-  after_same past held vote kind i true (Some earlier) er only stands =
-      sym (ap (λ b. cond b (admission_after_facts vote) (admission_after earlier vote)) (ap (is_released x past) (only earlier refl) ∙ er))
-  after_same past held vote kind i false (Some earlier) er only stands =
-      sym (ap (λ b. cond b (admission_after_facts vote) (admission_after earlier vote)) (ap (is_released x past) (only earlier refl) ∙ er))
+  pub block_same : (past : History D K G C) (held : Held G D) (i : ℕ) (p : Proposal D)
+      → Stands x past held → has_block_held x.same_digest held i p ≡ has_block x past i p
+  block_same past held i p stands = ap (λ known. has_block_by x.same_digest known.observed i p) (known_is past held stands)
 
-  first_kind : (past : History D K G C) (kind : Kind) (i : ℕ) (earlier : Vote G D)
-      → first_vote x past kind i ≡ Some earlier → kind_of earlier ≡ kind
-  first_kind past kind i earlier e = is_kind-true _ _ (and_parts _ _ (found_is_of (first_votes x past) kind i earlier e)).0
+  pub missing_same : (past : History D K G C) (held : Held G D) (p : Proposal D)
+      → Stands x past held → missing_in x.same_digest held p (participants_in x)
+      ≡ missing_after x past p
+  missing_same past held p stands = ap (λ known. missing_by x.same_digest known.observed p (participants_in x)) (known_is past held stands)
 
-  against_same : (past : History D K G C) (held : Held G D) (vote : Vote G D) → Stands x past held
-      → admission_named x held (observed_opposite held.tracked vote) vote
-      ≡ admission_against x past (opposite_vote x past vote) vote
-  against_same past held (NotarizeVote v) stands =
-      named_same past held (NotarizeVote v) stands ∙ ap (λ o. admission_against x past o (NotarizeVote v)) (sym (opposite_is past (NotarizeVote v)))
-  against_same past held (NullifyVote v) stands =
-      ap (λ o. admission_named x held o (NullifyVote v)) (observed_is x past held Finalization v.attestation.signer.0 stands)
-      ∙ (after_same past held (NullifyVote v) Finalization v.attestation.signer.0 (is_released x past Finalization)
-      (first_vote x past Finalization v.attestation.signer.0) refl (first_kind past Finalization v.attestation.signer.0) stands
-      ∙ ap (λ o. admission_against x past o (NullifyVote v)) (sym (opposite_is past (NullifyVote v))))
-  against_same past held (FinalizeVote v) stands =
-      ap (λ o. admission_named x held o (FinalizeVote v)) (observed_is x past held Nullification v.attestation.signer.0 stands)
-      ∙ (after_same past held (FinalizeVote v) Nullification v.attestation.signer.0 (is_released x past Nullification)
-      (first_vote x past Nullification v.attestation.signer.0) refl (first_kind past Nullification v.attestation.signer.0) stands
-      ∙ ap (λ o. admission_against x past o (FinalizeVote v)) (sym (opposite_is past (FinalizeVote v))))
-
-  by_index : (past : History D K G C) (held : Held G D) (vote : Vote G D)
-      (index : Option Participant) → Stands x past held → admission_from x held index vote
-      ≡ admission_sent_by x past index vote
-  by_index past held vote None stands = refl
-  by_index past held vote (Some i) stands =
-      ap (λ a. cond (eqb i.0 (signer_of vote)) a (block_for (mismatch_reason (kind_of vote)) None)) (against_same past held vote stands)
-
-  -- A network vote is answered as the history names.
   pub network_same : (past : History D K G C) (held : Held G D) (sender : K) (vote : Vote G D)
       → Stands x past held → admission x held sender vote ≡ network_answer x past sender vote
-  network_same past held sender vote stands = by_index past held vote (sender_in x sender) stands
+  network_same past held sender vote stands = ap (λ known. network_by x known sender vote) (known_is past held stands)
 
   -- OWN VOTES
   fixed_selects : (fixed leaders evidence : Option (Proposal D)) (f : Proposal D) → fixed ≡ Some f
@@ -302,87 +257,29 @@ module _ {D K G C : Type 0} (x : Setting D K G C) where
   own_conflict : (past : History D K G C) (vote : Vote G D) (fixed : Option (Proposal D))
       → fixed_proposal past ≡ fixed →
       conflicts_with x.same_digest (proposal_of (fixes (selection x past) (fixed_by vote))) vote
-      (facts_of x past (kind_of vote) (signer_of vote)) ≡ conflicts x past vote
+      (facts_of x past (kind_of vote) (signer_of vote))
+      ≡ conflicts_with x.same_digest (selected_proposal x past) vote
+      (facts_of x past (kind_of vote) (signer_of vote))
   own_conflict past vote None e =
       unmatched (signer_of vote) (kind_of vote) (selected_proposal x past) _ vote (compared_votes x past)
-      (ap (filter (is_vote_of (kind_of vote) (signer_of vote))) (compared_if_fixed past e)) ∙ conflict_same past vote
+      (ap (filter (is_vote_of (kind_of vote) (signer_of vote))) (compared_if_fixed past e))
   own_conflict past vote (Some f) e =
       ap (λ s. conflicts_with x.same_digest s vote (facts_of x past (kind_of vote) (signer_of vote)))
-      (fixed_selects (fixed_proposal past) (leaders_proposal x past) (fixed_by vote) f e) ∙ conflict_same past vote
+      (fixed_selects (fixed_proposal past) (leaders_proposal x past) (fixed_by vote) f e)
 
-  outcome_first : (past : History D K G C) (vote : Vote G D) (selected : Option (Proposal D))
-      (r : Bool) (first : Option (Vote G D)) →
-      conflicts_with x.same_digest selected vote (facts_of x past (kind_of vote) (signer_of vote))
-      ≡ conflicts x past vote →
-      outcome_by x.same_digest selected r
-      (cond r (from_facts (option_and_then
-      (λ v. Some (facts_of x past (kind_of vote) (signer_of vote))) first)) (from_kept first))
-      vote ≡ outcome_by_first x first r (conflicts x past vote)
-  outcome_first past vote selected true None e = refl
-  outcome_first past vote selected false None e = refl
-  outcome_first past vote selected false (Some k) e = refl
-  outcome_first past vote selected true (Some k) e =
-      by_conflict (conflicts_with x.same_digest selected vote (facts_of x past (kind_of vote) (signer_of vote))) (conflicts x past vote) e
-    where
-      by_conflict : (a b : Bool) → a ≡ b → cond a Conflicting (Duplicate false)
-          ≡ outcome_by_first x (Some k) true b
-      by_conflict true true h = refl
-      by_conflict true false h = absurd (cc)
-      by_conflict false true h = absurd (cc)
-      by_conflict false false h = refl
-
-  own_outcome_same : (past : History D K G C) (held : Held G D) (vote : Vote G D)
-      → Stands x past held → own_outcome x held vote
-      ≡ outcome_by_first x (first_like x past vote) (is_released x past (kind_of vote))
-      (conflicts x past vote)
-  own_outcome_same past held vote stands =
-      ap (λ s. outcome_by x.same_digest (proposal_of (fixes s (fixed_by vote))) (of_kind held.tracked.compacted (kind_of vote))
-      (observed held.tracked (kind_of vote) (signer_of vote)) vote) stands.selection_is
-      ∙ (ap (λ c. outcome_by x.same_digest (proposal_of (fixes (selection x past) (fixed_by vote))) c (observed held.tracked (kind_of vote) (signer_of vote))
-      vote) (stands.each_kind (kind_of vote)).compacted_is
-      ∙ (ap (λ o. outcome_by x.same_digest (proposal_of (fixes (selection x past) (fixed_by vote))) (is_released x past (kind_of vote)) o vote)
-      (observed_is x past held (kind_of vote) (signer_of vote) stands)
-      ∙ outcome_first past vote (proposal_of (fixes (selection x past) (fixed_by vote))) (is_released x past (kind_of vote)) (first_like x past vote)
-      (own_conflict past vote (fixed_proposal past) refl)))
-
-  own_against : (past : History D K G C) (vote : Vote G D) (kind : Kind) (i : ℕ) (r : Bool)
-      (o : Option (Vote G D)) (outcome : Outcome) → outcome
-      ≡ outcome_by_first x (first_like x past vote) (is_released x past (kind_of vote))
-      (conflicts x past vote) →
-      own_result_by (cond r (from_facts (option_and_then (λ v. Some (facts_of x past kind i)) o))
-      (from_kept o)) (kind_of vote) outcome ≡ own_answer_against x past o vote
-  own_against past vote kind i true None outcome e = ap (unopposed_result (kind_of vote)) e
-  own_against past vote kind i false None outcome e = ap (unopposed_result (kind_of vote)) e
-  own_against past vote kind i true (Some earlier) outcome e = refl
-  own_against past vote kind i false (Some earlier) outcome e = refl
-
-  own_opposed : (past : History D K G C) (held : Held G D) (vote : Vote G D) (outcome : Outcome)
-      → Stands x past held → outcome ≡ outcome_by_first x (first_like x past vote)
-      (is_released x past (kind_of vote)) (conflicts x past vote) →
-      own_result_by (observed_opposite held.tracked vote) (kind_of vote) outcome
-      ≡ own_answer_against x past (opposite_vote x past vote) vote
-  own_opposed past held (NotarizeVote v) outcome stands e =
-      ap (unopposed_result Notarization) e ∙ ap (λ o. own_answer_against x past o (NotarizeVote v)) (sym (opposite_is past (NotarizeVote v)))
-  own_opposed past held (NullifyVote v) outcome stands e =
-      ap (λ o. own_result_by o Nullification outcome) (observed_is x past held Finalization v.attestation.signer.0 stands)
-      ∙ (own_against past (NullifyVote v) Finalization v.attestation.signer.0 (is_released x past Finalization)
-      (first_vote x past Finalization v.attestation.signer.0) outcome e
-      ∙ ap (λ o. own_answer_against x past o (NullifyVote v)) (sym (opposite_is past (NullifyVote v))))
-  own_opposed past held (FinalizeVote v) outcome stands e =
-      ap (λ o. own_result_by o Finalization outcome) (observed_is x past held Nullification v.attestation.signer.0 stands)
-      ∙ (own_against past (FinalizeVote v) Nullification v.attestation.signer.0 (is_released x past Nullification)
-      (first_vote x past Nullification v.attestation.signer.0) outcome e
-      ∙ ap (λ o. own_answer_against x past o (FinalizeVote v)) (sym (opposite_is past (FinalizeVote v))))
+  outcome_fixed : (past : History D K G C) (vote : Vote G D) (released : Bool)
+      (first : Option (Vote G D)) →
+      outcome_by x.same_digest (proposal_of (fixes (selection x past) (fixed_by vote))) released
+      (known_by released (facts_of x past (kind_of vote) (signer_of vote)) first) vote
+      ≡ outcome_by x.same_digest (selected_proposal x past) released
+      (known_by released (facts_of x past (kind_of vote) (signer_of vote)) first) vote
+  outcome_fixed past vote released None = refl
+  outcome_fixed past vote false (Some kept) = refl
+  outcome_fixed past vote true (Some seen) = ap (λ c. cond c Conflicting (Duplicate false)) (own_conflict past vote (fixed_proposal past) refl)
 
   -- An own vote is answered as the history names.
   pub own_same : (past : History D K G C) (held : Held G D) (vote : Vote G D) → Stands x past held
       → own_result x held vote ≡ own_answer x past vote
-  own_same past held vote stands = own_opposed past held vote (own_outcome x held vote) stands (own_outcome_same past held vote stands)
-
-  -- What is handed on is what the history names.
-  pub forward_same : (past : History D K G C) (held : Held G D) (me : Participant)
-      → Stands x past held → forward_answer held me ≡ forward_after x past me
-  forward_same past held me stands =
-      ap (λ b. cond (b || is_participant held.buffered.leader me) None (selected_in held.buffered)) stands.forwarded_is
-      ∙ (ap (λ l. cond (was_forwarded past || is_participant l me) None (selected_in held.buffered)) stands.leader_is
-      ∙ ap (λ s. cond (was_forwarded past || is_participant (leader_of past) me) None (proposal_of s)) stands.selection_is)
+  own_same past held vote stands =
+      ap (λ known. own_by x.same_digest (record known { selection = fixes known.selection (fixed_by vote) }) vote) (known_is past held stands)
+      ∙ ap (own_result_by ((known_after x past).opposite vote) (kind_of vote)) (outcome_fixed past vote (is_released x past (kind_of vote)) (first_like x past vote))

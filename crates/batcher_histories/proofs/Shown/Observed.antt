@@ -1,29 +1,28 @@
 -- What a round has observed of a signer is what the history says, and so who has the block.
 use Rattle.std.proofs.Common.{inl, inr, ◌≡◌, ◌<◌, ℕ, Bool, true, false, not, cond, ◌&&◌, ◌||◌, ◌⊎◌, List, [], ◌∷◌, ◌++◌, map, Option, Some, None, refl, ap, sym, ◌∙◌, arith, ⊎_elim, eqb, leb, subst}
 use Rattle.std.specs.Prelude.{filter, find, is_some, is_none, option_and_then}
-use Rattle.std.specs.List.{list_any, range_with_len}
+use Rattle.std.specs.List.{list_any}
 use Rattle.std.proofs.lemmas.Bool.{cases_Bool, and_parts, or_cases, or_parts, not-false, false_from_ne_true, eqb-true, leb-false, or_right}
 use Rattle.std.proofs.lemmas.List.Folds.{list_any-append}
 use Rattle.batcher_types.specs.declared.messages.Proposal.{Proposal}
 use Rattle.batcher_types.specs.declared.messages.Vote.{Vote}
 use Rattle.batcher_types.specs.declared.messages.Kind.{Kind}
-use Rattle.batcher_types.specs.declared.messages.Kind.TheVariants.{Notarization, Nullification, Finalization}
+use Rattle.batcher_types.specs.declared.messages.Kind.TheVariants.{Nullification}
 use Rattle.batcher_histories.specs.declared.calls.Call.{Call}
 use Rattle.batcher_histories.specs.declared.calls.Call.TheVariants.{Network as NetworkCall, Own as OwnCall, Certificate as CertificateCall, Leader as LeaderCall, Construct as ConstructCall, Forward as ForwardCall, Missing as MissingCall}
-use Rattle.batcher_histories.specs.Setting.{Setting, participants_in}
-use Rattle.batcher_types.specs.Keys.{participant}
+use Rattle.batcher_histories.specs.Setting.{Setting}
 use Rattle.batcher_types.specs.Ascending.{insert_by, ordered_by}
 use Rattle.batcher_types.specs.Lists.{is_some_and}
 use Rattle.batcher_types.specs.Votes.{is_kind, kind_of, signer_of, is_of_kind, is_vote_of, is_for, excludes, opposes, are_opposite}
 use Rattle.batcher_votes.specs.Held.{Held}
-use Rattle.batcher_votes.specs.Tracking.{Observed, from_kept, from_facts, known_facts, kept_vote, observed, is_seen_for}
-use Rattle.batcher_histories.specs.Steps.{has_block as has_block_held, missing_in}
+use Rattle.batcher_votes.specs.Tracking.{from_kept, from_facts, known_facts, kept_vote, observed}
 use Rattle.batcher_histories.specs.History.{Event, History, cast_votes, names_sender}
 use Rattle.batcher_histories.specs.FirstVotes.{is_free, first_votes, first_vote, opposite_vote}
-use Rattle.batcher_histories.specs.Selection.{is_released, selected_proposal}
-use Rattle.batcher_histories.specs.Comparison.{compared_votes, compared_votes_of, is_matched, is_compared, is_compared_at_release, shows_block, has_block}
-use Rattle.batcher_histories.specs.Answers.{missing_after, keeps_nullify}
-use Rattle.batcher_histories.specs.Stands.{Stands, first_by_signer, facts_of}
+use Rattle.batcher_histories.specs.Selection.{is_released}
+use Rattle.batcher_histories.specs.Known.{known_by}
+use Rattle.batcher_histories.specs.Comparison.{compared_votes, compared_votes_of, is_compared, is_compared_at_release, facts_of, known_after}
+use Rattle.batcher_histories.specs.Answers.{keeps_nullify}
+use Rattle.batcher_histories.specs.Stands.{Stands, first_by_signer}
 use Rattle.batcher_histories.proofs.History.Distinct.{any_filtered, any_is_found, found_is_of, is_itself, is_kind-true, new_votes, firsts_apart, filled_stays, filter_one, some_where}
 
 pub filter_same : {X : Type 0} (p q : X → Bool) (xs : List X) → ((v : X) → p v ≡ q v) → filter p xs
@@ -233,64 +232,35 @@ module _ {D K G C : Type 0} (x : Setting D K G C) where
       ∙ same_at_found (λ v. facts_of x past kind (signer_of v)) (facts_of x past kind i) (first_vote x past kind i)
       (λ v found. ap (facts_of x past kind) (eqb-true _ _ (and_parts _ _ (found_is_of (first_votes x past) kind i v found)).1))))
 
-  nothing_matches : (o : Option (Proposal D)) (votes : List (Vote G D)) → votes ≡ []
+  pub nothing_matches : (o : Option (Proposal D)) (votes : List (Vote G D)) → votes ≡ []
       → is_some_and o (λ p. list_any (is_for x.same_digest p) votes) ≡ false
   nothing_matches None votes h = refl
   nothing_matches (Some p) votes h = ap (list_any (is_for x.same_digest p)) h
 
   -- what is observed of a signer is what the history says
-  abbrev pub observed_by : History D K G C → Kind → ℕ → Observed G D
-  observed_by past kind i =
-      cond (is_released x past kind) (from_facts (option_and_then (λ v. Some (facts_of x past kind i)) (first_vote x past kind i)))
-      (from_kept (first_vote x past kind i))
-
   pub observed_is : (past : History D K G C) (held : Held G D) (kind : Kind) (i : ℕ)
-      → Stands x past held → observed held.tracked kind i ≡ observed_by past kind i
+      → Stands x past held
+      → observed held.tracked kind i ≡ (known_after x past).observed kind i
   observed_is past held kind i stands =
       ap (λ c. cond c (from_facts (known_facts held.tracked kind i)) (from_kept (kept_vote held.tracked kind i))) (stands.each_kind kind).compacted_is
-      ∙ ⊎_elim
-      (λ released.
-      ap (λ c. cond c (from_facts (known_facts held.tracked kind i)) (from_kept (kept_vote held.tracked kind i))) released
-      ∙ (ap from_facts (facts_known past held kind i stands released)
-      ∙ ap (λ c. cond c (from_facts (option_and_then (λ v. Some (facts_of x past kind i)) (first_vote x past kind i))) (from_kept (first_vote x past kind i)))
-      (sym released)))
-      (λ unreleased.
-      ap (λ c. cond c (from_facts (known_facts held.tracked kind i)) (from_kept (kept_vote held.tracked kind i))) unreleased
-      ∙ (ap from_kept (kept_is_first past held kind i stands unreleased)
-      ∙ ap (λ c. cond c (from_facts (option_and_then (λ v. Some (facts_of x past kind i)) (first_vote x past kind i))) (from_kept (first_vote x past kind i)))
-      (sym unreleased)))
-      (cases_Bool (is_released x past kind))
+      ∙ by_release (is_released x past kind) refl
+    where
+      as_kept : (first : Option (Vote G D)) → from_kept first ≡ known_by false (facts_of x past kind i) first
+      as_kept None = refl
+      as_kept (Some v) = refl
 
-  shows_by : (past : History D K G C) (kind : Kind) (i : ℕ) (p : Proposal D) (released : Bool)
-      (first : Option (Vote G D)) → first_vote x past kind i ≡ first
-      → is_seen_for x.same_digest p (cond released
-      (from_facts (option_and_then (λ v. Some (facts_of x past kind i)) first))
-      (from_kept first))
-      ≡ cond released (is_matched x past kind i) (is_some_and first (is_for x.same_digest p))
-  shows_by past kind i p true None e = sym (nothing_matches (selected_proposal x past) (compared_votes_of x past kind i) (none_compared past kind i e))
-  shows_by past kind i p true (Some v) e = refl
-  shows_by past kind i p false None e = refl
-  shows_by past kind i p false (Some v) e = refl
+      by_facts : (first : Option (Vote G D))
+          → from_facts (option_and_then (λ v. Some (facts_of x past kind i)) first)
+          ≡ known_by true (facts_of x past kind i) first
+      by_facts None = refl
+      by_facts (Some v) = refl
 
-  shows_same : (past : History D K G C) (held : Held G D) (kind : Kind) (i : ℕ) (p : Proposal D)
-      → Stands x past held → is_seen_for x.same_digest p (observed held.tracked kind i)
-      ≡ shows_block x past kind i p
-  shows_same past held kind i p stands =
-      ap (is_seen_for x.same_digest p) (observed_is past held kind i stands) ∙ shows_by past kind i p (is_released x past kind) (first_vote x past kind i) refl
-
-  pub block_same : (past : History D K G C) (held : Held G D) (i : ℕ) (p : Proposal D)
-      → Stands x past held → has_block_held x.same_digest held i p ≡ has_block x past i p
-  block_same past held i p stands =
-      ap (λ b. b || is_seen_for x.same_digest p (observed held.tracked Finalization i)) (shows_same past held Notarization i p stands)
-      ∙ ap (λ b. shows_block x past Notarization i p || b) (shows_same past held Finalization i p stands)
-
-  pub missing_same : (past : History D K G C) (held : Held G D) (p : Proposal D)
-      → Stands x past held → missing_in x.same_digest held p (participants_in x)
-      ≡ missing_after x past p
-  missing_same past held p stands =
-      filter_same (λ i. not (has_block_held x.same_digest held i.0 p)) (λ i. not (has_block x past i.0 p))
-      (map participant (range_with_len 0 (participants_in x)))
-      (λ i. ap not (block_same past held i.0 p stands))
+      by_release : (released : Bool) → is_released x past kind ≡ released
+          → cond released (from_facts (known_facts held.tracked kind i))
+          (from_kept (kept_vote held.tracked kind i))
+          ≡ known_by released (facts_of x past kind i) (first_vote x past kind i)
+      by_release true e = ap from_facts (facts_known past held kind i stands e) ∙ by_facts (first_vote x past kind i)
+      by_release false e = ap from_kept (kept_is_first past held kind i stands e) ∙ as_kept (first_vote x past kind i)
 
   nullify_by : (past : History D K G C) (held : Held G D) (i : ℕ) (released : Bool)
       → is_released x past Nullification ≡ released → Stands x past held

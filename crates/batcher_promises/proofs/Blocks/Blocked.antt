@@ -17,7 +17,7 @@ use Rattle.batcher_histories.specs.History.{History, names_sender}
 use Rattle.batcher_histories.specs.FirstVotes.{first_votes, contradicts, first_like, opposite_vote}
 use Rattle.batcher_histories.specs.Selection.{is_certified, is_released}
 use Rattle.batcher_histories.specs.Comparison.{conflicts}
-use Rattle.batcher_histories.specs.Answers.{IsPossible, network_answer, admission_sent_by, admission_against, admission_by_first}
+use Rattle.batcher_histories.specs.Answers.{IsPossible, network_answer}
 use Rattle.batcher_promises.specs.Promises.{votes_cast}
 use Rattle.batcher_promises.specs.Blocked.{IsBlockedForItself, IsBlockedInEveryMode, IsBlockedExactlyUntilRelease, IsBlockedExactlyIfRetaining, BlocksJustly}
 use Rattle.batcher_histories.proofs.History.Distinct.{any_count, count_at, positive, option_cases, firsts_apart, found_is_of}
@@ -26,6 +26,7 @@ use Rattle.batcher_histories.proofs.History.Laws.{HasLaws}
 use Rattle.batcher_promises.proofs.Headline.Promises.{opposites_differ, beside_blocks, against_contradicts, at_each_vote}
 use Rattle.batcher_promises.proofs.Blocks.Refused.{opposed_blocks}
 use Rattle.batcher_histories.proofs.Right.Kept.{found_passes}
+use Rattle.batcher_histories.proofs.History.ByFirst.{admission_against, admission_by_first, admission_sent_by, network_is}
 
 -- WHO SENDS A VOTE
 module _ {D K G C : Type 0} (x : Setting D K G C) (past : History D K G C) (vote : Vote G D) where
@@ -52,7 +53,7 @@ module _ {D K G C : Type 0} (x : Setting D K G C) (past : History D K G C) (vote
     pub answer_by_name : (sender : K) →
         f (network_answer x past sender vote)
         ≡ cond (names_sender x sender vote) (f named_answer) other
-    answer_by_name sender = by_index (sender_in x sender)
+    answer_by_name sender = ap f (network_is x past vote sender) ∙ by_index (sender_in x sender)
 
 -- LISTS AND TESTS
 -- two tests that agree where a third fails, of a list in which none passes that one

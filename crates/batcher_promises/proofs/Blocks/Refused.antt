@@ -29,7 +29,7 @@ use Rattle.batcher_histories.specs.History.{Event, History, is_made, names_sende
 use Rattle.batcher_histories.specs.FirstVotes.{first_votes, is_free, first_vote, first_like, opposite_vote}
 use Rattle.batcher_histories.specs.Selection.{is_certified, is_released, certificate_of}
 use Rattle.batcher_histories.specs.Comparison.{conflicts}
-use Rattle.batcher_histories.specs.Answers.{network_answer, admission_sent_by, admission_against, admission_by_first, own_answer, own_answer_against, outcome_by_first, MayAnswer, IsPossible}
+use Rattle.batcher_histories.specs.Answers.{network_answer, own_answer, MayAnswer, IsPossible}
 use Rattle.batcher_promises.specs.Promises.{votes_cast}
 use Rattle.batcher_promises.specs.Pairs.{blocks_participant}
 use Rattle.batcher_histories.proofs.History.Distinct.{first_stays, is_itself, is_kind-true, option_cases, found_is_of}
@@ -37,6 +37,7 @@ use Rattle.batcher_histories.proofs.Shown.Observed.{cast_cases}
 use Rattle.batcher_promises.proofs.Headline.Promises.{after_blocks, beside_blocks}
 use Rattle.batcher_histories.proofs.Right.Kept.{found_passes}
 use Rattle.batcher_histories.proofs.Follow.FirstVotes.{free_is}
+use Rattle.batcher_histories.proofs.History.ByFirst.{admission_against, admission_by_first, admission_sent_by, outcome_by_first, own_answer_against, network_is, own_is}
 
 err_not_ok : {A B : Type 0} (e : B) (a : A) → ◌≡◌ {A = Result A B} (Err e) (Ok a) → ⊥
 err_not_ok e a h = cc
@@ -92,7 +93,8 @@ module _ {D K G C : Type 0} (x : Setting D K G C) where
   refused_blocks past (NetworkCall sender sent) (NetworkAnswer admission) made may vote casts refused =
       let one = one_cast (names_sender x sender sent) sent vote casts in
       let named : names_sender x sender vote ≡ true = ap (names_sender x sender) (sym one.1) ∙ one.0 in
-      let block : is_some (network_answer x past sender vote).block ≡ true = sent_blocks past vote (sender_in x sender) named refused.0 in
+      let block : is_some (network_answer x past sender vote).block ≡ true =
+      ap (λ a. is_some a.block) (network_is x past vote sender) ∙ sent_blocks past vote (sender_in x sender) named refused.0 in
       and_from _ _ named (ap (λ (a : Admission G D). is_some a.block) may ∙ (ap (λ v. is_some (network_answer x past sender v).block) one.1 ∙ block))
   refused_blocks past (NetworkCall sender sent) answer made may vote casts refused = absurd may
   refused_blocks past (OwnCall own) (OwnAnswer outcome report) made may vote casts refused =
@@ -128,7 +130,7 @@ module _ {D K G C : Type 0} (x : Setting D K G C) where
       let opposed : are_opposite (kind_of earlier) (kind_of vote)
       ≡ true = (and_parts _ _ (found_passes (λ v. opposes v vote) (first_votes x past) earlier e)).1 in (
         ap (λ o. is_some (admission_against x past o vote).block) e ∙ opposed_blocks past earlier vote opposed,
-        λ outcome ok. err_not_ok _ outcome (ap (λ o. own_answer_against x past o vote) (sym e) ∙ ok),
+        λ outcome ok. err_not_ok _ outcome (sym (own_is x past vote ∙ ap (λ o. own_answer_against x past o vote) e) ∙ ok),
       )
 
   module _ (past : History D K G C) (vote first : Vote G D)
@@ -143,15 +145,16 @@ module _ {D K G C : Type 0} (x : Setting D K G C) where
           ∙ (ap (λ o. admission_by_first x o (is_released x past (kind_of vote)) (conflicts x past vote) vote) like
           ∙ (ap (λ b. admission_by_first x (Some first) b (conflicts x past vote) vote) e ∙ ap (λ b. admission_by_first x (Some first) released b vote) f))
 
-      own_is : (released conflict : Bool) → is_released x past (kind_of vote) ≡ released
+      own_answered : (released conflict : Bool) → is_released x past (kind_of vote) ≡ released
           → conflicts x past vote ≡ conflict →
           own_answer x past vote ≡ unopposed_result (kind_of vote)
           (outcome_by_first x (Some first) released conflict)
-      own_is released conflict e f =
-          ap (λ o. own_answer_against x past o vote) unopposed
+      own_answered released conflict e f =
+          own_is x past vote
+          ∙ (ap (λ o. own_answer_against x past o vote) unopposed
           ∙ (ap (λ o. unopposed_result (kind_of vote) (outcome_by_first x o (is_released x past (kind_of vote)) (conflicts x past vote))) like
           ∙ (ap (λ b. unopposed_result (kind_of vote) (outcome_by_first x (Some first) b (conflicts x past vote))) e
-          ∙ ap (λ b. unopposed_result (kind_of vote) (outcome_by_first x (Some first) released b)) f))
+          ∙ ap (λ b. unopposed_result (kind_of vote) (outcome_by_first x (Some first) released b)) f)))
 
       -- one that differs from the kept one of its kind and signer
       other_refused : is_released x past (kind_of vote) ≡ false → has_proposals (kind_of vote)
@@ -161,7 +164,7 @@ module _ {D K G C : Type 0} (x : Setting D K G C) where
       other_refused kept has of_kind differs = (
         ap (λ (a : Admission G D). is_some a.block) (answer_is false (conflicts x past vote) kept refl)
             ∙ (beside_blocks x.same_digest x.same_signature first vote ∙ and_from _ _ of_kind (ap not differs)),
-        λ outcome ok. duplicate_not_ok (kind_of vote) outcome has (sym (own_is false (conflicts x past vote) kept refl) ∙ ok),
+        λ outcome ok. duplicate_not_ok (kind_of vote) outcome has (sym (own_answered false (conflicts x past vote) kept refl) ∙ ok),
       )
 
       -- one that conflicts with those compared
@@ -169,7 +172,7 @@ module _ {D K G C : Type 0} (x : Setting D K G C) where
           ≡ true → IsRefused past vote
       conflicting_refused released conflict = (
         ap (λ (a : Admission G D). is_some a.block) (answer_is true true released conflict),
-        λ outcome ok. err_not_ok _ outcome (sym (own_is true true released conflict) ∙ ok),
+        λ outcome ok. err_not_ok _ outcome (sym (own_answered true true released conflict) ∙ ok),
       )
 
   -- FIRST VOTES

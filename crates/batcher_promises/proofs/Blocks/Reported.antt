@@ -29,7 +29,7 @@ use Rattle.batcher_histories.specs.History.{Event, History, names_sender, cast_v
 use Rattle.batcher_histories.specs.FirstVotes.{first_votes, first_like, opposite_vote, is_free}
 use Rattle.batcher_histories.specs.Selection.{is_certified, is_released}
 use Rattle.batcher_histories.specs.Comparison.{conflicts}
-use Rattle.batcher_histories.specs.Answers.{IsPossible, network_answer, admission_sent_by, admission_against, admission_by_first}
+use Rattle.batcher_histories.specs.Answers.{IsPossible, network_answer}
 use Rattle.batcher_promises.specs.Promises.{AtEachVote, votes_cast}
 use Rattle.batcher_promises.specs.Composed.{carry_different}
 use Rattle.batcher_promises.specs.Reported.{subjects_contradict, vote_in, evidence_in, ordered_pair, are_contrary, kept_votes, contrary_vote, contrary_pair}
@@ -41,6 +41,7 @@ use Rattle.batcher_promises.proofs.Runs.Finding.{any_filter, any_found}
 use Rattle.batcher_promises.proofs.Headline.Promises.{first_is_cast, at_each_event, at_each_allowed, at_each_vote}
 use Rattle.batcher_histories.proofs.Right.Kept.{found_passes}
 use Rattle.batcher_votes.proofs.Waits.{round_is}
+use Rattle.batcher_histories.proofs.History.ByFirst.{admission_against, admission_by_first, admission_sent_by, network_is}
 
 -- THE SORTS OF ANSWERS
 module _ {D K G C : Type 0} (x : Setting D K G C) (P : Admission G D → Type 0) (refused : P refusal)
@@ -92,7 +93,7 @@ module _ {D K G C : Type 0} (x : Setting D K G C) (P : Admission G D → Type 0)
     -- What holds of an addition, of a refusal and of each block that doesn't report a vote alone,
     -- holds of each answer.
     of_answer : (sender : K) → P (network_answer x past sender vote)
-    of_answer sender = by_index (sender_in x sender)
+    of_answer sender = subst P (sym (network_is x past vote sender)) (by_index (sender_in x sender))
       where
         by_index : (index : Option Participant) → P (admission_sent_by x past index vote)
         by_index None = blocked _ None refl

@@ -29,7 +29,7 @@ use Rattle.batcher_histories.specs.History.{Event, History, names_sender, cast_v
 use Rattle.batcher_histories.specs.FirstVotes.{first_votes, is_free, contradicts, first_like, opposite_vote}
 use Rattle.batcher_histories.specs.Selection.{is_certified, is_released}
 use Rattle.batcher_histories.specs.Comparison.{compared_votes, is_compared, is_compared_at_release, conflicts}
-use Rattle.batcher_histories.specs.Answers.{network_answer, admission_sent_by, admission_against, admission_by_first, MayAnswer, IsPossible}
+use Rattle.batcher_histories.specs.Answers.{network_answer, MayAnswer, IsPossible}
 use Rattle.batcher_promises.specs.Promises.{AtEachVote, IsAcceptedExactly, votes_cast, contradicts_itself, gave_cause, IsBlockedForCause, IsBlockedIfContradicting, AtEachEvent, AtEachTime, GivesVerified, CompletesQuorums, Rests}
 use Rattle.batcher_promises.specs.Promises.{GivesNone, Promises}
 use Rattle.batcher_histories.specs.Runs.{certifies_answer}
@@ -46,6 +46,7 @@ use Rattle.batcher_histories.proofs.Follow.Network.{added_is}
 use Rattle.batcher_promises.proofs.Quorums.Completed.{completes, rests}
 use Rattle.batcher_promises.specs.Work.{IsWorkBounded}
 use Rattle.batcher_promises.proofs.Headline.Work.{work_bounded, skipped_gives_none}
+use Rattle.batcher_histories.proofs.History.ByFirst.{admission_against, admission_by_first, admission_sent_by, network_is}
 
 module _ {G D : Type 0} (same : D → D → Bool) (equal : G → G → Bool) where
   -- VOTES THAT CONTRADICT EACH OTHER
@@ -209,7 +210,7 @@ module _ {D K G C : Type 0} (x : Setting D K G C) where
     pub blocked_for_cause : (answer : Answer G C D)
         → is_some (network_answer x past sender vote).block ≡ true
         → gave_cause x ((NetworkCall sender vote, answer) ∷ past) i.0 ≡ true
-    blocked_for_cause answer h = by_name (eqb i.0 (signer_of vote)) answer refl (ap (λ o. is_some (admission_sent_by x past o vote).block) (sym known) ∙ h)
+    blocked_for_cause answer h = by_name (eqb i.0 (signer_of vote)) answer refl (sym (ap (λ a. is_some a.block) (network_is x past vote sender) ∙ ap (λ o. is_some (admission_sent_by x past o vote).block) known) ∙ h)
 
 module _ {D K G C : Type 0} (x : Setting D K G C) (retains : x.mode ≡ Retaining) where
   kept_in_full : (past : History D K G C) (kind : Kind) → is_released x past kind ≡ false
@@ -273,7 +274,8 @@ module _ {D K G C : Type 0} (x : Setting D K G C) (retains : x.mode ≡ Retainin
       → (names_sender x sender vote && list_any (λ v. contradicts x v vote) (first_votes x past))
       ≡ true →
       is_some (network_answer x past sender vote).block ≡ true
-  blocked_if_contradicting past sender vote h = blocked_of past vote (sender_in x sender) (and_parts _ _ h).0 (and_parts _ _ h).1
+  blocked_if_contradicting past sender vote h =
+      ap (λ a. is_some a.block) (network_is x past vote sender) ∙ blocked_of past vote (sender_in x sender) (and_parts _ _ h).0 (and_parts _ _ h).1
 
 -- AT EACH EVENT OF A HISTORY
 module _ {D K G C : Type 0} (x : Setting D K G C) (holds : History D K G C → Event D K G C → Type 0)

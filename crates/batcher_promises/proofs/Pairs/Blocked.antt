@@ -26,7 +26,7 @@ use Rattle.batcher_histories.specs.FirstVotes.{first_votes, first_like, opposite
 use Rattle.batcher_histories.specs.Selection.{fixed_proposal, is_released}
 use Rattle.batcher_histories.specs.Comparison.{compared_votes, conflicts}
 use Rattle.batcher_promises.specs.Composed.{carry_different}
-use Rattle.batcher_histories.specs.Answers.{network_answer, admission_sent_by, admission_against, admission_by_first, MayAnswer, IsPossible}
+use Rattle.batcher_histories.specs.Answers.{MayAnswer, IsPossible}
 use Rattle.batcher_promises.specs.Promises.{votes_cast}
 use Rattle.batcher_promises.specs.Pairs.{in_mode, blocks, blocks_participant, was_blocked, tells_nothing, AtEachPlace, SelectsAlike, IsBlockedByBoth, IsBlockedByOne}
 use Rattle.batcher_promises.proofs.Pairs.Alike.{AreAlike, along, certified_alike, firsts_alike, selection_alike}
@@ -39,6 +39,7 @@ use Rattle.batcher_promises.proofs.Headline.Promises.{beside_blocks, compared_is
 use Rattle.batcher_promises.proofs.Blocks.Refused.{opposed_blocks, differing_blocked}
 use Rattle.batcher_histories.proofs.Right.Kept.{found_passes}
 use Rattle.batcher_votes.proofs.Waits.{proposal_is}
+use Rattle.batcher_histories.proofs.History.ByFirst.{admission_against, admission_by_first, admission_sent_by, network_is}
 
 -- WHAT VOTES CARRY
 without_proposal : {G D : Type 0} (v : Vote G D) → has_proposals (kind_of v) ≡ false
@@ -117,8 +118,8 @@ module _ {D K G C : Type 0} (x : Setting D K G C) where
   -- whether a network vote's answer blocks
   blocks_is : (past : History D K G C) (sender : K) (vote : Vote G D) (answer : Answer G C D)
       → MayAnswer x past (NetworkCall sender vote) answer → blocks answer
-      ≡ is_some (network_answer x past sender vote).block
-  blocks_is past sender vote (NetworkAnswer admission) may = ap (λ (a : Admission G D). is_some a.block) may
+      ≡ is_some (admission_sent_by x past (sender_in x sender) vote).block
+  blocks_is past sender vote (NetworkAnswer admission) may = ap (λ (a : Admission G D). is_some a.block) (may ∙ network_is x past vote sender)
   blocks_is past sender vote answer may = absurd may
 
 module _ {D K G C : Type 0} (x : Setting D K G C) (laws : HasLaws x) where

@@ -18,7 +18,7 @@ use Rattle.batcher_types.specs.Votes.{is_vote_of, has_proposals, is_for, same_pr
 use Rattle.batcher_histories.specs.History.{Event, History}
 use Rattle.batcher_histories.specs.FirstVotes.{first_votes, first_vote}
 use Rattle.batcher_histories.specs.Selection.{is_released, selected_proposal}
-use Rattle.batcher_histories.specs.Comparison.{compared_votes, compared_votes_of, is_matched, shows_block, has_block}
+use Rattle.batcher_histories.specs.Comparison.{compared_votes, compared_votes_of, is_matched, has_block}
 use Rattle.batcher_histories.specs.Answers.{missing_after, MayAnswer, IsPossible}
 use Rattle.batcher_promises.specs.Pairs.{in_mode, is_other_selected, AtEachPlace, IsMissingInBoth}
 use Rattle.batcher_histories.proofs.History.Laws.{HasLaws}
@@ -28,6 +28,7 @@ use Rattle.batcher_promises.proofs.Pairs.Blocked.{at_each_place}
 use Rattle.batcher_promises.proofs.Pairs.Compared.{any_in_filtered, released_is_fixed, fixed_is_selected, first_compared}
 use Rattle.batcher_promises.proofs.Runs.Finding.{any_more, any_of_filtered}
 use Rattle.batcher_votes.proofs.Waits.{proposal_is}
+use Rattle.batcher_histories.proofs.History.ByFirst.{shows_block, has_block_is}
 
 -- what is found among those that pass one test is found among those that pass a weaker one
 any_weaker : {X : Type 0} (test p q : X → Bool) → ((v : X) → p v ≡ true → q v ≡ true)
@@ -98,10 +99,11 @@ module _ {D K G C : Type 0} (x : Setting D K G C) (laws : HasLaws x) where
 
     block_in_both : (i : ℕ)
         → has_block retains retained i p ≡ true → has_block releases released i p ≡ true
-    block_in_both i =
-        either (shows_block retains retained Notarization i p) (shows_block retains retained Finalization i p)
+    block_in_both i h =
+        has_block_is releases released i p
+        ∙ either (shows_block retains retained Notarization i p) (shows_block retains retained Finalization i p)
         (shows_block releases released Notarization i p) (shows_block releases released Finalization i p)
-        (shown_in_both Notarization refl i) (shown_in_both Finalization refl i)
+        (shown_in_both Notarization refl i) (shown_in_both Finalization refl i) (sym (has_block_is retains retained i p) ∙ h)
 
     lists_no_more : (test : Participant → Bool)
         → list_any test (missing_after releases released p) ≡ true

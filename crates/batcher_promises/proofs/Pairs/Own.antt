@@ -22,12 +22,13 @@ use Rattle.batcher_histories.specs.FirstVotes.{first_like, opposite_vote}
 use Rattle.batcher_histories.specs.Selection.{is_released}
 use Rattle.batcher_histories.specs.Comparison.{conflicts, compared_votes}
 use Rattle.batcher_promises.specs.Composed.{carry_different}
-use Rattle.batcher_histories.specs.Answers.{outcome_by_first, own_answer, own_answer_against, IsAnswered}
+use Rattle.batcher_histories.specs.Answers.{own_answer, IsAnswered}
 use Rattle.batcher_promises.specs.Pairs.{in_mode, ends_pair, is_own_fault}
 use Rattle.batcher_histories.proofs.History.Laws.{HasLaws}
 use Rattle.batcher_promises.proofs.Runs.Finding.{any_more}
 use Rattle.batcher_promises.proofs.Headline.Conflicts.{conflict_with_compared}
 use Rattle.batcher_promises.proofs.Pairs.Alike.{AreAlike, firsts_alike}
+use Rattle.batcher_histories.proofs.History.ByFirst.{outcome_by_first, own_answer_against, own_is}
 
 duplicate_errs : (kind : Kind) → has_proposals kind ≡ true → is_err (duplicate_result kind) ≡ true
 duplicate_errs Notarization h = refl
@@ -85,9 +86,10 @@ module _ {D K G C : Type 0} (x : Setting D K G C) (laws : HasLaws (in_mode x Rel
     pub fault_in_both : (fault : OwnFault) → own_answer (in_mode x Releasing) released vote
         ≡ Err fault → is_err (own_answer (in_mode x Retaining) retained vote) ≡ true
     fault_in_both fault h =
-        ap (λ opposite. is_err (own_answer_against (in_mode x Retaining) retained opposite vote))
+        ap is_err (own_is (in_mode x Retaining) retained vote)
+        ∙ ap (λ opposite. is_err (own_answer_against (in_mode x Retaining) retained opposite vote))
         (ap (find (λ v. opposes v vote)) (firsts_alike x retained released alike))
-        ∙ errs_against (opposite_vote (in_mode x Releasing) released vote) fault h
+        ∙ errs_against (opposite_vote (in_mode x Releasing) released vote) fault (sym (own_is (in_mode x Releasing) released vote) ∙ h)
 
 module _ {D K G C : Type 0} (x : Setting D K G C) (laws : HasLaws (in_mode x Releasing))
     (retained released : History D K G C) (alike : AreAlike retained released) where

@@ -43,6 +43,7 @@ use Rattle.batcher_promises.proofs.Pairs.Alike.{AreAlike, told_alike, leader_ali
 use Rattle.batcher_histories.proofs.Follow.Network.{added_is}
 use Rattle.batcher_promises.proofs.Throughout.Told.{own_added}
 use Rattle.batcher_histories.proofs.Shown.AtFirst.{fresh_stands}
+use Rattle.batcher_histories.proofs.History.ByFirst.{own_is}
 
 -- WHAT IS BUFFERED
 -- the same of each kind
@@ -167,11 +168,12 @@ module _ {D K G C : Type 0} (x : Setting D K G C) where
         → own_answer (in_mode x Releasing) released vote ≡ Ok second
         → is_added outcome ≡ is_added second
     own_added_alike vote outcome second is also =
-        own_added (in_mode x Retaining) retained vote (opposite_vote (in_mode x Retaining) retained vote) outcome is
+        own_added (in_mode x Retaining) retained vote (opposite_vote (in_mode x Retaining) retained vote) outcome
+        (sym (own_is (in_mode x Retaining) retained vote) ∙ is)
         ∙ (ap (λ vs.
         is_none (find (is_vote_of (kind_of vote) (signer_of vote)) vs) && is_none (find (λ v. opposes v vote) vs))
         (firsts_alike x retained released beside.alike)
-        ∙ sym (own_added (in_mode x Releasing) released vote (opposite_vote (in_mode x Releasing) released vote) second also))
+        ∙ sym (own_added (in_mode x Releasing) released vote (opposite_vote (in_mode x Releasing) released vote) second (sym (own_is (in_mode x Releasing) released vote) ∙ also)))
 
     changes_alike : (certificate : Certificate C D)
         → certificate_answer (in_mode x Retaining) retained certificate

@@ -15,11 +15,12 @@ use Rattle.batcher_types.specs.Lists.{SameElements, count}
 use Rattle.batcher_histories.specs.Selection.{is_certified, is_released, leader_of, selection, was_forwarded}
 use Rattle.batcher_histories.specs.Setting.{Setting}
 use Rattle.batcher_histories.specs.Standing.{fresh_votes, proven_votes}
-use Rattle.batcher_histories.specs.Stands.{Stands, TriesBuffers, facts_of, first_by_signer}
+use Rattle.batcher_histories.specs.Stands.{Stands, TriesBuffers, first_by_signer}
 use Rattle.batcher_histories.specs.Trying.{Attempt, AttemptAfter}
 use Rattle.batcher_types.specs.Votes.{is_kind, signer_of}
 use Rattle.batcher_histories.proofs.History.Distinct.{is_kind-refl, is_kind-true}
 use Rattle.batcher_histories.proofs.Follow.Settled.{constructed}
+use Rattle.batcher_histories.specs.Comparison.{facts_of}
 
 -- the values of a function, one of each kind
 each_of : {X : Type 0} → (Kind → X) → PerKind X

@@ -43,7 +43,7 @@ use Rattle.batcher_histories.specs.FirstVotes.{first_votes, first_like, is_free,
 use Rattle.batcher_histories.specs.Selection.{selection, selected_proposal, leader_of, was_forwarded}
 use Rattle.batcher_histories.specs.Selection.{is_released}
 use Rattle.batcher_histories.specs.Comparison.{conflicts}
-use Rattle.batcher_histories.specs.Answers.{network_answer, admission_sent_by, admission_against, admission_by_first, outcome_by_first, own_answer_against}
+use Rattle.batcher_histories.specs.Answers.{network_answer}
 use Rattle.batcher_histories.specs.Answers.{certificate_answer, MayAnswer, IsPossible, IsAnswered, AreAnswered}
 use Rattle.batcher_promises.specs.Promises.{votes_cast}
 use Rattle.batcher_promises.specs.Composed.{carry_different, is_conflict, AtEachCall, added_by, votes_added, proposal_forwarded}
@@ -57,6 +57,7 @@ use Rattle.batcher_histories.proofs.History.Attempts.{batch_made}
 use Rattle.batcher_promises.proofs.Headline.Conflicts.{conflict_with_compared}
 use Rattle.batcher_promises.proofs.Quorums.Left.{given_evidence}
 use Rattle.batcher_promises.proofs.Headline.Promises.{first_is_cast, compared_is_cast}
+use Rattle.batcher_histories.proofs.History.ByFirst.{admission_against, admission_by_first, admission_sent_by, outcome_by_first, own_answer_against, network_is, own_is}
 
 -- WHICH BLOCKS ARE FOR A CONFLICT
 abbrev is_for_conflict : {G D : Type 0} → Admission G D → Bool
@@ -178,7 +179,7 @@ module _ {D K G C : Type 0} (x : Setting D K G C) (laws : HasLaws x) where
       if_marked (is_for_conflict admission) vote
       (λ v. (cast_votes x (NetworkCall sender vote) ≡ v ∷ []) × (list_any (differs v) (votes_cast x past) ≡ true))
       (λ blocked.
-      let both = other_sent past vote (sender_in x sender) (ap is_for_conflict (sym is) ∙ blocked) in
+      let both = other_sent past vote (sender_in x sender) (ap is_for_conflict (sym (is ∙ network_is x past vote sender)) ∙ blocked) in
       (casts_it sender vote both.0, both.1))
 
   -- an own vote, which its call casts in any case
@@ -215,7 +216,7 @@ module _ {D K G C : Type 0} (x : Setting D K G C) (laws : HasLaws x) where
   conflict_made past (NetworkCall sender vote) (NetworkAnswer admission) may =
       network_conflicts past sender vote admission may
   conflict_made past (OwnCall vote) (OwnRefused ConflictingFault) may =
-      (refl, own_conflicts past vote (opposite_vote x past vote) may)
+      (refl, own_conflicts past vote (opposite_vote x past vote) (sym (own_is x past vote) ∙ may))
   conflict_made past call answer may = tt
 
   pub conflict_answered_so : (past : History D K G C) (event : Event D K G C)
@@ -227,7 +228,7 @@ module _ {D K G C : Type 0} (x : Setting D K G C) (laws : HasLaws x) where
   conflicts_with_another past (NetworkCall sender vote) (NetworkAnswer admission) is =
       network_conflicts past sender vote admission is
   conflicts_with_another past (OwnCall vote) (OwnRefused ConflictingFault) is =
-      (refl, own_conflicts past vote (opposite_vote x past vote) is)
+      (refl, own_conflicts past vote (opposite_vote x past vote) (sym (own_is x past vote) ∙ is))
   conflicts_with_another past call answer is = tt
 
   pub answered_conflicts : (past : History D K G C) (calls : List (Call K G C D))
@@ -287,7 +288,7 @@ module _ {D K G C : Type 0} (x : Setting D K G C) where
       ∙ added_alone (is_free (first_votes x past)) vote (names_sender x sender vote)
   adds_new past (OwnCall vote, OwnAnswer outcome report) possible =
       ap (λ (b : Bool). cond b (vote ∷ []) [])
-      (own_added past vote (opposite_vote x past vote) outcome possible.1.1.0.0 ∙ sym (free_is (first_votes x past) vote))
+      (own_added past vote (opposite_vote x past vote) outcome (sym (own_is x past vote) ∙ possible.1.1.0.0) ∙ sym (free_is (first_votes x past) vote))
       ∙ added_alone (is_free (first_votes x past)) vote true
   adds_new past (NetworkCall sender vote, OwnAnswer outcome report) possible = absurd possible.1.1.0
   adds_new past (NetworkCall sender vote, OwnRefused fault) possible = absurd possible.1.1.0

@@ -1,7 +1,7 @@
 use Rattle.std.proofs.Common.{◌∙◌, not, ap}
 use Rattle.batcher_votes.specs.Held.{Held}
 use Rattle.batcher_histories.specs.Setting.{setting}
-use Rattle.batcher_histories.proofs.Shown.Observed.{block_same}
+use Rattle.batcher_histories.proofs.Shown.Named.{block_same}
 use Rattle.batcher_round.proofs.round.Round.is_missing_voter.Goals as goal
 
 pub returns-clause-meets : goal.returns-clause-meets
