@@ -6,4 +6,3 @@ pub mod Own
 pub mod Room
 pub mod Attempt
 pub mod Missing
-pub mod Failed

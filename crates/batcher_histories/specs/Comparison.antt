@@ -6,10 +6,10 @@ use Rattle.batcher_types.specs.declared.messages.Proposal.{Proposal}
 use Rattle.batcher_types.specs.declared.messages.Vote.{Vote}
 use Rattle.batcher_types.specs.declared.messages.Kind.{Kind}
 use Rattle.batcher_votes.specs.Held.{Facts}
-use Rattle.batcher_votes.specs.Tracking.{Observed, unseen}
+use Rattle.batcher_votes.specs.Tracking.{Observed, unseen, conflicts_with}
 use Rattle.batcher_histories.specs.Setting.{Setting}
 use Rattle.batcher_histories.specs.Known.{Known, known_by, has_block_by}
-use Rattle.batcher_types.specs.Lists.{is_empty, is_some_and, exactly_one}
+use Rattle.batcher_types.specs.Lists.{is_empty, is_some_and}
 use Rattle.batcher_types.specs.Votes.{kind_of, signer_of, is_vote_of, has_proposals, is_for}
 use Rattle.batcher_histories.specs.History.{Event, History, cast_votes}
 use Rattle.batcher_histories.specs.FirstVotes.{first_votes, first_vote, opposite_vote}
@@ -45,19 +45,6 @@ module _ {D K G C : Type 0} (x : Setting D K G C) where
       is_some_and (selected_proposal x past)
       (λ p. list_any (is_for x.same_digest p) (compared_votes_of past kind i))
 
-  -- whether the vote is for the proposal and none of the others is, or some of them is and the vote
-  -- isn't
-  abbrev pub differs_from : List (Vote G D) → Vote G D → Proposal D → Bool
-  differs_from others vote p =
-      not (is_empty others) && exactly_one (is_for x.same_digest p vote)
-      (list_any (is_for x.same_digest p) others)
-
-  -- whether a vote conflicts with the compared votes of its kind and signer
-  abbrev pub conflicts : History D K G C → Vote G D → Bool
-  conflicts past vote =
-      is_some_and (selected_proposal x past)
-      (differs_from (compared_votes_of past (kind_of vote) (signer_of vote)) vote)
-
   -- what is known once votes of the kind are released: whether one was compared, and whether one of
   -- the compared ones is for the selected proposal
   abbrev pub facts_of : History D K G C → Kind → ℕ → Facts
@@ -68,7 +55,14 @@ module _ {D K G C : Type 0} (x : Setting D K G C) where
         has_matched = is_matched past kind i;
       }
 
-  -- of the nullify that stands against a finalize, or the reverse
+  -- Whether a vote conflicts with the compared votes of its kind and signer: it is for the selected
+  -- proposal and none of them is, or one of them is and it isn't.
+  abbrev pub conflicts : History D K G C → Vote G D → Bool
+  conflicts past vote =
+      conflicts_with x.same_digest (selected_proposal x past) vote
+      (facts_of past (kind_of vote) (signer_of vote))
+
+  -- what is known of the nullify that stands against a finalize, or the reverse
   abbrev pub known_opposite : History D K G C → Option (Vote G D) → Observed G D
   known_opposite past None = unseen
   known_opposite past (Some earlier) =

@@ -16,10 +16,11 @@ use Rattle.batcher_histories.specs.History.{Event, History, cast_votes}
 use Rattle.batcher_histories.specs.FirstVotes.{is_free, first_votes, first_vote, first_like, opposite_vote}
 use Rattle.batcher_histories.specs.Selection.{selected_proposal, is_released}
 use Rattle.batcher_histories.specs.Known.{known_by}
-use Rattle.batcher_histories.specs.Comparison.{compared_votes_of, is_compared, is_matched, facts_of}
+use Rattle.batcher_histories.specs.Comparison.{compared_votes_of, is_compared, is_matched, facts_of, known_opposite, known_after}
 use Rattle.batcher_histories.specs.Stands.{Stands, first_by_signer}
 use Rattle.batcher_histories.proofs.History.Distinct.{new_votes, is_kind-true, is_kind-refl}
 use Rattle.batcher_histories.proofs.Shown.Observed.{observed_is, facts_known, none_compared}
+use Rattle.batcher_histories.proofs.Shown.Named.{and_swap}
 use Rattle.batcher_histories.proofs.Follow.Frame.{facts_stay, matched_stays, compared_goes}
 use Rattle.batcher_votes.proofs.Counts.{map_same}
 
@@ -223,6 +224,23 @@ module _ {D K G C : Type 0} (x : Setting D K G C) (past : History D K G C) where
   pub seen_is : (held : Held G D) (kind : Kind) (i : ℕ) → Stands x past held
       → is_seen (observed held.tracked kind i) ≡ is_some (first_vote x past kind i)
   seen_is held kind i stands = ap is_seen (observed_is x past held kind i stands) ∙ seen_by (is_released x past kind) _ (first_vote x past kind i)
+
+  -- of what stands against a vote
+  pub unseen_opposite : (opposite : Option (Vote G D)) →
+      not (is_seen (known_opposite x past opposite)) ≡ is_none opposite
+  unseen_opposite None = refl
+  unseen_opposite (Some earlier) = ap not (seen_by (is_released x past (kind_of earlier)) _ (Some earlier))
+
+  -- A vote is free where nothing was seen that excludes it.
+  pub free_known : (vote : Vote G D) →
+      (not (is_seen ((known_after x past).opposite vote))
+      && not (is_seen ((known_after x past).observed (kind_of vote) (signer_of vote))))
+      ≡ is_free (first_votes x past) vote
+  free_known vote =
+      ap (λ b. b && not (is_seen ((known_after x past).observed (kind_of vote) (signer_of vote)))) (unseen_opposite (opposite_vote x past vote))
+      ∙ (and_swap (is_none (opposite_vote x past vote)) _ _
+      (ap not (seen_by (is_released x past (kind_of vote)) _ (first_like x past vote)) ∙ sym (none_not_some (first_like x past vote)))
+      ∙ sym (free_is (first_votes x past) vote))
 
   module _ (event : Event D K G C) where
     -- A CALL THAT MAY CAST ONE VOTE

@@ -8,65 +8,69 @@ use Rattle.batcher_types.specs.declared.messages.Proposal.{Proposal}
 use Rattle.batcher_types.specs.declared.messages.Vote.{Vote}
 use Rattle.batcher_types.specs.declared.messages.Vote.TheVariants.{Notarize as NotarizeVote, Nullify as NullifyVote, Finalize as FinalizeVote}
 use Rattle.batcher_types.specs.declared.messages.Kind.{Kind}
-use Rattle.batcher_types.specs.declared.messages.Kind.TheVariants.{Notarization, Nullification, Finalization}
 use Rattle.batcher_types.specs.declared.messages.Activity.{Activity}
 use Rattle.batcher_votes.specs.declared.verifier.ProposalState.TheVariants.{Certificate as FixedProposal}
 use Rattle.batcher_votes.specs.declared.votes.Outcome.{Outcome}
-use Rattle.batcher_votes.specs.declared.votes.Outcome.TheVariants.{Added, Duplicate}
+use Rattle.batcher_votes.specs.declared.votes.Outcome.TheVariants.{Duplicate, Conflicting}
 use Rattle.batcher_histories.specs.declared.calls.Call.TheVariants.{Own as OwnCall}
 use Rattle.batcher_histories.specs.declared.answers.Answer.TheVariants.{Own as OwnAnswer}
 use Rattle.batcher_histories.specs.Setting.{Setting}
-use Rattle.batcher_types.specs.Votes.{kind_of, is_of_kind, waits}
+use Rattle.batcher_types.specs.Votes.{kind_of, signer_of, is_of_kind, waits}
 use Rattle.batcher_votes.specs.Selected.{proposal_of, updated, fixes}
 use Rattle.batcher_votes.specs.Held.{of_kind, Buffered, Held}
-use Rattle.batcher_votes.specs.Tracking.{is_skipped, RecordsKind}
+use Rattle.batcher_votes.specs.Tracking.{is_skipped, outcome_by, RecordsKind}
 use Rattle.batcher_votes.specs.Buffering.{MayFix, FixesProposal, coming_back}
-use Rattle.batcher_histories.specs.Steps.{fixed_by, selected_with, unopposed_result, is_kept, AfterOwn}
+use Rattle.batcher_histories.specs.Steps.{fixed_by, selected_with, is_kept, AfterOwn}
 use Rattle.batcher_histories.specs.Runs.{MayCall}
 use Rattle.batcher_histories.specs.History.{Event, History}
 use Rattle.batcher_histories.specs.FirstVotes.{is_free, first_votes, first_like, opposite_vote}
-use Rattle.batcher_histories.specs.Selection.{selection, fixing_evidence, is_restored, is_certified, is_released}
-use Rattle.batcher_histories.specs.Comparison.{conflicts}
+use Rattle.batcher_histories.specs.Selection.{selection, selected_proposal, fixing_evidence, is_restored, is_certified, is_released}
+use Rattle.batcher_histories.specs.Comparison.{conflicts, facts_of, known_after}
 use Rattle.batcher_histories.specs.Standing.{waiting_votes}
 use Rattle.batcher_histories.specs.Answers.{own_answer}
-use Rattle.batcher_histories.proofs.History.ByFirst.{own_answer_against, outcome_by_first, own_is}
+use Rattle.batcher_histories.specs.Known.{known_by}
+use Rattle.batcher_histories.proofs.Right.Own.{own_unseen, result_is}
+use Rattle.batcher_histories.proofs.Shown.Observed.{none_from}
 use Rattle.batcher_histories.specs.Stands.{Stands, Follows, pending_after, verified_after}
 use Rattle.batcher_histories.proofs.History.Laws.{HasLaws}
 use Rattle.batcher_histories.proofs.Shown.Named.{own_same}
 use Rattle.batcher_histories.proofs.Follow.Frame.{Moves, followed, leader_same, closed_verified}
-use Rattle.batcher_histories.proofs.Follow.FirstVotes.{free_is, is_taken}
+use Rattle.batcher_histories.proofs.Follow.FirstVotes.{free_is, is_taken, unseen_opposite}
 use Rattle.batcher_histories.proofs.Follow.Waiting.{none_joins, is_closed, state_fixed, waiting_by, WaitsFixed, WaitsAfter, released_selects, waits_after, moves_kind, with_restored, waits_unfixed}
 use Rattle.batcher_votes.proofs.Counts.{open_or_closed, filter_behind}
 use Rattle.batcher_histories.proofs.Follow.Restored.{returned_fixed, nothing_comes}
 
 module _ {D K G C : Type 0} (x : Setting D K G C) where
   -- WHICH VOTES ARE ADDED
-  pub unopposed : (past : History D K G C) (opposite : Option (Vote G D)) (vote : Vote G D)
-      (outcome : Outcome) → own_answer_against x past opposite vote ≡ Ok outcome → opposite ≡ None
-  unopposed past None vote outcome h = refl
-  unopposed past (Some earlier) vote outcome h = absurd (cc)
+  pub unopposed : (past : History D K G C) (vote : Vote G D) (outcome : Outcome)
+      → own_answer x past vote ≡ Ok outcome → opposite_vote x past vote ≡ None
+  unopposed past vote outcome h =
+      none_from x (opposite_vote x past vote)
+      (sym (unseen_opposite x past (opposite_vote x past vote)) ∙ ap not (own_unseen ((known_after x past).opposite vote) (kind_of vote) _ outcome h))
 
-  kept_by_first : (kind : Kind) (first : Option (Vote G D)) (r c : Bool) (outcome : Outcome)
-      → unopposed_result kind (outcome_by_first x first r c) ≡ Ok outcome → is_kept outcome
-      ≡ (is_none first && not r)
-  kept_by_first kind None r c outcome h = let e : Added (not r) ≡ outcome = cc in ap is_kept (sym e)
-  kept_by_first Notarization (Some kept) false c outcome h = absurd (cc)
-  kept_by_first Nullification (Some kept) false c outcome h = let e : Duplicate true ≡ outcome = cc in ap is_kept (sym e)
-  kept_by_first Finalization (Some kept) false c outcome h = absurd (cc)
-  kept_by_first kind (Some kept) true true outcome h = absurd (cc)
-  kept_by_first kind (Some kept) true false outcome h = let e : Duplicate false ≡ outcome = cc in ap is_kept (sym e)
+  kept_first : (past : History D K G C) (vote : Vote G D) (released : Bool)
+      (first : Option (Vote G D)) →
+      is_kept (outcome_by x.same_digest (selected_proposal x past) released
+      (known_by released (facts_of x past (kind_of vote) (signer_of vote)) first) vote)
+      ≡ (is_none first && not released)
+  kept_first past vote released None = refl
+  kept_first past vote false (Some kept) = refl
+  kept_first past vote true (Some seen) = by_conflict (conflicts x past vote)
+    where
+      by_conflict : (conflict : Bool) → is_kept (cond conflict Conflicting (Duplicate false))
+          ≡ false
+      by_conflict true = refl
+      by_conflict false = refl
 
   kept_as_answered : (past : History D K G C) (vote : Vote G D) (outcome : Outcome)
       → own_answer x past vote ≡ Ok outcome → is_kept outcome
       ≡ (is_free (first_votes x past) vote && not (is_released x past (kind_of vote)))
   kept_as_answered past vote outcome h =
-      let answer = sym (own_is x past vote) ∙ h in
-      let none : opposite_vote x past vote ≡ None = unopposed past (opposite_vote x past vote) vote outcome answer in
-      kept_by_first (kind_of vote) (first_like x past vote) (is_released x past (kind_of vote)) (conflicts x past vote) outcome
-      (ap (λ o. own_answer_against x past o vote) (sym none) ∙ answer)
+      ap is_kept (result_is ((known_after x past).opposite vote) (kind_of vote) _ outcome h)
+      ∙ (kept_first past vote (is_released x past (kind_of vote)) (first_like x past vote)
       ∙ ap (λ b. b && not (is_released x past (kind_of vote)))
       (sym (and-true (is_none (first_like x past vote)))
-      ∙ (ap (λ o. is_none (first_like x past vote) && is_none o) (sym none) ∙ sym (free_is (first_votes x past) vote)))
+      ∙ (ap (λ o. is_none (first_like x past vote) && is_none o) (sym (unopposed past vote outcome h)) ∙ sym (free_is (first_votes x past) vote))))
 
   -- WHAT THE CALL MOVES
   module _ (past : History D K G C) (old : Held G D) (vote : Vote G D) (outcome : Outcome)
@@ -88,7 +92,7 @@ module _ {D K G C : Type 0} (x : Setting D K G C) where
         (selected_with x old vote) (is_taken x past event vote true) vote kind
     records kind =
         subst (λ (b : Bool). RecordsKind x.same_digest old.tracked new.tracked (selected_with x old vote) b vote kind)
-        (sym (ap is_none (unopposed past (opposite_vote x past vote) vote outcome (sym (own_is x past vote) ∙ answered)))) (step.tracked kind)
+        (sym (ap is_none (unopposed past vote outcome answered))) (step.tracked kind)
 
     selected_is : selected_with x old vote ≡ proposal_of (state_fixed x past event)
     selected_is =

@@ -1,6 +1,6 @@
 -- What a history answers to votes, by the first votes, by whether their kind is released and by
 -- whether they conflict. What is promised of answers is proved so.
-use Rattle.std.proofs.Common.{◌≡◌, ◌∙◌, ◌==◌, ◌||◌, ℕ, Bool, true, false, not, cond, List, Option, Some, None, Result, Err, refl, sym, ap}
+use Rattle.std.proofs.Common.{◌≡◌, ◌∙◌, ◌==◌, ◌||◌, ◌&&◌, ℕ, Bool, true, false, not, cond, List, Option, Some, None, Result, Err, refl, sym, ap}
 use Rattle.std.proofs.lemmas.Bool.{and_right}
 use Rattle.std.specs.List.{list_any}
 use Rattle.batcher_types.specs.declared.positions.Participant.{Participant}
@@ -13,21 +13,42 @@ use Rattle.batcher_votes.specs.declared.votes.Outcome.TheVariants.{Added, Duplic
 use Rattle.batcher_histories.specs.declared.answers.Admission.{Admission}
 use Rattle.batcher_histories.specs.declared.answers.BlockReason.TheVariants.{UnknownParticipant}
 use Rattle.batcher_histories.specs.declared.answers.OwnFault.{OwnFault}
-use Rattle.batcher_types.specs.Lists.{is_empty, is_some_and}
+use Rattle.batcher_types.specs.Lists.{is_empty, is_some_and, exactly_one}
 use Rattle.batcher_types.specs.Votes.{kind_of, signer_of, is_for}
 use Rattle.batcher_votes.specs.Held.{Facts}
-use Rattle.batcher_votes.specs.Tracking.{as_facts, in_full, is_seen_for, conflicts_with, outcome_by}
+use Rattle.batcher_votes.specs.Tracking.{as_facts, in_full, is_seen_for, outcome_by}
 use Rattle.batcher_histories.specs.Setting.{Setting, sender_in}
 use Rattle.batcher_histories.specs.Admissions.{addition, refusal, block_for, mismatch_reason, conflict_reason, admission_after, admission_after_facts, admission_beside}
 use Rattle.batcher_histories.specs.Known.{known_by, opposite_fault, unopposed_result, own_result_by, admission_by, admission_named, admission_from}
 use Rattle.batcher_histories.specs.History.{History}
 use Rattle.batcher_histories.specs.FirstVotes.{first_vote, first_like, opposite_vote}
 use Rattle.batcher_histories.specs.Selection.{selected_proposal, is_released}
-use Rattle.batcher_histories.specs.Comparison.{compared_votes_of, is_matched, differs_from, conflicts, facts_of, known_after, known_opposite, has_block}
+use Rattle.batcher_histories.specs.Comparison.{compared_votes_of, is_matched, conflicts, facts_of, known_after, known_opposite, has_block}
 use Rattle.batcher_histories.specs.Answers.{network_answer, own_answer}
 use Rattle.batcher_histories.proofs.Shown.Observed.{none_compared, nothing_matches}
 
 module _ {D K G C : Type 0} (x : Setting D K G C) where
+  -- CONFLICTS
+  -- whether the vote is for the proposal and none of the others is, or some of them is and the vote
+  -- isn't
+  abbrev pub differs_from : List (Vote G D) → Vote G D → Proposal D → Bool
+  differs_from others vote p =
+      not (is_empty others) && exactly_one (is_for x.same_digest p vote)
+      (list_any (is_for x.same_digest p) others)
+
+  pub conflicts_is : (past : History D K G C) (vote : Vote G D) → conflicts x past vote
+      ≡ is_some_and (selected_proposal x past)
+      (differs_from (compared_votes_of x past (kind_of vote) (signer_of vote)) vote)
+  conflicts_is past vote = by_selected (selected_proposal x past) (compared_votes_of x past (kind_of vote) (signer_of vote))
+    where
+      by_selected : (selected : Option (Proposal D)) (others : List (Vote G D)) →
+          (not (is_empty others) && is_some_and selected
+          (λ p. exactly_one (is_for x.same_digest p vote)
+          (is_some_and selected (λ q. list_any (is_for x.same_digest q) others))))
+          ≡ is_some_and selected (differs_from others vote)
+      by_selected None others = and_right (not (is_empty others)) false refl
+      by_selected (Some p) others = refl
+
   -- A NETWORK VOTE
   abbrev pub admission_by_first : Option (Vote G D) → Bool → Bool → Vote G D → Admission G D
   admission_by_first None released conflict vote = addition vote
@@ -50,25 +71,6 @@ module _ {D K G C : Type 0} (x : Setting D K G C) where
       cond (i.0 == signer_of vote) (admission_against past (opposite_vote x past vote) vote)
       (block_for (mismatch_reason (kind_of vote)) None)
 
-  conflict_by : (i : ℕ) (vote : Vote G D) (selected : Option (Proposal D))
-      (others : List (Vote G D)) →
-      conflicts_with x.same_digest selected vote
-      (record {
-        signer = i;
-        has_compared = not (is_empty others);
-        has_matched = is_some_and
-            selected (λ q. list_any (is_for x.same_digest q) others);
-      })
-      ≡ is_some_and selected (differs_from x others vote)
-  conflict_by i vote None others = and_right (not (is_empty others)) false refl
-  conflict_by i vote (Some p) others = refl
-
-  -- whether a vote conflicts with the facts of its signer
-  pub conflict_same : (past : History D K G C) (vote : Vote G D)
-      → conflicts_with x.same_digest (selected_proposal x past) vote
-      (facts_of x past (kind_of vote) (signer_of vote)) ≡ conflicts x past vote
-  conflict_same past vote = conflict_by (signer_of vote) vote (selected_proposal x past) (compared_votes_of x past (kind_of vote) (signer_of vote))
-
   module _ (past : History D K G C) (vote : Vote G D) where
     abbrev facts : Facts
     facts = facts_of x past (kind_of vote) (signer_of vote)
@@ -78,7 +80,7 @@ module _ {D K G C : Type 0} (x : Setting D K G C) where
         ≡ admission_by_first first released (conflicts x past vote) vote
     by_first None released = refl
     by_first (Some kept) false = refl
-    by_first (Some seen) true = ap (λ c. cond c (block_for (conflict_reason (kind_of vote)) None) refusal) (conflict_same past vote)
+    by_first (Some seen) true = refl
 
     against_is : (opposite : Option (Vote G D)) →
         admission_named x (known_after x past) (known_opposite x past opposite) vote
@@ -124,7 +126,7 @@ module _ {D K G C : Type 0} (x : Setting D K G C) where
         ≡ outcome_by_first first released (conflicts x past vote)
     outcome_is None released = refl
     outcome_is (Some kept) false = refl
-    outcome_is (Some seen) true = ap (λ c. cond c Conflicting (Duplicate false)) (conflict_same past vote)
+    outcome_is (Some seen) true = refl
 
     own_by_opposite : (opposite : Option (Vote G D)) (outcome : Outcome)
         → outcome ≡ outcome_by_first (first_like x past vote) (is_released x past (kind_of vote))

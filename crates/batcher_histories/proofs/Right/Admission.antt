@@ -8,22 +8,24 @@ use Rattle.batcher_types.specs.declared.messages.Proposal.{Proposal}
 use Rattle.batcher_types.specs.declared.messages.Vote.{Vote}
 use Rattle.batcher_types.specs.declared.messages.Vote.TheVariants.{Notarize as NotarizeVote, Nullify as NullifyVote, Finalize as FinalizeVote}
 use Rattle.batcher_types.specs.declared.messages.Kind.{Kind}
-use Rattle.batcher_types.specs.declared.messages.Kind.TheVariants.{Notarization, Nullification, Finalization}
+use Rattle.batcher_types.specs.declared.messages.Kind.TheVariants.{Finalization}
 use Rattle.batcher_histories.specs.declared.answers.Admission.{Admission}
 use Rattle.batcher_votes.specs.declared.votes.Outcome.TheVariants.{Added, Duplicate, Conflicting}
 use Rattle.batcher_types.specs.Ascending.{insert_by}
-use Rattle.batcher_types.specs.Lists.{count}
+use Rattle.batcher_types.specs.Lists.{count, is_some_and}
 use Rattle.batcher_types.specs.Meaning.{Meaning}
 use Rattle.batcher_histories.specs.Setting.{Setting, sender_in}
-use Rattle.batcher_types.specs.Votes.{is_kind, kind_of, signer_of, is_vote_of, is_of_kind}
+use Rattle.batcher_types.specs.Votes.{is_kind, kind_of, signer_of, is_vote_of, is_of_kind, same_proposal}
 use Rattle.batcher_votes.specs.Held.{of_kind, Facts, Tracked, Buffered, Tracker, Held}
 use Rattle.batcher_votes.specs.Tracking.{Observed, unseen, in_full, as_facts, is_seen, observed, observed_opposite, kept_vote, from_kept, from_facts, known_facts, outcome_of, outcome_by, conflicts_with, RecordsKind, is_released_in}
 use Rattle.batcher_votes.specs.Buffering.{AddsVote, is_buffered, selected_in}
-use Rattle.batcher_histories.specs.Admissions.{addition, block_for, mismatch_reason, admission_beside, admission_after, admission_after_facts}
+use Rattle.batcher_histories.specs.Admissions.{same_vote, addition, block_for, mismatch_reason, admission_beside, admission_after, admission_after_facts}
 use Rattle.std.specs.Prelude.{MatchBool}
 use Rattle.std.proofs.lemmas.Option.{none-some}
-use Rattle.batcher_histories.specs.Known.{known_in}
+use Rattle.batcher_histories.specs.Known.{Known, known_in, admission_from}
+use Rattle.batcher_votes.specs.Selected.{proposal_of}
 use Rattle.batcher_histories.specs.Steps.{IsRight, AfterNetwork, objection_to, objection_by, admission, admission_by, admission_named, is_recorded}
+use Rattle.batcher_histories.proofs.History.Distinct.{is_kind-refl, is_kind-true}
 use Rattle.batcher_votes.proofs.Counts.{count-append}
 use Rattle.batcher_votes.proofs.Restoring.{count_buffers}
 use Rattle.batcher_votes.proofs.Shown.{both_of}
@@ -55,9 +57,6 @@ module _ {X : Type 0} (test : X → Bool) (key : X → ℕ) (x : X) where
         ≡ (test x || is_some (find test (y ∷ ys)))
     found_either true y ys e = found_first (test x) (find test (y ∷ ys))
     found_either false y ys e = found_later (test y) (test x) y (find test ys) (find test (insert_by key x ys)) e
-
-no_more : (b : Bool) (m n : ℕ) → m ≤ n → cond b 1 0 + m ≤ cond b 1 0 + n
-no_more b m n h = omega (arith, h)
 
 any_none : {X : Type 0} (test : X → Bool) (xs : List X) → count test xs ≡ 0 → list_any test xs
     ≡ false
@@ -119,22 +118,6 @@ module _ {G D : Type 0} (same : D → D → Bool) (held : Tracked G D) (selected
       let both = new_if (nat_lt (signer_of vote) participants) (of_kind held.compacted (kind_of vote)) (kept_vote held (kind_of vote) (signer_of vote))
       (known_facts held (kind_of vote) (signer_of vote)) h in
       record { full = both.0; none = both.1 }
-
-same_kind : (kind : Kind) → is_kind kind kind ≡ true
-same_kind Notarization = refl
-same_kind Nullification = refl
-same_kind Finalization = refl
-
-pub kinds_same : (a b : Kind) → is_kind a b ≡ true → a ≡ b
-kinds_same Notarization Notarization h = refl
-kinds_same Notarization Nullification h = absurd (cc)
-kinds_same Notarization Finalization h = absurd (cc)
-kinds_same Nullification Notarization h = absurd (cc)
-kinds_same Nullification Nullification h = refl
-kinds_same Nullification Finalization h = absurd (cc)
-kinds_same Finalization Notarization h = absurd (cc)
-kinds_same Finalization Nullification h = absurd (cc)
-kinds_same Finalization Finalization h = refl
 
 module _ {X : Type 0} (test : X → Bool) (x : X) where
   -- a vote joins one of the two buffers at most
@@ -204,7 +187,7 @@ module _ {D K G C : Type 0} (m : Meaning D K G C) (same : D → D → Bool)
         ≡ insert_by signer_of vote (of_kind tracker.holds.kept (kind_of vote))
     kept_after = (records (kind_of vote)).kept ∙ recorded_full where
       own_kind : is_of_kind (kind_of vote) vote ≡ true
-      own_kind = same_kind (kind_of vote)
+      own_kind = is_kind-refl (kind_of vote)
 
       unseen_own : is_seen (observed tracker.holds (kind_of vote) (signer_of vote)) ≡ false
       unseen_own = rw (fresh.full, fresh.none)
@@ -223,7 +206,7 @@ module _ {D K G C : Type 0} (m : Meaning D K G C) (same : D → D → Bool)
         ∙ found-insert_by (is_vote_of (kind_of vote) (signer_of vote)) signer_of vote (of_kind tracker.holds.kept (kind_of vote))
         ∙ own_found (is_vote_of (kind_of vote) (signer_of vote) vote) _ own_vote where
           own_vote : is_vote_of (kind_of vote) (signer_of vote) vote ≡ true
-          own_vote = let both : (signer_of vote == signer_of vote) ≡ true = grind (arith, nat_tests) in rw (same_kind (kind_of vote), both)
+          own_vote = let both : (signer_of vote == signer_of vote) ≡ true = grind (arith, nat_tests) in rw (is_kind-refl (kind_of vote), both)
 
     joined : (kind : Kind) (i : ℕ) → count (λ v. signer_of v == i)
         (of_kind new.verified kind ++ of_kind new.pending kind)
@@ -265,7 +248,7 @@ module _ {D K G C : Type 0} (m : Meaning D K G C) (same : D → D → Bool)
         → (signer_of vote == i) ≡ s → Waits kind i
     waits_all kind i true true f h =
         let signer : signer_of vote ≡ i = grind (arith, nat_tests) in
-        subst (λ j. Waits kind j) signer (subst (λ other. Waits other (signer_of vote)) (kinds_same (kind_of vote) kind f) waits_own)
+        subst (λ j. Waits kind j) signer (subst (λ other. Waits other (signer_of vote)) (is_kind-true (kind_of vote) kind f) waits_own)
     waits_all kind i true false f h = waits_still kind i (none_joins_other _ _ h)
     waits_all kind i false s f h = waits_still kind i (none_joins _ (cond (signer_of vote == i) 1 0) f)
 
@@ -282,16 +265,6 @@ module _ {D K G C : Type 0} (m : Meaning D K G C) (same : D → D → Bool)
           ∙ ap (λ b. is_released_in after.mode b) (sym (adds.buffers kind).certified);
       fixed = λ h. ap is_fixed adds.selection ∙ selects_fixed old.selection _ (right.fixed (sym (adds.buffers Finalization).certified ∙ h));
     }
-
--- a vote that is recorded, with its premises as they turned out
-pub recorded_as :
-    {G D : Type 0} (same : D → D → Bool) (old new : Tracked G D)
-    (selected other : Option (Proposal D)) (r : Bool) (vote : Vote G D) → r ≡ true → selected
-    ≡ other
-    → ((kind : Kind) → RecordsKind same old new selected r vote kind) → (kind : Kind)
-    → RecordsKind same old new other true vote kind
-recorded_as same old new selected other r vote e f h kind =
-    subst (λ s. RecordsKind same old new s true vote kind) f (subst (λ b. RecordsKind same old new selected b vote kind) e (h kind))
 
 not_recorded : {X : Type 0} (k b : Bool) (x y : X) → y ≡ cond ((k && false) && b) x y
 not_recorded true b x y = refl
@@ -318,29 +291,30 @@ full_if true None kept vote e = absurd (cc)
 full_if true (Some facts) kept vote e = absurd (cc)
 full_if false facts kept vote e = refl
 
-module _ {G D : Type 0} (same : D → D → Bool) (equal : G → G → Bool) where
-  kept_refused : (b c : Bool) (x y z : Admission G D) → x.added ≡ false → y.added ≡ false → z.added
-      ≡ false → (cond b (cond c x y) z).added ≡ false
-  kept_refused true true x y z e f g = e
-  kept_refused true false x y z e f g = f
-  kept_refused false c x y z e f g = g
-
-  either_refused : (b : Bool) (x y : Admission G D) → x.added ≡ false → y.added ≡ false
+module _ {G D : Type 0} where
+  pub either_refused : (b : Bool) (x y : Admission G D) → x.added ≡ false → y.added ≡ false
       → (cond b x y).added ≡ false
   either_refused true x y e f = e
   either_refused false x y e f = f
 
+module _ {G D : Type 0} (same : D → D → Bool) (equal : G → G → Bool) where
+  -- beside a kept vote none is added,
   beside_refused : (kept vote : Vote G D) → (admission_beside same equal kept vote).added ≡ false
-  beside_refused (NotarizeVote kept) (NotarizeVote vote) = kept_refused _ _ _ _ _ refl refl refl
+  beside_refused (NotarizeVote kept) (NotarizeVote vote) =
+      either_refused (same_proposal same kept.proposal vote.proposal) _ _
+      (either_refused (same_vote same equal (NotarizeVote kept) (NotarizeVote vote)) _ _ refl refl) refl
   beside_refused (NotarizeVote kept) (NullifyVote vote) = refl
   beside_refused (NotarizeVote kept) (FinalizeVote vote) = refl
   beside_refused (NullifyVote kept) (NotarizeVote vote) = refl
-  beside_refused (NullifyVote kept) (NullifyVote vote) = either_refused _ _ _ refl refl
+  beside_refused (NullifyVote kept) (NullifyVote vote) = either_refused (same_vote same equal (NullifyVote kept) (NullifyVote vote)) _ _ refl refl
   beside_refused (NullifyVote kept) (FinalizeVote vote) = refl
   beside_refused (FinalizeVote kept) (NotarizeVote vote) = refl
   beside_refused (FinalizeVote kept) (NullifyVote vote) = refl
-  beside_refused (FinalizeVote kept) (FinalizeVote vote) = kept_refused _ _ _ _ _ refl refl refl
+  beside_refused (FinalizeVote kept) (FinalizeVote vote) =
+      either_refused (same_proposal same kept.proposal vote.proposal) _ _
+      (either_refused (same_vote same equal (FinalizeVote kept) (FinalizeVote vote)) _ _ refl refl) refl
 
+-- after an opposite one neither,
 after_refused : {G D : Type 0} (earlier vote : Vote G D) → (admission_after earlier vote).added
     ≡ false
 after_refused (NotarizeVote earlier) (NotarizeVote vote) = refl
@@ -353,10 +327,40 @@ after_refused (FinalizeVote earlier) (NotarizeVote vote) = refl
 after_refused (FinalizeVote earlier) (NullifyVote vote) = refl
 after_refused (FinalizeVote earlier) (FinalizeVote vote) = refl
 
+-- nor after facts of one.
 facts_refused : {G D : Type 0} (vote : Vote G D) → (admission_after_facts vote).added ≡ false
 facts_refused (NotarizeVote vote) = refl
 facts_refused (NullifyVote vote) = refl
 facts_refused (FinalizeVote vote) = refl
+
+-- WHICH VOTES ARE ADDED
+module _ {D K G C : Type 0} (x : Setting D K G C) (known : Known G D) (vote : Vote G D) where
+  added_by : (selected : Option (Proposal D)) (first : Observed G D)
+      → (admission_by x selected first vote).added ≡ not (is_seen first)
+  added_by selected unseen = refl
+  added_by selected (in_full kept) = beside_refused x.same_digest x.same_signature kept vote
+  added_by selected (as_facts facts) = either_refused (conflicts_with x.same_digest selected vote facts) _ _ refl refl
+
+  added_named : (opposite : Observed G D) → (admission_named x known opposite vote).added
+      ≡ (not (is_seen opposite) && not (is_seen (known.observed (kind_of vote) (signer_of vote))))
+  added_named unseen = added_by (proposal_of known.selection) (known.observed (kind_of vote) (signer_of vote))
+  added_named (in_full earlier) = after_refused earlier vote
+  added_named (as_facts facts) = facts_refused vote
+
+  -- A network vote is added where it names its sender, and nothing was seen that excludes it.
+  pub added_from : (index : Option Participant) → (admission_from x known index vote).added
+      ≡ (is_some_and index (λ i. i.0 == signer_of vote) && (not (is_seen (known.opposite vote))
+      && not (is_seen (known.observed (kind_of vote) (signer_of vote)))))
+  added_from None = refl
+  added_from (Some i) = by_name (i.0 == signer_of vote)
+    where
+      by_name : (named : Bool) →
+          (cond named (admission_named x known (known.opposite vote) vote)
+          (block_for (mismatch_reason (kind_of vote)) None)).added
+          ≡ (named && (not (is_seen (known.opposite vote))
+          && not (is_seen (known.observed (kind_of vote) (signer_of vote)))))
+      by_name true = added_named (known.opposite vote)
+      by_name false = refl
 
 pub same_number : (a b : ℕ) → not (a == b) ≡ false → a ≡ b
 same_number a b h = grind (arith, nat_tests, h)
@@ -410,7 +414,7 @@ module _ {D K G C : Type 0} (x : Setting D K G C) (held : Held G D) (sender : K)
         kind
     recorded_any r kind true h =
         subst (λ other. RecordsKind x.same_digest held.tracked held.tracked (selected_in held.buffered) r vote other)
-        (kinds_same (kind_of vote) kind h) (recorded_own r)
+        (is_kind-true (kind_of vote) kind h) (recorded_own r)
     recorded_any r kind false h = record {
       compacted = refl;
       kept = not_of_kind (is_of_kind kind vote) r _ _ _ h;

@@ -26,7 +26,7 @@ use Rattle.batcher_votes.specs.Buffering.{TriesKind, SameBuffered, attestations_
 use Rattle.batcher_histories.specs.Steps.{IsRight, Fixes}
 use Rattle.batcher_votes.proofs.Counts.{count-append, count-filter_le, count-map}
 use Rattle.batcher_votes.proofs.Restoring.{count_buffers}
-use Rattle.batcher_histories.proofs.Right.Admission.{kinds_same}
+use Rattle.batcher_histories.proofs.History.Distinct.{is_kind-true}
 use Rattle.batcher_votes.specs.Selected.{is_fixed, fixes as to_fixed}
 use Rattle.batcher_types.specs.declared.messages.Kind.TheVariants.{Finalization}
 use Rattle.batcher_votes.proofs.Fixing.{fixes_fixed, fixes_any}
@@ -163,14 +163,14 @@ module _ {D K G C : Type 0} (m : Meaning D K G C) (number : Round) (q : ℕ) (ol
       ≤ count (by_signer i) (of_kind old.verified kind ++ of_kind old.pending kind)
   count_left_by kind i true e =
       subst (λ k. count (by_signer i) (of_kind left.verified k ++ of_kind left.pending k)
-      ≤ count (by_signer i) (of_kind old.verified k ++ of_kind old.pending k)) (kinds_same tried kind e) (count_tried i)
+      ≤ count (by_signer i) (of_kind old.verified k ++ of_kind old.pending k)) (is_kind-true tried kind e) (count_tried i)
   count_left_by kind i false e = count_beside kind i (t.others kind e)
 
   certified_by : of_kind old.certified tried ≡ false → is_some batch.certificate ≡ false
       → (kind : Kind) (b : Bool) → is_kind tried kind ≡ b → of_kind left.certified kind
       ≡ of_kind old.certified kind
   certified_by was none kind true e =
-      subst (λ k. of_kind left.certified k ≡ of_kind old.certified k) (kinds_same tried kind e) (t.certified ∙ sym given_is ∙ none ∙ sym was)
+      subst (λ k. of_kind left.certified k ≡ of_kind old.certified k) (is_kind-true tried kind e) (t.certified ∙ sym given_is ∙ none ∙ sym was)
   certified_by was none kind false e = (t.others kind e).certified
 
   -- without a certificate
@@ -232,7 +232,7 @@ module _ {D K G C : Type 0} (m : Meaning D K G C) (number : Round) (q : ℕ) (ol
           ≤ cond (is_some (kept_vote settled.holds kind i)) 1 0
       within_by right others kind i true e =
           let none : count (by_signer i) (of_kind left.verified kind ++ of_kind left.pending kind)
-          ≡ 0 = subst (λ k. count (by_signer i) (of_kind left.verified k ++ of_kind left.pending k) ≡ 0) (kinds_same tried kind e) (count_given i) in
+          ≡ 0 = subst (λ k. count (by_signer i) (of_kind left.verified k ++ of_kind left.pending k) ≡ 0) (is_kind-true tried kind e) (count_given i) in
           omega (arith, none, fixed_count proposal fixes kind i)
       within_by right others kind i false e =
           omega (arith, fixed_count proposal fixes kind i, count_beside kind i (t.others kind e), kept_within kind i right (others kind e))
@@ -262,9 +262,9 @@ module _ {D K G C : Type 0} (m : Meaning D K G C) (number : Round) (q : ℕ) (ol
           → is_kind tried kind ≡ b → of_kind settled.holds.compacted kind
           ≡ is_released_in settled.mode (of_kind new.certified kind)
       compacted_by right mode was releases others kind true e =
-          subst (λ k. of_kind settled.holds.compacted k ≡ is_released_in settled.mode (of_kind new.certified k)) (kinds_same tried kind e)
+          subst (λ k. of_kind settled.holds.compacted k ≡ is_released_in settled.mode (of_kind new.certified k)) (is_kind-true tried kind e)
           (own_compacted right mode was (subst (λ k. of_kind settled.holds.compacted k
-          ≡ (is_released_in tracker.mode true || of_kind tracker.holds.compacted k)) (sym (kinds_same tried kind e))
+          ≡ (is_released_in tracker.mode true || of_kind tracker.holds.compacted k)) (sym (is_kind-true tried kind e))
           ((releases kind).compacted ∙ ap (λ b. (b && is_released_in tracker.mode true) || of_kind tracker.holds.compacted kind) e)))
       compacted_by right mode was releases others kind false e =
           (others kind e).compacted ∙ right.compacted kind ∙ ap (λ d. is_released_in d (of_kind old.certified kind)) (sym mode)

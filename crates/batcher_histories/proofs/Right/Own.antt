@@ -1,6 +1,6 @@
 -- What comes of own votes, and what certificates from outside keep right.
-use Rattle.std.specs.Prelude.{find, IsErrAnd, IfErr, MatchBool}
-use Rattle.std.proofs.Common.{◌≡◌, ◌∙◌, ◌≤◌, ◌==◌, ◌&&◌, ◌||◌, ◌++◌, [], ℕ, Bool, true, false, cond, nat_lt, List, filter, Option, Some, None, is_some, Result, Ok, Err, refl, sym, ap, subst, arith}
+use Rattle.std.specs.Prelude.{find, MatchBool}
+use Rattle.std.proofs.Common.{◌≡◌, ◌∙◌, ◌≤◌, ◌==◌, ◌&&◌, ◌||◌, ◌++◌, [], ℕ, Bool, true, false, cond, nat_lt, List, filter, Option, Some, None, is_some, Result, Ok, refl, sym, ap, subst, arith}
 use Rattle.batcher_types.specs.declared.messages.Proposal.{Proposal}
 use Rattle.batcher_types.specs.declared.messages.Vote.{Vote}
 use Rattle.batcher_types.specs.declared.messages.Activity.{Activity}
@@ -21,17 +21,12 @@ use Rattle.batcher_votes.specs.Selected.{proposal_of, updated, fixes, is_fixed}
 use Rattle.batcher_votes.specs.Held.{PerKind, of_kind, Tracked, Buffered, Tracker, Held}
 use Rattle.batcher_votes.specs.Tracking.{Observed, unseen, in_full, as_facts, shown, observed, observed_opposite, is_seen, kept_vote, outcome_by, outcome_of, is_released_in, RecordsKind, ReleasesKind, SameTracked}
 use Rattle.batcher_votes.specs.Buffering.{AddsVote, MayFix, CompletesKind, coming_back}
-use Rattle.batcher_histories.specs.Steps.{IsRight, AfterOwn, fixed_by, opposite_fault, unopposed_result, duplicate_result, own_result, own_result_by, report_by, is_added, is_kept}
+use Rattle.batcher_histories.specs.Steps.{IsRight, AfterOwn, fixed_by, unopposed_result, duplicate_result, own_result, own_result_by, report_by, is_added, is_kept}
 use Rattle.batcher_votes.specs.Sound.{WaitsWhereKept}
 use Rattle.batcher_votes.proofs.Fixing.{fixes_fixed, fixes_any}
 
 pub ok_is : {A B : Type 0} (a b : A) → ◌≡◌ {A = Result A B} (Ok a) (Ok b) → a ≡ b
 ok_is a b h = cc
-
--- what is told of an error that is there
-pub err_only : {A E : Type 0} (P : E → Type 0) (r : Result A E) → IsErrAnd r P → IfErr r P
-err_only P (Ok v) h = absurd h
-err_only P (Err e) h = h
 
 pub kept_outcome : (outcome : Outcome) → is_kept outcome ≡ true → outcome ≡ Added true
 kept_outcome (Added true) h = refl
@@ -49,12 +44,6 @@ module _ {D : Type 0} where
   fixed_none s o e = ap (λ x. proposal_of (fixes s x)) (sym e)
 
 module _ {G D : Type 0} where
-  pub opposed : (o : Observed G D) (kind : Kind) (outcome : Outcome) → is_some (shown o) ≡ true
-      → own_result_by o kind outcome ≡ Err (opposite_fault kind)
-  opposed unseen kind outcome h = absurd (cc)
-  opposed (in_full vote) kind outcome h = refl
-  opposed (as_facts facts) kind outcome h = refl
-
   pub unopposed : (o : Observed G D) (kind : Kind) (outcome : Outcome) → is_some (shown o) ≡ false
       → own_result_by o kind outcome ≡ unopposed_result kind outcome
   unopposed unseen kind outcome h = refl
@@ -101,6 +90,13 @@ pub result_is : {G D : Type 0} (o : Observed G D) (kind : Kind) (outcome r : Out
 result_is unseen kind outcome r h = unopposed_is kind outcome r h
 result_is (in_full vote) kind outcome r h = absurd (cc)
 result_is (as_facts facts) kind outcome r h = absurd (cc)
+
+-- and nothing was seen that stands against it
+pub own_unseen : {G D : Type 0} (o : Observed G D) (kind : Kind) (outcome r : Outcome)
+    → own_result_by o kind outcome ≡ Ok r → is_seen o ≡ false
+own_unseen unseen kind outcome r h = refl
+own_unseen (in_full vote) kind outcome r h = absurd (cc)
+own_unseen (as_facts facts) kind outcome r h = absurd (cc)
 
 module _ {G D : Type 0} (same : D → D → Bool) where
   pub may_fix_selects : (old : Buffered G D) (kept : PerKind (List (Vote G D)))

@@ -1,28 +1,19 @@
 -- Where no vote is restored, no room is needed.
-use Rattle.std.proofs.Common.{◌≡◌, ◌∙◌, ◌||◌, [], List, ℕ, Bool, true, false, cond, subst, Option, Some, None, Ok, refl, sym, ap, arith}
-use Rattle.std.proofs.lemmas.Option.{none-some}
+use Rattle.std.proofs.Common.{◌≡◌, ◌∙◌, ◌||◌, [], List, ℕ, Bool, true, false, subst, Option, Some, refl, sym, arith}
 use Rattle.batcher_types.specs.declared.messages.Proposal.{Proposal}
 use Rattle.batcher_types.specs.declared.messages.Vote.{Vote}
-use Rattle.batcher_types.specs.declared.messages.Vote.TheVariants.{Notarize as NotarizeVote, Nullify as NullifyVote, Finalize as FinalizeVote}
 use Rattle.batcher_types.specs.declared.messages.Certificate.{Certificate}
 use Rattle.batcher_types.specs.declared.messages.Kind.{Kind}
 use Rattle.batcher_types.specs.declared.messages.Kind.TheVariants.{Notarization, Nullification, Finalization}
-use Rattle.batcher_votes.specs.declared.votes.Mode.{Mode}
-use Rattle.batcher_votes.specs.declared.votes.Mode.TheVariants.{Retaining, Releasing, Skipped}
-use Rattle.batcher_votes.specs.declared.votes.Outcome.{Outcome}
-use Rattle.batcher_types.specs.Meaning.{Meaning}
 use Rattle.batcher_histories.specs.Setting.{Setting}
-use Rattle.batcher_types.specs.Votes.{is_kind, has_proposals, kind_of, signer_of, proposal_in, kind_certified, subject_certified}
+use Rattle.batcher_types.specs.Votes.{is_kind, has_proposals, proposal_in, kind_certified, subject_certified}
 use Rattle.batcher_votes.specs.Selected.{replaces}
-use Rattle.batcher_votes.specs.Held.{PerKind, of_kind, Facts, Tracked, Tracker, Buffered, Held}
-use Rattle.batcher_votes.specs.Tracking.{Observed, unseen, in_full, as_facts, from_facts, from_kept, known_facts, kept_vote, observed, outcome_by, is_released_in}
+use Rattle.batcher_votes.specs.Held.{PerKind, of_kind, Buffered, Held}
 use Rattle.std.proofs.Math.Nat.{le_trans}
 use Rattle.batcher_types.specs.Lists.{is_some_and}
 use Rattle.batcher_votes.specs.Buffering.{CompletesKind}
 use Rattle.batcher_votes.specs.Sound.{HasRoomFor, KeepsOtherRoom, WhereItReplaces}
-use Rattle.batcher_histories.specs.Steps.{IsRight, restored_by, restored_with, own_result_by, fixed_by, is_added}
-use Rattle.batcher_votes.proofs.Fixing.{fixed_stays}
-use Rattle.batcher_histories.proofs.Right.Own.{result_is}
+use Rattle.batcher_histories.specs.Steps.{restored_by, restored_with}
 
 module _ {D K G C : Type 0} (x : Setting D K G C) (held : Held G D) (fixed : Proposal D)
     (kind : Kind) (room : PerKind ℕ) (takes : replaces x.same_digest held.buffered.selection fixed
@@ -46,58 +37,6 @@ module _ {D K G C : Type 0} (x : Setting D K G C) (held : Held G D) (fixed : Pro
       let other = rw kind_is at own in
       let back = rw other at none in
       no_room (proposal_in (subject_certified certificate)) (sym proposal_is ∙ is) back
-
-module _ {G D : Type 0} (held : Tracked G D) (kind : Kind) (i : ℕ) where
-  facts_by : (compacted : Bool) (facts : Option Facts) (kept : Option (Vote G D)) (f : Facts)
-      → cond compacted (from_facts facts) (from_kept kept) ≡ as_facts f → compacted ≡ true
-  facts_by true facts kept f h = refl
-  facts_by false facts None f h = absurd (cc)
-  facts_by false facts (Some vote) f h = absurd (cc)
-
-  -- facts stand for votes of a kind that is compacted
-  pub facts_compacted : (f : Facts) → observed held kind i ≡ as_facts f
-      → of_kind held.compacted kind ≡ true
-  facts_compacted f h = facts_by (of_kind held.compacted kind) (known_facts held kind i) (kept_vote held kind i) f h
-
--- A finalize of one's own that isn't added is of a kind that is compacted. So its proposal is
--- fixed, or nothing is kept, and no vote is restored.
-module _ {D K G C : Type 0} (m : Meaning D K G C) (same : D → D → Bool) (tracker : Tracker G D)
-    (held : Buffered G D) (q : ℕ) (right : IsRight m tracker held q) (fixed : Proposal D)
-    (kind : Kind) (takes : replaces same held.selection fixed ≡ true)
-    (full : of_kind tracker.holds.compacted kind ≡ false) where
-  no_more_in : (mode : Mode) → tracker.mode ≡ mode
-      → is_released_in mode (of_kind held.certified Finalization) ≡ true → false ≡ true
-  no_more_in Retaining is h = h
-  no_more_in Releasing is h = let stays = fixed_stays same held.selection fixed (right.fixed h) in cc
-  no_more_in Skipped is h = let empty = right.compacted kind ∙ ap (λ w. is_released_in w (of_kind held.certified kind)) is in cc
-
-  no_more : of_kind tracker.holds.compacted Finalization ≡ true → false ≡ true
-  no_more h = no_more_in tracker.mode refl (sym (right.compacted Finalization) ∙ h)
-
-  not_added_own : (own opposite : Observed G D) (selected : Option (Proposal D)) (compacted : Bool)
-      (outcome : Outcome) (vote : Vote G D)
-      → ((f : Facts) → own ≡ as_facts f → of_kind tracker.holds.compacted Finalization ≡ true)
-      → own_result_by opposite Finalization (outcome_by same selected compacted own vote)
-      ≡ Ok outcome → is_added outcome ≡ false → false ≡ true
-  not_added_own unseen opposite selected compacted outcome vote facts is not_added = let told = result_is opposite Finalization _ outcome is in cc
-  not_added_own (in_full kept) unseen selected compacted outcome vote facts is not_added = absurd (cc)
-  not_added_own (in_full kept) (in_full other) selected compacted outcome vote facts is not_added = absurd (cc)
-  not_added_own (in_full kept) (as_facts other) selected compacted outcome vote facts is not_added = absurd (cc)
-  not_added_own (as_facts f) opposite selected compacted outcome vote facts is not_added = no_more (facts f refl)
-
-  pub fixes_no_more : (room : PerKind ℕ) (opposite : Observed G D) (selected : Option (Proposal D))
-      (outcome : Outcome) (vote : Vote G D) → fixed_by vote ≡ Some fixed
-      → own_result_by opposite (kind_of vote)
-      (outcome_by same selected (of_kind tracker.holds.compacted (kind_of vote))
-      (observed tracker.holds (kind_of vote) (signer_of vote)) vote) ≡ Ok outcome
-      → is_added outcome ≡ false → HasRoomFor same held.certified tracker.holds.kept fixed room
-      kind
-  fixes_no_more room opposite selected outcome (NotarizeVote vote) fixes_it is not_added = absurd (none-some fixed fixes_it)
-  fixes_no_more room opposite selected outcome (NullifyVote vote) fixes_it is not_added = absurd (none-some fixed fixes_it)
-  fixes_no_more room opposite selected outcome (FinalizeVote vote) fixes_it is not_added =
-      let wrong = not_added_own (observed tracker.holds Finalization vote.attestation.signer.0) opposite selected (of_kind tracker.holds.compacted Finalization)
-      outcome (FinalizeVote vote) (facts_compacted tracker.holds Finalization vote.attestation.signer.0) is not_added in
-      absurd (cc)
 
 is_other : (a b : Kind) → is_kind a b ≡ is_kind b a
 is_other Notarization Notarization = refl

@@ -47,7 +47,7 @@ find_never : {X : Type 0} (xs : List X) → find (λ x. false) xs ≡ None
 find_never [] = refl
 find_never (x ∷ xs) = find_never xs
 
-and_swap : (a b c : Bool) → b ≡ c → (a && b) ≡ (c && a)
+pub and_swap : (a b c : Bool) → b ≡ c → (a && b) ≡ (c && a)
 and_swap true b c h = h ∙ sym (and-true c)
 and_swap false b c h = sym (and_right c false refl)
 
@@ -181,7 +181,7 @@ module _ {D K G C : Type 0} (x : Setting D K G C) where
       sym (ap (λ k. known_by (is_released x past k) (facts_of x past k (signer_of first)) (Some first)) (is_kind-true _ _ of.0)
       ∙ ap (λ j. known_by (is_released x past kind) (facts_of x past kind j) (Some first)) (eqb-true _ _ of.1))
 
-  opposite_same : (past : History D K G C) (held : Held G D) (vote : Vote G D) → Stands x past held
+  pub opposite_same : (past : History D K G C) (held : Held G D) (vote : Vote G D) → Stands x past held
       → observed_opposite held.tracked vote ≡ (known_after x past).opposite vote
   opposite_same past held (NotarizeVote v) stands = ap (known_opposite x past) (sym (opposite_is past (NotarizeVote v)))
   opposite_same past held (NullifyVote v) stands =

@@ -25,11 +25,6 @@ use Rattle.batcher_histories.specs.Answers.{keeps_nullify}
 use Rattle.batcher_histories.specs.Stands.{Stands, first_by_signer}
 use Rattle.batcher_histories.proofs.History.Distinct.{any_filtered, any_is_found, found_is_of, is_itself, is_kind-true, new_votes, firsts_apart, filled_stays, filter_one, some_where}
 
-pub filter_same : {X : Type 0} (p q : X → Bool) (xs : List X) → ((v : X) → p v ≡ q v) → filter p xs
-    ≡ filter q xs
-filter_same p q [] same = refl
-filter_same p q (x ∷ xs) same = rw (same x, filter_same p q xs same) refl
-
 -- In a list by numbers the first of a number is the first of it.
 pub find_inserted : {X : Type 0} (number : X → ℕ) (p : X → Bool) (i : ℕ) (v : X) (vs : List X)
     → ((w : X) → p w ≡ true → number w ≡ i) →

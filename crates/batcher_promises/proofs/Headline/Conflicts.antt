@@ -10,7 +10,8 @@ use Rattle.batcher_types.specs.Lists.{is_empty, exactly_one}
 use Rattle.batcher_types.specs.Votes.{is_kind, kind_of, signer_of, is_vote_of, is_for, same_proposal}
 use Rattle.batcher_histories.specs.History.{History}
 use Rattle.batcher_histories.specs.Selection.{selected_proposal}
-use Rattle.batcher_histories.specs.Comparison.{compared_votes, compared_votes_of, conflicts, differs_from}
+use Rattle.batcher_histories.specs.Comparison.{compared_votes, compared_votes_of, conflicts}
+use Rattle.batcher_histories.proofs.History.ByFirst.{differs_from, conflicts_is}
 use Rattle.batcher_promises.specs.Composed.{carry_different}
 use Rattle.batcher_votes.proofs.Waits.{proposal_is}
 use Rattle.batcher_promises.proofs.Runs.Finding.{any_more, any_of_filtered}
@@ -66,7 +67,7 @@ module _ {D K G C : Type 0} (x : Setting D K G C) (laws : HasLaws x) where
       list_any (λ v. is_vote_of (kind_of vote) (signer_of vote) v
       && carry_different x.same_digest v vote) (compared_votes x past) ≡ true
   conflict_with_compared past vote h =
-      let there = where_holds (differs_from x (compared_votes_of x past (kind_of vote) (signer_of vote)) vote) (selected_proposal x past) h in
+      let there = where_holds (differs_from x (compared_votes_of x past (kind_of vote) (signer_of vote)) vote) (selected_proposal x past) (sym (conflicts_is x past vote) ∙ h) in
       let mark = is_for x.same_digest there.0 vote in
       let parts = and_parts (not (is_empty (compared_votes_of x past (kind_of vote) (signer_of vote))))
       (exactly_one mark (list_any (is_for x.same_digest there.0) (compared_votes_of x past (kind_of vote) (signer_of vote)))) there.2 in

@@ -21,7 +21,8 @@ use Rattle.batcher_votes.specs.Tracking.{is_released_in}
 use Rattle.batcher_histories.specs.History.{Event, History, cast_votes}
 use Rattle.batcher_histories.specs.FirstVotes.{first_votes, is_free, first_vote, first_like, opposite_vote}
 use Rattle.batcher_histories.specs.Selection.{selection_by, is_certified, is_released, fixing_evidence, fixed_proposal, leaders_proposal, selected_proposal}
-use Rattle.batcher_histories.specs.Comparison.{compared_votes, compared_votes_of, is_compared, is_compared_at_release, conflicts, differs_from}
+use Rattle.batcher_histories.specs.Comparison.{compared_votes, compared_votes_of, is_compared, is_compared_at_release, conflicts}
+use Rattle.batcher_histories.proofs.History.ByFirst.{differs_from, conflicts_is}
 use Rattle.batcher_histories.specs.Answers.{IsPossible}
 use Rattle.batcher_promises.specs.Pairs.{blocks_participant}
 use Rattle.batcher_histories.proofs.History.Distinct.{firsts_apart, first_stays, is_kind-true, option_cases, found_is_of, new_votes, new_cases, any_count, count_at, positive, where_holds}
@@ -179,9 +180,10 @@ module _ {D K G C : Type 0} (x : Setting D K G C) where
           → (vote : Vote G D) → is_vote_of kind i vote ≡ true → conflicts x past vote
           ≡ differs_from x (compared_votes_of x past kind i) vote p
       conflicts_by past p fixed vote of =
-          ap (λ o. is_some_and o (differs_from x (compared_votes_of x past (kind_of vote) (signer_of vote)) vote)) (fixed_is_selected past p fixed)
+          conflicts_is x past vote
+          ∙ (ap (λ o. is_some_and o (differs_from x (compared_votes_of x past (kind_of vote) (signer_of vote)) vote)) (fixed_is_selected past p fixed)
           ∙ (ap (λ k. differs_from x (compared_votes_of x past k (signer_of vote)) vote p) (is_kind-true _ _ (and_parts _ _ of).0)
-          ∙ ap (λ j. differs_from x (compared_votes_of x past kind j) vote p) (eqb-true _ _ (and_parts _ _ of).1))
+          ∙ ap (λ j. differs_from x (compared_votes_of x past kind j) vote p) (eqb-true _ _ (and_parts _ _ of).1)))
 
       some_compared : (past : History D K G C) → IsPossible x past → is_released x past kind ≡ true
           → (first : Vote G D) → first_vote x past kind i ≡ Some first
