@@ -138,3 +138,11 @@ module _ {D K G C : Type 0} (x : Setting D K G C) where
   -- is reported
   abbrev pub network_by : Known G D → K → Vote G D → Admission G D
   network_by known sender vote = admission_from known (sender_in x sender) vote
+
+-- CONSTRUCT
+-- of notarize, nullify and finalize the first that is ready
+abbrev pub first_ready : (Kind → Bool) → Option Kind
+first_ready is_ready =
+    cond (is_ready Notarization) (Some Notarization)
+    (cond (is_ready Nullification) (Some Nullification)
+    (cond (is_ready Finalization) (Some Finalization) None))

@@ -6,7 +6,6 @@ use Rattle.std.specs.Option.{option_map_or}
 use Rattle.batcher_types.specs.declared.messages.Proposal.{Proposal}
 use Rattle.batcher_types.specs.declared.messages.Vote.{Vote}
 use Rattle.batcher_types.specs.declared.messages.Kind.{Kind}
-use Rattle.batcher_types.specs.declared.messages.Kind.TheVariants.{Notarization, Nullification, Finalization}
 use Rattle.batcher_types.specs.declared.messages.Certificate.{Certificate}
 use Rattle.batcher_votes.specs.declared.verifier.Batch.{Batch}
 use Rattle.batcher_histories.specs.Setting.{Setting, quorum_in}
@@ -14,6 +13,7 @@ use Rattle.batcher_types.specs.Lists.{is_some_and}
 use Rattle.batcher_types.specs.Votes.{is_kind, kind_of, signer_of, subject_of, attestation_of, has_proposals, is_of_kind, is_vote_of, is_for, waits}
 use Rattle.batcher_votes.specs.Tracking.{is_skipped}
 use Rattle.batcher_votes.specs.Buffering.{is_enough}
+use Rattle.batcher_histories.specs.Known.{first_ready}
 use Rattle.batcher_histories.specs.History.{History, batch_given}
 use Rattle.batcher_histories.specs.FirstVotes.{first_votes, own_first_votes}
 use Rattle.batcher_histories.specs.Selection.{selected_proposal, is_certified, restored_votes}
@@ -100,10 +100,7 @@ module _ {D K G C : Type 0} (x : Setting D K G C) where
 
   -- and the first that is.
   abbrev pub ready_kind_by : List Trial → History D K G C → Option Kind
-  ready_kind_by trials past =
-      cond (is_ready_by trials past Notarization) (Some Notarization)
-      (cond (is_ready_by trials past Nullification) (Some Nullification)
-      (cond (is_ready_by trials past Finalization) (Some Finalization) None))
+  ready_kind_by trials past = first_ready (λ kind. is_ready_by trials past kind)
 
   abbrev pub trial_of : History D K G C → Kind → Batch (Certificate C D) → Trial
   trial_of past kind batch =

@@ -7,7 +7,7 @@ use Rattle.batcher_types.specs.declared.messages.Certificate.{Certificate}
 use Rattle.batcher_types.specs.declared.messages.Vote.{Vote}
 use Rattle.batcher_types.specs.declared.messages.Vote.TheVariants.{Notarize as NotarizeVote, Nullify as NullifyVote, Finalize as FinalizeVote}
 use Rattle.batcher_types.specs.declared.messages.Kind.{Kind}
-use Rattle.batcher_types.specs.declared.messages.Kind.TheVariants.{Notarization, Nullification, Finalization}
+use Rattle.batcher_types.specs.declared.messages.Kind.TheVariants.{Notarization, Finalization}
 use Rattle.batcher_histories.specs.declared.answers.Admission.{Admission}
 use Rattle.batcher_types.specs.declared.messages.Activity.{Activity}
 use Rattle.batcher_histories.specs.declared.answers.OwnFault.{OwnFault}
@@ -24,7 +24,7 @@ use Rattle.batcher_types.specs.Quorum.{quorum_of}
 use Rattle.batcher_types.specs.Meaning.{Meaning}
 use Rattle.batcher_histories.specs.Setting.{Setting, quorum_in, sender_in}
 pub use Rattle.batcher_histories.specs.Known.{is_participant, opposite_fault, duplicate_result, unopposed_result, own_result_by, admission_by, admission_named}
-use Rattle.batcher_histories.specs.Known.{known_in, forward_by, has_block_by, missing_by, own_by, network_by}
+use Rattle.batcher_histories.specs.Known.{known_in, forward_by, has_block_by, missing_by, own_by, network_by, first_ready}
 use Rattle.batcher_types.specs.Votes.{is_kind, kind_of, signer_of, proposal_in, subject_of, kind_certified, subject_certified, waits}
 use Rattle.batcher_votes.specs.Selected.{proposal_of, is_fixed, updated, fixes, same_selected}
 use Rattle.batcher_votes.specs.Held.{of_kind, Buffered, Tracker, Held}
@@ -215,12 +215,9 @@ module _ {D K G C : Type 0} (x : Setting D K G C) where
   is_ready_in held kind =
       is_ready x.same_digest x.meaning.batchable (quorum_in x) held.buffered kind
 
-  -- the kind whose certificate is tried, of notarize, nullify and finalize the first that is ready
+  -- the kind whose certificate is tried, the first that is ready
   abbrev pub kind_tried : Held G D → Option Kind
-  kind_tried held =
-      cond (is_ready_in held Notarization) (Some Notarization)
-      (cond (is_ready_in held Nullification) (Some Nullification)
-      (cond (is_ready_in held Finalization) (Some Finalization) None))
+  kind_tried held = first_ready (λ kind. is_ready_in held kind)
 
   -- a certificate for a proposal fixes it where none is fixed, and votes for others go
   abbrev pub Fixes : Buffered G D → Option (Proposal D) → Buffered G D → Type 0

@@ -137,14 +137,17 @@ module _ {D K G C : Type 0} (x : Setting D K G C) where
     own_by_opposite (Some earlier) outcome is = by_release (is_released x past (kind_of earlier))
       where
         by_release : (released : Bool) →
-            own_result_by (cond released (as_facts (facts_of x past (kind_of earlier) (signer_of earlier)))
+            own_result_by (cond released
+            (as_facts (facts_of x past (kind_of earlier) (signer_of earlier)))
             (in_full earlier)) (kind_of vote) outcome ≡ Err (opposite_fault (kind_of vote))
         by_release true = refl
         by_release false = refl
 
     pub own_is : own_answer x past vote
         ≡ own_answer_against past (opposite_vote x past vote) vote
-    own_is = own_by_opposite (opposite_vote x past vote) _ (outcome_is (first_like x past vote) (is_released x past (kind_of vote)))
+    own_is =
+        own_by_opposite (opposite_vote x past vote) _
+        (outcome_is (first_like x past vote) (is_released x past (kind_of vote)))
 
   -- WHO HAS A BLOCK
   -- Votes of a kind show it: while they are kept, by the proposal that the first one carries; once

@@ -424,7 +424,9 @@ module _ {D K G C : Type 0} (x : Setting D K G C) (held : Held G D) (sender : K)
     beside_kept : answer ≡ admission_beside x.same_digest x.same_signature kept vote
         → AfterNetwork x held sender vote answer held
     beside_kept told = record {
-      answer_is = told ∙ ap (λ w. admission_by x (selected_in held.buffered) w vote) (sym f) ∙ ap (λ w. admission_named x (known_in held) w vote) (sym e) ∙ sym named;
+      answer_is =
+          told ∙ ap (λ w. admission_by x (selected_in held.buffered) w vote) (sym f)
+          ∙ ap (λ w. admission_named x (known_in held) w vote) (sym e) ∙ sym named;
       forwarded = refl;
       tracked = λ kind. recorded_any (is_recorded x held sender vote) kind (is_of_kind kind vote) refl;
       buffered =

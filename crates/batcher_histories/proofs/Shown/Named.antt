@@ -181,7 +181,8 @@ module _ {D K G C : Type 0} (x : Setting D K G C) where
       sym (ap (λ k. known_by (is_released x past k) (facts_of x past k (signer_of first)) (Some first)) (is_kind-true _ _ of.0)
       ∙ ap (λ j. known_by (is_released x past kind) (facts_of x past kind j) (Some first)) (eqb-true _ _ of.1))
 
-  pub opposite_same : (past : History D K G C) (held : Held G D) (vote : Vote G D) → Stands x past held
+  pub opposite_same : (past : History D K G C) (held : Held G D) (vote : Vote G D)
+      → Stands x past held
       → observed_opposite held.tracked vote ≡ (known_after x past).opposite vote
   opposite_same past held (NotarizeVote v) stands = ap (known_opposite x past) (sym (opposite_is past (NotarizeVote v)))
   opposite_same past held (NullifyVote v) stands =
@@ -282,4 +283,5 @@ module _ {D K G C : Type 0} (x : Setting D K G C) where
       → own_result x held vote ≡ own_answer x past vote
   own_same past held vote stands =
       ap (λ known. own_by x.same_digest (record known { selection = fixes known.selection (fixed_by vote) }) vote) (known_is past held stands)
-      ∙ ap (own_result_by ((known_after x past).opposite vote) (kind_of vote)) (outcome_fixed past vote (is_released x past (kind_of vote)) (first_like x past vote))
+      ∙ ap (own_result_by ((known_after x past).opposite vote) (kind_of vote))
+      (outcome_fixed past vote (is_released x past (kind_of vote)) (first_like x past vote))

@@ -240,7 +240,8 @@ module _ {D K G C : Type 0} (x : Setting D K G C) where
       ap (λ c. cond c (from_facts (known_facts held.tracked kind i)) (from_kept (kept_vote held.tracked kind i))) (stands.each_kind kind).compacted_is
       ∙ by_release (is_released x past kind) refl
     where
-      as_kept : (first : Option (Vote G D)) → from_kept first ≡ known_by false (facts_of x past kind i) first
+      as_kept : (first : Option (Vote G D))
+          → from_kept first ≡ known_by false (facts_of x past kind i) first
       as_kept None = refl
       as_kept (Some v) = refl
 

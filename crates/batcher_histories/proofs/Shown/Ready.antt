@@ -1,6 +1,6 @@
 -- Which kind is ready by what is held is what the history names: the order of the buffers makes no
 -- difference.
-use Rattle.std.proofs.Common.{◌≡◌, ◌+◌, Bool, true, not, cond, ◌&&◌, ◌||◌, nat_le, nat_lt, List, [], ◌∷◌, length, Option, Some, None, is_none, refl, ap, sym, ◌∙◌, arith, subst}
+use Rattle.std.proofs.Common.{◌≡◌, ◌+◌, Bool, true, not, cond, ◌&&◌, ◌||◌, nat_le, nat_lt, List, [], ◌∷◌, length, Option, Some, is_none, refl, ap, sym, ◌∙◌, arith, subst}
 use Rattle.std.specs.List.{list_all}
 use Rattle.std.proofs.lemmas.Bool.{and_parts, and_from}
 use Rattle.std.specs.Cmp.{both_ways}
@@ -8,7 +8,6 @@ use Rattle.batcher_types.specs.declared.messages.Proposal.{Proposal}
 use Rattle.batcher_types.specs.declared.messages.Subject.{Subject}
 use Rattle.batcher_types.specs.declared.messages.Vote.{Vote}
 use Rattle.batcher_types.specs.declared.messages.Kind.{Kind}
-use Rattle.batcher_types.specs.declared.messages.Kind.TheVariants.{Notarization, Nullification, Finalization}
 use Rattle.batcher_histories.specs.Setting.{Setting, quorum_in}
 use Rattle.batcher_types.specs.Lists.{count, SameElements}
 use Rattle.batcher_types.specs.Votes.{subject_of, has_proposals, same_subject}
@@ -19,6 +18,7 @@ use Rattle.batcher_histories.specs.Steps.{is_ready_in, kind_tried}
 use Rattle.batcher_histories.specs.History.{History}
 use Rattle.batcher_histories.specs.Selection.{selected_proposal, is_certified}
 use Rattle.batcher_histories.specs.Standing.{is_ready_by, trials, proven_votes, fresh_votes, ready_kind}
+use Rattle.batcher_histories.specs.Known.{first_ready}
 use Rattle.batcher_histories.specs.Stands.{Stands}
 use Rattle.batcher_votes.proofs.Counts.{all_count, length_same}
 use Rattle.batcher_histories.proofs.History.Laws.{HasLaws}
@@ -81,17 +81,10 @@ module _ {D K G C : Type 0} (x : Setting D K G C) (lawful : HasLaws x) where
       (enough_same kind (selected_proposal x past) (of_kind held.buffered.verified kind) (proven_votes x past kind) (of_kind held.buffered.pending kind)
       (fresh_votes x past kind) (stands.each_kind kind).verified_are (stands.each_kind kind).pending_are))
 
-  first_ready : (a b c d e f : Bool) → a ≡ d → b ≡ e → c ≡ f →
-      cond a (Some Notarization) (cond b (Some Nullification) (cond c (Some Finalization) None))
-      ≡ cond d (Some Notarization) (cond e (Some Nullification)
-      (cond f (Some Finalization) None))
-  first_ready a b c d e f p q r = rw (p, q, r) refl
-
   -- The kind that is tried by what is held is the first ready one of the history.
   pub tried_is_ready : (past : History D K G C) (held : Held G D) → Stands x past held
       → kind_tried x held ≡ ready_kind x past
-  tried_is_ready past held stands =
-      first_ready _ _ _ _ _ _ (ready_same past held Notarization stands) (ready_same past held Nullification stands) (ready_same past held Finalization stands)
+  tried_is_ready past held stands = λ i. first_ready (λ kind. ready_same past held kind stands i)
 
 pub tried_ready : {D K G C : Type 0} (x : Setting D K G C) (held : Held G D) (kind : Kind)
     → kind_tried x held ≡ Some kind → is_ready_in x held kind ≡ true

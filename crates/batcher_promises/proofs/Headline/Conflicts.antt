@@ -67,7 +67,8 @@ module _ {D K G C : Type 0} (x : Setting D K G C) (laws : HasLaws x) where
       list_any (λ v. is_vote_of (kind_of vote) (signer_of vote) v
       && carry_different x.same_digest v vote) (compared_votes x past) ≡ true
   conflict_with_compared past vote h =
-      let there = where_holds (differs_from x (compared_votes_of x past (kind_of vote) (signer_of vote)) vote) (selected_proposal x past) (sym (conflicts_is x past vote) ∙ h) in
+      let there = where_holds (differs_from x (compared_votes_of x past (kind_of vote) (signer_of vote)) vote) (selected_proposal x past)
+      (sym (conflicts_is x past vote) ∙ h) in
       let mark = is_for x.same_digest there.0 vote in
       let parts = and_parts (not (is_empty (compared_votes_of x past (kind_of vote) (signer_of vote))))
       (exactly_one mark (list_any (is_for x.same_digest there.0) (compared_votes_of x past (kind_of vote) (signer_of vote)))) there.2 in

@@ -210,7 +210,9 @@ module _ {D K G C : Type 0} (x : Setting D K G C) where
     pub blocked_for_cause : (answer : Answer G C D)
         → is_some (network_answer x past sender vote).block ≡ true
         → gave_cause x ((NetworkCall sender vote, answer) ∷ past) i.0 ≡ true
-    blocked_for_cause answer h = by_name (eqb i.0 (signer_of vote)) answer refl (sym (ap (λ a. is_some a.block) (network_is x past vote sender) ∙ ap (λ o. is_some (admission_sent_by x past o vote).block) known) ∙ h)
+    blocked_for_cause answer h =
+        by_name (eqb i.0 (signer_of vote)) answer refl
+        (sym (ap (λ a. is_some a.block) (network_is x past vote sender) ∙ ap (λ o. is_some (admission_sent_by x past o vote).block) known) ∙ h)
 
 module _ {D K G C : Type 0} (x : Setting D K G C) (retains : x.mode ≡ Retaining) where
   kept_in_full : (past : History D K G C) (kind : Kind) → is_released x past kind ≡ false

@@ -173,7 +173,8 @@ module _ {D K G C : Type 0} (x : Setting D K G C) where
         ∙ (ap (λ vs.
         is_none (find (is_vote_of (kind_of vote) (signer_of vote)) vs) && is_none (find (λ v. opposes v vote) vs))
         (firsts_alike x retained released beside.alike)
-        ∙ sym (own_added (in_mode x Releasing) released vote (opposite_vote (in_mode x Releasing) released vote) second (sym (own_is (in_mode x Releasing) released vote) ∙ also)))
+        ∙ sym (own_added (in_mode x Releasing) released vote (opposite_vote (in_mode x Releasing) released vote) second
+        (sym (own_is (in_mode x Releasing) released vote) ∙ also)))
 
     changes_alike : (certificate : Certificate C D)
         → certificate_answer (in_mode x Retaining) retained certificate
