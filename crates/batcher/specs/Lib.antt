@@ -25,6 +25,7 @@ pub use Rattle.batcher_votes.specs.Entries
 pub use Rattle.batcher_histories.specs.Setting
 pub use Rattle.batcher_histories.specs.Reasons
 pub use Rattle.batcher_histories.specs.Admissions
+pub use Rattle.batcher_histories.specs.Known
 pub use Rattle.batcher_histories.specs.Steps
 pub use Rattle.batcher_histories.specs.Runs
 pub use Rattle.batcher_histories.specs.History
