@@ -1,4 +1,3 @@
-pub mod Checking
 pub mod Feeding
 pub mod KeyOrder
 pub mod MapItems

@@ -363,28 +363,6 @@ module _ {X : Type 0} (key : X → ℕ) where
       → map (λ y. cond (nat_eq (key y) (key x)) x y) xs ≡ xs
   replace_none x xs h = unmatched x xs (key x) (none_differ xs (key x) h)
 
-  insert_find : (x y : X) (ys : List X) (i : ℕ) (le tx ty : Bool) → nat_le (key x) (key y) ≡ le
-      → nat_eq (key x) i ≡ tx → nat_eq (key y) i ≡ ty
-      → find (λ z. nat_eq (key z) i) (insert_by key x ys)
-      ≡ cond tx (Some x) (find (λ z. nat_eq (key z) i) ys)
-      → find (λ z. nat_eq (key z) i) (cond le (x ∷ y ∷ ys) (y ∷ insert_by key x ys))
-      ≡ cond tx (Some x) (cond ty (Some y) (find (λ z. nat_eq (key z) i) ys))
-  insert_find x y ys i true tx ty le ex ey rest = rw (ex, ey)
-  insert_find x y ys i false true true le ex ey rest =
-      let above : key y < key x = grind (arith, nat_tests) in
-      let same : key x ≡ i = grind (arith, nat_tests) in
-      let other : key y ≡ i = grind (arith, nat_tests) in
-      absurd (omega arith)
-  insert_find x y ys i false false true le ex ey rest = rw ey
-  insert_find x y ys i false tx false le ex ey rest = rw (ey, rest)
-
-  -- what a map finds after an insert
-  pub find-insert_by : (x : X) (xs : List X) (i : ℕ)
-      → find (λ z. nat_eq (key z) i) (insert_by key x xs)
-      ≡ cond (nat_eq (key x) i) (Some x) (find (λ z. nat_eq (key z) i) xs)
-  find-insert_by x [] i = refl
-  find-insert_by x (y ∷ ys) i = insert_find x y ys i (nat_le (key x) (key y)) (nat_eq (key x) i) (nat_eq (key y) i) refl refl refl (find-insert_by x ys i)
-
   -- the last element's number is the highest
   pub below_last : (xs : List X) (n j : ℕ) (d : X) → IsAscending key xs → suc n ≡ length xs → j ≤ n
       → key (get_or xs j d) ≤ key (get_or xs n d)

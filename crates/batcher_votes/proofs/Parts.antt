@@ -182,15 +182,3 @@ filter_map-map_same part f same (e ∷ es) = rw (same e, filter_map-map_same par
 abbrev pub made_of : {X Y : Type 0} → (X → Y) → Option X → Option Y
 made_of g None = None
 made_of g (Some x) = Some (g x)
-
-cons_made : {X Y : Type 0} (g : X → Y) (o : Option X) (zs : List X)
-    → cons_option (made_of g o) (map g zs) ≡ map g (cons_option o zs)
-cons_made g None zs = refl
-cons_made g (Some x) zs = refl
-
--- elements that show a function of what they did
-pub filter_map-map_changed : {E X Y : Type 0} (part : E → Option X) (part' : E → Option Y)
-    (f : E → E) (g : X → Y) → ((e : E) → part' (f e) ≡ made_of g (part e)) → (es : List E)
-    → filter_map part' (map f es) ≡ map g (filter_map part es)
-filter_map-map_changed part part' f g made [] = refl
-filter_map-map_changed part part' f g made (e ∷ es) = rw (made e, filter_map-map_changed part part' f g made es) (cons_made g (part e) (filter_map part es))

@@ -41,11 +41,6 @@ same_kind Finalization Notarization is = absurd (cc)
 same_kind Finalization Nullification is = absurd (cc)
 same_kind Finalization Finalization is = refl
 
-itself : (kind : Kind) → is_kind kind kind ≡ true
-itself Notarization = refl
-itself Nullification = refl
-itself Finalization = refl
-
 all_of : (b : Bool) → (b && true) ≡ b
 all_of true = refl
 all_of false = refl

@@ -1,5 +1,5 @@
 -- Which votes wait, before and after a change of the selected proposal.
-use Rattle.std.proofs.Common.{◌≡◌, ℕ, Bor, Bool, true, false, not, cond, ◌&&◌, ◌||◌, ◌==◌, List, [], ◌∷◌, ◌++◌, filter, Option, Some, None, is_some, append-nil, refl, ap, subst, ◌∙◌, arith}
+use Rattle.std.proofs.Common.{◌≡◌, ℕ, Bor, Bool, true, false, not, cond, ◌&&◌, ◌==◌, List, [], ◌∷◌, ◌++◌, filter, Option, Some, None, is_some, append-nil, refl, ap, subst, ◌∙◌, arith}
 use Rattle.std.specs.List.{AllPass}
 use Rattle.std.specs.Option.{option_copied}
 use Rattle.std.proofs.lemmas.Bool.Decides.{nat_tests}
@@ -50,12 +50,6 @@ module _ {D : Type 0} (same : D → D → Bool) (identical : (a b : D) → same 
       let payload = identical a.payload b.payload rest.1 in
       let made : Round → ℕ → D → Proposal D = λ r v d. record { round = r; parent = record { 0 = v }; payload = d } in
       ap (λ r. made r a.parent.0 a.payload) round ∙ (ap (λ v. made b.round v a.payload) parent ∙ ap (λ d. made b.round b.parent.0 d) payload)
-
-  pub selected_is : (a b : Option (Proposal D)) → same_selected same a b ≡ true → a ≡ b
-  selected_is None None h = refl
-  selected_is None (Some q) h = absurd (cc)
-  selected_is (Some p) None h = absurd (cc)
-  selected_is (Some p) (Some q) h = ap Some (proposal_is p q h)
 
   kept_as_it_was : (p q : Proposal D) (b : Bool) → same_proposal same p q ≡ b → cond b None (Some q)
       ≡ None → p ≡ q
@@ -165,11 +159,6 @@ pub self_kind : (kind : Kind) → is_kind kind kind ≡ true
 self_kind Notarization = refl
 self_kind Nullification = refl
 self_kind Finalization = refl
-
-pub not_both : (a b : Bool) → (a || not b) ≡ false → (a ≡ false) × (b ≡ true)
-not_both true b h = absurd (cc)
-not_both false true h = (refl, refl)
-not_both false false h = absurd (cc)
 
 module _ {G D : Type 0} (same : D → D → Bool) (old new : Buffered G D) (vote : Vote G D)
     (is_verified : Bool) where
