@@ -1,5 +1,10 @@
+pub mod CountLemmas
 pub mod Feeding
 pub mod KeyOrder
+pub mod KindLemmas
+pub mod ListLemmas
 pub mod MapItems
+pub mod OptionLemmas
 pub mod Orders
 pub mod Places
+pub mod VoteLemmas

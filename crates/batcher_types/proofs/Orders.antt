@@ -1,5 +1,5 @@
 -- Lists in ascending order: their uniqueness, the search by halves, and what a map does with them.
-use Rattle.std.proofs.Common.{◌≡◌, ◌≢◌, ◌≤◌, ◌<◌, ◌+◌, ◌-◌, ℕ, suc, zero, Bool, true, false, cond, nat_eq, nat_lt, nat_le, ◌&&◌, ◌⊎◌, inl, inr, List, [], ◌∷◌, ◌++◌, length, get_or, set, take, drop, find, Some, None, map, refl, ap, sym}
+use Rattle.std.proofs.Common.{◌≡◌, ◌≢◌, ◌≤◌, ◌<◌, ◌+◌, ◌-◌, ℕ, suc, zero, Bool, true, false, cond, nat_eq, nat_lt, nat_le, ◌⊎◌, inl, inr, List, [], ◌∷◌, ◌++◌, length, get_or, set, take, drop, find, Some, None, map, refl, ap, sym}
 use Rattle.std.proofs.Common.{subst, arith}
 use Rattle.std.specs.List.{AllByRecursion, All, AllAdjacentBelow, IsDistinct, list_all}
 use Rattle.std.specs.List.Sorted.{IsPermutation, IsNonDecreasingBy, IsPartitionPoint, IsSearchInRange, IsBinarySearchResult}
@@ -13,6 +13,7 @@ use Rattle.std.specs.Ordering.{nat_cmp, is_lt, ordering_index}
 use Rattle.std.proofs.lemmas.List.Sorted.{searchable_from_sorted}
 use Rattle.std.proofs.lemmas.Option.{none-some}
 use Rattle.std.specs.Prelude.{Result, Ok, Err, IfOk, IfErr}
+use Rattle.std.proofs.lemmas.Bool.{and_parts}
 use native.Mathlib.Numerals.{unary_clauses}
 use Rattle.batcher_types.specs.Ascending.{IsAscending, insert_by, ordered_by, is_ascending}
 use Rattle.batcher_types.specs.Lists.{EachOnce}
@@ -37,10 +38,6 @@ rec_both P Q R w (x ∷ xs) h g = (w x h.0 g.0, rec_both P Q R w xs h.1 g.1)
 no_mem : {X : Type 0} (x : X) → Mem x [] → ⊥
 unfolding Mem
 no_mem x m = m
-
-pub and_parts : (a b : Bool) → (a && b) ≡ true → (a ≡ true) × (b ≡ true)
-and_parts true b h = (refl, h)
-and_parts false b h = absurd (cc)
 
 module _ {X : Type 0} (key : X → ℕ) where
   rec_from_map : (P : ℕ → Type 0) (xs : List X) → AllByRecursion P (map key xs)

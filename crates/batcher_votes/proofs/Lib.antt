@@ -1,7 +1,6 @@
 pub mod Certifications
 pub mod Changes
 pub mod Constructing
-pub mod Counts
 pub mod Keeping
 pub mod Fixing
 pub mod Pairing

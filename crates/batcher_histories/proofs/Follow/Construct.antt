@@ -15,6 +15,7 @@ use Rattle.batcher_histories.specs.declared.answers.Answer.TheVariants.{Construc
 use Rattle.batcher_histories.specs.Setting.{Setting, quorum_in}
 use Rattle.batcher_types.specs.Lists.{is_some_and}
 use Rattle.batcher_types.specs.Votes.{is_kind, has_proposals, kind_certified, subject_certified, proposal_in}
+use Rattle.batcher_types.proofs.ListLemmas.{either_same}
 use Rattle.batcher_votes.specs.Selected.{proposal_of, fixes}
 use Rattle.batcher_votes.specs.Held.{of_kind, Buffered, Held}
 use Rattle.batcher_votes.specs.Tracking.{is_skipped}
@@ -38,7 +39,6 @@ use Rattle.batcher_histories.proofs.Follow.Outcomes.{checked_about, certified_su
 use Rattle.batcher_histories.proofs.Shown.Ready.{tried_is_ready, tried_ready}
 use Rattle.batcher_histories.proofs.Follow.Released.{tracks_release, tracks_stay, moves_tracked}
 use Rattle.batcher_histories.proofs.Follow.Staying.{left_waits, pending_left, verified_left}
-use Rattle.batcher_votes.proofs.Counts.{either_same}
 use Rattle.batcher_histories.proofs.History.Past.{nothing_waits}
 
 -- THE ATTEMPT

@@ -14,6 +14,7 @@ use Rattle.batcher_histories.specs.declared.answers.Answer.TheVariants.{OutOfMem
 use Rattle.batcher_histories.specs.declared.answers.Answer.TheVariants.{Leader as LeaderAnswer, Construct as ConstructAnswer, Forward as ForwardAnswer, Missing as MissingAnswer}
 use Rattle.batcher_histories.specs.Setting.{Setting, sender_in}
 use Rattle.batcher_types.specs.Votes.{signer_of}
+use Rattle.batcher_types.proofs.ListLemmas.{any_more}
 use Rattle.batcher_histories.specs.Runs.{blocked_sender, blocked_senders}
 use Rattle.batcher_histories.specs.History.{Event, History, is_made, history_after, history_from, cast_votes}
 use Rattle.batcher_histories.specs.FirstVotes.{contradicts}
@@ -21,7 +22,6 @@ use Rattle.batcher_histories.specs.Answers.{IsAnswered, AreAnswered}
 use Rattle.batcher_promises.specs.Promises.{votes_cast, names_another, contradicts_itself, gave_cause}
 use Rattle.batcher_promises.specs.Blocked.{GaveCause}
 use Rattle.batcher_histories.proofs.History.Laws.{HasLaws}
-use Rattle.batcher_promises.proofs.Runs.Finding.{any_more}
 use Rattle.batcher_promises.proofs.Headline.Promises.{blocked_for_cause}
 
 module _ {D K G C : Type 0} (x : Setting D K G C) where
