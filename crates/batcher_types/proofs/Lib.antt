@@ -1,10 +1,10 @@
+pub mod AscendingLemmas
 pub mod CountLemmas
-pub mod Feeding
-pub mod KeyOrder
+pub mod HashingLemmas
+pub mod KeyLemmas
 pub mod KindLemmas
 pub mod ListLemmas
-pub mod MapItems
+pub mod MapLemmas
 pub mod OptionLemmas
-pub mod Orders
-pub mod Places
+pub mod PlaceLemmas
 pub mod VoteLemmas

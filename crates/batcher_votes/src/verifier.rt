@@ -678,7 +678,7 @@ impl<S: Scheme<D>, D: Digest> Verifier<S, D> {
 
 impl<C: Drop> Batch<C> {
     // The batch of an attempt about this subject, with its certificate.
-    #[tactic(auto, using(crate::proofs::Constructing::certificate_is))]
+    #[tactic(auto, using(crate::proofs::VerifierLemmas::Construction::certificate_is))]
     fn for_subject<D: Digest>(self, subject: Subject<D>) -> Batch<Certificate<C, D>>
         ensures { result ≡ record {
           processed = self.processed;

@@ -31,7 +31,7 @@ use Rattle.batcher_histories.specs.Stands.{Stands, Follows, tries_kind, pending_
 use Rattle.batcher_histories.proofs.History.Distinct.{is_kind-true}
 use Rattle.batcher_histories.proofs.History.Attempts.{witnessed}
 use Rattle.batcher_histories.proofs.History.Laws.{HasLaws}
-use Rattle.batcher_votes.proofs.Constructing.{verified_about}
+use Rattle.batcher_votes.proofs.VerifierLemmas.Construction.{verified_about}
 use Rattle.batcher_histories.proofs.Follow.Frame.{MovesKind, Moves, followed, certified_same, no_evidence, leader_same, none_back, pending_wait, verified_wait, closed_pending, closed_verified, still_waits}
 use Rattle.batcher_histories.proofs.Follow.Evidence.{evidence_tried, tried_selected, IsEvidence, none_is_restored}
 use Rattle.batcher_histories.proofs.Follow.Settled.{constructed, selection_then, evidence_selects, fixes_leader, fixes_selection, fixes_certified, fixes_no_pending, fixes_no_verified, fixes_pending, fixes_verified}

@@ -32,8 +32,8 @@ use Rattle.batcher_votes.specs.Verifiers.{certifies_itself}
 use Rattle.batcher_histories.specs.Standing.{is_valid}
 use Rattle.batcher_histories.specs.Trying.{Attempt, GivenAtOnce, FellBack, OnlyVerified, votes_checked, bad_signers, are_of, certifies_subject, left_verified}
 use Rattle.batcher_histories.proofs.History.Laws.{HasLaws}
-use Rattle.batcher_votes.proofs.Quorums.{IsQuorum-checked}
-use Rattle.batcher_votes.proofs.Constructing.{attested_about, once_attestations, votes_again, known}
+use Rattle.batcher_votes.proofs.VerifierLemmas.CheckedQuorum.{IsQuorum-checked}
+use Rattle.batcher_votes.proofs.VerifierLemmas.Construction.{attested_about, once_attestations, votes_again, known}
 
 -- THE WAY THAT AN ATTEMPT GOES, with the pending attestations that it checks
 module _ {D K G C : Type 0} (m : Meaning D K G C) (subject : Subject D) (q : ℕ)

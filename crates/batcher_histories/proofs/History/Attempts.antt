@@ -393,7 +393,8 @@ module _ {D K G C : Type 0} (x : Setting D K G C) where
         of_certificate = of_certificate;
         kind_is = is_kind_now;
         certified_kind =
-            sym (kind_of_certificate c) ∙ (sym (ap kind_in (same_subject-true x.same_digest lawful.digests_equal tried.subject (subject_certified c) of_certificate))
+            sym (kind_of_certificate c)
+            ∙ (sym (ap kind_in (same_subject-true x.same_digest lawful.digests_equal tried.subject (subject_certified c) of_certificate))
             ∙ (ap kind_in (same_subject-true x.same_digest lawful.digests_equal tried.subject (subject_of v) of_vote) ∙ (kind_of_vote v ∙ is_kind_now)));
       }
 

@@ -25,9 +25,9 @@ use Rattle.std.specs.Prelude.{MatchBool}
 use Rattle.std.proofs.lemmas.Option.{none-some}
 use Rattle.std.proofs.lemmas.Bool.{and_parts}
 use Rattle.batcher_histories.specs.Steps.{IsRight, AfterNetwork, objection_to, objection_by, admission, admission_by, admission_named, is_recorded}
-use Rattle.batcher_votes.proofs.Restoring.{count_buffers}
+use Rattle.batcher_votes.proofs.VerifierLemmas.RestoredVotes.{count_buffers}
 use Rattle.batcher_votes.specs.Selected.{is_fixed}
-use Rattle.batcher_votes.proofs.Fixing.{selects_fixed}
+use Rattle.batcher_votes.proofs.VerifierLemmas.FixedProposal.{selects_fixed}
 
 or_true : (b : Bool) → (b || true) ≡ true
 or_true true = refl

@@ -21,7 +21,7 @@ use Rattle.batcher_types.specs.Lists.{is_some_and}
 use Rattle.batcher_votes.specs.Buffering.{CompletesKind}
 use Rattle.batcher_votes.specs.Sound.{HasRoomFor, KeepsOtherRoom, WhereItReplaces}
 use Rattle.batcher_histories.specs.Steps.{IsRight, restored_by, restored_with, own_result_by, fixed_by, is_added}
-use Rattle.batcher_votes.proofs.Fixing.{fixed_stays}
+use Rattle.batcher_votes.proofs.VerifierLemmas.FixedProposal.{fixed_stays}
 use Rattle.batcher_histories.proofs.Right.Own.{result_is}
 
 module _ {D K G C : Type 0} (x : Setting D K G C) (held : Held G D) (fixed : Proposal D)

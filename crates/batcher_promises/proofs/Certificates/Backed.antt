@@ -37,7 +37,7 @@ use Rattle.batcher_promises.specs.Composed.{usable_votes}
 use Rattle.batcher_promises.specs.Backed.{votes_behind, IsBacked}
 use Rattle.batcher_histories.proofs.History.Laws.{HasLaws}
 use Rattle.batcher_histories.proofs.History.Distinct.{count-filter, where_holds}
-use Rattle.batcher_votes.proofs.Soundness.{fewer_left}
+use Rattle.batcher_votes.proofs.VerifierLemmas.Soundness.{fewer_left}
 use Rattle.batcher_histories.proofs.Memory.Spared.{counted}
 use Rattle.batcher_histories.proofs.History.Attempts.{batch_made, witnessed, reached_by}
 use Rattle.batcher_promises.proofs.Headline.Work.{count_implied}

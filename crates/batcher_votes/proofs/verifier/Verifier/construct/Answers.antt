@@ -2,8 +2,8 @@ use Rattle.std.proofs.Common.{◌≡◌, ◌∙◌, Some, ap, sym}
 use Rattle.batcher_votes.specs.Kinds.{with_kind}
 use Rattle.batcher_votes.specs.Certifications.{is_complete, pending_of, verified_of, held_by}
 use Rattle.batcher_votes.specs.Verifiers.{subject_ready}
-use Rattle.batcher_votes.proofs.Certifications.{completes, absorbs, holds_same}
-use Rattle.batcher_votes.proofs.Constructing.{constructs_one, constructs_none}
+use Rattle.batcher_votes.proofs.VerifierLemmas.KindChanges.{completes, absorbs, holds_same}
+use Rattle.batcher_votes.proofs.VerifierLemmas.Construction.{constructs_one, constructs_none}
 use Rattle.batcher_votes.proofs.verifier.Verifier.construct.Goals as goal
 
 pub invariant_of-self : goal.invariant_of-self

@@ -1,7 +1,7 @@
 use Rattle.std.proofs.Common.{◌≡◌, ◌<◌, ◌+◌, ◌-◌, ◌∙◌, ap, sym, length, arith}
 use Rattle.batcher_types.specs.Votes.{subject_of}
 use Rattle.batcher_types.proofs.VoteLemmas.{same_subject-true}
-use Rattle.batcher_votes.proofs.Pairing.{same_item, spread-grow}
+use Rattle.batcher_votes.proofs.VerifierLemmas.Runs.{same_item, spread-grow}
 use Rattle.batcher_votes.proofs.verifier.buffer.push_subject.Goals as goal
 
 pub returns-then-is_about-clause-subjects : goal.returns-then-is_about-clause-subjects

@@ -5,8 +5,8 @@ use Rattle.std.specs.Option.{option_copied}
 use Rattle.batcher_types.specs.Votes.{signer_of, kind_of}
 use Rattle.batcher_votes.specs.Held.{of_kind}
 use Rattle.batcher_votes.specs.Entries.{marks_of, key_of, part, seen_in, has_place, compared, seen_outcome, is_selected_in, tested, tracked_by, votes_in}
-use Rattle.batcher_votes.proofs.Putting.{count_few}
-use Rattle.batcher_votes.proofs.Recorded.{known_entry, seen_known, recorded_none, recorded_compared, recorded_full, tracked_compared, tracked_full, outcome_found, outcome_first, outcome_kept, seen_compacted}
+use Rattle.batcher_votes.proofs.TrackerLemmas.PutEntry.{count_few}
+use Rattle.batcher_votes.proofs.TrackerLemmas.RecordVote.{known_entry, seen_known, recorded_none, recorded_compared, recorded_full, tracked_compared, tracked_full, outcome_found, outcome_first, outcome_kept, seen_compacted}
 use Rattle.batcher_votes.proofs.votes.VoteTracker.record_at.Goals as goal
 
 below : (signer participants : ℕ) → signer < participants → nat_lt signer participants ≡ true

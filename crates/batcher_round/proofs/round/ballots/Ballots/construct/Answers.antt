@@ -1,7 +1,7 @@
 use Rattle.std.proofs.Common.{◌∙◌, ap, sym, refl, is_some}
 use Rattle.std.proofs.lemmas.Bool.{false≢true, and_parts, not-true}
 use Rattle.batcher_votes.specs.declared.votes.Mode.TheVariants.{Retaining}
-use Rattle.batcher_votes.proofs.Fixing.{made_for}
+use Rattle.batcher_votes.proofs.VerifierLemmas.FixedProposal.{made_for}
 use Rattle.batcher_histories.specs.Setting.{setting}
 use Rattle.batcher_histories.specs.Steps.{Fixes}
 use Rattle.batcher_histories.proofs.Right.Attempt.{right_without, right_given}

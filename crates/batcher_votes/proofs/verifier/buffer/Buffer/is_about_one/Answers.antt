@@ -1,7 +1,7 @@
 use Rattle.std.proofs.Common.{sym, ap, ◌∙◌}
 use Rattle.batcher_types.proofs.VoteLemmas.{same_subject-refl}
 use Rattle.batcher_votes.specs.Waiting.{one_subject_in, spread}
-use Rattle.batcher_votes.proofs.Pairing.{one-from, one-spread}
+use Rattle.batcher_votes.proofs.VerifierLemmas.Runs.{one-from, one-spread}
 use Rattle.batcher_votes.proofs.verifier.buffer.Buffer.is_about_one.Goals as goal
 
 pub returns : goal.returns

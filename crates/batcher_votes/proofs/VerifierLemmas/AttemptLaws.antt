@@ -10,7 +10,7 @@ use Rattle.batcher_types.specs.Lists.{EachOnce}
 use Rattle.batcher_types.specs.Attestations.{index_of_signer, signers, failing}
 use Rattle.batcher_types.specs.Meaning.{Meaning, MayTry, IsLawful}
 use Rattle.batcher_types.specs.Attempts.{Tried, checked, one_by_one, at_once, attempt_of}
-use Rattle.batcher_votes.proofs.Quorums.{IsQuorum-checked, IsQuorum-valid, AllPass-valid, once_checked}
+use Rattle.batcher_votes.proofs.VerifierLemmas.CheckedQuorum.{IsQuorum-checked, IsQuorum-valid, AllPass-valid, once_checked}
 use Rattle.batcher_types.specs.declared.messages.Attestation.{Attestation}
 use Rattle.batcher_types.specs.declared.messages.Subject.{Subject}
 use Rattle.batcher_types.proofs.CountLemmas.{once_filter_end, once_none}

@@ -25,9 +25,9 @@ use Rattle.batcher_votes.specs.Held.{of_kind, Tracked, Buffered}
 use Rattle.batcher_votes.specs.Tracking.{KeepsEach, kept_vote}
 use Rattle.batcher_votes.specs.Buffering.{Buffers, SetsProposal, FixesProposal, still_waiting}
 use Rattle.batcher_votes.specs.Sound.{IsSound, IsSoundKind, may_stand, WaitsWhereKept}
-use Rattle.batcher_votes.proofs.Changes.{IsTidy, Restores}
-use Rattle.batcher_votes.proofs.Waits.{all_left, still_selected}
-use Rattle.batcher_votes.proofs.Soundness.{sound_buffers, sound_left}
+use Rattle.batcher_votes.proofs.VerifierLemmas.Changes.{IsTidy, Restores}
+use Rattle.batcher_votes.proofs.VerifierLemmas.WaitingVotes.{all_left, still_selected}
+use Rattle.batcher_votes.proofs.VerifierLemmas.Soundness.{sound_buffers, sound_left}
 
 -- through calls that put votes at the ends of the buffers and drop those that no longer wait
 module _ {G D : Type 0} (same : D → D → Bool) (old new : Buffered G D) (kind : Kind)
@@ -148,7 +148,6 @@ no_tie false h = refl
 
 module _ {D : Type 0} (same : D → D → Bool) (identical : (a b : D) → same a b ≡ true → a ≡ b)
     (reflexive : (a : D) → same a a ≡ true) where
-
   apart : (p q r : Proposal D) (b : Bool) → same_proposal same p q ≡ false → same_proposal same p r
       ≡ true → same_proposal same q r ≡ b → b ≡ false
   apart p q r true differ tied e =
@@ -212,7 +211,6 @@ module _ {G D : Type 0} (same : D → D → Bool) (identical : (a b : D) → sam
 
 -- whether the selected proposal was replaced is whether the fixed one takes another's place
 module _ {D : Type 0} (same : D → D → Bool) where
-
   pub replaced_is : ((a b : D) → same a b ≡ true → a ≡ b) → ((a : D) → same a a ≡ true)
       → (s : ProposalState D) (p : Proposal D)
       → (not (same_selected same (proposal_of s) (proposal_of (updated s (FixedProposal p))))

@@ -12,7 +12,7 @@ use Rattle.batcher_types.specs.Ascending.{IsAscending, insert_by}
 use Rattle.batcher_types.specs.Lists.{count, is_some_and}
 use Rattle.batcher_types.specs.Items.{place_of, replace_by}
 use Rattle.batcher_types.specs.Ordered.{rec_weaker, rec_from_all, all_from_rec}
-use Rattle.batcher_types.proofs.Orders.{replace_at, find_at, found_key, lower, higher, searched_found, searched_absent}
+use Rattle.batcher_types.proofs.AscendingLemmas.{replace_at, find_at, found_key, lower, higher, searched_found, searched_absent}
 use Rattle.batcher_types.proofs.OptionLemmas.{is_some-false}
 
 found_of : (b : Bool) (n i : ℕ) → ◌≡◌ {A = Result ℕ ℕ} (cond b (Ok n) (Err n)) (Ok i) → (b ≡ true)

@@ -15,7 +15,7 @@ use Rattle.batcher_votes.specs.Held.{PerKind, of_kind, Buffered}
 use Rattle.batcher_votes.specs.Kinds.{with_kind}
 use Rattle.batcher_votes.specs.Buffering.{SameBuffered, CompletesKind, vote_for}
 use Rattle.batcher_votes.specs.Certifications.{map_kinds, is_complete, pending_of, verified_of, held_by}
-use Rattle.batcher_votes.proofs.Changes.{Places, Restores, Absorbs, Retains}
+use Rattle.batcher_votes.proofs.VerifierLemmas.Changes.{Places, Restores, Absorbs, Retains}
 
 -- what holds of a kind and of each other one holds of each
 pub own_or_other : (P : Kind → Type 0) (kind : Kind) → P kind

@@ -35,13 +35,12 @@ use Rattle.batcher_types.proofs.VoteLemmas.{same_subject-true, same_subject-refl
 use Rattle.batcher_types.proofs.OptionLemmas.{given, is_some-option_map, is_some-false}
 use Rattle.batcher_votes.specs.Buffering.{attestations_of, vote_for, subject_from, first_proposal, is_enough, is_ready, CompletesKind, certificate_for, subject_tried, batch_of, TriesKind, SameBuffered}
 use Rattle.batcher_votes.specs.Sound.{IsSound, IsSoundKind, attests_itself, is_about, may_stand}
-use Rattle.batcher_votes.proofs.Changes.{Absorbs}
+use Rattle.batcher_votes.proofs.VerifierLemmas.Changes.{Absorbs}
 use Rattle.batcher_votes.specs.Verifiers.{subject_ready, certifies_itself, BatchCertifies, NamesSomebody}
-use Rattle.batcher_votes.proofs.Pairing.{vote_again, attestation_again, subject_again}
-use Rattle.batcher_votes.proofs.Trying.{IsFine, fine}
+use Rattle.batcher_votes.proofs.VerifierLemmas.Runs.{vote_again, attestation_again, subject_again}
+use Rattle.batcher_votes.proofs.VerifierLemmas.AttemptLaws.{IsFine, fine}
 
 module _ {D : Type 0} (same : D → D → Bool) (identical : (a b : D) → same a b ≡ true → a ≡ b) where
-
   module _ {G : Type 0} (number : Round) (subject : Subject D) where
     about_of : (proposal : Option (Proposal D)) (kind : Kind) (v : Vote G D)
         → may_stand same number proposal kind v ≡ true → subject_from kind number proposal
@@ -174,7 +173,6 @@ of_its_kind Finalization number (Some p) subject a e =
     let s : FinalizeSubject p ≡ subject = cc in subst (λ t. is_of_kind Finalization (vote_for t a) ≡ true) s refl
 
 module _ {D : Type 0} (same : D → D → Bool) (reflexive : (d : D) → same d d ≡ true) where
-
   -- what is tried of a kind is what its votes have to be about
   about_tried : (number : Round) (proposal other : Option (Proposal D)) (kind : Kind)
       (subject : Subject D) → subject_from kind number (cond (is_none proposal) other proposal)
@@ -382,7 +380,9 @@ module _ {D K G C : Type 0} (m : Meaning D K G C) (same : D → D → Bool) (num
             pending = untouched (is_kind kind other) [] (of_kind old.pending other) (of_kind new.pending other) e (c.pending other);
             verified = untouched (is_kind kind other) [] (of_kind old.verified other) (of_kind new.verified other) e (c.verified other);
           };
-          certified = either_true (is_kind kind kind) (of_kind old.certified kind) (of_kind new.certified kind) (is_kind-refl kind) (c.certified kind) ∙ sym there;
+          certified =
+              either_true (is_kind kind kind) (of_kind old.certified kind) (of_kind new.certified kind) (is_kind-refl kind) (c.certified kind)
+              ∙ sym there;
           pending = gone (is_kind kind kind) [] (of_kind old.pending kind) (of_kind new.pending kind) (is_kind-refl kind) (c.pending kind);
           verified = rw left (gone (is_kind kind kind) [] (of_kind old.verified kind) (of_kind new.verified kind) (is_kind-refl kind) (c.verified kind));
         }

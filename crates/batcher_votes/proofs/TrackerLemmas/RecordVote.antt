@@ -23,11 +23,11 @@ use Rattle.batcher_votes.specs.Held.{PerKind, of_kind, for_each, Facts, Tracked}
 use Rattle.batcher_votes.specs.Tracking.{from_kept, is_seen, is_known, observed, kept_vote, no_facts, facts_with, facts_of_kept, recorded_facts, RecordsKind, outcome_by, outcome_of}
 use Rattle.batcher_votes.specs.Entries.{Entry, part, with_part, nothing_seen, key_of, seen_in, entry_or_new, put_by, entries_with, is_any, has_place, compared, seen_outcome, facts_seen, facts_part, facts_among, with_vote}
 use Rattle.batcher_votes.specs.Entries.{own_vote, vote_at, kept_part, kept_among, tracked_by, observed_seen, may_say, Fits, IsTracked, tested}
-use Rattle.batcher_types.proofs.Orders.{found_key}
-use Rattle.batcher_votes.proofs.Parts.{Of, shown_by}
-use Rattle.batcher_types.proofs.Places.{place_item, place_below, place_absent}
-use Rattle.batcher_votes.proofs.Putting.{put_there, put_new, Puts, puts, All-put, of_old, passes, count-put, filter_map-put_same, filter_map-put_new, filter_map-put_changed}
-use Rattle.batcher_votes.proofs.Shown.{facts_numbered, facts_found, kept_numbered, kept_is, facts_is, observed_by, observed_is, observed_says, nothing_by, kept_found, kept_says, no_vote, unknown}
+use Rattle.batcher_types.proofs.AscendingLemmas.{found_key}
+use Rattle.batcher_votes.proofs.TrackerLemmas.ShownParts.{Of, shown_by}
+use Rattle.batcher_types.proofs.PlaceLemmas.{place_item, place_below, place_absent}
+use Rattle.batcher_votes.proofs.TrackerLemmas.PutEntry.{put_there, put_new, Puts, puts, All-put, of_old, passes, count-put, filter_map-put_same, filter_map-put_new, filter_map-put_changed}
+use Rattle.batcher_votes.proofs.TrackerLemmas.SignerFacts.{facts_numbered, facts_found, kept_numbered, kept_is, facts_is, observed_by, observed_is, observed_says, nothing_by, kept_found, kept_says, no_vote, unknown}
 
 -- what holds of all elements holds of one that is found
 pub found_passes : {E : Type 0} (key : E → ℕ) (P : E → Type 0) (es : List E) (i : ℕ) (x : E)

@@ -14,10 +14,9 @@ use Rattle.batcher_types.proofs.VoteLemmas.{same_proposal-true}
 use Rattle.batcher_votes.specs.Selected.{proposal_of, updated, selects, same_selected}
 use Rattle.batcher_votes.specs.Held.{of_kind, Buffered}
 use Rattle.batcher_votes.specs.Buffering.{leaders_vote, Buffers, AddsVote, SetsProposal}
-use Rattle.batcher_votes.proofs.Changes.{IsTidy, Places, Retains}
+use Rattle.batcher_votes.proofs.VerifierLemmas.Changes.{IsTidy, Places, Retains}
 
 module _ {D : Type 0} (same : D → D → Bool) (identical : (a b : D) → same a b ≡ true → a ≡ b) where
-
   kept_as_it_was : (p q : Proposal D) (b : Bool) → same_proposal same p q ≡ b → cond b None (Some q)
       ≡ None → p ≡ q
   kept_as_it_was p q true e h = same_proposal-true same identical p q e

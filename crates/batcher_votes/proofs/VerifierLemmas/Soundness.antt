@@ -23,9 +23,9 @@ use Rattle.batcher_votes.specs.Selected.{proposal_of}
 use Rattle.batcher_votes.specs.Held.{of_kind, Buffered}
 use Rattle.batcher_votes.specs.Buffering.{Buffers, is_buffered, nothing_buffered, CompletesKind, SetsProposal}
 use Rattle.batcher_votes.specs.Sound.{IsSound, IsSoundKind, attests_itself, may_stand}
-use Rattle.batcher_votes.proofs.Changes.{IsTidy, Places}
+use Rattle.batcher_votes.proofs.VerifierLemmas.Changes.{IsTidy, Places}
 use Rattle.batcher_votes.specs.Verifiers.{is_of_round}
-use Rattle.batcher_votes.proofs.Waits.{placed_buffers}
+use Rattle.batcher_votes.proofs.VerifierLemmas.WaitingVotes.{placed_buffers}
 
 all_left : {X : Type 0} (p : X → Bool) (b : Bool) (xs : List X) → AllPass p xs
     → AllPass p (cond b [] xs)

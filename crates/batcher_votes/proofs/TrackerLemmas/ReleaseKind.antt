@@ -17,9 +17,9 @@ use Rattle.batcher_votes.specs.Held.{PerKind, of_kind}
 use Rattle.batcher_votes.specs.Tracking.{no_facts, facts_with, facts_of_kept, ReleasesKind, SameTracked}
 use Rattle.batcher_votes.specs.Entries.{Entry, with_mark, part, key_of, has_place, compared, facts_seen, facts_part, facts_among, without, own_vote, vote_at, kept_part, kept_among, tracked_by, may_say, Fits}
 use Rattle.batcher_votes.specs.Entries.{tested, tested_at, seen_released, entry_released}
-use Rattle.batcher_votes.proofs.Parts.{made_of, filter_map-map_same}
-use Rattle.batcher_votes.proofs.Shown.{signed, kept_is, facts_is}
-use Rattle.batcher_votes.proofs.Recorded.{compared_facts, compared_stands, facts_with_vote, none_tested, part_with, key_with}
+use Rattle.batcher_votes.proofs.TrackerLemmas.ShownParts.{made_of, filter_map-map_same}
+use Rattle.batcher_votes.proofs.TrackerLemmas.SignerFacts.{signed, kept_is, facts_is}
+use Rattle.batcher_votes.proofs.TrackerLemmas.RecordVote.{compared_facts, compared_stands, facts_with_vote, none_tested, part_with, key_with}
 
 of_kind-with_mark : (released : Kind) (c : PerKind Bool) (kind : Kind)
     → of_kind (with_mark released c) kind ≡ (is_kind released kind || of_kind c kind)

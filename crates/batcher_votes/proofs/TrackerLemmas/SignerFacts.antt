@@ -14,7 +14,7 @@ use Rattle.batcher_types.specs.Votes.{kind_of, signer_of, is_kind, is_of_kind, i
 use Rattle.batcher_votes.specs.Held.{PerKind, of_kind, Facts}
 use Rattle.batcher_votes.specs.Tracking.{Observed, unseen, from_kept, from_facts, observed, is_known}
 use Rattle.batcher_votes.specs.Entries.{Entry, part, key_of, facts_seen, facts_part, facts_among, own_vote, vote_at, kept_part, kept_among, tracked_by, observed_seen, may_say}
-use Rattle.batcher_votes.proofs.Parts.{Of, shown_by, find-filter_map}
+use Rattle.batcher_votes.proofs.TrackerLemmas.ShownParts.{Of, shown_by, find-filter_map}
 
 facts_signed : (i : ℕ) (s : Seen) → Of (facts_seen i s) (λ f. f.signer ≡ i)
 facts_signed i Nothing = tt
