@@ -240,7 +240,7 @@ impl<S: Scheme<D>, D: Digest> Verifier<S, D> {
         ensures same { SameVerifier self.old self.new }
     {
         if let Some(known) = self.leader {
-            return if known.0 == leader.0 {
+            return if known == leader {
                 Ok(())
             } else {
                 Err(LeaderFault::LeaderChanged)
@@ -302,7 +302,7 @@ impl<S: Scheme<D>, D: Digest> Verifier<S, D> {
     {
         match self.proposal {
             ProposalState::Certificate(fixed) => Some(fixed),
-            _ => Some(proposal),
+            ProposalState::Unknown | ProposalState::Leader(_) => Some(proposal),
         }
     }
 
@@ -312,7 +312,7 @@ impl<S: Scheme<D>, D: Digest> Verifier<S, D> {
     {
         match self.proposal {
             ProposalState::Leader(earlier) => earlier != *proposal,
-            _ => false,
+            ProposalState::Unknown | ProposalState::Certificate(_) => false,
         }
     }
 
@@ -533,7 +533,7 @@ impl<S: Scheme<D>, D: Digest> Verifier<S, D> {
     {
         match (vote, self.leader) {
             (Vote::Notarize(vote), Some(leader)) => {
-                if leader.0 == vote.attestation.signer.0 {
+                if leader == vote.attestation.signer {
                     Some(vote.proposal)
                 } else {
                     None
@@ -728,7 +728,7 @@ impl<D: Digest> ProposalState<D> {
             ProposalState::Unknown => next,
             ProposalState::Leader(_) => match next {
                 ProposalState::Certificate(_) => next,
-                _ => self,
+                ProposalState::Unknown | ProposalState::Leader(_) => self,
             },
             ProposalState::Certificate(_) => self,
         }
