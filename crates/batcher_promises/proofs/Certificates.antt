@@ -1,6 +1,5 @@
 -- What stands behind certificates, which agree, and how soon they come.
 
-pub mod Overlap
 pub mod Backed
 pub mod Agree
 pub mod Prompt

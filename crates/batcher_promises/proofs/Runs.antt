@@ -3,4 +3,3 @@
 pub mod Histories
 pub mod Grown
 pub mod Going
-pub mod Finding

@@ -1,6 +1,10 @@
-pub mod Checking
-pub mod Feeding
-pub mod KeyOrder
-pub mod MapItems
-pub mod Orders
-pub mod Places
+pub mod AscendingLemmas
+pub mod CountLemmas
+pub mod HashingLemmas
+pub mod KeyLemmas
+pub mod KindLemmas
+pub mod ListLemmas
+pub mod MapLemmas
+pub mod OptionLemmas
+pub mod PlaceLemmas
+pub mod VoteLemmas

@@ -239,7 +239,7 @@ impl<S: Scheme<D>, D: Digest> Verifier<S, D> {
         ensures same { SameVerifier self.old self.new }
     {
         if let Some(known) = self.leader {
-            return if known.0 == leader.0 {
+            return if known == leader {
                 Ok(())
             } else {
                 Err(LeaderFault::LeaderChanged)
@@ -301,7 +301,7 @@ impl<S: Scheme<D>, D: Digest> Verifier<S, D> {
     {
         match self.proposal {
             ProposalState::Certificate(fixed) => Some(fixed),
-            _ => Some(proposal),
+            ProposalState::Unknown | ProposalState::Leader(_) => Some(proposal),
         }
     }
 
@@ -311,7 +311,7 @@ impl<S: Scheme<D>, D: Digest> Verifier<S, D> {
     {
         match self.proposal {
             ProposalState::Leader(earlier) => earlier != *proposal,
-            _ => false,
+            ProposalState::Unknown | ProposalState::Certificate(_) => false,
         }
     }
 
@@ -512,7 +512,7 @@ impl<S: Scheme<D>, D: Digest> Verifier<S, D> {
     {
         match (vote, self.leader) {
             (Vote::Notarize(vote), Some(leader)) => {
-                if leader.0 == vote.attestation.signer.0 {
+                if leader == vote.attestation.signer {
                     Some(vote.proposal)
                 } else {
                     None
@@ -655,7 +655,7 @@ impl<S: Scheme<D>, D: Digest> Verifier<S, D> {
 
 impl<C: Drop> Batch<C> {
     // The batch of an attempt about this subject, with its certificate.
-    #[tactic(auto, using(crate::proofs::Constructing::certificate_is))]
+    #[tactic(auto, using(crate::proofs::VerifierLemmas::Construction::certificate_is))]
     fn for_subject<D: Digest>(self, subject: Subject<D>) -> Batch<Certificate<C, D>>
         ensures { result ≡ record {
           processed = self.processed;
@@ -705,7 +705,7 @@ impl<D: Digest> ProposalState<D> {
             ProposalState::Unknown => next,
             ProposalState::Leader(_) => match next {
                 ProposalState::Certificate(_) => next,
-                _ => self,
+                ProposalState::Unknown | ProposalState::Leader(_) => self,
             },
             ProposalState::Certificate(_) => self,
         }

@@ -22,6 +22,7 @@ use Rattle.batcher_types.specs.Votes.{is_kind, is_of_kind, is_vote_of, kind_of, 
 use Rattle.batcher_types.specs.declared.messages.Certificate.{Certificate}
 use Rattle.batcher_types.specs.declared.messages.Kind.{Kind}
 use Rattle.batcher_types.specs.declared.messages.Vote.{Vote}
+use Rattle.batcher_types.proofs.CountLemmas.{count-append, count-false, count_same}
 use Rattle.batcher_histories.specs.declared.answers.Answer.{Answer}
 use Rattle.batcher_histories.specs.declared.calls.Call.{Call}
 use Rattle.batcher_histories.specs.declared.calls.Call.TheVariants.{Certificate as CertificateCall, Construct as ConstructCall, Forward as ForwardCall, Leader as LeaderCall, Missing as MissingCall, Network as NetworkCall, Own as OwnCall}
@@ -29,7 +30,6 @@ use Rattle.batcher_votes.specs.declared.verifier.Batch.{Batch}
 use Rattle.batcher_histories.proofs.Shown.Named.{released_where}
 use Rattle.batcher_histories.proofs.History.Distinct.{IsAt, any_filtered, count-filter, count_sum, firsts_apart, free_is_new, is_itself, is_kind-true, new_votes, vote_at, option_cases}
 use Rattle.batcher_histories.proofs.History.Attempts.{any_bad_fresh, back_not_tried, bad_of_all, invalid_tried, is_fresh_bad, tries_by, given_certified, batch_made}
-use Rattle.batcher_votes.proofs.Counts.{count-append, count-false, count_same}
 use Rattle.batcher_histories.proofs.History.Laws.{HasLaws}
 use Rattle.batcher_histories.proofs.History.Past.{among_standing, closed_is_empty, count_fresh, count_proven, invalid_after, invalid_in, own_filled, own_stays, restored_after, restored_filled, tried_after, tried_filled, nothing_waits}
 use Rattle.batcher_histories.proofs.History.Past.{open_waits}

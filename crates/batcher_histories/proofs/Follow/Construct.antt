@@ -15,6 +15,7 @@ use Rattle.batcher_histories.specs.declared.answers.Answer.TheVariants.{Construc
 use Rattle.batcher_histories.specs.Setting.{Setting, quorum_in}
 use Rattle.batcher_types.specs.Lists.{is_some_and}
 use Rattle.batcher_types.specs.Votes.{is_kind, has_proposals, kind_certified, subject_certified, proposal_in}
+use Rattle.batcher_types.proofs.ListLemmas.{either_same}
 use Rattle.batcher_votes.specs.Selected.{proposal_of, fixes}
 use Rattle.batcher_votes.specs.Held.{of_kind, Buffered, Held}
 use Rattle.batcher_votes.specs.Tracking.{is_skipped}
@@ -30,7 +31,7 @@ use Rattle.batcher_histories.specs.Stands.{Stands, Follows, tries_kind, pending_
 use Rattle.batcher_histories.proofs.History.Distinct.{is_kind-true}
 use Rattle.batcher_histories.proofs.History.Attempts.{witnessed}
 use Rattle.batcher_histories.proofs.History.Laws.{HasLaws}
-use Rattle.batcher_votes.proofs.Constructing.{verified_about}
+use Rattle.batcher_votes.proofs.VerifierLemmas.Construction.{verified_about}
 use Rattle.batcher_histories.proofs.Follow.Frame.{MovesKind, Moves, followed, certified_same, no_evidence, leader_same, none_back, pending_wait, verified_wait, closed_pending, closed_verified, still_waits}
 use Rattle.batcher_histories.proofs.Follow.Evidence.{evidence_tried, tried_selected, IsEvidence, none_is_restored}
 use Rattle.batcher_histories.proofs.Follow.Settled.{constructed, selection_then, evidence_selects, fixes_leader, fixes_selection, fixes_certified, fixes_no_pending, fixes_no_verified, fixes_pending, fixes_verified}
@@ -38,7 +39,6 @@ use Rattle.batcher_histories.proofs.Follow.Outcomes.{checked_about, certified_su
 use Rattle.batcher_histories.proofs.Shown.Ready.{tried_is_ready, tried_ready}
 use Rattle.batcher_histories.proofs.Follow.Released.{tracks_release, tracks_stay, moves_tracked}
 use Rattle.batcher_histories.proofs.Follow.Staying.{left_waits, pending_left, verified_left}
-use Rattle.batcher_votes.proofs.Counts.{either_same}
 use Rattle.batcher_histories.proofs.History.Past.{nothing_waits}
 
 -- THE ATTEMPT

@@ -13,12 +13,12 @@ use Rattle.batcher_votes.specs.declared.verifier.ProposalState.{ProposalState}
 use Rattle.batcher_votes.specs.declared.verifier.ProposalState.TheVariants.{Unknown, Leader as LeadersProposal, Certificate as FixedProposal}
 use Rattle.batcher_histories.specs.Setting.{Setting}
 use Rattle.batcher_types.specs.Votes.{has_proposals, proposal_in, same_proposal}
+use Rattle.batcher_types.proofs.VoteLemmas.{same_proposal-refl}
 use Rattle.batcher_votes.specs.Selected.{proposal_of, updated, replaces}
 use Rattle.batcher_votes.specs.Buffering.{subject_from}
 use Rattle.batcher_histories.specs.History.{Event, History}
 use Rattle.batcher_histories.specs.Selection.{selection, selected_proposal, fixing_evidence, replacement, is_restored}
 use Rattle.batcher_histories.proofs.History.Laws.{HasLaws}
-use Rattle.batcher_votes.proofs.Constructing.{same_proposals}
 use Rattle.batcher_histories.proofs.History.Selection.{unreplaced}
 
 module _ {D : Type 0} where
@@ -58,7 +58,7 @@ module _ {D K G C : Type 0} (x : Setting D K G C) (lawful : HasLaws x) where
   not_replaced (LeadersProposal q) p (inl h) = absurd (cc)
   not_replaced (LeadersProposal q) p (inr h) =
       let same : q ≡ p = cc in
-      ap not (subst (λ (r : Proposal D). same_proposal x.same_digest q r ≡ true) same (same_proposals x.same_digest lawful.digests_same q))
+      ap not (subst (λ (r : Proposal D). same_proposal x.same_digest q r ≡ true) same (same_proposal-refl x.same_digest lawful.digests_same q))
   not_replaced (FixedProposal q) p h = refl
 
   no_replacement : (past : History D K G C) (event : Event D K G C) (e : Option (Proposal D))

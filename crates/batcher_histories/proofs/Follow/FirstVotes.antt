@@ -10,6 +10,7 @@ use Rattle.batcher_histories.specs.Setting.{Setting}
 use Rattle.batcher_types.specs.Ascending.{insert_by, ordered_by}
 use Rattle.batcher_types.specs.Lists.{is_some_and, is_empty}
 use Rattle.batcher_types.specs.Votes.{is_kind, kind_of, signer_of, has_proposals, is_of_kind, is_vote_of, is_for, excludes, opposes, are_opposite}
+use Rattle.batcher_types.proofs.ListLemmas.{map_same}
 use Rattle.batcher_votes.specs.Held.{of_kind, Facts, Tracked, Held}
 use Rattle.batcher_votes.specs.Tracking.{is_seen, observed, facts_with, facts_of_kept, no_facts, recorded_facts, RecordsKind}
 use Rattle.batcher_histories.specs.History.{Event, History, cast_votes}
@@ -22,7 +23,6 @@ use Rattle.batcher_histories.proofs.History.Distinct.{new_votes, is_kind-true, i
 use Rattle.batcher_histories.proofs.Shown.Observed.{observed_is, facts_known, none_compared}
 use Rattle.batcher_histories.proofs.Shown.Named.{and_swap}
 use Rattle.batcher_histories.proofs.Follow.Frame.{facts_stay, matched_stays, compared_goes}
-use Rattle.batcher_votes.proofs.Counts.{map_same}
 
 -- LISTS
 -- a filter of the one vote that may be there

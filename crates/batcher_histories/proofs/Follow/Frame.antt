@@ -30,8 +30,9 @@ use Rattle.batcher_histories.specs.Stands.{Stands, Follows, TriesBuffers, first_
 use Rattle.batcher_votes.specs.Buffering.{still_waiting}
 use Rattle.batcher_types.specs.Ascending.{ordered_by}
 use Rattle.batcher_types.specs.declared.messages.Kind.TheVariants.{Notarization}
+use Rattle.batcher_types.proofs.CountLemmas.{count-false, count_same, filter_all, length_same}
+use Rattle.batcher_types.proofs.ListLemmas.{none_both, open_or_closed, filter_behind}
 use Rattle.batcher_histories.proofs.History.Distinct.{is_kind-true, option_cases}
-use Rattle.batcher_votes.proofs.Counts.{count-false, count_same, filter_all, length_same, none_both, open_or_closed, filter_behind}
 use Rattle.batcher_histories.proofs.Shown.Named.{compared_if_fixed, always_released}
 use Rattle.batcher_histories.proofs.History.Past.{count_fresh, count_proven, closed_is_empty, nothing_waits, open_waits}
 use Rattle.batcher_histories.proofs.History.Laws.{HasLaws}

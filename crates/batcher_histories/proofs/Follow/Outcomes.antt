@@ -25,14 +25,15 @@ use Rattle.batcher_types.specs.Meaning.{Meaning, MayTry}
 use Rattle.batcher_histories.specs.Setting.{Setting, quorum_in, participants_in}
 use Rattle.batcher_types.specs.Votes.{signer_of, subject_of, attestation_of, subject_certified, same_subject}
 use Rattle.batcher_types.specs.Attempts.{Tried, checked, one_by_one, at_once, tried_with, attempt_of}
+use Rattle.batcher_types.proofs.VoteLemmas.{same_subject-refl}
 use Rattle.batcher_votes.specs.Buffering.{attestations_of, vote_for, subject_from, is_enough, certificate_for, batch_of}
 use Rattle.batcher_votes.specs.Sound.{attests_itself, may_stand}
 use Rattle.batcher_votes.specs.Verifiers.{certifies_itself}
 use Rattle.batcher_histories.specs.Standing.{is_valid}
 use Rattle.batcher_histories.specs.Trying.{Attempt, GivenAtOnce, FellBack, OnlyVerified, votes_checked, bad_signers, are_of, certifies_subject, left_verified}
 use Rattle.batcher_histories.proofs.History.Laws.{HasLaws}
-use Rattle.batcher_votes.proofs.Quorums.{IsQuorum-checked}
-use Rattle.batcher_votes.proofs.Constructing.{attested_about, once_attestations, votes_again, known, same_subjects}
+use Rattle.batcher_votes.proofs.VerifierLemmas.CheckedQuorum.{IsQuorum-checked}
+use Rattle.batcher_votes.proofs.VerifierLemmas.Construction.{attested_about, once_attestations, votes_again, known}
 
 -- THE WAY THAT AN ATTEMPT GOES, with the pending attestations that it checks
 module _ {D K G C : Type 0} (m : Meaning D K G C) (subject : Subject D) (q : ℕ)
@@ -255,7 +256,7 @@ module _ {D K G C : Type 0} (x : Setting D K G C) (lawful : HasLaws x) (subject 
   all_of [] h = refl
   all_of (v ∷ vs) h =
       and_from _ _ (subst (λ s. same_subject x.same_digest subject s ≡ true) (sym (All-head (λ u. subject_of u ≡ subject) v vs h))
-      (same_subjects x.same_digest lawful.digests_same subject))
+      (same_subject-refl x.same_digest lawful.digests_same subject))
       (all_of vs (All-tail (λ u. subject_of u ≡ subject) v vs h))
 
   certifies_by : (o : Option C) → IfSome (option_map (certificate_for subject) o)
@@ -264,7 +265,7 @@ module _ {D K G C : Type 0} (x : Setting D K G C) (lawful : HasLaws x) (subject 
   certifies_by None h = tt
   certifies_by (Some c) h =
       and_from _ _ (subst (λ s. same_subject x.same_digest subject s ≡ true) (sym (certified_subject subject c))
-      (same_subjects x.same_digest lawful.digests_same subject)) h
+      (same_subject-refl x.same_digest lawful.digests_same subject)) h
 
   -- Where none were bad, a certificate would have been given at once.
   none_refused : quorum_in x ≤ length (attestations_of verified) + length (attestations_of looked)

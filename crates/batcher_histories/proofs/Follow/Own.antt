@@ -16,6 +16,7 @@ use Rattle.batcher_histories.specs.declared.calls.Call.TheVariants.{Own as OwnCa
 use Rattle.batcher_histories.specs.declared.answers.Answer.TheVariants.{Own as OwnAnswer}
 use Rattle.batcher_histories.specs.Setting.{Setting}
 use Rattle.batcher_types.specs.Votes.{kind_of, signer_of, is_of_kind, waits}
+use Rattle.batcher_types.proofs.ListLemmas.{open_or_closed, filter_behind}
 use Rattle.batcher_votes.specs.Selected.{proposal_of, updated, fixes}
 use Rattle.batcher_votes.specs.Held.{of_kind, Buffered, Held}
 use Rattle.batcher_votes.specs.Tracking.{is_skipped, outcome_by, RecordsKind}
@@ -37,7 +38,6 @@ use Rattle.batcher_histories.proofs.Shown.Named.{own_same}
 use Rattle.batcher_histories.proofs.Follow.Frame.{Moves, followed, leader_same, closed_verified}
 use Rattle.batcher_histories.proofs.Follow.FirstVotes.{free_is, is_taken, unseen_opposite}
 use Rattle.batcher_histories.proofs.Follow.Waiting.{none_joins, is_closed, state_fixed, waiting_by, WaitsFixed, WaitsAfter, released_selects, waits_after, moves_kind, with_restored, waits_unfixed}
-use Rattle.batcher_votes.proofs.Counts.{open_or_closed, filter_behind}
 use Rattle.batcher_histories.proofs.Follow.Restored.{returned_fixed, nothing_comes}
 
 module _ {D K G C : Type 0} (x : Setting D K G C) where

@@ -17,6 +17,8 @@ use Rattle.batcher_histories.specs.declared.calls.Call.TheVariants.{Certificate 
 use Rattle.batcher_histories.specs.declared.answers.Answer.TheVariants.{Certificate as CertificateAnswer}
 use Rattle.batcher_histories.specs.Setting.{Setting}
 use Rattle.batcher_types.specs.Votes.{is_kind, kind_certified, subject_certified, proposal_in, has_proposals, waits}
+use Rattle.batcher_types.proofs.ListLemmas.{filter_none, first_only}
+use Rattle.batcher_types.proofs.VoteLemmas.{same_proposal-refl}
 use Rattle.batcher_votes.specs.Selected.{proposal_of, updated, replaces, same_selected}
 use Rattle.batcher_votes.specs.Held.{of_kind, Held}
 use Rattle.batcher_votes.specs.Tracking.{is_skipped}
@@ -32,8 +34,6 @@ use Rattle.batcher_histories.proofs.Shown.Named.{certificate_has_proposal}
 use Rattle.batcher_histories.proofs.History.Laws.{HasLaws}
 use Rattle.batcher_histories.proofs.Follow.Frame.{or_nothing, none_back, closed_verified, pending_wait, verified_wait, MovesKind, followed, leaders_same, still_waits, still_is_waiting, fixed_waits, waiting_behind}
 use Rattle.batcher_histories.proofs.Follow.Restored.{returned, nothing_comes}
-use Rattle.batcher_votes.proofs.Counts.{filter_none, first_only}
-use Rattle.batcher_votes.proofs.Constructing.{same_proposals}
 use Rattle.batcher_histories.proofs.Follow.Released.{tracks_release, moves_tracked}
 use Rattle.batcher_histories.proofs.History.Selection.{selection_fixes}
 use Rattle.batcher_histories.proofs.History.Past.{nothing_waits}
@@ -53,7 +53,7 @@ module _ {D K G C : Type 0} (x : Setting D K G C) (lawful : HasLaws x) where
       ≡ (is_none (proposal_of s) || replaces x.same_digest s p)
   changed_by Unknown p = refl
   changed_by (LeadersProposal e) p = refl
-  changed_by (FixedProposal f) p = ap not (same_proposals x.same_digest lawful.digests_same f)
+  changed_by (FixedProposal f) p = ap not (same_proposal-refl x.same_digest lawful.digests_same f)
 
   module _ (past : History D K G C) (old : Held G D) (c : Certificate C D) (answer : Bool)
       (new : Held G D) (stands : Stands x past old) (step : AfterCertificate x old c answer new)

@@ -25,6 +25,7 @@ use Rattle.batcher_histories.specs.Setting.{Setting}
 use Rattle.batcher_types.specs.Ordered.{All-ordered}
 use Rattle.batcher_types.specs.Lists.{is_some_and, is_empty}
 use Rattle.batcher_types.specs.Votes.{kind_of, signer_of, has_proposals, is_of_kind, is_vote_of, is_for}
+use Rattle.batcher_types.proofs.ListLemmas.{none_both, filter_again, map_same}
 use Rattle.batcher_votes.specs.Held.{of_kind, Facts, Tracked, Held}
 use Rattle.batcher_votes.specs.Tracking.{is_released_in, no_facts, facts_of_kept, ReleasesKind}
 use Rattle.batcher_histories.specs.History.{Event, History, cast_votes}
@@ -34,7 +35,6 @@ use Rattle.batcher_histories.specs.Comparison.{compared_votes_of, is_compared, i
 use Rattle.batcher_histories.specs.Stands.{Stands, first_by_signer}
 use Rattle.batcher_histories.proofs.History.Distinct.{AreApart, IsAt, vote_at, found_behind, found_is_of, firsts_apart, is_kind-true, found_here}
 use Rattle.batcher_histories.proofs.Follow.Frame.{released_same, MovesKind, compared_parts, facts_same, first_by_same}
-use Rattle.batcher_votes.proofs.Counts.{none_both, filter_again, map_same}
 use Rattle.batcher_histories.proofs.Shown.Named.{uncompared_pair, unreleased_pair}
 
 -- what releases a kind stays

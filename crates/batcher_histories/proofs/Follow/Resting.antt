@@ -23,6 +23,7 @@ use Rattle.batcher_histories.specs.declared.answers.Answer.TheVariants.{Leader a
 use Rattle.batcher_histories.specs.Setting.{Setting, participants_in}
 use Rattle.batcher_types.specs.Lists.{is_some_and}
 use Rattle.batcher_types.specs.Votes.{is_kind, subject_of, proposal_in, is_vote_of}
+use Rattle.batcher_types.proofs.ListLemmas.{either_same, filter_none, first_only}
 use Rattle.batcher_votes.specs.Selected.{proposal_of, selects}
 use Rattle.batcher_votes.specs.Tracking.{is_skipped, kept_vote}
 use Rattle.batcher_votes.specs.Buffering.{SetsLeader}
@@ -40,7 +41,6 @@ use Rattle.batcher_histories.proofs.Shown.Named.{forward_same, missing_same, cer
 use Rattle.batcher_histories.proofs.History.Laws.{HasLaws}
 use Rattle.batcher_histories.proofs.Follow.Frame.{or_nothing, pending_wait, verified_wait, closed_pending, closed_verified, certified_same, no_evidence, none_back, MovesKind, followed, leaders_same, still_waits, fixed_waits, none_kept}
 use Rattle.batcher_histories.proofs.Follow.Frame.{no_firsts}
-use Rattle.batcher_votes.proofs.Counts.{either_same, filter_none, first_only}
 use Rattle.batcher_histories.proofs.Follow.Released.{TracksKind, tracks_stay, moves_tracked}
 use Rattle.batcher_histories.proofs.History.Selection.{selection_fixes}
 

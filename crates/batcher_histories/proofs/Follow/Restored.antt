@@ -12,6 +12,8 @@ use Rattle.batcher_votes.specs.declared.verifier.ProposalState.TheVariants.{Unkn
 use Rattle.batcher_histories.specs.Setting.{Setting}
 use Rattle.batcher_types.specs.Lists.{count, is_some_and}
 use Rattle.batcher_types.specs.Votes.{kind_of, signer_of, has_proposals, is_of_kind, is_for, waits}
+use Rattle.batcher_types.proofs.CountLemmas.{keeps_all, count-false, count_same}
+use Rattle.batcher_types.proofs.ListLemmas.{filter_twice, filter_none, either_same}
 use Rattle.batcher_votes.specs.Selected.{proposal_of, replaces, fixes}
 use Rattle.batcher_votes.specs.Held.{of_kind, Buffered, Held}
 use Rattle.batcher_votes.specs.Buffering.{coming_back}
@@ -20,7 +22,6 @@ use Rattle.batcher_histories.specs.FirstVotes.{first_votes}
 use Rattle.batcher_histories.specs.Selection.{selection, selected_proposal, is_certified, fixing_evidence, leaders_proposal, is_restored, is_released}
 use Rattle.batcher_histories.specs.Stands.{Stands, first_by_signer}
 use Rattle.batcher_votes.specs.Tracking.{is_skipped}
-use Rattle.batcher_votes.proofs.Counts.{keeps_all, count-false, count_same, filter_twice, filter_none, either_same}
 use Rattle.batcher_histories.proofs.History.Distinct.{count-filter, is_kind-true}
 use Rattle.batcher_histories.proofs.Follow.Buffers.{count_ordered}
 use Rattle.batcher_histories.proofs.History.Selection.{selection_fixes}

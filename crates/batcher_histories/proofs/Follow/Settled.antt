@@ -4,6 +4,7 @@ use Rattle.batcher_types.specs.declared.messages.Proposal.{Proposal}
 use Rattle.batcher_types.specs.declared.messages.Vote.{Vote}
 use Rattle.batcher_types.specs.declared.messages.Certificate.{Certificate}
 use Rattle.batcher_types.specs.declared.messages.Kind.{Kind}
+use Rattle.batcher_types.proofs.ListLemmas.{either_same}
 use Rattle.batcher_votes.specs.declared.verifier.Batch.{Batch}
 use Rattle.batcher_histories.specs.declared.calls.Call.TheVariants.{Construct as ConstructCall}
 use Rattle.batcher_histories.specs.declared.answers.Answer.TheVariants.{Construct as ConstructAnswer}
@@ -18,7 +19,6 @@ use Rattle.batcher_histories.specs.Selection.{selection, selected_proposal, fixi
 use Rattle.batcher_histories.specs.Standing.{waiting_votes}
 use Rattle.batcher_histories.proofs.Follow.Frame.{leader_same, fixed_waits, leaders_same}
 use Rattle.batcher_histories.proofs.Follow.Evidence.{selected_then}
-use Rattle.batcher_votes.proofs.Counts.{either_same}
 use Rattle.batcher_histories.proofs.History.Selection.{selection_fixes}
 
 module _ {D K G C : Type 0} (x : Setting D K G C) (past : History D K G C)

@@ -13,6 +13,7 @@ use Rattle.batcher_histories.specs.declared.calls.Call.TheVariants.{Construct as
 use Rattle.batcher_histories.specs.declared.answers.Answer.TheVariants.{Construct as ConstructAnswer}
 use Rattle.batcher_histories.specs.Setting.{Setting, quorum_in}
 use Rattle.batcher_types.specs.Votes.{waits}
+use Rattle.batcher_types.proofs.ListLemmas.{either_same, filter_twice, filter_none, first_only}
 use Rattle.batcher_votes.specs.Held.{of_kind, Held}
 use Rattle.batcher_votes.specs.Tracking.{is_skipped}
 use Rattle.batcher_histories.specs.History.{History}
@@ -20,7 +21,6 @@ use Rattle.batcher_histories.specs.Selection.{selected_proposal, is_certified, i
 use Rattle.batcher_histories.specs.Standing.{is_valid, waiting_votes}
 use Rattle.batcher_histories.specs.Trying.{left_verified}
 use Rattle.batcher_histories.specs.Stands.{tries_kind, pending_after, verified_after}
-use Rattle.batcher_votes.proofs.Counts.{either_same, filter_twice, filter_none, first_only}
 
 -- two filters in either order
 filter_swap : {X : Type 0} (p q : X → Bool) (xs : List X) → filter p (filter q xs)

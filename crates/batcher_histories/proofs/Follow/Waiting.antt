@@ -18,6 +18,7 @@ use Rattle.batcher_votes.specs.declared.votes.Mode.TheVariants.{Retaining, Relea
 use Rattle.batcher_histories.specs.Setting.{Setting}
 use Rattle.batcher_types.specs.Lists.{is_some_and}
 use Rattle.batcher_types.specs.Votes.{kind_of, signer_of, subject_of, proposal_in, has_proposals, is_of_kind, is_vote_of, waits}
+use Rattle.batcher_types.proofs.ListLemmas.{filter_again, either_same, filter_none}
 use Rattle.batcher_votes.specs.Selected.{proposal_of, selects, fixes}
 use Rattle.batcher_votes.specs.Held.{of_kind, Buffered, Held}
 use Rattle.batcher_votes.specs.Tracking.{is_skipped, is_released_in, RecordsKind}
@@ -30,7 +31,6 @@ use Rattle.batcher_histories.specs.Stands.{Stands}
 use Rattle.batcher_histories.proofs.History.Distinct.{free_is_new, is_kind-true}
 use Rattle.batcher_histories.proofs.Shown.Named.{always_released, or_none, released_where, certified_fixes}
 use Rattle.batcher_histories.proofs.Follow.Frame.{MovesKind, or_nothing, certified_same, released_same, leader_same, none_back, pending_wait, verified_wait, leaders_same}
-use Rattle.batcher_votes.proofs.Counts.{filter_again, either_same, filter_none}
 use Rattle.batcher_histories.proofs.Follow.FirstVotes.{Casts, is_new, is_taken, firsts_are, kept_taken, facts_taken, never_chosen}
 
 -- TABLES

@@ -26,6 +26,8 @@ use Rattle.batcher_types.specs.declared.messages.Subject.TheVariants.{Finalize a
 use Rattle.batcher_types.specs.declared.messages.Vote.{Vote}
 use Rattle.batcher_types.specs.declared.messages.Vote.TheVariants.{Finalize as FinalizeVote, Notarize as NotarizeVote, Nullify as NullifyVote}
 use Rattle.batcher_types.specs.declared.positions.Participant.{Participant}
+use Rattle.batcher_types.proofs.CountLemmas.{count-append, count-false, count-map, count_same, length_same, keeps_all}
+use Rattle.batcher_types.proofs.VoteLemmas.{same_subject-true}
 use Rattle.batcher_histories.specs.declared.answers.Answer.{Answer}
 use Rattle.batcher_histories.specs.declared.answers.Answer.TheVariants.{Certificate as CertificateAnswer, Construct as ConstructAnswer, Forward as ForwardAnswer, Leader as LeaderAnswer, Missing as MissingAnswer, Network as NetworkAnswer}
 use Rattle.batcher_histories.specs.declared.answers.Answer.TheVariants.{OutOfMemory as OutOfMemoryAnswer, Own as OwnAnswer, OwnRefused as OwnRefusedAnswer}
@@ -33,12 +35,10 @@ use Rattle.batcher_histories.specs.declared.calls.Call.{Call}
 use Rattle.batcher_histories.specs.declared.calls.Call.TheVariants.{Certificate as CertificateCall, Construct as ConstructCall, Forward as ForwardCall, Leader as LeaderCall, Missing as MissingCall, Network as NetworkCall, Own as OwnCall}
 use Rattle.batcher_votes.specs.declared.verifier.Batch.{Batch}
 use Rattle.batcher_histories.proofs.History.Distinct.{IsAt, any_count, count-filter, count_at, first_stays, firsts_apart, is_kind-refl, is_kind-true, positive, some_of, where_holds, option_cases}
-use Rattle.batcher_votes.proofs.Counts.{count-append, count-false, count-map, count_same, length_same, keeps_all}
 use Rattle.batcher_histories.proofs.History.Laws.{HasLaws}
 use Rattle.batcher_histories.proofs.Shown.Named.{or_none}
 use Rattle.batcher_histories.proofs.History.Past.{among_standing, closed_is_empty, count_fresh, count_proven, invalid_after, invalid_in, tried_after, tried_filled}
 use Rattle.batcher_histories.proofs.History.Selection.{back_not_counted, certified_before, is_restored_by, leaders_stays}
-use Rattle.batcher_votes.proofs.Constructing.{subject_is}
 
 module _ {D K G C : Type 0} (x : Setting D K G C) where
   -- an attempt that gives no certificate looked at all of the pending votes
@@ -393,8 +393,9 @@ module _ {D K G C : Type 0} (x : Setting D K G C) where
         of_certificate = of_certificate;
         kind_is = is_kind_now;
         certified_kind =
-            sym (kind_of_certificate c) ∙ (sym (ap kind_in (subject_is x.same_digest lawful.digests_equal tried.subject (subject_certified c) of_certificate))
-            ∙ (ap kind_in (subject_is x.same_digest lawful.digests_equal tried.subject (subject_of v) of_vote) ∙ (kind_of_vote v ∙ is_kind_now)));
+            sym (kind_of_certificate c)
+            ∙ (sym (ap kind_in (same_subject-true x.same_digest lawful.digests_equal tried.subject (subject_certified c) of_certificate))
+            ∙ (ap kind_in (same_subject-true x.same_digest lawful.digests_equal tried.subject (subject_of v) of_vote) ∙ (kind_of_vote v ∙ is_kind_now)));
       }
 
   pub witnessed : HasLaws x → (past : History D K G C) (kind : Kind)

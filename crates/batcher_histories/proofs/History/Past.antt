@@ -16,10 +16,10 @@ use Rattle.batcher_types.specs.Votes.{is_kind, is_of_kind, is_vote_of, kind_of, 
 use Rattle.batcher_types.specs.declared.messages.Certificate.{Certificate}
 use Rattle.batcher_types.specs.declared.messages.Kind.{Kind}
 use Rattle.batcher_types.specs.declared.messages.Vote.{Vote}
+use Rattle.batcher_types.proofs.CountLemmas.{count-map, count_same}
 use Rattle.batcher_histories.specs.declared.calls.Call.TheVariants.{Certificate as CertificateCall, Construct as ConstructCall, Forward as ForwardCall, Leader as LeaderCall, Missing as MissingCall, Network as NetworkCall, Own as OwnCall}
 use Rattle.batcher_votes.specs.declared.verifier.Batch.{Batch}
 use Rattle.batcher_histories.proofs.History.Distinct.{free_apart, new_votes, new_cases, firsts_apart, filled_stays, IsAt, any_count, any_filtered, any_is_found, count-filter, count_at, is_kind-true, positive, some_where}
-use Rattle.batcher_votes.proofs.Counts.{count-map, count_same}
 
 module _ {D K G C : Type 0} (x : Setting D K G C) where
   -- the standing votes of a kind, by signer

@@ -19,10 +19,9 @@ use Rattle.batcher_types.specs.declared.messages.Proposal.{Proposal}
 use Rattle.batcher_types.specs.declared.messages.Vote.{Vote}
 use Rattle.batcher_types.specs.declared.messages.Vote.TheVariants.{Finalize as FinalizeVote, Notarize as NotarizeVote, Nullify as NullifyVote}
 use Rattle.batcher_types.specs.declared.positions.Participant.{Participant}
+use Rattle.batcher_types.proofs.VoteLemmas.{same_proposal-true, same_proposal-refl}
 use Rattle.batcher_histories.proofs.History.Distinct.{first_stays}
 use Rattle.batcher_histories.proofs.History.Laws.{HasLaws}
-use Rattle.batcher_votes.proofs.Waits.{proposal_is}
-use Rattle.batcher_votes.proofs.Constructing.{same_proposals}
 
 pub mapped_some : {X Y : Type 0} (f : X → Option Y) (o : Option X) (p : Y) → option_and_then f o
     ≡ Some p → (a : X) × (o ≡ Some a) × (f a ≡ Some p)
@@ -72,10 +71,10 @@ module _ {D K G C : Type 0} (x : Setting D K G C) (lawful : HasLaws x) where
   pub for_one : (p q : Proposal D) (v : Vote G D) → is_for x.same_digest p v ≡ true
       → is_for x.same_digest q v ≡ true → p ≡ q
   for_one p q (NotarizeVote v) h k =
-      proposal_is x.same_digest lawful.digests_equal p v.proposal h ∙ sym (proposal_is x.same_digest lawful.digests_equal q v.proposal k)
+      same_proposal-true x.same_digest lawful.digests_equal p v.proposal h ∙ sym (same_proposal-true x.same_digest lawful.digests_equal q v.proposal k)
   for_one p q (NullifyVote v) h k = cc
   for_one p q (FinalizeVote v) h k =
-      proposal_is x.same_digest lawful.digests_equal p v.proposal h ∙ sym (proposal_is x.same_digest lawful.digests_equal q v.proposal k)
+      same_proposal-true x.same_digest lawful.digests_equal p v.proposal h ∙ sym (same_proposal-true x.same_digest lawful.digests_equal q v.proposal k)
 
   -- the leader's proposal stays
   pub leaders_stays : (past : History D K G C) (event : Event D K G C) (p : Proposal D)
@@ -123,7 +122,7 @@ module _ {D K G C : Type 0} (x : Setting D K G C) (lawful : HasLaws x) where
   goes_on_by None (Some q) None l' stays = inl (refl, refl)
   goes_on_by None (Some q) (Some p) l' stays =
       ⊎_elim
-      (λ same. inr (inl (ap Some (sym (proposal_is x.same_digest lawful.digests_equal p q same)), rw same refl)))
+      (λ same. inr (inl (ap Some (sym (same_proposal-true x.same_digest lawful.digests_equal p q same)), rw same refl)))
       (λ differs. inr (inr (record { earlier = p; later = q; unfixed = refl; was = refl; differs = differs; becomes = refl; replaced = rw differs refl })))
       (cases_Bool (same_proposal x.same_digest p q))
 
@@ -177,7 +176,7 @@ module _ {D K G C : Type 0} (x : Setting D K G C) (lawful : HasLaws x) where
       false_from_ne_true _ (λ for_p.
       let e : p ≡ q = for_one p q v for_p for_q in
       let same : same_proposal x.same_digest p q ≡ true = subst (λ (r : Proposal D). same_proposal x.same_digest p r ≡ true) e
-      (same_proposals x.same_digest lawful.digests_same p) in
+      (same_proposal-refl x.same_digest lawful.digests_same p) in
       let no : false ≡ true = sym differs ∙ same in cc)
 
   -- nor is it counted for the earlier proposal

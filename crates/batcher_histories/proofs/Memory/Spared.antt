@@ -11,6 +11,7 @@ use Rattle.batcher_histories.specs.declared.answers.Answer.TheVariants.{Certific
 use Rattle.batcher_histories.specs.Setting.{Setting}
 use Rattle.batcher_types.specs.Lists.{count, is_empty}
 use Rattle.batcher_types.specs.Votes.{is_kind, is_of_kind, has_proposals, kind_certified, subject_certified, proposal_in, signer_of, waits}
+use Rattle.batcher_types.proofs.CountLemmas.{count-filter_le, count_same, count-true}
 use Rattle.batcher_votes.specs.Selected.{proposal_of, replaces, fixes}
 use Rattle.batcher_votes.specs.Held.{of_kind, Held}
 use Rattle.batcher_votes.specs.Buffering.{coming_back}
@@ -19,7 +20,6 @@ use Rattle.batcher_histories.specs.History.{Event, History}
 use Rattle.batcher_histories.specs.FirstVotes.{first_votes}
 use Rattle.batcher_histories.specs.Selection.{selected_proposal, leader_of, is_certified, leaders_proposal, is_restored, votes_restored_by, is_released}
 use Rattle.batcher_histories.specs.Stands.{Stands, first_by_signer}
-use Rattle.batcher_votes.proofs.Counts.{count-filter_le, count_same, count-true}
 use Rattle.batcher_histories.proofs.History.Distinct.{is_kind-refl, is_kind-true, count-filter}
 use Rattle.batcher_histories.proofs.Follow.Buffers.{count_ordered}
 use Rattle.batcher_histories.proofs.Follow.Frame.{or_nothing, leaders_same}

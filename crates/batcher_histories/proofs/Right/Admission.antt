@@ -16,21 +16,21 @@ use Rattle.batcher_types.specs.Lists.{count, is_some_and}
 use Rattle.batcher_types.specs.Meaning.{Meaning}
 use Rattle.batcher_histories.specs.Setting.{Setting, sender_in}
 use Rattle.batcher_types.specs.Votes.{is_kind, kind_of, signer_of, is_vote_of, is_of_kind, same_proposal}
+use Rattle.batcher_types.proofs.CountLemmas.{count-append}
+use Rattle.batcher_types.proofs.KindLemmas.{is_kind-refl, is_kind-true}
 use Rattle.batcher_votes.specs.Held.{of_kind, Facts, Tracked, Buffered, Tracker, Held}
 use Rattle.batcher_votes.specs.Tracking.{Observed, unseen, in_full, as_facts, is_seen, observed, observed_opposite, kept_vote, from_kept, from_facts, known_facts, outcome_of, outcome_by, conflicts_with, RecordsKind, is_released_in}
 use Rattle.batcher_votes.specs.Buffering.{AddsVote, is_buffered, selected_in}
 use Rattle.batcher_histories.specs.Admissions.{same_vote, addition, block_for, mismatch_reason, admission_beside, admission_after, admission_after_facts}
 use Rattle.std.specs.Prelude.{MatchBool}
 use Rattle.std.proofs.lemmas.Option.{none-some}
+use Rattle.std.proofs.lemmas.Bool.{and_parts}
 use Rattle.batcher_histories.specs.Known.{Known, known_in, admission_from}
 use Rattle.batcher_votes.specs.Selected.{proposal_of}
 use Rattle.batcher_histories.specs.Steps.{IsRight, AfterNetwork, objection_to, objection_by, admission, admission_by, admission_named, is_recorded}
-use Rattle.batcher_histories.proofs.History.Distinct.{is_kind-refl, is_kind-true}
-use Rattle.batcher_votes.proofs.Counts.{count-append}
-use Rattle.batcher_votes.proofs.Restoring.{count_buffers}
-use Rattle.batcher_votes.proofs.Shown.{both_of}
+use Rattle.batcher_votes.proofs.VerifierLemmas.RestoredVotes.{count_buffers}
 use Rattle.batcher_votes.specs.Selected.{is_fixed}
-use Rattle.batcher_votes.proofs.Fixing.{selects_fixed}
+use Rattle.batcher_votes.proofs.VerifierLemmas.FixedProposal.{selects_fixed}
 
 or_true : (b : Bool) → (b || true) ≡ true
 or_true true = refl
@@ -526,7 +526,7 @@ module _ {D K G C : Type 0} (x : Setting D K G C) (held : Held G D) (vote : Vote
     && not (is_seen (observed held.tracked (kind_of vote) (signer_of vote)))) ≡ true) where
   none_seen : (observed_opposite held.tracked vote ≡ unseen)
       × (observed held.tracked (kind_of vote) (signer_of vote) ≡ unseen)
-  none_seen = let both = both_of _ _ first in (unseen_is _ both.0, unseen_is _ both.1)
+  none_seen = let both = and_parts _ _ first in (unseen_is _ both.0, unseen_is _ both.1)
 
   pub first_unopposed : objection_to x held vote ≡ None
   first_unopposed = rw (none_seen.0, none_seen.1) refl

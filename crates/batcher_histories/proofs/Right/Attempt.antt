@@ -24,12 +24,12 @@ use Rattle.batcher_votes.specs.Held.{of_kind, Buffered, Tracker}
 use Rattle.batcher_votes.specs.Tracking.{kept_vote, is_released_in, ReleasesKind, SameTracked}
 use Rattle.batcher_votes.specs.Buffering.{TriesKind, SameBuffered, attestations_of, vote_for}
 use Rattle.batcher_histories.specs.Steps.{IsRight, Fixes}
-use Rattle.batcher_votes.proofs.Counts.{count-append, count-filter_le, count-map}
-use Rattle.batcher_votes.proofs.Restoring.{count_buffers}
-use Rattle.batcher_histories.proofs.History.Distinct.{is_kind-true}
+use Rattle.batcher_votes.proofs.VerifierLemmas.RestoredVotes.{count_buffers}
+use Rattle.batcher_types.proofs.KindLemmas.{is_kind-true}
 use Rattle.batcher_votes.specs.Selected.{is_fixed, fixes as to_fixed}
 use Rattle.batcher_types.specs.declared.messages.Kind.TheVariants.{Finalization}
-use Rattle.batcher_votes.proofs.Fixing.{fixes_fixed, fixes_any}
+use Rattle.batcher_types.proofs.CountLemmas.{count-append, count-filter_le, count-map}
+use Rattle.batcher_votes.proofs.VerifierLemmas.FixedProposal.{fixes_fixed, fixes_any}
 
 module _ {D K G C : Type 0} (m : Meaning D K G C) (subject : Subject D) (q : ℕ)
     (v p : List (Attestation G)) where

@@ -21,8 +21,8 @@ use Rattle.batcher_votes.specs.Selected.{is_fixed}
 use Rattle.batcher_votes.specs.Tracking.{kept_vote, nothing_tracked, is_released_in}
 use Rattle.batcher_votes.specs.Buffering.{Buffers, nothing_buffered, SetsLeader, leader_answer}
 use Rattle.batcher_histories.specs.Steps.{IsRight, leader_set_answer}
-use Rattle.batcher_votes.proofs.Fixing.{selects_fixed}
-use Rattle.batcher_votes.proofs.Restoring.{count_buffers}
+use Rattle.batcher_votes.proofs.VerifierLemmas.FixedProposal.{selects_fixed}
+use Rattle.batcher_votes.proofs.VerifierLemmas.RestoredVotes.{count_buffers}
 
 -- with nothing held
 module _ {D K G C : Type 0} (m : Meaning D K G C) where

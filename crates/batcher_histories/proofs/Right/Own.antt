@@ -23,7 +23,7 @@ use Rattle.batcher_votes.specs.Tracking.{Observed, unseen, in_full, as_facts, sh
 use Rattle.batcher_votes.specs.Buffering.{AddsVote, MayFix, CompletesKind, coming_back}
 use Rattle.batcher_histories.specs.Steps.{IsRight, AfterOwn, fixed_by, unopposed_result, duplicate_result, own_result, own_result_by, report_by, is_added, is_kept}
 use Rattle.batcher_votes.specs.Sound.{WaitsWhereKept}
-use Rattle.batcher_votes.proofs.Fixing.{fixes_fixed, fixes_any}
+use Rattle.batcher_votes.proofs.VerifierLemmas.FixedProposal.{fixes_fixed, fixes_any}
 
 pub ok_is : {A B : Type 0} (a b : A) → ◌≡◌ {A = Result A B} (Ok a) (Ok b) → a ≡ b
 ok_is a b h = cc

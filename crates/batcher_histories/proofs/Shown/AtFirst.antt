@@ -7,12 +7,12 @@ use Rattle.batcher_votes.specs.declared.votes.Mode.{Mode}
 use Rattle.batcher_votes.specs.declared.votes.Mode.TheVariants.{Retaining, Releasing, Skipped}
 use Rattle.batcher_histories.specs.Setting.{Setting}
 use Rattle.batcher_types.specs.Lists.{count}
+use Rattle.batcher_types.proofs.ListLemmas.{either_same}
 use Rattle.batcher_votes.specs.Tracking.{is_skipped, is_released_in}
 use Rattle.batcher_histories.specs.Steps.{nothing_held}
 use Rattle.batcher_histories.specs.Selection.{selection_by}
 use Rattle.batcher_histories.specs.Standing.{is_trusted, stood_before, was_invalid}
 use Rattle.batcher_histories.specs.Stands.{Stands, StandsForKind}
-use Rattle.batcher_votes.proofs.Counts.{either_same}
 
 released_at_first : (m : Mode) → is_skipped m ≡ is_released_in m false
 released_at_first Retaining = refl

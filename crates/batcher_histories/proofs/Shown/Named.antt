@@ -19,6 +19,7 @@ use Rattle.batcher_votes.specs.declared.votes.Outcome.TheVariants.{Duplicate, Co
 use Rattle.batcher_histories.specs.Setting.{Setting, participants_in}
 use Rattle.batcher_types.specs.Lists.{is_some_and, is_empty, exactly_one}
 use Rattle.batcher_types.specs.Votes.{is_kind, kind_of, signer_of, proposal_in, kind_certified, subject_certified, has_proposals, is_vote_of, is_for, opposes, are_opposite}
+use Rattle.batcher_types.proofs.ListLemmas.{filter_none}
 use Rattle.batcher_votes.specs.Selected.{proposal_of, fixes}
 use Rattle.batcher_votes.specs.Held.{Held}
 use Rattle.batcher_votes.specs.Tracking.{observed_opposite, conflicts_with, outcome_by, is_skipped, is_released_in}
@@ -32,7 +33,6 @@ use Rattle.batcher_histories.specs.Answers.{network_answer, own_answer, forward_
 use Rattle.batcher_histories.specs.Stands.{Stands}
 use Rattle.batcher_histories.proofs.History.Distinct.{found_is_of, is_kind-true}
 use Rattle.batcher_histories.proofs.Shown.Observed.{observed_is}
-use Rattle.batcher_votes.proofs.Counts.{filter_none}
 
 pub or_none : {X : Type 0} (a b : Option X) → option_or a b ≡ None → (a ≡ None) × (b ≡ None)
 or_none None b h = (refl, h)

@@ -11,6 +11,8 @@ use Rattle.batcher_types.specs.declared.messages.Kind.{Kind}
 use Rattle.batcher_histories.specs.Setting.{Setting, quorum_in}
 use Rattle.batcher_types.specs.Lists.{count, SameElements}
 use Rattle.batcher_types.specs.Votes.{subject_of, has_proposals, same_subject}
+use Rattle.batcher_types.proofs.CountLemmas.{all_count, length_same}
+use Rattle.batcher_types.proofs.VoteLemmas.{same_subject-true, same_subject-refl}
 use Rattle.batcher_votes.specs.Selected.{proposal_of}
 use Rattle.batcher_votes.specs.Held.{of_kind, Held}
 use Rattle.batcher_votes.specs.Buffering.{have_one_subject, is_enough}
@@ -20,9 +22,7 @@ use Rattle.batcher_histories.specs.Selection.{selected_proposal, is_certified}
 use Rattle.batcher_histories.specs.Standing.{is_ready_by, trials, proven_votes, fresh_votes, ready_kind}
 use Rattle.batcher_histories.specs.Known.{first_ready}
 use Rattle.batcher_histories.specs.Stands.{Stands}
-use Rattle.batcher_votes.proofs.Counts.{all_count, length_same}
 use Rattle.batcher_histories.proofs.History.Laws.{HasLaws}
-use Rattle.batcher_votes.proofs.Constructing.{subject_is, same_subjects}
 use Rattle.batcher_histories.proofs.History.Attempts.{chosen}
 
 none_fails : {X : Type 0} (p : X → Bool) (xs : List X) → list_all p xs ≡ true
@@ -43,12 +43,12 @@ module _ {D K G C : Type 0} (x : Setting D K G C) (lawful : HasLaws x) where
   one_subject_of [] (w ∷ ws) same h = absurd (omega (arith, length_same [] (w ∷ ws) same))
   one_subject_of (v ∷ vs) (w ∷ ws) same h =
       let all_v : list_all (λ u. same_subject x.same_digest (subject_of v) (subject_of u)) (v ∷ vs)
-      ≡ true = and_from _ _ (same_subjects x.same_digest lawful.digests_same (subject_of v)) h in
+      ≡ true = and_from _ _ (same_subject-refl x.same_digest lawful.digests_same (subject_of v)) h in
       let all_w : list_all (λ u. same_subject x.same_digest (subject_of v) (subject_of u)) (w ∷ ws)
       ≡ true = all_same (λ u. same_subject x.same_digest (subject_of v) (subject_of u)) (v ∷ vs) (w ∷ ws) same all_v in
       let parts = and_parts (same_subject x.same_digest (subject_of v) (subject_of w))
       (list_all (λ u. same_subject x.same_digest (subject_of v) (subject_of u)) ws) all_w in
-      let e : subject_of v ≡ subject_of w = subject_is x.same_digest lawful.digests_equal (subject_of v) (subject_of w) parts.0 in
+      let e : subject_of v ≡ subject_of w = same_subject-true x.same_digest lawful.digests_equal (subject_of v) (subject_of w) parts.0 in
       subst (λ (s : Subject D). list_all (λ u. same_subject x.same_digest s (subject_of u)) ws ≡ true) e parts.1
 
   -- whether votes are of one subject doesn't depend on their order,

@@ -11,6 +11,7 @@ use Rattle.batcher_histories.specs.declared.answers.BlockReason.{BlockReason}
 use Rattle.batcher_histories.specs.Setting.{Setting, sender_in}
 use Rattle.batcher_types.specs.Lists.{is_some_and}
 use Rattle.batcher_types.specs.Votes.{is_kind, kind_of, signer_of, is_vote_of, are_opposite, opposes}
+use Rattle.batcher_types.proofs.ListLemmas.{any_found, none_found}
 use Rattle.batcher_votes.specs.Tracking.{is_released_in}
 use Rattle.batcher_histories.specs.Admissions.{same_vote, block_for, mismatch_reason}
 use Rattle.batcher_histories.specs.History.{History, names_sender}
@@ -21,7 +22,6 @@ use Rattle.batcher_histories.specs.Answers.{IsPossible, network_answer}
 use Rattle.batcher_promises.specs.Promises.{votes_cast}
 use Rattle.batcher_promises.specs.Blocked.{IsBlockedForItself, IsBlockedInEveryMode, IsBlockedExactlyUntilRelease, IsBlockedExactlyIfRetaining, BlocksJustly}
 use Rattle.batcher_histories.proofs.History.Distinct.{any_count, count_at, positive, option_cases, firsts_apart, found_is_of}
-use Rattle.batcher_promises.proofs.Runs.Finding.{any_found, none_found}
 use Rattle.batcher_histories.proofs.History.Laws.{HasLaws}
 use Rattle.batcher_promises.proofs.Headline.Promises.{opposites_differ, beside_blocks, against_contradicts, at_each_vote}
 use Rattle.batcher_promises.proofs.Blocks.Refused.{opposed_blocks}

@@ -3,9 +3,9 @@ use Rattle.std.proofs.Common.{◌≡◌, ℕ, Bool, true, false, cond, ◌&&◌,
 use Rattle.std.specs.Prelude.{is_some, All}
 use Rattle.std.specs.List.{list_any, cons_option}
 use Rattle.std.proofs.lemmas.Bool.{and_parts, and_from, or_left, or_right, or_cases}
-use Rattle.std.proofs.lemmas.Option.{same_Some}
 use Rattle.std.proofs.lemmas.List.Elements.{All-nil, All-cons}
 use Rattle.std.proofs.lemmas.List.Folds.{list_any-append}
+use Rattle.std.proofs.lemmas.Option.{cond_some}
 use Rattle.batcher_types.specs.declared.messages.Vote.{Vote}
 use Rattle.batcher_histories.specs.declared.calls.Call.{Call}
 use Rattle.batcher_histories.specs.declared.calls.Call.TheVariants.{Network as NetworkCall, Own as OwnCall, Certificate as CertificateCall, Leader as LeaderCall, Construct as ConstructCall, Forward as ForwardCall, Missing as MissingCall}
@@ -14,6 +14,7 @@ use Rattle.batcher_histories.specs.declared.answers.Answer.TheVariants.{OutOfMem
 use Rattle.batcher_histories.specs.declared.answers.Answer.TheVariants.{Leader as LeaderAnswer, Construct as ConstructAnswer, Forward as ForwardAnswer, Missing as MissingAnswer}
 use Rattle.batcher_histories.specs.Setting.{Setting, sender_in}
 use Rattle.batcher_types.specs.Votes.{signer_of}
+use Rattle.batcher_types.proofs.ListLemmas.{any_more}
 use Rattle.batcher_histories.specs.Runs.{blocked_sender, blocked_senders}
 use Rattle.batcher_histories.specs.History.{Event, History, is_made, history_after, history_from, cast_votes}
 use Rattle.batcher_histories.specs.FirstVotes.{contradicts}
@@ -21,7 +22,6 @@ use Rattle.batcher_histories.specs.Answers.{IsAnswered, AreAnswered}
 use Rattle.batcher_promises.specs.Promises.{votes_cast, names_another, contradicts_itself, gave_cause}
 use Rattle.batcher_promises.specs.Blocked.{GaveCause}
 use Rattle.batcher_histories.proofs.History.Laws.{HasLaws}
-use Rattle.batcher_promises.proofs.Runs.Finding.{any_more}
 use Rattle.batcher_promises.proofs.Headline.Promises.{blocked_for_cause}
 
 module _ {D K G C : Type 0} (x : Setting D K G C) where
@@ -72,17 +72,12 @@ module _ {D K G C : Type 0} (x : Setting D K G C) where
       cause_stays (history_after past call answer) calls answers i (cause_after past call answer i h)
 
 -- WHO IS BLOCKED
-named_if : {K : Type 0} (b : Bool) (sender key : K) → cond b (Some sender) None ≡ Some key
-    → (b ≡ true) × (sender ≡ key)
-named_if true sender key h = (refl, same_Some sender key h)
-named_if false sender key h = absurd (cc)
-
 module _ {D K G C : Type 0} (x : Setting D K G C) (laws : HasLaws x) where
   cause_now : (past : History D K G C) (call : Call K G C D) (answer : Answer G C D)
       → IsAnswered x past call answer → (key : K) → blocked_sender call answer ≡ Some key
       → GaveCause x (history_after past call answer) key
   cause_now past (NetworkCall sender vote) (NetworkAnswer admission) is key found = λ i known.
-      let named = named_if (is_some admission.block) sender key found in
+      let named = cond_some (is_some admission.block) sender key found in
       blocked_for_cause x laws past sender vote i (subst (λ k. sender_in x k ≡ Some i) (sym named.1) known) (NetworkAnswer admission)
       (subst (λ a. is_some a.block ≡ true) is named.0)
   cause_now past (NetworkCall sender vote) (OwnAnswer outcome report) is key found = absurd (cc)

@@ -10,12 +10,12 @@ use Rattle.batcher_types.specs.declared.messages.Kind.{Kind}
 use Rattle.batcher_types.specs.declared.messages.Kind.TheVariants.{Notarization, Nullification, Finalization}
 use Rattle.batcher_histories.specs.Setting.{Setting}
 use Rattle.batcher_types.specs.Votes.{is_kind, kind_of, signer_of, are_opposite, is_vote_of, opposes}
+use Rattle.batcher_types.proofs.ListLemmas.{any_found, none_found}
 use Rattle.batcher_histories.specs.History.{History}
 use Rattle.batcher_histories.specs.FirstVotes.{first_votes, first_vote, opposite_vote}
 use Rattle.batcher_histories.specs.Selection.{is_released}
 use Rattle.batcher_promises.specs.Reported.{are_contrary, contrary_vote}
 use Rattle.batcher_histories.proofs.History.Distinct.{IsAt, AreApart, vote_at, is_kind-true, option_cases, found_here, found_behind, firsts_apart}
-use Rattle.batcher_promises.proofs.Runs.Finding.{any_found, none_found}
 use Rattle.batcher_promises.proofs.Headline.NeverBoth.{never_both}
 use Rattle.batcher_histories.proofs.Right.Kept.{found_passes}
 

@@ -17,6 +17,7 @@ use Rattle.batcher_histories.specs.declared.answers.Answer.TheVariants.{Leader a
 use Rattle.batcher_histories.specs.Setting.{Setting, participants_in, quorum_in}
 use Rattle.batcher_types.specs.Lists.{count, is_some_and}
 use Rattle.batcher_types.specs.Votes.{is_kind, kind_of, signer_of, is_of_kind, is_vote_of, waits}
+use Rattle.batcher_types.proofs.CountLemmas.{at_most_one, count_mono, count-append, count-false, count-true, count_same, count_covers, count_split, below_or_at, below_zero}
 use Rattle.batcher_votes.specs.Tracking.{is_skipped}
 use Rattle.batcher_histories.specs.History.{Event, History, batch_given, cast_votes}
 use Rattle.batcher_histories.specs.FirstVotes.{first_vote, first_votes, is_free}
@@ -28,9 +29,7 @@ use Rattle.batcher_promises.specs.Work.{processed_total}
 use Rattle.batcher_promises.specs.Flood.{batches_given, IsFloodBounded}
 use Rattle.batcher_promises.specs.Composed.{votes_added}
 use Rattle.batcher_histories.proofs.History.Laws.{HasLaws}
-use Rattle.batcher_votes.proofs.Counts.{at_most_one, count_mono, count-append, count-false, count-true, count_same}
 use Rattle.batcher_histories.proofs.History.Distinct.{IsAt, count-filter, firsts_apart, free_is_new, is_kind-true, is_kind-refl, new_votes, option_cases}
-use Rattle.batcher_promises.proofs.Certificates.Overlap.{count_covers, count_split, below_or_at, below_zero}
 use Rattle.batcher_histories.proofs.History.Past.{tried_after, invalid_after, count_fresh, count_proven, closed_is_empty}
 use Rattle.batcher_histories.proofs.History.Selection.{waited_before}
 use Rattle.batcher_histories.proofs.History.Attempts.{MadeBatch, batch_made, ready_is, back_not_tried, quorum_positive}

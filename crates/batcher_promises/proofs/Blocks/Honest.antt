@@ -22,6 +22,9 @@ use Rattle.batcher_histories.specs.declared.calls.Call.TheVariants.{Network as N
 use Rattle.batcher_histories.specs.Setting.{Setting, participants_in}
 use Rattle.batcher_types.specs.Lists.{count, is_some_and}
 use Rattle.batcher_types.specs.Votes.{is_kind, kind_of, signer_of, subject_of, attestation_of, proposal_in, has_proposals, same_proposal, same_subject, excludes, is_of_kind, is_vote_of, waits}
+use Rattle.batcher_types.proofs.ListLemmas.{any_more, any_other, any_filter, any_found}
+use Rattle.batcher_types.proofs.CountLemmas.{at_most_one, count-append, count-false, count-filter_le, count-map, count_covers}
+use Rattle.batcher_types.proofs.VoteLemmas.{same_subject-true}
 use Rattle.batcher_histories.specs.Runs.{MayCall}
 use Rattle.batcher_histories.specs.Admissions.{same_vote}
 use Rattle.batcher_histories.specs.History.{Event, History, batch_given, sent_votes, own_votes, cast_votes}
@@ -37,14 +40,10 @@ use Rattle.batcher_promises.specs.Promises.{votes_cast, names_another, contradic
 use Rattle.batcher_promises.specs.Reported.{IsAmong}
 use Rattle.batcher_promises.specs.Honest.{named_invalid, IsAddedWithoutCause, times_named, votes_sent, sent_bad_vote, NamesForOwnVotes, voted_well, honest_voters, CompletesHonestQuorums, LeavesNoHonestQuorum, TakesInHonest}
 use Rattle.batcher_histories.proofs.History.Laws.{HasLaws}
-use Rattle.batcher_promises.proofs.Runs.Finding.{any_more, any_other, any_filter, any_found}
 use Rattle.batcher_histories.proofs.History.Distinct.{any_count, any_is_found, is_kind-refl, is_kind-true, some_of, found_is_of, first_stays, where_holds}
-use Rattle.batcher_votes.proofs.Counts.{at_most_one, count-append, count-false, count-filter_le, count-map}
 use Rattle.batcher_histories.proofs.History.Past.{invalid_after, invalid_in}
 use Rattle.batcher_histories.proofs.History.Attempts.{kind_in, kind_of_vote, TriesKind, tries_by, is_fresh_bad, invalid_cases, invalid_tried, found_among}
 use Rattle.batcher_promises.proofs.Headline.Attesting.{some_more, names_bad_signers, usable_once}
-use Rattle.batcher_promises.proofs.Certificates.Overlap.{count_covers}
-use Rattle.batcher_votes.proofs.Constructing.{subject_is}
 use Rattle.batcher_histories.proofs.Follow.Network.{added_is}
 use Rattle.batcher_promises.proofs.Quorums.Completed.{completes, construct_answered}
 use Rattle.batcher_promises.specs.Prompt.{has_valid_quorum}
@@ -382,7 +381,7 @@ module _ {D K G C : Type 0} (x : Setting D K G C) where
         (u v : Vote G D) → IsAmong u (votes_cast x past) → IsAmong v (votes_cast x past)
         → signer_of u ≡ i → excludes u v ≡ true → subject_of u ≡ subject_of v
     one_subject u v u_among v_among signs excluded =
-        subject_is x.same_digest laws.digests_equal (subject_of u) (subject_of v)
+        same_subject-true x.same_digest laws.digests_equal (subject_of u) (subject_of v)
         (and_parts (same_subject x.same_digest (subject_of u) (subject_of v)) _ (true_from_ne_false _ differs)).0
       where
         differs : is_same u v ≡ false → ⊥

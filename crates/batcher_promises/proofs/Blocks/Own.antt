@@ -10,15 +10,14 @@ use Rattle.batcher_histories.specs.declared.answers.Answer.TheVariants.{Leader a
 use Rattle.batcher_histories.specs.Setting.{Setting}
 use Rattle.batcher_types.specs.Lists.{count}
 use Rattle.batcher_types.specs.Votes.{is_kind, kind_of, signer_of, are_opposite, excludes}
+use Rattle.batcher_types.proofs.CountLemmas.{count-append, count_none}
+use Rattle.batcher_types.proofs.ListLemmas.{any_more}
 use Rattle.batcher_histories.specs.History.{Event, History}
 use Rattle.batcher_histories.specs.FirstVotes.{first_votes, is_free}
 use Rattle.batcher_histories.specs.Answers.{IsPossible}
 use Rattle.batcher_promises.specs.Composed.{added_by, votes_added}
 use Rattle.batcher_promises.specs.Honest.{own_added_by, own_votes_added, OwnAddedAgree}
-use Rattle.batcher_votes.proofs.Counts.{count-append}
-use Rattle.batcher_votes.proofs.Soundness.{count_none}
 use Rattle.batcher_histories.proofs.History.Distinct.{new_votes, new_cases}
-use Rattle.batcher_promises.proofs.Runs.Finding.{any_more}
 use Rattle.batcher_promises.proofs.Throughout.Told.{added_are}
 
 -- WHICH VOTES EXCLUDE EACH OTHER

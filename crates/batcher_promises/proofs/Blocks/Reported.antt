@@ -21,6 +21,8 @@ use Rattle.batcher_histories.specs.declared.calls.Call.TheVariants.{Network as N
 use Rattle.batcher_histories.specs.declared.answers.Answer.TheVariants.{Network as NetworkAnswer, Own as OwnAnswer}
 use Rattle.batcher_histories.specs.Setting.{Setting, sender_in}
 use Rattle.batcher_types.specs.Votes.{is_kind, kind_of, signer_of, subject_of, round_in, same_round, same_proposal, are_opposite, is_vote_of, opposes}
+use Rattle.batcher_types.proofs.ListLemmas.{any_filter, any_found}
+use Rattle.batcher_types.proofs.VoteLemmas.{same_round-true}
 use Rattle.batcher_votes.specs.Tracking.{is_released_in}
 use Rattle.batcher_histories.specs.Admissions.{same_vote, report_of, addition, refusal, block_for, mismatch_reason, conflict_reason, admission_after, admission_after_facts, admission_beside}
 use Rattle.batcher_histories.specs.Steps.{is_added, report_by}
@@ -37,10 +39,8 @@ use Rattle.batcher_promises.specs.Reported.{IsAmong, AreContrary, ReportsAdded, 
 use Rattle.batcher_histories.proofs.History.Distinct.{is_kind-true, found_is_of, firsts_apart}
 use Rattle.batcher_promises.proofs.Blocks.Blocked.{named_answer, answer_by_name}
 use Rattle.batcher_promises.proofs.Blocks.Contrary.{opposed_parts, found_at, unopposed_only, if_contrary, contrary_of_kind, contrary_is}
-use Rattle.batcher_promises.proofs.Runs.Finding.{any_filter, any_found}
 use Rattle.batcher_promises.proofs.Headline.Promises.{first_is_cast, at_each_event, at_each_allowed, at_each_vote}
 use Rattle.batcher_histories.proofs.Right.Kept.{found_passes}
-use Rattle.batcher_votes.proofs.Waits.{round_is}
 use Rattle.batcher_histories.proofs.History.ByFirst.{admission_against, admission_by_first, admission_sent_by, network_is}
 
 -- THE SORTS OF ANSWERS
@@ -311,7 +311,7 @@ module _ {D K G C : Type 0} (x : Setting D K G C) where
       IsAmong v (first_votes x past) → round_in (subject_of v) ≡ x.number
   first_here past possible v among =
       ⊎_elim
-      (λ same. round_is _ _ same)
+      (λ same. same_round-true _ _ same)
       (λ other. absurd (true≢false (sym (among is_elsewhere (ap not other)) ∙ firsts_here past possible)))
       (cases_Bool (same_round (round_in (subject_of v)) x.number))
 

@@ -12,6 +12,7 @@ use Rattle.batcher_histories.specs.declared.calls.Call.TheVariants.{Network as N
 use Rattle.batcher_histories.specs.Setting.{Setting, sender_in}
 use Rattle.batcher_types.specs.Lists.{count, is_some_and}
 use Rattle.batcher_types.specs.Votes.{signer_of, subject_of, attestation_of, excludes, same_round, same_proposal, same_subject}
+use Rattle.batcher_types.proofs.ListLemmas.{any_more}
 use Rattle.batcher_histories.specs.Admissions.{same_vote}
 use Rattle.batcher_histories.specs.History.{Event, History, cast_votes}
 use Rattle.batcher_histories.specs.FirstVotes.{contradicts}
@@ -20,7 +21,6 @@ use Rattle.batcher_promises.specs.Reported.{IsAmong}
 use Rattle.batcher_promises.specs.Honest.{own_votes_added, OwnAddedAgree}
 use Rattle.batcher_promises.specs.Sent.{SendsAdded, SendersOfAddedGiveNoCause}
 use Rattle.batcher_histories.proofs.History.Distinct.{any_count}
-use Rattle.batcher_promises.proofs.Runs.Finding.{any_more}
 use Rattle.batcher_promises.proofs.Order.Reordered.{excludes_itself}
 use Rattle.batcher_promises.proofs.Blocks.Honest.{some_among}
 

@@ -17,6 +17,8 @@ use Rattle.batcher_histories.specs.declared.answers.Answer.{Answer}
 use Rattle.batcher_histories.specs.Setting.{Setting, participants_in, quorum_in}
 use Rattle.batcher_types.specs.Lists.{count, is_some_and, EachOnce}
 use Rattle.batcher_types.specs.Votes.{is_kind, signer_of, kind_certified, subject_certified, same_proposal, same_round, is_of_kind, is_vote_of}
+use Rattle.batcher_types.proofs.CountLemmas.{count-append, count-filter_le, count_covers, few_distinct, quorums_overlap, count_none}
+use Rattle.batcher_types.proofs.VoteLemmas.{same_proposal-refl}
 use Rattle.batcher_votes.specs.Selected.{proposal_of}
 use Rattle.batcher_histories.specs.History.{Event, History, batch_given, certificate_given, cast_votes}
 use Rattle.batcher_histories.specs.FirstVotes.{first_votes, first_vote, is_free}
@@ -25,11 +27,8 @@ use Rattle.batcher_histories.specs.Answers.{IsPossible}
 use Rattle.batcher_promises.specs.Reported.{subjects_contradict}
 use Rattle.batcher_promises.specs.Backed.{proposal_certified, gives_kind, was_given, IsGiven, GivesOnce, IsBacked, GivesBacked, GivesFixed, NameOneProposal, GivesSafely}
 use Rattle.batcher_histories.proofs.History.Laws.{HasLaws}
-use Rattle.batcher_votes.proofs.Counts.{count-append, count-filter_le}
 use Rattle.batcher_histories.proofs.History.Distinct.{count-filter, count_at, count_sum, firsts_apart, where_holds, is_kind-refl, is_kind-true}
-use Rattle.batcher_votes.proofs.Soundness.{count_none}
 use Rattle.batcher_histories.proofs.Memory.Spared.{counted}
-use Rattle.batcher_votes.proofs.Constructing.{same_proposals}
 use Rattle.batcher_histories.proofs.History.Attempts.{ready_is}
 use Rattle.batcher_promises.proofs.Headline.NeverBoth.{never_both}
 use Rattle.batcher_promises.proofs.Headline.Promises.{at_each_event}
@@ -37,7 +36,6 @@ use Rattle.batcher_promises.proofs.Throughout.ByDefinition.{keeps_fixed}
 use Rattle.batcher_promises.proofs.Certificates.Backed.{is_outside, firsts_take_part, Gave, gave_in, gave, kind_enough, backed_here}
 use Rattle.batcher_promises.proofs.Throughout.Told.{if_some}
 use Rattle.batcher_promises.proofs.Quorums.Left.{given_evidence}
-use Rattle.batcher_promises.proofs.Certificates.Overlap.{count_covers, few_distinct, quorums_overlap}
 
 -- AT EACH EVENT
 module _ {D : Type 0} where
@@ -246,7 +244,7 @@ module _ {D K G C : Type 0} (x : Setting D K G C) (laws : HasLaws x) where
       subst (λ r. same_proposal x.same_digest p r ≡ true)
       (one_fixed
       (sym (named_is_fixed past possible a given_a p names_p) ∙ named_is_fixed past possible b given_b q names_q))
-      (same_proposals x.same_digest laws.digests_same p)))
+      (same_proposal-refl x.same_digest laws.digests_same p)))
     where
       one_fixed : {p q : Proposal D} → FixedProposal p ≡ FixedProposal q → p ≡ q
       one_fixed h = cc

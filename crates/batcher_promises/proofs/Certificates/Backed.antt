@@ -23,6 +23,8 @@ use Rattle.batcher_types.specs.Keys.{index_of, participant}
 use Rattle.batcher_histories.specs.Setting.{Setting, participants_in, quorum_in, sender_in}
 use Rattle.batcher_types.specs.Lists.{count, ElementsWithin}
 use Rattle.batcher_types.specs.Votes.{signer_of, attestation_of, subject_of, kind_certified, subject_certified, same_subject, is_of_kind, waits}
+use Rattle.batcher_types.proofs.CountLemmas.{count-append, count-filter_le, once_fewer, length_same, all_count, count_split, all_counted, all_counted_both}
+use Rattle.batcher_types.proofs.VoteLemmas.{same_subject-true}
 use Rattle.batcher_histories.specs.Runs.{MayCall}
 use Rattle.batcher_votes.specs.Tracking.{is_skipped}
 use Rattle.batcher_histories.specs.History.{Event, History, batch_given, certificate_given, cast_votes, names_sender}
@@ -34,16 +36,13 @@ use Rattle.batcher_histories.specs.Answers.{IsPossible}
 use Rattle.batcher_promises.specs.Composed.{usable_votes}
 use Rattle.batcher_promises.specs.Backed.{votes_behind, IsBacked}
 use Rattle.batcher_histories.proofs.History.Laws.{HasLaws}
-use Rattle.batcher_votes.proofs.Counts.{count-append, count-filter_le, once_fewer, length_same, all_count}
 use Rattle.batcher_histories.proofs.History.Distinct.{count-filter, where_holds}
-use Rattle.batcher_votes.proofs.Soundness.{fewer_left}
+use Rattle.batcher_votes.proofs.VerifierLemmas.Soundness.{fewer_left}
 use Rattle.batcher_histories.proofs.Memory.Spared.{counted}
-use Rattle.batcher_votes.proofs.Constructing.{subject_is}
 use Rattle.batcher_histories.proofs.History.Attempts.{batch_made, witnessed, reached_by}
 use Rattle.batcher_promises.proofs.Headline.Work.{count_implied}
 use Rattle.batcher_promises.proofs.Headline.Attesting.{usable_within, usable_once, proven_attest}
 use Rattle.batcher_promises.proofs.Throughout.Told.{batch_with}
-use Rattle.batcher_promises.proofs.Certificates.Overlap.{count_split, all_counted, all_counted_both}
 
 -- WHO CASTS TAKES PART
 index_below : (n : ℕ) (o : Option ℕ) (i : Participant)
@@ -195,7 +194,7 @@ module _ {D K G C : Type 0} (x : Setting D K G C) (laws : HasLaws x)
   all_behind : list_all is_behind looked ≡ true
   all_behind =
       subst (λ (s : Subject D). list_all (λ v. same_subject x.same_digest s (subject_of v)) looked ≡ true)
-      (subject_is x.same_digest laws.digests_equal after.attempt.subject (subject_certified c) (and_parts _ _ certifies).0)
+      (same_subject-true x.same_digest laws.digests_equal after.attempt.subject (subject_certified c) (and_parts _ _ certifies).0)
       after.attempt.one_subject
     where
       certifies : certifies_subject x after.attempt.subject c ≡ true

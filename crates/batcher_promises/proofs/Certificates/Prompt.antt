@@ -17,6 +17,7 @@ use Rattle.batcher_histories.specs.declared.calls.Call.TheVariants.{Construct as
 use Rattle.batcher_histories.specs.Setting.{Setting, quorum_in}
 use Rattle.batcher_types.specs.Lists.{count, is_some_and}
 use Rattle.batcher_types.specs.Votes.{attestation_of, is_kind, has_proposals, kind_certified}
+use Rattle.batcher_types.proofs.CountLemmas.{count-append, length_same, count_split, none_fails}
 use Rattle.batcher_votes.specs.Buffering.{have_one_subject}
 use Rattle.batcher_histories.specs.History.{Event, History, batch_given}
 use Rattle.batcher_histories.specs.FirstVotes.{first_votes}
@@ -27,7 +28,6 @@ use Rattle.batcher_histories.specs.Answers.{IsPossible}
 use Rattle.batcher_promises.specs.Composed.{usable_votes}
 use Rattle.batcher_promises.specs.Prompt.{HasNoBadVote, IsClean, GivesAtOnce, has_valid_quorum, is_due, kinds_due, TakesOne, GivesDespiteBadVotes, LeavesNoneDue, GivesPromptly}
 use Rattle.batcher_histories.proofs.History.Laws.{HasLaws}
-use Rattle.batcher_votes.proofs.Counts.{count-append, length_same}
 use Rattle.batcher_histories.proofs.History.Distinct.{some_of, is_kind-refl}
 use Rattle.batcher_histories.proofs.Memory.Spared.{counted}
 use Rattle.batcher_histories.proofs.History.Attempts.{batch_made, ready_is, full_gives}
@@ -36,7 +36,6 @@ use Rattle.batcher_promises.proofs.Quorums.Completed.{unchosen, construct_answer
 use Rattle.batcher_histories.proofs.Follow.Settled.{constructed}
 use Rattle.batcher_promises.proofs.Headline.Promises.{at_each_event}
 use Rattle.batcher_promises.proofs.Throughout.Told.{if_some}
-use Rattle.batcher_promises.proofs.Certificates.Overlap.{count_split, none_fails}
 use Rattle.batcher_promises.proofs.Certificates.Backed.{usable_are_first, checked_within, gave}
 use Rattle.batcher_promises.proofs.Quorums.ValidVotes.{valid_stay, enough_valid}
 

@@ -22,9 +22,9 @@ none_added : {X : Type 0} {v : X} → [] ≡ v ∷ [] → ⊥
 none_added h = absurd (cc)
 
 -- THE TINY SCHEME IS LAWFUL
-certified : (all : Bool) (c : ℕ) → cond all (Some 0) None ≡ Some c → (c == 0) ≡ true
-certified true c e = ap (λ (k : ℕ). k == 0) (sym (same_Some 0 c e))
-certified false c e = absurd (cc)
+pub given_is_good : (all : Bool) (c : ℕ) → cond all (Some 0) None ≡ Some c → (c == 0) ≡ true
+given_is_good true c e = ap (λ (k : ℕ). k == 0) (sym (same_Some 0 c e))
+given_is_good false c e = absurd (cc)
 
 given : {X : Type 0} (v : X) (all : Bool) → all ≡ true → is_some (cond all (Some v) None) ≡ true
 given v true h = refl
@@ -41,7 +41,7 @@ listing_laws : IsLawful (listing 4)
 listing_laws =
     record {
       signers_in_range = λ subject a h. ltb-true a.signer.0 4 (and_parts (nat_lt a.signer.0 4) (is_good a) h).0;
-      optimistic_certifies = λ subject pending verified stream c may e. certified (list_all is_good pending) c e;
+      optimistic_certifies = λ subject pending verified stream c may e. given_is_good (list_all is_good pending) c e;
       optimistic_gives = λ subject pending verified stream may all.
           given 0 (list_all is_good pending) (all_good pending 4 all);
       assembled_certifies = λ subject prior fresh some quorum pass. refl;

@@ -1,8 +1,7 @@
 -- The examples of honest participants and of floods, computed.
-use Rattle.std.proofs.Common.{◌≡◌, ◌==◌, ℕ, Bool, true, false, cond, nat_lt, Some, None, [], ◌∷◌, map, refl, ap, sym, arith}
+use Rattle.std.proofs.Common.{◌==◌, nat_lt, [], ◌∷◌, map, refl, arith}
 use Rattle.std.specs.List.{list_all}
 use Rattle.std.proofs.lemmas.Bool.{and_parts, ltb-true, false≢true}
-use Rattle.std.proofs.lemmas.Option.{same_Some}
 use Rattle.std.proofs.lemmas.List.Sums.{list_all-from_AllPass}
 use Rattle.batcher_types.specs.Meaning.{IsLawful}
 use Rattle.batcher_types.specs.declared.messages.Kind.TheVariants.{Nullification}
@@ -14,10 +13,7 @@ use Rattle.batcher_promises.specs.Honest.{sent_bad_vote}
 use Rattle.batcher_promises.specs.Examples.Answers.{is_good, four, p, notarize, nullify}
 use Rattle.batcher_types.specs.Keys.{index_of, participant}
 use Rattle.batcher_promises.specs.Examples.Honest.{undiscerning, played_nullifies, HonestExamples}
-
-given_is_good : (b : Bool) (c : ℕ) → cond b (Some 0) None ≡ Some c → (c == 0) ≡ true
-given_is_good true c e = ap (λ (k : ℕ). k == 0) (sym (same_Some 0 c e))
-given_is_good false c e = absurd (cc)
+use Rattle.batcher_promises.proofs.Examples.Answers.{given_is_good}
 
 lawful : IsLawful undiscerning.meaning
 lawful =

@@ -19,6 +19,7 @@ use Rattle.batcher_histories.specs.declared.answers.Answer.{Answer}
 use Rattle.batcher_histories.specs.Setting.{Setting}
 use Rattle.batcher_types.specs.Lists.{count, is_some_and, EachOnce, SameElements}
 use Rattle.batcher_types.specs.Votes.{kind_of, signer_of, is_of_kind, is_vote_of, has_proposals, is_for, waits}
+use Rattle.batcher_types.proofs.CountLemmas.{count-append, count-false, count_same, all_count, once_fewer}
 use Rattle.batcher_votes.specs.Tracking.{is_skipped}
 use Rattle.batcher_histories.specs.Runs.{MayCall}
 use Rattle.batcher_histories.specs.History.{Event, History, batch_given, own_votes}
@@ -31,7 +32,6 @@ use Rattle.batcher_histories.specs.Trying.{bad_signers}
 use Rattle.batcher_promises.specs.Composed.{NamesBadSigners, usable_votes, has_bad_vote}
 use Rattle.batcher_histories.proofs.History.Laws.{HasLaws}
 use Rattle.batcher_histories.proofs.History.Distinct.{IsAt, AreApart, count-filter, count_at, firsts_apart, first_stays, found_here, found_behind, is_kind-true, some_of, some_where}
-use Rattle.batcher_votes.proofs.Counts.{count-append, count-false, count_same, all_count, once_fewer}
 use Rattle.batcher_histories.proofs.History.Past.{among_standing, closed_is_empty, count_passed, count_proven, invalid_after, invalid_in, own_filled, tried_after, tried_filled, kind_and_signer}
 use Rattle.batcher_histories.proofs.History.Selection.{certified_before}
 use Rattle.batcher_histories.proofs.History.Attempts.{any_bad_fresh, bad_of_all, batch_made, found_among, given_certified, invalid_tried, is_fresh_bad, tries_by}

@@ -8,13 +8,13 @@ use Rattle.batcher_types.specs.declared.messages.Vote.TheVariants.{Notarize as N
 use Rattle.batcher_histories.specs.Setting.{Setting}
 use Rattle.batcher_types.specs.Lists.{is_empty, exactly_one}
 use Rattle.batcher_types.specs.Votes.{is_kind, kind_of, signer_of, is_vote_of, is_for, same_proposal}
+use Rattle.batcher_types.proofs.VoteLemmas.{same_proposal-true}
+use Rattle.batcher_types.proofs.ListLemmas.{any_more, any_of_filtered}
 use Rattle.batcher_histories.specs.History.{History}
 use Rattle.batcher_histories.specs.Selection.{selected_proposal}
 use Rattle.batcher_histories.specs.Comparison.{compared_votes, compared_votes_of, conflicts}
 use Rattle.batcher_histories.proofs.History.ByFirst.{differs_from, conflicts_is}
 use Rattle.batcher_promises.specs.Composed.{carry_different}
-use Rattle.batcher_votes.proofs.Waits.{proposal_is}
-use Rattle.batcher_promises.proofs.Runs.Finding.{any_more, any_of_filtered}
 use Rattle.batcher_histories.proofs.History.Laws.{HasLaws}
 use Rattle.batcher_histories.proofs.History.Distinct.{where_holds}
 use Rattle.batcher_histories.specs.Admissions.{same_vote}
@@ -44,7 +44,7 @@ module _ {D : Type 0} (same : D → D → Bool) (identical : (a b : D) → same 
   proposals_differ : (a b p : Proposal D) (mark : Bool) → same_proposal same p b ≡ mark
       → same_proposal same p a ≡ not mark → not (same_proposal same a b) ≡ true
   proposals_differ a b p mark e h =
-      ap not (false_from_ne_true _ (λ alike. not_opposite mark (sym h ∙ (ap (same_proposal same p) (proposal_is same identical a b alike) ∙ e))))
+      ap not (false_from_ne_true _ (λ alike. not_opposite mark (sym h ∙ (ap (same_proposal same p) (same_proposal-true same identical a b alike) ∙ e))))
 
   votes_differ : {G : Type 0} (a b : Vote G D) (p : Proposal D) (mark : Bool)
       → is_kind (kind_of a) (kind_of b) ≡ true → is_for same p b ≡ mark → is_for same p a ≡ not mark

@@ -8,10 +8,10 @@ use Rattle.batcher_types.specs.declared.messages.Kind.{Kind}
 use Rattle.batcher_types.specs.declared.messages.Kind.TheVariants.{Nullification, Finalization}
 use Rattle.batcher_histories.specs.Setting.{Setting}
 use Rattle.batcher_types.specs.Votes.{is_kind, kind_of, signer_of, is_vote_of, are_opposite, excludes}
+use Rattle.batcher_types.proofs.ListLemmas.{any_more}
 use Rattle.batcher_histories.specs.History.{History}
 use Rattle.batcher_histories.specs.FirstVotes.{first_votes, first_vote, is_free}
 use Rattle.batcher_histories.proofs.History.Distinct.{any_is_found, is_kind-true, new_votes, new_cases}
-use Rattle.batcher_promises.proofs.Runs.Finding.{any_more}
 
 -- a vote of one of two sorts beside others of which one sort is missing
 still_apart : (n f a b : Bool) → (n ≡ true → f ≡ false) → (n ≡ true → b ≡ false)

@@ -23,6 +23,7 @@ use Rattle.batcher_histories.specs.declared.answers.Answer.TheVariants.{Forward 
 use Rattle.batcher_histories.specs.Setting.{Setting, sender_in}
 use Rattle.batcher_types.specs.Lists.{is_some_and}
 use Rattle.batcher_types.specs.Votes.{is_kind, kind_of, signer_of, subject_of, round_in, is_vote_of, are_opposite, excludes, opposes, same_proposal}
+use Rattle.batcher_types.proofs.ListLemmas.{any_more, any_filter, any_found, none_found, any_other}
 use Rattle.batcher_votes.specs.Tracking.{is_released_in}
 use Rattle.batcher_histories.specs.Admissions.{same_vote, refusal, mismatch_reason, block_for, admission_after, admission_after_facts, admission_beside}
 use Rattle.batcher_histories.specs.History.{Event, History, names_sender, cast_votes, batch_given}
@@ -36,7 +37,6 @@ use Rattle.batcher_histories.specs.Runs.{certifies_answer}
 use Rattle.batcher_histories.specs.Trying.{certifies_subject}
 use Rattle.batcher_votes.specs.Verifiers.{certifies_itself}
 use Rattle.batcher_histories.proofs.History.Attempts.{batch_made}
-use Rattle.batcher_promises.proofs.Runs.Finding.{any_more, any_filter, any_found, none_found, any_other}
 use Rattle.batcher_promises.specs.Composed.{carry_different}
 use Rattle.batcher_promises.proofs.Headline.Conflicts.{conflict_with_compared, carried_differ}
 use Rattle.batcher_histories.proofs.History.Laws.{HasLaws}

@@ -22,6 +22,8 @@ use Rattle.batcher_histories.specs.declared.calls.Call.TheVariants.{Network as N
 use Rattle.batcher_histories.specs.Setting.{Setting, quorum_in}
 use Rattle.batcher_types.specs.Lists.{count, is_some_and}
 use Rattle.batcher_types.specs.Votes.{has_proposals, is_kind, kind_of, signer_of, is_of_kind, is_vote_of, waits}
+use Rattle.batcher_types.proofs.CountLemmas.{count-append, count-false, count-true, count_same, length_same}
+use Rattle.batcher_types.proofs.ListLemmas.{any_filter}
 use Rattle.batcher_votes.specs.Tracking.{is_skipped}
 use Rattle.batcher_histories.specs.History.{Event, History, batch_given, own_votes, sent_votes, cast_votes}
 use Rattle.batcher_histories.specs.FirstVotes.{first_vote, first_votes, own_first_votes, is_free}
@@ -35,11 +37,9 @@ use Rattle.batcher_promises.specs.Work.{IsWorkBounded, processed_by, processed_t
 use Rattle.batcher_histories.proofs.History.Distinct.{AreApart, IsAt, count-filter, firsts_apart, found_behind, found_here, free_is_new, is_itself, is_kind-refl, is_kind-true, new_votes, option_cases, some_of}
 use Rattle.batcher_histories.proofs.History.Attempts.{MadeBatch, batch_made, ready_is, quorum_positive}
 use Rattle.batcher_histories.proofs.Follow.Buffers.{is_fresh, new_not_tried, no_batch, no_trial, not_restored}
-use Rattle.batcher_votes.proofs.Counts.{count-append, count-false, count-true, count_same, length_same}
 use Rattle.batcher_histories.proofs.History.Laws.{HasLaws}
 use Rattle.batcher_histories.proofs.Memory.Spared.{counted}
 use Rattle.batcher_histories.proofs.History.Past.{among_standing, closed_is_empty, count_fresh, own_stays, restored_after, tried_after}
-use Rattle.batcher_promises.proofs.Runs.Finding.{any_filter}
 use Rattle.batcher_histories.proofs.History.Selection.{certified_before, is_restored_by}
 
 -- Counts over votes apart compare as they do at each vote that is found.

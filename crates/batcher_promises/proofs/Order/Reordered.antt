@@ -23,6 +23,10 @@ use Rattle.batcher_histories.specs.declared.answers.Answer.TheVariants.{Leader a
 use Rattle.batcher_histories.specs.Setting.{Setting, quorum_in}
 use Rattle.batcher_types.specs.Lists.{count, is_some_and, SameElements}
 use Rattle.batcher_types.specs.Votes.{is_kind, kind_of, signer_of, subject_of, is_of_kind, is_vote_of, are_opposite, has_proposals, excludes, proposal_in, kind_certified, same_proposal, is_for}
+use Rattle.batcher_types.proofs.CountLemmas.{count-append, count_same, all_count, none_fails}
+use Rattle.batcher_types.proofs.KindLemmas.{each_kind}
+use Rattle.batcher_types.proofs.VoteLemmas.{same_proposal-true, same_proposal-refl}
+use Rattle.batcher_types.proofs.ListLemmas.{any_more}
 use Rattle.batcher_votes.specs.Tracking.{is_skipped}
 use Rattle.batcher_histories.specs.Steps.{leader_set_answer}
 use Rattle.batcher_histories.specs.History.{Event, History, is_made, recorded_certificate, certificate_given, cast_votes}
@@ -36,16 +40,11 @@ use Rattle.batcher_promises.specs.Backed.{proposal_certified}
 use Rattle.batcher_promises.specs.Prompt.{HasNoBadVote, has_valid_quorum}
 use Rattle.batcher_promises.specs.Converge.{calls_of, is_construction, evidence_by, fix_different, IsOrderless, is_settled}
 use Rattle.batcher_histories.proofs.History.Laws.{HasLaws}
-use Rattle.batcher_votes.proofs.Counts.{count-append, count_same, all_count}
 use Rattle.batcher_histories.proofs.History.Distinct.{positive, any_count, count_at, firsts_apart, option_cases, where_holds, is_kind-refl}
-use Rattle.batcher_votes.proofs.Waits.{each_kind, proposal_is}
-use Rattle.batcher_votes.proofs.Constructing.{same_proposals}
 use Rattle.batcher_histories.proofs.Shown.Observed.{cast_cases}
 use Rattle.batcher_histories.proofs.Follow.Frame.{or_nothing}
 use Rattle.batcher_histories.proofs.Shown.Named.{or_none}
-use Rattle.batcher_promises.proofs.Runs.Finding.{any_more}
 use Rattle.batcher_promises.proofs.Quorums.ValidQuorums.{count_valid, skipped_counts}
-use Rattle.batcher_promises.proofs.Certificates.Overlap.{none_fails}
 use Rattle.batcher_promises.proofs.Certificates.Backed.{gave}
 
 -- tests that imply each other
@@ -365,18 +364,18 @@ module _ {D K G C : Type 0} (x : Setting D K G C) (laws : HasLaws x) where
   carries : (o : Option (Vote G D)) (p : Proposal D)
       → is_some_and o (is_for x.same_digest p) ≡ true → carried o ≡ Some p
   carries None p h = absurd (false≢true h)
-  carries (Some (NotarizeVote v)) p h = ap Some (sym (proposal_is x.same_digest laws.digests_equal p v.proposal h))
+  carries (Some (NotarizeVote v)) p h = ap Some (sym (same_proposal-true x.same_digest laws.digests_equal p v.proposal h))
   carries (Some (NullifyVote v)) p h = absurd (false≢true h)
-  carries (Some (FinalizeVote v)) p h = ap Some (sym (proposal_is x.same_digest laws.digests_equal p v.proposal h))
+  carries (Some (FinalizeVote v)) p h = ap Some (sym (same_proposal-true x.same_digest laws.digests_equal p v.proposal h))
 
   carried_is : (o : Option (Vote G D)) (p : Proposal D)
       → carried o ≡ Some p → is_some_and o (is_for x.same_digest p) ≡ true
   carried_is None p h = absurd (cc)
   carried_is (Some (NotarizeVote v)) p h =
-      ap (same_proposal x.same_digest p) (same_Some v.proposal p h) ∙ same_proposals x.same_digest laws.digests_same p
+      ap (same_proposal x.same_digest p) (same_Some v.proposal p h) ∙ same_proposal-refl x.same_digest laws.digests_same p
   carried_is (Some (NullifyVote v)) p h = absurd (cc)
   carried_is (Some (FinalizeVote v)) p h =
-      ap (same_proposal x.same_digest p) (same_Some v.proposal p h) ∙ same_proposals x.same_digest laws.digests_same p
+      ap (same_proposal x.same_digest p) (same_Some v.proposal p h) ∙ same_proposal-refl x.same_digest laws.digests_same p
 
   -- Votes that pass the same tests carry the same.
   carried_same : (o s : Option (Vote G D))
@@ -427,8 +426,8 @@ module _ {D K G C : Type 0} (x : Setting D K G C) (laws : HasLaws x) (a b : Hist
   fixed_same : fixed_proposal a ≡ fixed_proposal b
   fixed_same =
       fixed_first x laws a possible_a orderless.none_constructed
-      ∙ (first_same evidence_by (same_proposal x.same_digest) (same_proposals x.same_digest laws.digests_same)
-      (proposal_is x.same_digest laws.digests_equal) (calls_of a) (calls_of b) same
+      ∙ (first_same evidence_by (same_proposal x.same_digest) (same_proposal-refl x.same_digest laws.digests_same)
+      (same_proposal-true x.same_digest laws.digests_equal) (calls_of a) (calls_of b) same
       (one_evidence x laws (calls_of a) orderless.one_fixed) (one_evidence x laws (calls_of b) one_fixed)
       ∙ sym (fixed_first x laws b possible_b none_constructed))
 

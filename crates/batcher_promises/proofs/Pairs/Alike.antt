@@ -23,9 +23,9 @@ use Rattle.batcher_histories.specs.FirstVotes.{is_free, first_votes, own_first_v
 use Rattle.batcher_histories.specs.Selection.{selection_by, forwards, leader_named, leader_of, certificate_of, is_certified, finalized_by, fixing_evidence, fixed_proposal, was_forwarded, leaders_proposal, selection, selected_proposal}
 use Rattle.batcher_histories.specs.Selection.{replacement}
 use Rattle.batcher_histories.specs.Selection.{is_restored, votes_restored_by, restored_votes}
-use Rattle.batcher_histories.specs.Standing.{Trial, stood_before, was_invalid, holds_vote, is_valid, is_counted, counted_votes, valid_votes, waiting_votes, standing_votes, is_trusted, proven_by, fresh_by, is_ready_by, ready_kind_by}
+use Rattle.batcher_histories.specs.Standing.{Trial, stood_before, was_invalid, holds_vote, waiting_votes, standing_votes, is_trusted, proven_by, fresh_by, is_ready_by, ready_kind_by}
 use Rattle.batcher_histories.specs.Standing.{with_batch}
-use Rattle.batcher_histories.specs.Standing.{trial_of, trials, proven_votes, fresh_votes, ready_kind}
+use Rattle.batcher_histories.specs.Standing.{trial_of, trials, ready_kind}
 use Rattle.batcher_promises.specs.Pairs.{IsAlike, in_mode}
 
 module _ {D K G C : Type 0} where
@@ -179,16 +179,6 @@ module _ {D K G C : Type 0} (x : Setting D K G C) where
         ∙ ap (λ vs. waiting_votes (in_mode x Releasing) released kind (filter (is_of_kind kind) vs)) (firsts_alike retained released alike)
 
   -- a vote that is for the selected proposal counts in both
-  module _ (retained released : History D K G C) (alike : AreAlike retained released) where
-    pub counted_alike : (kind : Kind) → counted_votes (in_mode x Retaining) retained kind
-        ≡ counted_votes (in_mode x Releasing) released kind
-    counted_alike kind =
-        ap (λ o. filter (λ v. is_of_kind kind v && is_counted x o v) (first_votes (in_mode x Retaining) retained)) (selected_alike retained released alike)
-        ∙ ap (filter (λ v. is_of_kind kind v && is_counted x (selected_proposal (in_mode x Releasing) released) v)) (firsts_alike retained released alike)
-
-    pub valid_alike : (kind : Kind) → valid_votes (in_mode x Retaining) retained kind
-        ≡ valid_votes (in_mode x Releasing) released kind
-    valid_alike kind = ap (filter (is_valid x)) (counted_alike kind)
 
   -- REPLACEMENTS
   -- with one more alike event
@@ -308,18 +298,6 @@ module _ {D K G C : Type 0} (x : Setting D K G C) where
 
   -- PROVEN AND FRESH VOTES
   module _ (retained released : History D K G C) (alike : AreAlike retained released) where
-    pub proven_alike : (kind : Kind) → proven_votes (in_mode x Retaining) retained kind
-        ≡ proven_votes (in_mode x Releasing) released kind
-    proven_alike kind =
-        ap (λ ts. proven_by (in_mode x Retaining) ts retained kind) (trials_alike retained released alike)
-        ∙ proven_by_alike retained released alike (trials (in_mode x Releasing) released) kind
-
-    pub fresh_alike : (kind : Kind) → fresh_votes (in_mode x Retaining) retained kind
-        ≡ fresh_votes (in_mode x Releasing) released kind
-    fresh_alike kind =
-        ap (λ ts. fresh_by (in_mode x Retaining) ts retained kind) (trials_alike retained released alike)
-        ∙ fresh_by_alike retained released alike (trials (in_mode x Releasing) released) kind
-
     pub ready_alike : ready_kind (in_mode x Retaining) retained
         ≡ ready_kind (in_mode x Releasing) released
     ready_alike =

@@ -19,6 +19,7 @@ use Rattle.batcher_histories.specs.declared.answers.Answer.TheVariants.{Network 
 use Rattle.batcher_histories.specs.Setting.{Setting, sender_in}
 use Rattle.batcher_types.specs.Lists.{is_some_and}
 use Rattle.batcher_types.specs.Votes.{kind_of, signer_of, subject_of, proposal_in, is_vote_of, has_proposals, are_opposite, opposes, is_for, same_proposal, same_subject}
+use Rattle.batcher_types.proofs.VoteLemmas.{same_proposal-refl, same_proposal-true}
 use Rattle.batcher_votes.specs.Selected.{same_selected}
 use Rattle.batcher_histories.specs.Admissions.{same_vote, block_for, mismatch_reason}
 use Rattle.batcher_histories.specs.History.{Event, History, cast_votes}
@@ -33,12 +34,10 @@ use Rattle.batcher_promises.proofs.Pairs.Alike.{AreAlike, along, certified_alike
 use Rattle.batcher_histories.proofs.History.Distinct.{found_is_of, is_itself, is_kind-true}
 use Rattle.batcher_promises.proofs.Headline.Conflicts.{conflict_with_compared}
 use Rattle.batcher_promises.proofs.Pairs.Compared.{released_is_fixed, fixed_is_selected, matches, matching_conflicts, other_conflicts, matching_blocked}
-use Rattle.batcher_votes.proofs.Constructing.{same_proposals}
 use Rattle.batcher_histories.proofs.History.Laws.{HasLaws}
 use Rattle.batcher_promises.proofs.Headline.Promises.{beside_blocks, compared_is_cast}
 use Rattle.batcher_promises.proofs.Blocks.Refused.{opposed_blocks, differing_blocked}
 use Rattle.batcher_histories.proofs.Right.Kept.{found_passes}
-use Rattle.batcher_votes.proofs.Waits.{proposal_is}
 use Rattle.batcher_histories.proofs.History.ByFirst.{admission_against, admission_by_first, admission_sent_by, network_is}
 
 -- WHAT VOTES CARRY
@@ -57,15 +56,15 @@ module _ {G D : Type 0} (same : D → D → Bool) (equal : G → G → Bool)
   different_has (FinalizeVote v) vote h = refl
 
   proposal_same : (s t : Subject D) → same_subject same s t ≡ true → proposal_in s ≡ proposal_in t
-  proposal_same (NotarizeSubject p) (NotarizeSubject q) h = ap Some (proposal_is same identical p q h)
+  proposal_same (NotarizeSubject p) (NotarizeSubject q) h = ap Some (same_proposal-true same identical p q h)
   proposal_same (NullifySubject r) (NullifySubject s) h = refl
-  proposal_same (FinalizeSubject p) (FinalizeSubject q) h = ap Some (proposal_is same identical p q h)
+  proposal_same (FinalizeSubject p) (FinalizeSubject q) h = ap Some (same_proposal-true same identical p q h)
   proposal_same s t h = absurd (false≢true h)
 
   none_different : (o : Option (Proposal D))
       → is_some_and o (λ p. is_some_and o (λ q. not (same_proposal same p q))) ≡ false
   none_different None = refl
-  none_different (Some p) = ap not (same_proposals same reflexive p)
+  none_different (Some p) = ap not (same_proposal-refl same reflexive p)
 
   carried_alike : (v vote : Vote G D) → proposal_in (subject_of v) ≡ proposal_in (subject_of vote)
       → carry_different same v vote ≡ false
@@ -79,16 +78,16 @@ module _ {G D : Type 0} (same : D → D → Bool) (equal : G → G → Bool)
 
   carries_what_it_is_for : (p : Proposal D) (v : Vote G D) → is_for same p v ≡ true
       → proposal_in (subject_of v) ≡ Some p
-  carries_what_it_is_for p (NotarizeVote v) h = ap Some (sym (proposal_is same identical p v.proposal h))
+  carries_what_it_is_for p (NotarizeVote v) h = ap Some (sym (same_proposal-true same identical p v.proposal h))
   carries_what_it_is_for p (NullifyVote v) h = absurd (false≢true h)
-  carries_what_it_is_for p (FinalizeVote v) h = ap Some (sym (proposal_is same identical p v.proposal h))
+  carries_what_it_is_for p (FinalizeVote v) h = ap Some (sym (same_proposal-true same identical p v.proposal h))
 
   -- votes for one proposal carry the same one
   selected_alike_of : (p : Proposal D) (a b : Vote G D) → is_for same p a ≡ true → is_for same p b
       ≡ true → same_selected same (proposal_in (subject_of a)) (proposal_in (subject_of b)) ≡ true
   selected_alike_of p a b for_a for_b =
       ap (λ o. same_selected same o (proposal_in (subject_of b))) (carries_what_it_is_for p a for_a)
-      ∙ (ap (same_selected same (Some p)) (carries_what_it_is_for p b for_b) ∙ same_proposals same reflexive p)
+      ∙ (ap (same_selected same (Some p)) (carries_what_it_is_for p b for_b) ∙ same_proposal-refl same reflexive p)
 
 module _ {D K G C : Type 0} (x : Setting D K G C) where
   -- AT EACH PLACE OF TWO HISTORIES

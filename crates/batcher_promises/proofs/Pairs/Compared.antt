@@ -16,6 +16,7 @@ use Rattle.batcher_votes.specs.declared.votes.Mode.TheVariants.{Releasing}
 use Rattle.batcher_histories.specs.Setting.{Setting}
 use Rattle.batcher_types.specs.Lists.{is_some_and, is_empty, exactly_one}
 use Rattle.batcher_types.specs.Votes.{is_kind, kind_of, signer_of, is_vote_of, has_proposals, is_for}
+use Rattle.batcher_types.proofs.ListLemmas.{any_found, any_filter, any_more, any_of_filtered}
 use Rattle.batcher_votes.specs.Selected.{proposal_of}
 use Rattle.batcher_votes.specs.Tracking.{is_released_in}
 use Rattle.batcher_histories.specs.History.{Event, History, cast_votes}
@@ -26,7 +27,6 @@ use Rattle.batcher_histories.proofs.History.ByFirst.{differs_from, conflicts_is}
 use Rattle.batcher_histories.specs.Answers.{IsPossible}
 use Rattle.batcher_promises.specs.Pairs.{blocks_participant}
 use Rattle.batcher_histories.proofs.History.Distinct.{firsts_apart, first_stays, is_kind-true, option_cases, found_is_of, new_votes, new_cases, any_count, count_at, positive, where_holds}
-use Rattle.batcher_promises.proofs.Runs.Finding.{any_found, any_filter, any_more, any_of_filtered}
 use Rattle.batcher_histories.proofs.Follow.Frame.{certified_same, released_same}
 use Rattle.batcher_histories.proofs.Shown.Named.{certified_fixes, compared_if_fixed}
 use Rattle.batcher_histories.proofs.Shown.Observed.{cast_cases, none_from}

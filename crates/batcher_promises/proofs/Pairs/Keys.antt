@@ -14,12 +14,12 @@ use Rattle.batcher_histories.specs.declared.answers.Answer.TheVariants.{Network 
 use Rattle.batcher_histories.specs.Setting.{Setting, sender_in}
 use Rattle.batcher_types.specs.Keys.{participant}
 use Rattle.batcher_types.specs.Lists.{is_some_and}
+use Rattle.batcher_types.proofs.ListLemmas.{any_more}
 use Rattle.batcher_histories.specs.Runs.{blocked_sender, blocked_senders}
 use Rattle.batcher_histories.specs.History.{Event, History, is_made, history, history_after, history_from}
 use Rattle.batcher_promises.specs.Pairs.{IsAlike, AnsweredAlike, AtEachPlace, IsBlockedByBoth, blocks, blocks_participant, was_blocked, TellsNoKeysApart, BlocksNoMore}
 use Rattle.batcher_promises.proofs.Pairs.Alike.{told_alike}
 use Rattle.batcher_histories.proofs.History.Distinct.{where_holds}
-use Rattle.batcher_promises.proofs.Runs.Finding.{any_more}
 
 module _ {D K G C : Type 0}
     (holds : Event D K G C → History D K G C → Event D K G C → History D K G C → Type 0) where

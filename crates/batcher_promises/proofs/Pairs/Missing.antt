@@ -2,7 +2,7 @@
 -- each lists as without a proposal's block.
 use Rattle.std.proofs.Common.{◌≡◌, ℕ, Bool, true, false, not, cond, ◌&&◌, ◌||◌, List, ◌∷◌, Some, filter, map, find, refl, ap, sym, ◌∙◌, ⊎_elim, eqb, subst}
 use Rattle.std.specs.List.{list_any, range_with_len}
-use Rattle.std.proofs.lemmas.Bool.{and_parts, and_from, or_left, or_right, or_cases, true≢false}
+use Rattle.std.proofs.lemmas.Bool.{and_parts, and_from, or_left, or_right, or_cases, not-false}
 use Rattle.batcher_types.specs.declared.positions.Participant.{Participant}
 use Rattle.batcher_types.specs.declared.messages.Proposal.{Proposal}
 use Rattle.batcher_types.specs.declared.messages.Kind.{Kind}
@@ -15,6 +15,8 @@ use Rattle.batcher_histories.specs.Setting.{Setting, participants_in}
 use Rattle.batcher_types.specs.Keys.{participant}
 use Rattle.batcher_types.specs.Lists.{is_some_and}
 use Rattle.batcher_types.specs.Votes.{is_vote_of, has_proposals, is_for, same_proposal}
+use Rattle.batcher_types.proofs.ListLemmas.{any_more, any_of_filtered}
+use Rattle.batcher_types.proofs.VoteLemmas.{same_proposal-true}
 use Rattle.batcher_histories.specs.History.{Event, History}
 use Rattle.batcher_histories.specs.FirstVotes.{first_votes, first_vote}
 use Rattle.batcher_histories.specs.Selection.{is_released, selected_proposal}
@@ -26,8 +28,6 @@ use Rattle.batcher_promises.proofs.Pairs.Alike.{AreAlike, firsts_alike}
 use Rattle.batcher_histories.proofs.History.Distinct.{where_holds, found_is_of}
 use Rattle.batcher_promises.proofs.Pairs.Blocked.{at_each_place}
 use Rattle.batcher_promises.proofs.Pairs.Compared.{any_in_filtered, released_is_fixed, fixed_is_selected, first_compared}
-use Rattle.batcher_promises.proofs.Runs.Finding.{any_more, any_of_filtered}
-use Rattle.batcher_votes.proofs.Waits.{proposal_is}
 use Rattle.batcher_histories.proofs.History.ByFirst.{shows_block, has_block_is}
 
 -- what is found among those that pass one test is found among those that pass a weaker one
@@ -42,10 +42,6 @@ any_weaker test p q weaker vs h =
 not_less : (a b : Bool) → (a ≡ true → b ≡ true) → not b ≡ true → not a ≡ true
 not_less true b more h = ap not (sym (more refl)) ∙ h
 not_less false b more h = refl
-
-not_not : (b : Bool) → not b ≡ false → b ≡ true
-not_not true h = refl
-not_not false h = absurd (true≢false h)
 
 either : (a b c d : Bool)
     → (a ≡ true → c ≡ true) → (b ≡ true → d ≡ true) → (a || b) ≡ true → (c || d) ≡ true
@@ -87,8 +83,8 @@ module _ {D K G C : Type 0} (x : Setting D K G C) (laws : HasLaws x) where
             let selected : selected_proposal releases released ≡ Some fixed.0 =
             fixed_is_selected releases released fixed.0 fixed.1 in
             let same : fixed.0 ≡ p =
-            proposal_is x.same_digest laws.digests_equal fixed.0 p
-            (not_not _ (ap (λ o. is_some_and o (λ q. not (same_proposal x.same_digest q p))) (sym selected) ∙ no_other)) in
+            same_proposal-true x.same_digest laws.digests_equal fixed.0 p
+            (not-false _ (ap (λ o. is_some_and o (λ q. not (same_proposal x.same_digest q p))) (sym selected) ∙ no_other)) in
             let first = where_holds (is_for x.same_digest p) (first_vote releases released kind i) shown in
             ap (λ o. is_some_and o (λ q. list_any (is_for x.same_digest q) (compared_votes_of releases released kind i))) selected
             ∙ any_in_filtered (is_for x.same_digest fixed.0) (is_vote_of kind i) (compared_votes releases released)

@@ -16,6 +16,7 @@ use Rattle.batcher_histories.specs.declared.answers.Answer.TheVariants.{OutOfMem
 use Rattle.batcher_histories.specs.declared.answers.Answer.TheVariants.{Forward as ForwardAnswer, Missing as MissingAnswer}
 use Rattle.batcher_histories.specs.Setting.{Setting}
 use Rattle.batcher_types.specs.Votes.{kind_of, signer_of, is_vote_of, opposes, has_proposals}
+use Rattle.batcher_types.proofs.ListLemmas.{any_more}
 use Rattle.batcher_histories.specs.Steps.{unopposed_result, duplicate_result}
 use Rattle.batcher_histories.specs.History.{History}
 use Rattle.batcher_histories.specs.FirstVotes.{first_like, opposite_vote}
@@ -25,7 +26,6 @@ use Rattle.batcher_promises.specs.Composed.{carry_different}
 use Rattle.batcher_histories.specs.Answers.{own_answer, IsAnswered}
 use Rattle.batcher_promises.specs.Pairs.{in_mode, ends_pair, is_own_fault}
 use Rattle.batcher_histories.proofs.History.Laws.{HasLaws}
-use Rattle.batcher_promises.proofs.Runs.Finding.{any_more}
 use Rattle.batcher_promises.proofs.Headline.Conflicts.{conflict_with_compared}
 use Rattle.batcher_promises.proofs.Pairs.Alike.{AreAlike, firsts_alike}
 use Rattle.batcher_histories.proofs.History.ByFirst.{outcome_by_first, own_answer_against, own_is}

@@ -6,6 +6,7 @@ use Rattle.std.proofs.lemmas.List.{append-nil, take-append-drop}
 use Rattle.std.proofs.lemmas.List.Folds.{list_any-append}
 use Rattle.std.proofs.lemmas.Option.{none-some}
 use Rattle.rand_core.specs.Stream.{Stream}
+use Rattle.batcher_types.proofs.ListLemmas.{any_more}
 use Rattle.batcher_histories.specs.declared.calls.Call.{Call}
 use Rattle.batcher_histories.specs.declared.answers.Answer.{Answer}
 use Rattle.batcher_histories.specs.declared.answers.Answer.TheVariants.{OutOfMemory, Network as NetworkAnswer, Own as OwnAnswer, OwnRefused, Certificate as CertificateAnswer, Leader as LeaderAnswer, Construct as ConstructAnswer}
@@ -26,7 +27,6 @@ use Rattle.batcher_promises.proofs.Runs.Histories.{history-push}
 use Rattle.batcher_promises.proofs.Runs.Going.{Goes, goes_first, goes_more, goes_to}
 use Rattle.batcher_promises.proofs.Pairs.Beside.{beside_of}
 use Rattle.batcher_promises.proofs.Pairs.Keys.{blocks_no_more}
-use Rattle.batcher_promises.proofs.Runs.Finding.{any_more}
 use Rattle.batcher_promises.proofs.Pairs.Own.{not_own_fault}
 use Rattle.batcher_promises.proofs.Pairs.Together.{AreTogether, beside_at_first, stay_beside}
 

@@ -2,7 +2,7 @@
 -- call leaves them alike.
 use Rattle.std.proofs.Common.{◌≡◌, ℕ, Bool, true, false, cond, ◌&&◌, ◌||◌, List, [], ◌∷◌, ◌++◌, Option, Some, None, is_none, is_some, Ok, filter, find, refl, ap, sym, ◌∙◌, subst, ⊎_elim}
 use Rattle.std.specs.Prelude.{⊤, MatchBool}
-use Rattle.std.proofs.lemmas.Bool.{cases_Bool, true≢false}
+use Rattle.std.proofs.lemmas.Bool.{cases_Bool, true≢false, or_parts}
 use Rattle.std.proofs.lemmas.Option.{none-some, same_Some}
 use Rattle.std.proofs.lemmas.List.Elements.{filter_agree}
 use Rattle.rand_core.specs.Stream.{Stream}
@@ -67,10 +67,6 @@ buffered_same a b leader selection certified pending verified =
     ∙ (ap (λ v. record a { leader = b.leader; selection = b.selection; certified = v }) (each_same a.certified b.certified certified)
     ∙ (ap (λ v. record b { pending = v; verified = a.verified }) (each_same a.pending b.pending pending)
     ∙ ap (λ v. record b { verified = v }) (each_same a.verified b.verified verified))))
-
-not_before : (a b : Bool) → (a || b) ≡ false → b ≡ false
-not_before true b none = absurd (true≢false none)
-not_before false b none = none
 
 -- ATTEMPTS
 -- Two attempts with the same buffers and stream are about one subject, come to one outcome, and
@@ -280,7 +276,7 @@ module _ {D K G C : Type 0} (x : Setting D K G C) where
       returns_alike kind still =
           filter_agree _ (is_restored (in_mode x Releasing) released (call, b)) (back_alike x (call, a) (call, b) retained released longer)
           (of_kind old.tracked.kept kind)
-          ∙ ap (filter (is_restored (in_mode x Releasing) released (call, b))) (kept_alike kind (not_before _ (is_certified released kind) still))
+          ∙ ap (filter (is_restored (in_mode x Releasing) released (call, b))) (kept_alike kind (or_parts _ (is_certified released kind) still).1)
 
       -- No vote of a certified kind waits, so that votes need to be the same of the others alone.
       waits_alike : (kind : Kind) (vs ws : List (Vote G D))

@@ -25,19 +25,18 @@ use Rattle.batcher_histories.specs.Stands.{tries_kind}
 use Rattle.batcher_votes.specs.Tracking.{is_skipped}
 use Rattle.batcher_histories.specs.Trying.{Attempt, AttemptAfter, left_verified, votes_checked}
 use Rattle.batcher_types.specs.Votes.{is_of_kind, proposal_in, subject_certified, subject_of, waits}
+use Rattle.batcher_types.proofs.VoteLemmas.{same_subject-true, same_proposal-true}
+use Rattle.batcher_types.proofs.CountLemmas.{count-append, count-false, count-filter_le, count-true, count_same, keeps_all, length_same}
 use Rattle.batcher_histories.specs.FirstVotes.{first_votes}
 use Rattle.batcher_histories.proofs.History.Distinct.{count-filter, option_cases}
 use Rattle.batcher_histories.proofs.History.Attempts.{given_certified, witnessed}
 use Rattle.batcher_histories.proofs.Follow.Buffers.{open_trial, pending_follow, verified_follow}
-use Rattle.batcher_votes.proofs.Constructing.{subject_is}
-use Rattle.batcher_votes.proofs.Counts.{count-append, count-false, count-filter_le, count-true, count_same, keeps_all, length_same}
 use Rattle.batcher_histories.proofs.Follow.Evidence.{IsEvidence, none_is_restored}
 use Rattle.batcher_histories.proofs.Follow.Frame.{no_evidence, none_back}
 use Rattle.batcher_promises.proofs.Quorums.Held.{Holds}
 use Rattle.batcher_histories.proofs.History.Laws.{HasLaws}
 use Rattle.batcher_histories.proofs.Follow.Settled.{constructed}
 use Rattle.batcher_histories.proofs.Follow.Staying.{pending_left, verified_left}
-use Rattle.batcher_votes.proofs.Waits.{proposal_is}
 
 at_most : {a b c d : ℕ} → a ≡ b → b ≤ c → c ≡ d → a ≤ d
 at_most p q r = omega (arith, p, q, r)
@@ -101,8 +100,8 @@ module _ {D K G C : Type 0} (x : Setting D K G C) where
       by_selected o (NullifyVote u) h = inl refl
       by_selected None (NotarizeVote u) h = inr (u.proposal, (refl, inl refl))
       by_selected None (FinalizeVote u) h = inr (u.proposal, (refl, inl refl))
-      by_selected (Some p) (NotarizeVote u) h = inr (u.proposal, (refl, inr (ap Some (proposal_is x.same_digest lawful.digests_equal p u.proposal h))))
-      by_selected (Some p) (FinalizeVote u) h = inr (u.proposal, (refl, inr (ap Some (proposal_is x.same_digest lawful.digests_equal p u.proposal h))))
+      by_selected (Some p) (NotarizeVote u) h = inr (u.proposal, (refl, inr (ap Some (same_proposal-true x.same_digest lawful.digests_equal p u.proposal h))))
+      by_selected (Some p) (FinalizeVote u) h = inr (u.proposal, (refl, inr (ap Some (same_proposal-true x.same_digest lawful.digests_equal p u.proposal h))))
 
   -- What a given certificate carries is the selected proposal, where one is selected,
   pub given_evidence : HasLaws x → (past : History D K G C) (kind : Kind)
@@ -115,8 +114,8 @@ module _ {D K G C : Type 0} (x : Setting D K G C) where
       (keeps_all (waits x.same_digest (selected_proposal x past) w.vote) (count (λ u. not (waits x.same_digest (selected_proposal x past) u)) w.rest)
       (sym (ap (count (λ u. not (waits x.same_digest (selected_proposal x past) u))) w.looked_at) ∙ looked_wait past kind batch after)).0 in
       let same : subject_of w.vote ≡ subject_certified c =
-      sym (subject_is x.same_digest lawful.digests_equal w.subject (subject_of w.vote) w.of_vote)
-      ∙ subject_is x.same_digest lawful.digests_equal w.subject (subject_certified c) w.of_certificate in
+      sym (same_subject-true x.same_digest lawful.digests_equal w.subject (subject_of w.vote) w.of_vote)
+      ∙ same_subject-true x.same_digest lawful.digests_equal w.subject (subject_certified c) w.of_certificate in
       subst (λ (s : Subject D). IsEvidence x past (proposal_in s)) same (waiting_evidence lawful past w.vote first_waits)
 
   -- so it brings no vote back.

@@ -18,9 +18,10 @@ use Rattle.batcher_histories.specs.Standing.{counted_votes, fresh_votes, is_amon
 use Rattle.batcher_histories.specs.Stands.{tries_kind}
 use Rattle.batcher_votes.specs.Tracking.{is_skipped}
 use Rattle.batcher_types.specs.Votes.{has_proposals, is_of_kind, kind_of, signer_of, waits}
+use Rattle.batcher_types.proofs.CountLemmas.{count-true}
+use Rattle.batcher_types.proofs.ListLemmas.{either_same, filter_none}
 use Rattle.batcher_histories.proofs.History.Distinct.{AreApart, IsAt, count-filter, firsts_apart, first_stays, found_behind, found_here, is_kind-true, some_of, where_holds}
 use Rattle.batcher_histories.proofs.History.Attempts.{found_among, invalid_tried, is_fresh_bad, quorum_positive, tries_by}
-use Rattle.batcher_votes.proofs.Counts.{count-true, either_same, filter_none}
 use Rattle.batcher_histories.proofs.History.Laws.{HasLaws}
 use Rattle.batcher_histories.proofs.History.Past.{count_fresh, count_proven, invalid_after, invalid_in, tried_filled}
 

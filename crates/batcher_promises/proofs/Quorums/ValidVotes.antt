@@ -15,6 +15,8 @@ use Rattle.batcher_votes.specs.declared.verifier.Batch.{Batch}
 use Rattle.batcher_histories.specs.Setting.{Setting, quorum_in}
 use Rattle.batcher_types.specs.Lists.{count, is_some_and}
 use Rattle.batcher_types.specs.Votes.{kind_of, kind_certified, has_proposals, is_of_kind, is_for, waits}
+use Rattle.batcher_types.proofs.CountLemmas.{count-append, count-true, count-filter_le, filter_all, none_fails}
+use Rattle.batcher_types.proofs.ListLemmas.{filter_twice}
 use Rattle.batcher_votes.specs.Selected.{proposal_of}
 use Rattle.batcher_votes.specs.Tracking.{is_skipped}
 use Rattle.batcher_histories.specs.History.{History, certificate_given}
@@ -26,7 +28,6 @@ use Rattle.batcher_promises.specs.Backed.{proposal_certified}
 use Rattle.batcher_promises.specs.Prompt.{HasNoBadVote}
 use Rattle.batcher_promises.specs.Converge.{is_settled}
 use Rattle.batcher_histories.proofs.History.Laws.{HasLaws}
-use Rattle.batcher_votes.proofs.Counts.{count-append, count-true, count-filter_le, filter_all, filter_twice}
 use Rattle.batcher_histories.proofs.History.Distinct.{option_cases, some_of, is_kind-true}
 use Rattle.batcher_histories.proofs.History.Past.{closed_is_empty, open_waits}
 use Rattle.batcher_histories.proofs.History.Attempts.{quorum_positive}
@@ -34,7 +35,6 @@ use Rattle.batcher_promises.proofs.Headline.Attesting.{usable_within}
 use Rattle.batcher_histories.proofs.Follow.Evidence.{IsEvidence}
 use Rattle.batcher_promises.proofs.Quorums.Left.{given_evidence}
 use Rattle.batcher_histories.proofs.Follow.Settled.{constructed, selection_then, evidence_selects}
-use Rattle.batcher_promises.proofs.Certificates.Overlap.{none_fails}
 use Rattle.batcher_promises.proofs.Certificates.Backed.{gave}
 
 -- by whether a vote is of a kind, and then carries no proposal

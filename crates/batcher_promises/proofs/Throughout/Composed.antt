@@ -9,11 +9,11 @@ use Rattle.batcher_histories.specs.declared.answers.Answer.TheVariants.{OutOfMem
 use Rattle.batcher_histories.specs.declared.answers.Answer.TheVariants.{Forward as ForwardAnswer, Missing as MissingAnswer}
 use Rattle.batcher_histories.specs.Setting.{Setting}
 use Rattle.batcher_types.specs.Lists.{count}
+use Rattle.batcher_types.proofs.CountLemmas.{count_none}
 use Rattle.batcher_histories.specs.History.{History}
 use Rattle.batcher_histories.specs.Selection.{selected_proposal, was_forwarded, forwards}
 use Rattle.batcher_histories.specs.Answers.{MayAnswer, IsPossible}
 use Rattle.batcher_promises.specs.Composed.{ConflictAnswered, NamesBadSigners, GivesSelected, ForwardsSelected, ChangesNoFixed, HoldsThen, HoldsThroughout}
-use Rattle.batcher_votes.proofs.Soundness.{count_none}
 use Rattle.batcher_promises.proofs.Headline.Promises.{at_each_event, at_each_time}
 use Rattle.batcher_promises.proofs.Headline.Attesting.{proven_attest, names_bad_signers, usable_are}
 use Rattle.batcher_promises.proofs.Throughout.Told.{conflict_answered_so, added_are, gives_selected, forwards_selected, changes_no_fixed}

@@ -35,6 +35,7 @@ use Rattle.batcher_histories.specs.declared.answers.Answer.TheVariants.{Forward 
 use Rattle.batcher_histories.specs.Setting.{Setting, sender_in}
 use Rattle.batcher_types.specs.Lists.{is_some_and}
 use Rattle.batcher_types.specs.Votes.{kind_of, signer_of, is_vote_of, proposal_in, subject_certified, same_proposal}
+use Rattle.batcher_types.proofs.ListLemmas.{any_found}
 use Rattle.batcher_votes.specs.Selected.{proposal_of, replaces}
 use Rattle.batcher_histories.specs.Admissions.{same_vote, refusal, block_for, mismatch_reason, admission_after, admission_after_facts, admission_beside}
 use Rattle.batcher_histories.specs.Steps.{is_added, is_participant, opposite_fault, duplicate_result, unopposed_result}
@@ -50,7 +51,6 @@ use Rattle.batcher_promises.specs.Composed.{carry_different, is_conflict, AtEach
 use Rattle.batcher_promises.specs.Composed.{ConflictsWithAnother, ConflictAnswered, GivesSelected, ForwardsSelected, ChangesNoFixed}
 use Rattle.batcher_histories.proofs.History.Laws.{HasLaws}
 use Rattle.batcher_histories.proofs.History.Distinct.{new_votes, found_is_of}
-use Rattle.batcher_promises.proofs.Runs.Finding.{any_found}
 use Rattle.batcher_histories.proofs.Follow.FirstVotes.{free_is}
 use Rattle.batcher_histories.proofs.Follow.Network.{added_is}
 use Rattle.batcher_histories.proofs.History.Attempts.{batch_made}

@@ -69,7 +69,7 @@ impl<G: Copy, D: Digest> KeptLists<G, D> {
     {
         match seen {
             Seen::Kept(place) => self.notarizes.get(place as usize).copied(),
-            _ => None,
+            Seen::Nothing | Seen::Uncompared | Seen::Differs | Seen::Matches => None,
         }
     }
 
@@ -97,7 +97,7 @@ impl<G: Copy, D: Digest> KeptLists<G, D> {
         match seen {
             Seen::Nothing => None,
             Seen::Kept(_) => Some(ObservedVote::Retained(self.vote(kind, seen)?)),
-            _ => Some(ObservedVote::Compacted),
+            Seen::Uncompared | Seen::Differs | Seen::Matches => Some(ObservedVote::Compacted),
         }
     }
 
@@ -137,7 +137,7 @@ impl<G: Copy, D: Digest> KeptLists<G, D> {
             Seen::Kept(_) => {
                 Seen::Nothing.compared(is_selected(self.proposal(kind, seen), selected))
             }
-            _ => seen,
+            Seen::Nothing | Seen::Uncompared | Seen::Differs | Seen::Matches => seen,
         }
     }
 

@@ -3,8 +3,8 @@ use Rattle.std.proofs.lemmas.Bool.Decides.{nat_tests}
 use Rattle.std.proofs.lemmas.List.Elements.{All-head, All-tail, All-push}
 use Rattle.batcher_types.specs.Lists.{count, EachOnce}
 use Rattle.batcher_types.specs.Attestations.{index_of_signer}
-use Rattle.batcher_votes.proofs.Counts.{count-append}
 use Rattle.batcher_types.specs.Hashed.{same_bytes}
+use Rattle.batcher_types.proofs.CountLemmas.{count-append}
 use Rattle.batcher_reader.proofs.Signing.{same_itself}
 use Rattle.batcher_reader.proofs.calls.quorum_of.Goals as goal
 

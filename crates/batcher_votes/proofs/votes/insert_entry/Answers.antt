@@ -1,7 +1,7 @@
 use Rattle.std.proofs.Common.{◌∙◌, ap}
 use Rattle.batcher_types.specs.Ascending.{insert_by}
 use Rattle.batcher_votes.specs.Entries.{key_of, with_part}
-use Rattle.batcher_votes.proofs.Recorded.{inserted_at}
+use Rattle.batcher_votes.proofs.TrackerLemmas.RecordVote.{inserted_at}
 use Rattle.batcher_votes.proofs.votes.insert_entry.Goals as goal
 
 pub returns-clause-items : goal.returns-clause-items

@@ -1,8 +1,8 @@
 use Rattle.std.proofs.Common.{◌≡◌, ◌∙◌, sym, map, Ok}
 use Rattle.batcher_types.specs.Items.{place_of}
 use Rattle.batcher_votes.specs.Entries.{key_of, nothing_seen}
-use Rattle.batcher_types.proofs.Places.{place_below}
-use Rattle.batcher_votes.proofs.Recorded.{changed_at}
+use Rattle.batcher_types.proofs.PlaceLemmas.{place_below}
+use Rattle.batcher_votes.proofs.TrackerLemmas.RecordVote.{changed_at}
 use Rattle.batcher_votes.proofs.votes.put_at.Goals as goal
 
 pub set_at-requires : goal.set_at-requires

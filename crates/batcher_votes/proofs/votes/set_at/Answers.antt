@@ -1,8 +1,8 @@
 use Rattle.std.proofs.Common.{◌≡◌, ◌<◌, ◌∙◌, ap, sym, arith, length, get_or}
 use Rattle.std.proofs.lemmas.List.Elements.{All-set}
 use Rattle.batcher_votes.specs.Entries.{key_of}
-use Rattle.batcher_types.proofs.Orders.{set_ascending}
-use Rattle.batcher_votes.proofs.Recorded.{key_with}
+use Rattle.batcher_types.proofs.AscendingLemmas.{set_ascending}
+use Rattle.batcher_votes.proofs.TrackerLemmas.RecordVote.{key_with}
 use Rattle.batcher_votes.proofs.votes.set_at.Goals as goal
 
 pub invariant_of-entries : goal.invariant_of-entries

@@ -6,7 +6,7 @@ use Rattle.batcher_votes.specs.declared.verifier.ProposalState.{ProposalState}
 use Rattle.batcher_votes.specs.declared.verifier.ProposalState.TheVariants.{Unknown, Leader as LeadersProposal, Certificate as FixedProposal}
 use Rattle.batcher_votes.specs.Selected.{proposal_of, updated, same_selected, replaces}
 use Rattle.batcher_votes.specs.Held.{of_kind}
-use Rattle.batcher_votes.proofs.Restoring.{replaced_by, fixed_now, room_after, none_came, fixes_alone, within_alone, fixes_both, within_both, once_kept, kinds_kept}
+use Rattle.batcher_votes.proofs.VerifierLemmas.RestoredVotes.{replaced_by, fixed_now, room_after, none_came, fixes_alone, within_alone, fixes_both, within_both, once_kept, kinds_kept}
 use Rattle.batcher_round.proofs.round.ballots.fix_proposal.Goals as goal
 
 some_fixed : {D : Type 0} (s : ProposalState D) (p : Proposal D)

@@ -1,7 +1,7 @@
 use Rattle.std.proofs.Common.{◌≡◌, ◌∙◌, ◌+◌, ◌≤◌, ◌||◌, ◌∷◌, [], not, nat_lt, cond, is_ok, true, false, ap, sym, subst, arith, length-append}
 use Rattle.batcher_types.specs.declared.messages.Kind.TheVariants.{Notarization, Finalization}
 use Rattle.batcher_types.specs.Lists.{count}
-use Rattle.batcher_types.proofs.Places.{none_below}
+use Rattle.batcher_types.proofs.PlaceLemmas.{none_below}
 use Rattle.batcher_votes.specs.Held.{Held}
 use Rattle.batcher_votes.specs.Tracking.{is_seen_for, observed}
 use Rattle.batcher_histories.specs.Steps.{has_block}

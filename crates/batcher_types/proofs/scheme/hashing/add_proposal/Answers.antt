@@ -2,7 +2,7 @@ use Rattle.std.proofs.Common.{◌∙◌, ◌++◌, w64, refl}
 use Rattle.std.specs.Int.{to_be_bytes}
 use Rattle.sha2.specs.Hashers.{Holds256}
 use Rattle.batcher_types.specs.Hashed.{proposal_bytes, round_bytes}
-use Rattle.batcher_types.proofs.Feeding.{fed_both}
+use Rattle.batcher_types.proofs.HashingLemmas.{fed_both}
 use Rattle.batcher_types.proofs.scheme.hashing.add_proposal.Goals as goal
 
 pub returns : goal.returns

@@ -1,7 +1,7 @@
 use Rattle.std.proofs.Common.{refl, [], ◌∷◌}
 use Rattle.sha2.specs.Hashers.{Holds256}
 use Rattle.batcher_types.specs.Hashed.{round_bytes, proposal_bytes, subject_bytes}
-use Rattle.batcher_types.proofs.Feeding.{fed_both}
+use Rattle.batcher_types.proofs.HashingLemmas.{fed_both}
 use Rattle.batcher_types.proofs.scheme.hashing.add_subject.Goals as goal
 
 pub returns-in-Notarize : goal.returns-in-Notarize

@@ -1,7 +1,7 @@
 use Rattle.std.proofs.Common.{◌≡◌, ◌++◌, rules}
 use Rattle.std.proofs.lemmas.List.Sorted.{IsNonDecreasingBy-from_sort_by_key}
 use Rattle.batcher_types.specs.Attestations.{index_of_signer}
-use Rattle.batcher_types.proofs.Orders.{ordered_from_sort}
+use Rattle.batcher_types.proofs.AscendingLemmas.{ordered_from_sort}
 use Rattle.batcher_types.proofs.scheme.keyed.in_order.Goals as goal
 
 pub returns : goal.returns

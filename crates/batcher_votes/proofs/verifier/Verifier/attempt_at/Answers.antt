@@ -2,8 +2,8 @@ use Rattle.std.proofs.Common.{◌≡◌, Some}
 use Rattle.batcher_votes.specs.Held.{of_kind}
 use Rattle.batcher_votes.specs.Certifications.{pending_of, verified_of, held_by}
 use Rattle.batcher_votes.specs.Verifiers.{subject_ready}
-use Rattle.batcher_votes.proofs.Certifications.{of_mapped}
-use Rattle.batcher_votes.proofs.Constructing.{once_attestations, verified_about, attested_about}
+use Rattle.batcher_votes.proofs.VerifierLemmas.KindChanges.{of_mapped}
+use Rattle.batcher_votes.proofs.VerifierLemmas.Construction.{once_attestations, verified_about, attested_about}
 use Rattle.batcher_votes.proofs.verifier.Verifier.attempt_at.Goals as goal
 
 pub attempt-requires-clause-once : goal.attempt-requires-clause-once

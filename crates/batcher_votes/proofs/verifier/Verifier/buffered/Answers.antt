@@ -1,6 +1,6 @@
 use Rattle.batcher_votes.specs.Certifications.{pending_of, verified_of, held_by}
-use Rattle.batcher_votes.proofs.Certifications.{of_mapped}
-use Rattle.batcher_votes.proofs.Soundness.{buffered_by}
+use Rattle.batcher_votes.proofs.VerifierLemmas.KindChanges.{of_mapped}
+use Rattle.batcher_votes.proofs.VerifierLemmas.Soundness.{buffered_by}
 use Rattle.batcher_votes.proofs.verifier.Verifier.buffered.Goals as goal
 
 pub returns : goal.returns

@@ -1,9 +1,9 @@
-use Rattle.std.proofs.Common.{◌≡◌, ◌∙◌, Some, ap, sym}
+use Rattle.std.proofs.Common.{◌≡◌, ◌∙◌, Some, ap, sym, rules}
 use Rattle.batcher_votes.specs.Kinds.{with_kind}
 use Rattle.batcher_votes.specs.Certifications.{is_complete, pending_of, verified_of, held_by}
 use Rattle.batcher_votes.specs.Verifiers.{subject_ready}
-use Rattle.batcher_votes.proofs.Certifications.{completes, absorbs, holds_same}
-use Rattle.batcher_votes.proofs.Constructing.{constructs_one, constructs_none}
+use Rattle.batcher_votes.proofs.VerifierLemmas.KindChanges.{completes, absorbs, holds_same}
+use Rattle.batcher_votes.proofs.VerifierLemmas.Construction.{constructs_one, constructs_none}
 use Rattle.batcher_votes.proofs.verifier.Verifier.construct.Goals as goal
 
 pub invariant_of-self : goal.invariant_of-self
@@ -25,8 +25,8 @@ invariant_of-self g c =
     c.finish.ensures.verified) in
     made.sound
 
-pub returns-then-is_some-clause-tries : goal.returns-then-is_some-clause-tries
-returns-then-is_some-clause-tries g c =
+pub returns-then-is_some : goal.returns-then-is_some
+returns-then-is_some g c =
     let v = c.self.inside in
     let m = g.S.Scheme.meaning v.scheme.value in
     let same = g.D.PartialEq.eq in
@@ -42,45 +42,13 @@ returns-then-is_some-clause-tries g c =
     (sym c.is_some.ensures ∙ c.if-is_some.true)
     (completes v.leader v.proposal v.kinds kind c.finish.new.self same c.finish.ensures.complete c.finish.ensures.pending
     c.finish.ensures.verified) in
-    rw (← c.self.view_is) made.tries
-
-pub returns-then-is_some-clause-certifies : goal.returns-then-is_some-clause-certifies
-returns-then-is_some-clause-certifies g c =
-    let v = c.self.inside in
-    let m = g.S.Scheme.meaning v.scheme.value in
-    let same = g.D.PartialEq.eq in
-    let held = held_by v.leader v.proposal v.kinds in
-    let kind = c.args.kind in
-    let subject = c.args.subject in
-    let b = c.in_ok-batch.field-0.batch in
-    let ready : subject_ready same m.batchable v.quorum held v.round kind ≡ Some subject = rw (← c.self.view_is) at c.requires in
-    let attempted = rw (← c.self.view_is) at c.in_ok-batch.ensures in
-    let made = constructs_one m (g.met.S.Scheme.lawful v.scheme.value) same g.met.D.Digest.identical g.met.D.Eq.laws.refl v.round v.quorum held
-    (held_by v.leader v.proposal (with_kind v.kinds kind c.finish.new.self)) c.self.invariant kind subject ready _ _
-    b.processed b.invalid b.certificate b.fallback c.in_ok-batch.field-0.joining.items attempted c.for_subject-batch.result c.for_subject-batch.ensures
-    (sym c.is_some.ensures ∙ c.if-is_some.true)
-    (completes v.leader v.proposal v.kinds kind c.finish.new.self same c.finish.ensures.complete c.finish.ensures.pending
-    c.finish.ensures.verified) in
-    rw (← c.self.view_is) made.certifies
-
-pub returns-then-is_some-clause-names : goal.returns-then-is_some-clause-names
-returns-then-is_some-clause-names g c =
-    let v = c.self.inside in
-    let m = g.S.Scheme.meaning v.scheme.value in
-    let same = g.D.PartialEq.eq in
-    let held = held_by v.leader v.proposal v.kinds in
-    let kind = c.args.kind in
-    let subject = c.args.subject in
-    let b = c.in_ok-batch.field-0.batch in
-    let ready : subject_ready same m.batchable v.quorum held v.round kind ≡ Some subject = rw (← c.self.view_is) at c.requires in
-    let attempted = rw (← c.self.view_is) at c.in_ok-batch.ensures in
-    let made = constructs_one m (g.met.S.Scheme.lawful v.scheme.value) same g.met.D.Digest.identical g.met.D.Eq.laws.refl v.round v.quorum held
-    (held_by v.leader v.proposal (with_kind v.kinds kind c.finish.new.self)) c.self.invariant kind subject ready _ _
-    b.processed b.invalid b.certificate b.fallback c.in_ok-batch.field-0.joining.items attempted c.for_subject-batch.result c.for_subject-batch.ensures
-    (sym c.is_some.ensures ∙ c.if-is_some.true)
-    (completes v.leader v.proposal v.kinds kind c.finish.new.self same c.finish.ensures.complete c.finish.ensures.pending
-    c.finish.ensures.verified) in
-    made.names
+    record {
+      tries = rw (← c.self.view_is) made.tries;
+      certifies = rw (← c.self.view_is) made.certifies;
+      names = made.names;
+      unchanged = search rules;
+      same = search rules;
+    }
 
 pub invariant_of-self-in_err-make_room_for_run : goal.invariant_of-self-in_err-make_room_for_run
 invariant_of-self-in_err-make_room_for_run g c =
@@ -112,8 +80,8 @@ invariant_of-self-2 g c =
     at c.absorb.ensures.verified)) in
     made.sound
 
-pub returns-clause-tries : goal.returns-clause-tries
-returns-clause-tries g c =
+pub returns : goal.returns
+returns g c =
     let v = c.self.inside in
     let m = g.S.Scheme.meaning v.scheme.value in
     let same = g.D.PartialEq.eq in
@@ -132,26 +100,10 @@ returns-clause-tries g c =
     c.absorb.ensures.pending
     (rw (c.as_slice.ensures.value, c.make_room_for_run.ensures.verified, c.get_mut-certification.ensures.value)
     at c.absorb.ensures.verified)) in
-    rw (← c.self.view_is) made.tries
-
-pub returns-clause-names : goal.returns-clause-names
-returns-clause-names g c =
-    let v = c.self.inside in
-    let m = g.S.Scheme.meaning v.scheme.value in
-    let same = g.D.PartialEq.eq in
-    let held = held_by v.leader v.proposal v.kinds in
-    let kind = c.args.kind in
-    let subject = c.args.subject in
-    let b = c.in_ok-batch.field-0.batch in
-    let ready : subject_ready same m.batchable v.quorum held v.round kind ≡ Some subject = rw (← c.self.view_is) at c.requires in
-    let attempted = rw (← c.self.view_is) at c.in_ok-batch.ensures in
-    let made = constructs_none m (g.met.S.Scheme.lawful v.scheme.value) same g.met.D.Digest.identical g.met.D.Eq.laws.refl v.round v.quorum held
-    (held_by v.leader v.proposal (with_kind v.kinds kind c.absorb.new.self)) c.self.invariant kind subject ready _ _
-    b.processed b.invalid b.certificate b.fallback c.in_ok-batch.field-0.joining.items attempted c.for_subject-batch.result c.for_subject-batch.ensures
-    (sym c.is_some.ensures ∙ c.if-is_some.false)
-    (absorbs v.leader v.proposal v.kinds kind c.absorb.new.self subject c.in_ok-batch.field-0.joining.items
-    (c.absorb.ensures.complete ∙ c.make_room_for_run.ensures.complete ∙ ap is_complete c.get_mut-certification.ensures.value)
-    c.absorb.ensures.pending
-    (rw (c.as_slice.ensures.value, c.make_room_for_run.ensures.verified, c.get_mut-certification.ensures.value)
-    at c.absorb.ensures.verified)) in
-    made.names
+    record {
+      tries = rw (← c.self.view_is) made.tries;
+      certifies = search rules;
+      names = made.names;
+      unchanged = search rules;
+      same = search rules;
+    }

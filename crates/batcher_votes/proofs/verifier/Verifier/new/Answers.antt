@@ -1,4 +1,4 @@
-use Rattle.batcher_votes.proofs.Soundness.{sound_nothing}
+use Rattle.batcher_votes.proofs.VerifierLemmas.Soundness.{sound_nothing}
 use Rattle.batcher_votes.proofs.verifier.Verifier.new.Goals as goal
 
 pub invariant_of-result : goal.invariant_of-result

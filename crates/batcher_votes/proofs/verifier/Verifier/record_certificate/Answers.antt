@@ -1,6 +1,6 @@
 use Rattle.batcher_votes.specs.Certifications.{held_by}
-use Rattle.batcher_votes.proofs.Certifications.{completes}
-use Rattle.batcher_votes.proofs.Soundness.{sound_completes}
+use Rattle.batcher_votes.proofs.VerifierLemmas.KindChanges.{completes}
+use Rattle.batcher_votes.proofs.VerifierLemmas.Soundness.{sound_completes}
 use Rattle.batcher_votes.proofs.verifier.Verifier.record_certificate.Goals as goal
 
 pub invariant_of-self : goal.invariant_of-self

@@ -5,9 +5,9 @@ use Rattle.batcher_votes.specs.Selected.{proposal_of}
 use Rattle.batcher_votes.specs.Buffering.{Buffers}
 use Rattle.batcher_votes.specs.Kinds.{with_kind}
 use Rattle.batcher_votes.specs.Certifications.{is_complete, pending_of, verified_of, held_by}
-use Rattle.batcher_votes.proofs.Certifications.{restores}
-use Rattle.batcher_votes.proofs.Soundness.{tidy_from}
-use Rattle.batcher_votes.proofs.Restoring.{restores_buffers, sound_restored}
+use Rattle.batcher_votes.proofs.VerifierLemmas.KindChanges.{restores}
+use Rattle.batcher_votes.proofs.VerifierLemmas.Soundness.{tidy_from}
+use Rattle.batcher_votes.proofs.VerifierLemmas.RestoredVotes.{restores_buffers, sound_restored}
 use Rattle.batcher_votes.proofs.verifier.Verifier.restore.Goals as goal
 
 pub returns-in-Some-clause-buffers : goal.returns-in-Some-clause-buffers

@@ -4,10 +4,10 @@ use Rattle.batcher_types.specs.Votes.{waits}
 use Rattle.batcher_votes.specs.Selected.{proposal_of, updated}
 use Rattle.batcher_votes.specs.Buffering.{SetsProposal}
 use Rattle.batcher_votes.specs.Certifications.{is_complete, pending_of, verified_of, held_by}
-use Rattle.batcher_votes.proofs.Certifications.{retains}
-use Rattle.batcher_votes.proofs.Soundness.{nullifies_stay, sound_sets, tidy_from}
-use Rattle.batcher_votes.proofs.Restoring.{none_wait}
-use Rattle.batcher_votes.proofs.Waits.{no_change, a_change, changed_so, other_too, some_copied, still_selected, sets_same, sets_changed}
+use Rattle.batcher_votes.proofs.VerifierLemmas.KindChanges.{retains}
+use Rattle.batcher_votes.proofs.VerifierLemmas.Soundness.{nullifies_stay, sound_sets, tidy_from}
+use Rattle.batcher_votes.proofs.VerifierLemmas.RestoredVotes.{none_wait}
+use Rattle.batcher_votes.proofs.VerifierLemmas.WaitingVotes.{no_change, a_change, changed_so, other_too, some_copied, still_selected, sets_same, sets_changed}
 use Rattle.batcher_votes.proofs.verifier.Verifier.set_proposal.Goals as goal
 
 pub returns-in-None-clause-sets : goal.returns-in-None-clause-sets

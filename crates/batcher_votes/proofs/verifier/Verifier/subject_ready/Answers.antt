@@ -1,8 +1,8 @@
 use Rattle.std.proofs.Common.{◌≡◌, ◌∙◌, sym}
 use Rattle.batcher_votes.specs.Buffering.{is_ready}
 use Rattle.batcher_votes.specs.Certifications.{is_complete, pending_of, verified_of, held_by}
-use Rattle.batcher_votes.proofs.Certifications.{of_mapped}
-use Rattle.batcher_votes.proofs.Constructing.{ready_some, some_left}
+use Rattle.batcher_votes.proofs.VerifierLemmas.KindChanges.{of_mapped}
+use Rattle.batcher_votes.proofs.VerifierLemmas.Construction.{ready_some, some_left}
 use Rattle.batcher_votes.proofs.verifier.Verifier.subject_ready.Goals as goal
 
 pub returns-clause-ready : goal.returns-clause-ready

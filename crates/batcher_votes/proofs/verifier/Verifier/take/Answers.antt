@@ -2,9 +2,9 @@ use Rattle.std.proofs.Common.{◌≡◌, ◌∙◌, ◌&&◌, ◌++◌, ◌∷�
 use Rattle.batcher_types.specs.Votes.{waits}
 use Rattle.batcher_votes.specs.Selected.{proposal_of}
 use Rattle.batcher_votes.specs.Certifications.{is_complete, pending_of, verified_of, held_by}
-use Rattle.batcher_votes.proofs.Certifications.{places}
-use Rattle.batcher_votes.proofs.Soundness.{MayJoin, sound_placed}
-use Rattle.batcher_votes.proofs.Waits.{adds_placed}
+use Rattle.batcher_votes.proofs.VerifierLemmas.KindChanges.{places}
+use Rattle.batcher_votes.proofs.VerifierLemmas.Soundness.{MayJoin, sound_placed}
+use Rattle.batcher_votes.proofs.VerifierLemmas.WaitingVotes.{adds_placed}
 use Rattle.batcher_votes.proofs.verifier.Verifier.take.Goals as goal
 
 pub invariant_of-self : goal.invariant_of-self

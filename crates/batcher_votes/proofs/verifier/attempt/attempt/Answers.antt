@@ -1,6 +1,6 @@
 use Rattle.std.proofs.Common.{◌≤◌, ◌+◌, ap, arith, filter, length}
 use Rattle.batcher_types.specs.Attempts.{checked}
-use Rattle.batcher_votes.proofs.Quorums.{IsQuorum-checked, IsQuorum-valid, AllPass-valid}
+use Rattle.batcher_votes.proofs.VerifierLemmas.CheckedQuorum.{IsQuorum-checked, IsQuorum-valid, AllPass-valid}
 use Rattle.batcher_votes.proofs.verifier.attempt.attempt.Goals as goal
 
 pub optimistic_assemble-requires-clause-quorum : goal.optimistic_assemble-requires-clause-quorum

@@ -1,5 +1,5 @@
 use Rattle.std.proofs.Common.{◌∙◌, sym, arith}
-use Rattle.batcher_votes.proofs.Pairing.{moved_no, moved_yes, moved_start}
+use Rattle.batcher_votes.proofs.VerifierLemmas.Runs.{moved_no, moved_yes, moved_start}
 use Rattle.batcher_votes.proofs.verifier.buffer.keep.Goals as goal
 use Rattle.batcher_votes.proofs.verifier.buffer.keep.Goals.{then-fits, else-fits}
 

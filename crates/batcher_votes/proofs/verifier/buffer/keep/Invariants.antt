@@ -1,4 +1,4 @@
-use Rattle.batcher_votes.proofs.Pairing.{Moved}
+use Rattle.batcher_votes.proofs.VerifierLemmas.Runs.{Moved}
 use Rattle.batcher_votes.proofs.verifier.buffer.keep.Given as goal
 
 abbrev pub invariant-loop-run : goal.invariant-loop-run

@@ -1,6 +1,6 @@
 use Rattle.std.proofs.Common.{◌≡◌, ◌++◌, ◌-◌, ◌∷◌, [], ◌∙◌, ap, rules}
 use Rattle.batcher_votes.specs.Waiting.{spread}
-use Rattle.batcher_votes.proofs.Pairing.{as_many, spread-append}
+use Rattle.batcher_votes.proofs.VerifierLemmas.Runs.{as_many, spread-append}
 use Rattle.batcher_votes.proofs.verifier.buffer.push_run.Goals as goal
 
 pub returns-clause-subjects : goal.returns-clause-subjects

@@ -2,8 +2,8 @@ use Rattle.std.proofs.Common.{◌∙◌, Some, length, filter, sym, ap}
 use Rattle.batcher_votes.specs.Held.{of_kind}
 use Rattle.batcher_types.specs.Votes.{waits}
 use Rattle.batcher_votes.specs.Entries.{marks_of, part, vote_at, votes_in, kept_among}
-use Rattle.batcher_votes.proofs.Keeping.{length-filter_map, kept_shown}
-use Rattle.batcher_votes.proofs.Shown.{kept_is}
+use Rattle.batcher_votes.proofs.TrackerLemmas.KeptVotes.{length-filter_map, kept_shown}
+use Rattle.batcher_votes.proofs.TrackerLemmas.SignerFacts.{kept_is}
 use Rattle.batcher_votes.proofs.votes.VoteTracker.count_for.Goals as goal
 
 pub returns-clause-count : goal.returns-clause-count

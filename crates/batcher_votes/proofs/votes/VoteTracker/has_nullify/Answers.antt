@@ -1,7 +1,7 @@
 use Rattle.std.proofs.Common.{◌∙◌, ap, refl, nat_eq, find}
 use Rattle.batcher_types.specs.declared.messages.Kind.TheVariants.{Nullification}
 use Rattle.batcher_votes.specs.Entries.{key_of, marks_of, has_place, votes_in}
-use Rattle.batcher_votes.proofs.Recorded.{has_kept_vote}
+use Rattle.batcher_votes.proofs.TrackerLemmas.RecordVote.{has_kept_vote}
 use Rattle.batcher_votes.proofs.votes.VoteTracker.has_nullify.Goals as goal
 
 pub returns : goal.returns

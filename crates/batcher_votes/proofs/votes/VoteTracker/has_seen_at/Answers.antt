@@ -1,6 +1,6 @@
 use Rattle.std.proofs.Common.{◌∙◌, ap, refl, nat_eq, find}
 use Rattle.batcher_votes.specs.Entries.{key_of, marks_of, is_any, votes_in}
-use Rattle.batcher_votes.proofs.Recorded.{has_seen}
+use Rattle.batcher_votes.proofs.TrackerLemmas.RecordVote.{has_seen}
 use Rattle.batcher_votes.proofs.votes.VoteTracker.has_seen_at.Goals as goal
 
 pub returns : goal.returns

@@ -1,6 +1,6 @@
 use Rattle.std.proofs.Common.{sym}
 use Rattle.batcher_votes.specs.Entries.{marks_of, votes_in}
-use Rattle.batcher_votes.proofs.Keeping.{keeps_each, kept_shown}
+use Rattle.batcher_votes.proofs.TrackerLemmas.KeptVotes.{keeps_each, kept_shown}
 use Rattle.batcher_votes.proofs.votes.VoteTracker.iter_kept.Goals as goal
 
 pub returns-clause-votes : goal.returns-clause-votes

@@ -1,7 +1,7 @@
 use Rattle.std.proofs.Common.{◌∙◌, ap, sym, refl, nat_eq, find}
 use Rattle.batcher_types.specs.declared.messages.Kind.TheVariants.{Notarization}
 use Rattle.batcher_votes.specs.Entries.{key_of, marks_of, vote_at, votes_in}
-use Rattle.batcher_votes.proofs.Recorded.{kept_vote_found}
+use Rattle.batcher_votes.proofs.TrackerLemmas.RecordVote.{kept_vote_found}
 use Rattle.batcher_votes.proofs.votes.VoteTracker.notarize.Goals as goal
 
 pub returns : goal.returns

@@ -1,7 +1,7 @@
 use Rattle.std.proofs.Common.{◌∙◌, refl, nat_eq, find}
 use Rattle.batcher_types.specs.Votes.{signer_of}
 use Rattle.batcher_votes.specs.Entries.{key_of, marks_of, votes_in}
-use Rattle.batcher_votes.proofs.Recorded.{outcome_here}
+use Rattle.batcher_votes.proofs.TrackerLemmas.RecordVote.{outcome_here}
 use Rattle.batcher_votes.proofs.votes.VoteTracker.outcome_at.Goals as goal
 
 pub returns : goal.returns

@@ -1,69 +1,50 @@
-use Rattle.std.proofs.Common.{◌≡◌, ◌<◌, ◌∙◌, ℕ, true, false, nat_eq, nat_lt, length, find, ap, sym, refl, arith}
-use Rattle.std.proofs.lemmas.Bool.{false≢true}
-use Rattle.std.proofs.lemmas.Bool.Decides.{nat_tests}
+use Rattle.std.proofs.Common.{◌≡◌, ◌∙◌, true, false, nat_eq, length, find, ap, sym, refl, arith, rules}
+use Rattle.std.proofs.lemmas.Bool.{false≢true, lt-ltb}
 use Rattle.std.specs.Option.{option_copied}
 use Rattle.batcher_types.specs.Votes.{signer_of, kind_of}
 use Rattle.batcher_votes.specs.Held.{of_kind}
 use Rattle.batcher_votes.specs.Entries.{marks_of, key_of, part, seen_in, has_place, compared, seen_outcome, is_selected_in, tested, tracked_by, votes_in}
-use Rattle.batcher_votes.proofs.Putting.{count_few}
-use Rattle.batcher_votes.proofs.Recorded.{known_entry, seen_known, recorded_none, recorded_compared, recorded_full, tracked_compared, tracked_full, outcome_found, outcome_first, outcome_kept, seen_compacted}
+use Rattle.batcher_votes.proofs.TrackerLemmas.PutEntry.{count_few}
+use Rattle.batcher_votes.proofs.TrackerLemmas.RecordVote.{known_entry, seen_known, recorded_none, recorded_compared, recorded_full, tracked_compared, tracked_full, outcome_found, outcome_first, outcome_kept, seen_compacted}
 use Rattle.batcher_votes.proofs.votes.VoteTracker.record_at.Goals as goal
 
-below : (signer participants : ℕ) → signer < participants → nat_lt signer participants ≡ true
-below signer participants lower = grind (arith, nat_tests)
-
-pub returns-then-is_kept-clause-outcome : goal.returns-then-is_kept-clause-outcome
-returns-then-is_kept-clause-outcome g c =
+pub returns-then-is_kept : goal.returns-then-is_kept
+returns-then-is_kept g c =
     let marks = marks_of c.self.inside.compacted in
     let votes = votes_in c.self.inside.kept in
     let es = c.self.inside.entries.items in
     let vote = c.args.vote.now in
-    let i = signer_of vote in
-    let k = kind_of vote in
     let up = c.seen_at-seen.ensures.ascending in
     let place = rw (← c.self.view_is) at c.requires.place in
     let o = find (λ e. nat_eq (key_of e) (signer_of c.args.vote.now)) c.self.inside.entries.items in
     let seen : c.seen_at-seen.result ≡ seen_in (kind_of c.args.vote.now) (find (λ e. nat_eq (key_of e) (signer_of c.args.vote.now)) c.self.inside.entries.items)
-    = c.seen_at-seen.ensures.seen i place ∙ ap (λ k. seen_in k o) c.kind-kind.ensures in
-    let range : signer_of c.args.vote.now < c.self.inside.entries.participants = rw (← c.self.view_is) at c.requires.range in
-    let in_range : nat_lt (signer_of c.args.vote.now) c.self.inside.entries.participants ≡ true = below _ _ range in
+    = c.seen_at-seen.ensures.seen (signer_of vote) place ∙ ap (λ k. seen_in k o) c.kind-kind.ensures in
+    let in_range = lt-ltb _ _ (rw (← c.self.view_is) at c.requires.range) in
     let has = ap has_place (sym seen) ∙ sym c.is_kept.ensures ∙ c.if-is_kept.true in
-    rw (← c.self.view_is)
-    (outcome_kept g.D.PartialEq.eq marks votes es (option_copied c.args.proposal) vote up (λ kind. c.self.invariant.kinds kind) o refl has
-    c.self.inside.entries.participants in_range)
-
-pub returns-then-is_kept-clause-records : goal.returns-then-is_kept-clause-records
-returns-then-is_kept-clause-records g c = λ kind.
-    let marks = marks_of c.self.inside.compacted in
-    let votes = votes_in c.self.inside.kept in
-    let es = c.self.inside.entries.items in
-    let vote = c.args.vote.now in
-    let i = signer_of vote in
-    let k = kind_of vote in
-    let up = c.seen_at-seen.ensures.ascending in
-    let place = rw (← c.self.view_is) at c.requires.place in
-    let o = find (λ e. nat_eq (key_of e) (signer_of c.args.vote.now)) c.self.inside.entries.items in
-    let seen : c.seen_at-seen.result ≡ seen_in (kind_of c.args.vote.now) (find (λ e. nat_eq (key_of e) (signer_of c.args.vote.now)) c.self.inside.entries.items)
-    = c.seen_at-seen.ensures.seen i place ∙ ap (λ k. seen_in k o) c.kind-kind.ensures in
-    let has = ap has_place (sym seen) ∙ sym c.is_kept.ensures ∙ c.if-is_kept.true in
-    rw (← c.self.view_is)
-    (recorded_none g.D.PartialEq.eq marks votes es (option_copied c.args.proposal) vote up (λ kind. c.self.invariant.kinds kind) o refl has kind)
+    record {
+      outcome =
+          rw (← c.self.view_is)
+          (outcome_kept g.D.PartialEq.eq marks votes es (option_copied c.args.proposal) vote up (λ kind. c.self.invariant.kinds kind) o refl has
+          c.self.inside.entries.participants in_range);
+      records = λ kind.
+          rw (← c.self.view_is)
+          (recorded_none g.D.PartialEq.eq marks votes es (option_copied c.args.proposal) vote up (λ kind. c.self.invariant.kinds kind) o refl has kind);
+      err = search rules;
+      participants = search rules;
+      mode = search rules;
+      known = search rules;
+      repeated = search rules;
+      with_room = search rules;
+    }
 
 pub returns-in_err-make_room_at-clause-known : goal.returns-in_err-make_room_at-clause-known
 returns-in_err-make_room_at-clause-known g c =
     let marks = marks_of c.self.inside.compacted in
-    let votes = votes_in c.self.inside.kept in
-    let es = c.self.inside.entries.items in
-    let vote = c.args.vote.now in
-    let i = signer_of vote in
-    let k = kind_of vote in
-    let up = c.seen_at-seen.ensures.ascending in
     let place = rw (← c.self.view_is) at c.requires.place in
-    let o = find (λ e. nat_eq (key_of e) (signer_of c.args.vote.now)) c.self.inside.entries.items in
-    let seen : c.seen_at-seen.result ≡ seen_in (kind_of c.args.vote.now) (find (λ e. nat_eq (key_of e) (signer_of c.args.vote.now)) c.self.inside.entries.items)
-    = c.seen_at-seen.ensures.seen i place ∙ ap (λ k. seen_in k o) c.kind-kind.ensures in
     rw (← c.self.view_is)
-    (λ known on. absurd (false≢true (c.in_err-make_room_at.ensures.no_memory (known_entry marks votes es i c.args.place _ up place known)
+    (λ known on. absurd (false≢true (c.in_err-make_room_at.ensures.no_memory
+    (known_entry marks (votes_in c.self.inside.kept) c.self.inside.entries.items (signer_of c.args.vote.now) c.args.place _ c.seen_at-seen.ensures.ascending
+    place known)
     (λ off. absurd (false≢true (sym off ∙ c.of-is_compacted.ensures ∙ ap (of_kind marks) c.kind-kind.ensures ∙ on))))))
 
 pub returns-in_err-make_room_at-clause-repeated : goal.returns-in_err-make_room_at-clause-repeated
@@ -93,13 +74,11 @@ invariant_of-self-then-is_compacted g c =
     let votes = votes_in c.self.inside.kept in
     let es = c.self.inside.entries.items in
     let vote = c.args.vote.now in
-    let i = signer_of vote in
-    let k = kind_of vote in
     let up = c.seen_at-seen.ensures.ascending in
     let place = rw (← c.self.view_is) at c.requires.place in
     let o = find (λ e. nat_eq (key_of e) (signer_of c.args.vote.now)) c.self.inside.entries.items in
     let seen : c.seen_at-seen.result ≡ seen_in (kind_of c.args.vote.now) (find (λ e. nat_eq (key_of e) (signer_of c.args.vote.now)) c.self.inside.entries.items)
-    = c.seen_at-seen.ensures.seen i place ∙ ap (λ k. seen_in k o) c.kind-kind.ensures in
+    = c.seen_at-seen.ensures.seen (signer_of vote) place ∙ ap (λ k. seen_in k o) c.kind-kind.ensures in
     let on : of_kind (marks_of c.self.inside.compacted) (kind_of c.args.vote.now) ≡ true =
     ap (of_kind marks) (sym c.kind-kind.ensures) ∙ sym c.of-is_compacted.ensures ∙ c.if-is_compacted.true in
     let tests : c.is_selected-is_selected.result ≡ tested g.D.PartialEq.eq (option_copied c.args.proposal) c.args.vote.now =
@@ -112,21 +91,19 @@ invariant_of-self-then-is_compacted g c =
     rw (bound, c.make_room_at.ensures.votes, left)
     (tracked_compared g.D.PartialEq.eq marks votes es (option_copied c.args.proposal) vote up on c.self.inside.entries.participants c.self.invariant)
 
-pub returns-then-is_compacted-clause-outcome : goal.returns-then-is_compacted-clause-outcome
-returns-then-is_compacted-clause-outcome g c =
+pub returns-then-is_compacted : goal.returns-then-is_compacted
+returns-then-is_compacted g c =
     let marks = marks_of c.self.inside.compacted in
     let votes = votes_in c.self.inside.kept in
     let es = c.self.inside.entries.items in
     let vote = c.args.vote.now in
-    let i = signer_of vote in
     let k = kind_of vote in
     let up = c.seen_at-seen.ensures.ascending in
     let place = rw (← c.self.view_is) at c.requires.place in
     let o = find (λ e. nat_eq (key_of e) (signer_of c.args.vote.now)) c.self.inside.entries.items in
     let seen : c.seen_at-seen.result ≡ seen_in (kind_of c.args.vote.now) (find (λ e. nat_eq (key_of e) (signer_of c.args.vote.now)) c.self.inside.entries.items)
-    = c.seen_at-seen.ensures.seen i place ∙ ap (λ k. seen_in k o) c.kind-kind.ensures in
-    let range : signer_of c.args.vote.now < c.self.inside.entries.participants = rw (← c.self.view_is) at c.requires.range in
-    let in_range : nat_lt (signer_of c.args.vote.now) c.self.inside.entries.participants ≡ true = below _ _ range in
+    = c.seen_at-seen.ensures.seen (signer_of vote) place ∙ ap (λ k. seen_in k o) c.kind-kind.ensures in
+    let in_range = lt-ltb _ _ (rw (← c.self.view_is) at c.requires.range) in
     let on : of_kind (marks_of c.self.inside.compacted) (kind_of c.args.vote.now) ≡ true =
     ap (of_kind marks) (sym c.kind-kind.ensures) ∙ sym c.of-is_compacted.ensures ∙ c.if-is_compacted.true in
     let tests : c.is_selected-is_selected.result ≡ tested g.D.PartialEq.eq (option_copied c.args.proposal) c.args.vote.now =
@@ -135,34 +112,26 @@ returns-then-is_compacted-clause-outcome g c =
     ≡ seen_outcome true (tested g.D.PartialEq.eq (option_copied c.args.proposal) c.args.vote.now) (seen_in (kind_of c.args.vote.now) o)
     = c.outcome.ensures ∙ ap (λ t. seen_outcome true t c.seen_at-seen.result) tests
     ∙ ap (seen_outcome true (tested g.D.PartialEq.eq (option_copied c.args.proposal) c.args.vote.now)) seen in
-    rw (← c.self.view_is)
-    (given ∙ ap (λ b. seen_outcome b (tested g.D.PartialEq.eq (option_copied c.args.proposal) vote) (seen_in k o)) (sym on)
-    ∙ outcome_found g.D.PartialEq.eq marks votes es (option_copied c.args.proposal) vote up (λ kind. c.self.invariant.kinds kind) o refl
-    c.self.inside.entries.participants in_range)
-
-pub returns-then-is_compacted-clause-records : goal.returns-then-is_compacted-clause-records
-returns-then-is_compacted-clause-records g c = λ kind.
-    let marks = marks_of c.self.inside.compacted in
-    let votes = votes_in c.self.inside.kept in
-    let es = c.self.inside.entries.items in
-    let vote = c.args.vote.now in
-    let i = signer_of vote in
-    let k = kind_of vote in
-    let up = c.seen_at-seen.ensures.ascending in
-    let place = rw (← c.self.view_is) at c.requires.place in
-    let o = find (λ e. nat_eq (key_of e) (signer_of c.args.vote.now)) c.self.inside.entries.items in
-    let seen : c.seen_at-seen.result ≡ seen_in (kind_of c.args.vote.now) (find (λ e. nat_eq (key_of e) (signer_of c.args.vote.now)) c.self.inside.entries.items)
-    = c.seen_at-seen.ensures.seen i place ∙ ap (λ k. seen_in k o) c.kind-kind.ensures in
-    let on : of_kind (marks_of c.self.inside.compacted) (kind_of c.args.vote.now) ≡ true =
-    ap (of_kind marks) (sym c.kind-kind.ensures) ∙ sym c.of-is_compacted.ensures ∙ c.if-is_compacted.true in
-    let tests : c.is_selected-is_selected.result ≡ tested g.D.PartialEq.eq (option_copied c.args.proposal) c.args.vote.now =
-    c.is_selected-is_selected.ensures ∙ ap (is_selected_in g.D.PartialEq.eq (option_copied c.args.proposal)) c.proposal.ensures in
     let next : c.compared-next.result ≡ compared (tested g.D.PartialEq.eq (option_copied c.args.proposal) c.args.vote.now) (seen_in (kind_of c.args.vote.now) o)
     = c.compared-next.ensures ∙ ap (λ t. compared t c.seen_at-seen.result) tests
     ∙ ap (compared (tested g.D.PartialEq.eq (option_copied c.args.proposal) c.args.vote.now)) seen in
     let left = rw (c.make_room_at.ensures.items, c.signer.ensures, c.kind-kind.ensures, next) at c.put_at.ensures.items in
-    rw (← c.self.view_is)
-    (recorded_compared g.D.PartialEq.eq marks votes es (option_copied c.args.proposal) vote up _ _ c.make_room_at.ensures.votes left on kind)
+    record {
+      outcome =
+          rw (← c.self.view_is)
+          (given ∙ ap (λ b. seen_outcome b (tested g.D.PartialEq.eq (option_copied c.args.proposal) vote) (seen_in k o)) (sym on)
+          ∙ outcome_found g.D.PartialEq.eq marks votes es (option_copied c.args.proposal) vote up (λ kind. c.self.invariant.kinds kind) o refl
+          c.self.inside.entries.participants in_range);
+      records = λ kind.
+          rw (← c.self.view_is)
+          (recorded_compared g.D.PartialEq.eq marks votes es (option_copied c.args.proposal) vote up _ _ c.make_room_at.ensures.votes left on kind);
+      err = search rules;
+      participants = search rules;
+      mode = search rules;
+      known = search rules;
+      repeated = search rules;
+      with_room = search rules;
+    }
 
 pub overflow_cast-next : goal.overflow_cast-next
 overflow_cast-next g c =
@@ -178,13 +147,11 @@ invariant_of-self-2 g c =
     let votes = votes_in c.self.inside.kept in
     let es = c.self.inside.entries.items in
     let vote = c.args.vote.now in
-    let i = signer_of vote in
-    let k = kind_of vote in
     let up = c.seen_at-seen.ensures.ascending in
     let place = rw (← c.self.view_is) at c.requires.place in
     let o = find (λ e. nat_eq (key_of e) (signer_of c.args.vote.now)) c.self.inside.entries.items in
     let seen : c.seen_at-seen.result ≡ seen_in (kind_of c.args.vote.now) (find (λ e. nat_eq (key_of e) (signer_of c.args.vote.now)) c.self.inside.entries.items)
-    = c.seen_at-seen.ensures.seen i place ∙ ap (λ k. seen_in k o) c.kind-kind.ensures in
+    = c.seen_at-seen.ensures.seen (signer_of vote) place ∙ ap (λ k. seen_in k o) c.kind-kind.ensures in
     let none = ap has_place (sym seen) ∙ sym c.is_kept.ensures ∙ c.if-is_kept.false in
     let off : of_kind (marks_of c.self.inside.compacted) (kind_of c.args.vote.now) ≡ false =
     ap (of_kind marks) (sym c.kind-kind.ensures) ∙ sym c.of-is_compacted.ensures ∙ c.if-is_compacted.false in
@@ -196,41 +163,18 @@ invariant_of-self-2 g c =
     rw (bound, kept, left)
     (tracked_full g.D.PartialEq.eq marks votes es (option_copied c.args.proposal) vote up off none c.self.inside.entries.participants c.self.invariant)
 
-pub returns-clause-outcome : goal.returns-clause-outcome
-returns-clause-outcome g c =
+pub returns : goal.returns
+returns g c =
     let marks = marks_of c.self.inside.compacted in
     let votes = votes_in c.self.inside.kept in
     let es = c.self.inside.entries.items in
     let vote = c.args.vote.now in
-    let i = signer_of vote in
-    let k = kind_of vote in
     let up = c.seen_at-seen.ensures.ascending in
     let place = rw (← c.self.view_is) at c.requires.place in
     let o = find (λ e. nat_eq (key_of e) (signer_of c.args.vote.now)) c.self.inside.entries.items in
     let seen : c.seen_at-seen.result ≡ seen_in (kind_of c.args.vote.now) (find (λ e. nat_eq (key_of e) (signer_of c.args.vote.now)) c.self.inside.entries.items)
-    = c.seen_at-seen.ensures.seen i place ∙ ap (λ k. seen_in k o) c.kind-kind.ensures in
-    let range : signer_of c.args.vote.now < c.self.inside.entries.participants = rw (← c.self.view_is) at c.requires.range in
-    let in_range : nat_lt (signer_of c.args.vote.now) c.self.inside.entries.participants ≡ true = below _ _ range in
-    let none = ap has_place (sym seen) ∙ sym c.is_kept.ensures ∙ c.if-is_kept.false in
-    let off : of_kind (marks_of c.self.inside.compacted) (kind_of c.args.vote.now) ≡ false =
-    ap (of_kind marks) (sym c.kind-kind.ensures) ∙ sym c.of-is_compacted.ensures ∙ c.if-is_compacted.false in
-    rw (← c.self.view_is)
-    (outcome_first g.D.PartialEq.eq marks votes es (option_copied c.args.proposal) vote up (λ kind. c.self.invariant.kinds kind) o refl off none
-    c.self.inside.entries.participants in_range)
-
-pub returns-clause-records : goal.returns-clause-records
-returns-clause-records g c = λ kind.
-    let marks = marks_of c.self.inside.compacted in
-    let votes = votes_in c.self.inside.kept in
-    let es = c.self.inside.entries.items in
-    let vote = c.args.vote.now in
-    let i = signer_of vote in
-    let k = kind_of vote in
-    let up = c.seen_at-seen.ensures.ascending in
-    let place = rw (← c.self.view_is) at c.requires.place in
-    let o = find (λ e. nat_eq (key_of e) (signer_of c.args.vote.now)) c.self.inside.entries.items in
-    let seen : c.seen_at-seen.result ≡ seen_in (kind_of c.args.vote.now) (find (λ e. nat_eq (key_of e) (signer_of c.args.vote.now)) c.self.inside.entries.items)
-    = c.seen_at-seen.ensures.seen i place ∙ ap (λ k. seen_in k o) c.kind-kind.ensures in
+    = c.seen_at-seen.ensures.seen (signer_of vote) place ∙ ap (λ k. seen_in k o) c.kind-kind.ensures in
+    let in_range = lt-ltb _ _ (rw (← c.self.view_is) at c.requires.range) in
     let none = ap has_place (sym seen) ∙ sym c.is_kept.ensures ∙ c.if-is_kept.false in
     let off : of_kind (marks_of c.self.inside.compacted) (kind_of c.args.vote.now) ≡ false =
     ap (of_kind marks) (sym c.kind-kind.ensures) ∙ sym c.of-is_compacted.ensures ∙ c.if-is_compacted.false in
@@ -238,5 +182,19 @@ returns-clause-records g c = λ kind.
     c.len.ensures ∙ ap (λ v. length (of_kind v c.kind-kind.result)) c.make_room_at.ensures.votes ∙ ap (λ k. length (of_kind votes k)) c.kind-kind.ensures in
     let left = rw (c.make_room_at.ensures.items, c.signer-2.ensures, c.kind-kind.ensures, length_is) at c.put_at-2.ensures.items in
     let kept = rw c.make_room_at.ensures.votes at c.push.ensures in
-    rw (← c.self.view_is)
-    (recorded_full g.D.PartialEq.eq marks votes es (option_copied c.args.proposal) vote up _ _ kept left off none (λ kind. c.self.invariant.kinds kind) kind)
+    record {
+      outcome =
+          rw (← c.self.view_is)
+          (outcome_first g.D.PartialEq.eq marks votes es (option_copied c.args.proposal) vote up (λ kind. c.self.invariant.kinds kind) o refl off none
+          c.self.inside.entries.participants in_range);
+      records = λ kind.
+          rw (← c.self.view_is)
+          (recorded_full g.D.PartialEq.eq marks votes es (option_copied c.args.proposal) vote up _ _ kept left off none
+          (λ kind. c.self.invariant.kinds kind) kind);
+      err = search rules;
+      participants = search rules;
+      mode = search rules;
+      known = search rules;
+      repeated = search rules;
+      with_room = search rules;
+    }

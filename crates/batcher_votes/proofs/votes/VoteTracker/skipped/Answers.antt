@@ -1,4 +1,4 @@
-use Rattle.batcher_votes.proofs.Recorded.{tracked_fresh}
+use Rattle.batcher_votes.proofs.TrackerLemmas.RecordVote.{tracked_fresh}
 use Rattle.batcher_votes.proofs.votes.VoteTracker.skipped.Goals as goal
 
 pub invariant_of-result : goal.invariant_of-result

@@ -9,7 +9,7 @@ use Rattle.batcher_histories.specs.Setting.{setting}
 use Rattle.batcher_histories.proofs.Right.Own.{right_certified, within_complete}
 use Rattle.batcher_histories.proofs.Right.Room.{no_room_with, room_left}
 use Rattle.batcher_round.proofs.round.ballots.Ballots.complete.Goals as goal
-use Rattle.batcher_votes.proofs.Fixing.{finalization_for}
+use Rattle.batcher_votes.proofs.VerifierLemmas.FixedProposal.{finalization_for}
 
 pub invariant_of-self-2 : goal.invariant_of-self-2
 invariant_of-self-2 g c =

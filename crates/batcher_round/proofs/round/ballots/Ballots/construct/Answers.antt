@@ -1,8 +1,7 @@
 use Rattle.std.proofs.Common.{◌∙◌, ap, sym, refl, is_some}
-use Rattle.std.proofs.lemmas.Bool.{false≢true}
+use Rattle.std.proofs.lemmas.Bool.{false≢true, and_parts, not-true}
 use Rattle.batcher_votes.specs.declared.votes.Mode.TheVariants.{Retaining}
-use Rattle.batcher_votes.proofs.Constructing.{both, not_true}
-use Rattle.batcher_votes.proofs.Fixing.{made_for}
+use Rattle.batcher_votes.proofs.VerifierLemmas.FixedProposal.{made_for}
 use Rattle.batcher_histories.specs.Setting.{setting}
 use Rattle.batcher_histories.specs.Steps.{Fixes}
 use Rattle.batcher_histories.proofs.Right.Attempt.{right_without, right_given}
@@ -26,7 +25,7 @@ invariant_of-self-in-Some-certificate g c =
     let left = c.try_construct.new.self in
     let tries = rw c.in-Some.is at c.in_ok-batch.ensures.tries in
     let ready = sym c.in_ok-batch.ensures.ready ∙ ap is_some c.in-Some.is in
-    let was = not_true _ ((both _ _ ready).0) in
+    let was = not-true _ ((and_parts _ _ ready).0) in
     let x = setting (g.S.Scheme.meaning left.scheme) g.S.PublicKey.Ord.cmp g.S.Signature.PartialEq.eq g.D.PartialEq.eq left.number Retaining in
     let made = made_is m g.D.PartialEq.eq g.met.D.Eq.laws.refl b.verifier.number b.verifier.quorum b.verifier.holds left.holds c.args.kind _ _ c.in-Some.batch
     tries c.in-Some-certificate.certificate c.in-Some-certificate.is c.proposal-proposal.result c.proposal-proposal.ensures in
@@ -47,7 +46,7 @@ invariant_of-self-in_default-certificate g c =
     let b = c.self.inside in
     let tries = rw c.in-Some.is at c.in_ok-batch.ensures.tries in
     let ready = sym c.in_ok-batch.ensures.ready ∙ ap is_some c.in-Some.is in
-    let was = not_true _ ((both _ _ ready).0) in
+    let was = not-true _ ((and_parts _ _ ready).0) in
     let s = c.in_ok-batch.ensures.same in
     rw (s.0, s.2)
     (right_without (g.S.Scheme.meaning b.verifier.scheme) b.verifier.number b.verifier.quorum b.verifier.holds c.try_construct.new.self.holds c.args.kind _ _

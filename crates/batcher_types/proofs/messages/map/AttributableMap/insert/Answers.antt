@@ -1,6 +1,6 @@
 use Rattle.std.proofs.Common.{◌≡◌, ◌∙◌, ◌<◌, true, false, sym, ap, arith}
-use Rattle.batcher_types.proofs.MapItems.{is_new-absent, is_new-present}
-use Rattle.batcher_types.proofs.Orders.{insert_new, All-insert_by}
+use Rattle.batcher_types.proofs.MapLemmas.{is_new-absent, is_new-present}
+use Rattle.batcher_types.proofs.AscendingLemmas.{insert_new, All-insert_by}
 use Rattle.batcher_types.proofs.messages.map.AttributableMap.insert.Goals as goal
 
 pub returns-in_err-make_room_below-in-Err-clause-no_memory :

@@ -1,5 +1,5 @@
 use Rattle.std.proofs.Common.{ap}
-use Rattle.batcher_types.proofs.Orders.{all_above_first}
+use Rattle.batcher_types.proofs.AscendingLemmas.{all_above_first}
 use Rattle.batcher_types.proofs.messages.map.AttributableMap.is_above.Goals as goal
 
 pub returns-in-Some : goal.returns-in-Some

@@ -1,5 +1,5 @@
 use Rattle.std.proofs.Common.{ap}
-use Rattle.batcher_types.proofs.Orders.{all_below_last}
+use Rattle.batcher_types.proofs.AscendingLemmas.{all_below_last}
 use Rattle.batcher_types.proofs.messages.map.AttributableMap.is_below.Goals as goal
 
 pub returns-in-Some-clause-below : goal.returns-in-Some-clause-below

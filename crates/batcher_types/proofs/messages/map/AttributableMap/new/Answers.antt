@@ -1,5 +1,5 @@
 use Rattle.std.proofs.Common.{arith}
-use Rattle.batcher_types.proofs.MapItems.{ascending-empty}
+use Rattle.batcher_types.proofs.MapLemmas.{ascending-empty}
 use Rattle.batcher_types.proofs.messages.map.AttributableMap.new.Goals as goal
 
 pub invariant_of-result : goal.invariant_of-result

@@ -1,5 +1,5 @@
 use Rattle.std.proofs.Common.{true, false}
-use Rattle.batcher_types.proofs.Places.{look_place, look_next}
+use Rattle.batcher_types.proofs.PlaceLemmas.{look_place, look_next}
 use Rattle.batcher_types.proofs.messages.map.AttributableMap.place_after.Goals as goal
 
 pub returns-then-is_at-clause-place : goal.returns-then-is_at-clause-place

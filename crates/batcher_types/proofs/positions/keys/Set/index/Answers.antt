@@ -1,6 +1,6 @@
 use Rattle.std.proofs.Common.{◌∙◌, ap, Some}
 use Rattle.batcher_types.specs.Keys.{index_of, participant}
-use Rattle.batcher_types.proofs.KeyOrder.{index_found, index_absent}
+use Rattle.batcher_types.proofs.KeyLemmas.{index_found, index_absent}
 use Rattle.batcher_types.proofs.positions.keys.Set.index.Goals as goal
 
 pub returns-in-Ok-clause-index : goal.returns-in-Ok-clause-index

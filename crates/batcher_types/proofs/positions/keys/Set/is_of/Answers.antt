@@ -3,7 +3,7 @@ use Rattle.std.proofs.lemmas.Grind.{common_steps}
 use Rattle.std.proofs.lemmas.Option.{gets, slice_get_within}
 use Rattle.std.specs.Option.{option_copied}
 use Rattle.batcher_types.specs.Keys.{index_of}
-use Rattle.batcher_types.proofs.KeyOrder.{index_read}
+use Rattle.batcher_types.proofs.KeyLemmas.{index_read}
 use Rattle.batcher_types.proofs.positions.keys.Set.is_of.Goals as goal
 
 pub returns-in-Equal-clause-index : goal.returns-in-Equal-clause-index

@@ -1,5 +1,5 @@
 use Rattle.std.proofs.Common.{◌∙◌, arith}
-use Rattle.batcher_types.proofs.KeyOrder.{strict_from_adjacent, distinct_from_strict, twice_at}
+use Rattle.batcher_types.proofs.KeyLemmas.{strict_from_adjacent, distinct_from_strict, twice_at}
 use Rattle.batcher_types.proofs.positions.keys.Set.new.Goals as goal
 
 pub invariant_of-result : goal.invariant_of-result

@@ -1,6 +1,6 @@
 use Rattle.std.proofs.Common.{sym, ◌∙◌}
 use Rattle.batcher_votes.specs.Waiting.{spread}
-use Rattle.batcher_votes.proofs.Pairing.{attestations_from}
+use Rattle.batcher_votes.proofs.VerifierLemmas.Runs.{attestations_from}
 use Rattle.batcher_votes.proofs.verifier.buffer.Buffer.attestations.Goals as goal
 
 pub returns : goal.returns

@@ -1,7 +1,7 @@
 use Rattle.std.proofs.Common.{sym, ap, ◌∙◌, ◌==◌}
 use Rattle.std.specs.List.{list_any}
 use Rattle.batcher_votes.specs.Waiting.{spread}
-use Rattle.batcher_votes.proofs.Pairing.{any-from}
+use Rattle.batcher_votes.proofs.VerifierLemmas.Runs.{any-from}
 use Rattle.batcher_votes.proofs.verifier.buffer.Buffer.contains.Goals as goal
 
 pub returns : goal.returns

@@ -1,6 +1,6 @@
 use Rattle.std.proofs.Common.{◌≡◌, ◌++◌, length, replicate, rules}
 use Rattle.batcher_votes.specs.Waiting.{spread}
-use Rattle.batcher_votes.proofs.Pairing.{append-from, repeat-from, run_joins}
+use Rattle.batcher_votes.proofs.VerifierLemmas.Runs.{append-from, repeat-from, run_joins}
 use Rattle.batcher_votes.proofs.verifier.buffer.Buffer.extend.Goals as goal
 
 pub invariant_of-self : goal.invariant_of-self

@@ -1,6 +1,6 @@
 use Rattle.std.proofs.Common.{arith}
 use Rattle.batcher_votes.specs.Waiting.{spread}
-use Rattle.batcher_votes.proofs.Pairing.{length-from}
+use Rattle.batcher_votes.proofs.VerifierLemmas.Runs.{length-from}
 use Rattle.batcher_votes.proofs.verifier.buffer.Buffer.len.Goals as goal
 
 pub returns : goal.returns

@@ -1,7 +1,7 @@
 use Rattle.std.proofs.Common.{◌≡◌, ◌++◌, ◌∷◌, [], rules}
 use Rattle.batcher_types.specs.Votes.{attestation_of}
 use Rattle.batcher_votes.specs.Waiting.{spread}
-use Rattle.batcher_votes.proofs.Pairing.{push-from}
+use Rattle.batcher_votes.proofs.VerifierLemmas.Runs.{push-from}
 use Rattle.batcher_votes.proofs.verifier.buffer.Buffer.push.Goals as goal
 
 pub returns-clause-votes : goal.returns-clause-votes

@@ -1,6 +1,6 @@
 use Rattle.std.proofs.Common.{◌≡◌, length, vec_len, filter, arith}
 use Rattle.batcher_votes.specs.Waiting.{fitting}
-use Rattle.batcher_votes.proofs.Pairing.{fitting_votes, length-fitting, waits_run, written_back}
+use Rattle.batcher_votes.proofs.VerifierLemmas.Runs.{fitting_votes, length-fitting, waits_run, written_back}
 use Rattle.batcher_votes.proofs.verifier.buffer.Buffer.retain.Goals as goal
 
 pub invariant_of-self : goal.invariant_of-self

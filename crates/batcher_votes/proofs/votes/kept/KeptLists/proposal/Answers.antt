@@ -3,7 +3,7 @@ use Rattle.std.proofs.lemmas.Grind.{common_steps}
 use Rattle.std.proofs.lemmas.Option.{gets}
 use Rattle.std.specs.Option.{option_copied}
 use Rattle.std.specs.List.{slice_get}
-use Rattle.batcher_votes.proofs.Listed.{none_carried, finalize_carried}
+use Rattle.batcher_votes.proofs.TrackerLemmas.KeptLists.{none_carried, finalize_carried}
 use Rattle.batcher_votes.proofs.votes.kept.KeptLists.proposal.Goals as goal
 
 pub returns-in-Nullification : goal.returns-in-Nullification

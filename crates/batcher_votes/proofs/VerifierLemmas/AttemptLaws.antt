@@ -10,13 +10,11 @@ use Rattle.batcher_types.specs.Lists.{EachOnce}
 use Rattle.batcher_types.specs.Attestations.{index_of_signer, signers, failing}
 use Rattle.batcher_types.specs.Meaning.{Meaning, MayTry, IsLawful}
 use Rattle.batcher_types.specs.Attempts.{Tried, checked, one_by_one, at_once, attempt_of}
-use Rattle.batcher_votes.proofs.Counts.{once_filter_end, once_none}
-use Rattle.batcher_votes.proofs.Quorums.{IsQuorum-checked, IsQuorum-valid, AllPass-valid, once_checked}
+use Rattle.batcher_votes.proofs.VerifierLemmas.CheckedQuorum.{IsQuorum-checked, IsQuorum-valid, AllPass-valid, once_checked}
 use Rattle.batcher_types.specs.declared.messages.Attestation.{Attestation}
 use Rattle.batcher_types.specs.declared.messages.Subject.{Subject}
-
-none_at_all : {X : Type 0} (p : X → Bool) → AllPass p []
-none_at_all p = λ k d below. absurd (omega arith)
+use Rattle.batcher_types.proofs.CountLemmas.{once_filter_end, once_none}
+use Rattle.batcher_types.proofs.ListLemmas.{AllPass-nil}
 
 -- where none fails, all pass
 all_of : {G : Type 0} (test : Attestation G → Bool) (a : Attestation G) (xs : List (Attestation G))
@@ -28,7 +26,7 @@ all_of test a xs false e none rest = absurd (cc)
 
 none_fail : {G : Type 0} (test : Attestation G → Bool) (xs : List (Attestation G))
     → signers (failing test xs) ≡ [] → AllPass test xs
-none_fail test [] none = none_at_all test
+none_fail test [] none = AllPass-nil test
 none_fail test (a ∷ xs) none = all_of test a xs (test a) refl none (none_fail test xs)
 
 -- What is true of what an attempt gives.
@@ -50,7 +48,7 @@ module _ {D K G C : Type 0} (m : Meaning D K G C) (lawful : IsLawful m) (subject
   fine_some t c e left h names =
       record {
         names = names;
-        attested = rw left (none_at_all (m.attests subject));
+        attested = rw left (AllPass-nil (m.attests subject));
         once = rw left
             (once_none (index_of_signer {G = G}));
         emptied = λ _. left;

@@ -7,7 +7,7 @@ use Rattle.batcher_types.specs.Lists.{EachOnce}
 use Rattle.batcher_types.specs.Attestations.{IsQuorum, index_of_signer}
 use Rattle.batcher_types.specs.Attempts.{checked}
 use Rattle.batcher_types.specs.declared.messages.Attestation.{Attestation}
-use Rattle.batcher_votes.proofs.Counts.{once_front, once_filter_end}
+use Rattle.batcher_types.proofs.CountLemmas.{once_front, once_filter_end}
 
 module _ {G : Type 0} (n q : ℕ) (enough : quorum_of n ≤ q) (verified pending : List (Attestation G))
     (once : EachOnce index_of_signer (verified ++ pending)) where

@@ -2,6 +2,7 @@
 use Rattle.std.proofs.Common.{◌≡◌, ◌≢◌, ◌≤◌, ◌<◌, ℕ, suc, zero, Bool, true, false, cond, nat_eq, nat_le, List, [], ◌∷◌, length, get_or, set, find, Option, Some, None, map, refl, ap, sym, arith}
 use Rattle.std.specs.List.{AllByRecursion, filter_map, cons_option}
 use Rattle.std.proofs.lemmas.Bool.Decides.{nat_tests}
+use Rattle.std.proofs.lemmas.Bool.{ne_eqb, eq-eqb, le-leb, lt-leb}
 use Rattle.batcher_types.specs.Ascending.{IsAscending, insert_by}
 use Rattle.batcher_types.specs.Ordered.{rec_weaker, all_from_rec}
 
@@ -15,23 +16,11 @@ abbrev pub shown_by : {E X : Type 0} → (E → Option X) → Option E → Optio
 shown_by part None = None
 shown_by part (Some e) = part e
 
-no_tie : (m n : ℕ) → m ≢ n → nat_eq m n ≡ false
-no_tie m n h = grind (arith, nat_tests)
-
-tie : (m n : ℕ) → m ≡ n → nat_eq m n ≡ true
-tie m n h = grind (arith, nat_tests)
-
-lower : (m n : ℕ) → m ≤ n → nat_le m n ≡ true
-lower m n h = grind (arith, nat_tests)
-
-higher : (m n : ℕ) → n < m → nat_le m n ≡ false
-higher m n h = grind (arith, nat_tests)
-
 module _ {E X : Type 0} (key : E → ℕ) (part : E → Option X) where
   none_above : (i : ℕ) (es : List E) → AllByRecursion (λ e. i < key e) es
       → find (λ e. nat_eq (key e) i) es ≡ None
   none_above i [] up = refl
-  none_above i (e ∷ es) up = let no : nat_eq (key e) i ≡ false = no_tie (key e) i (λ same. omega (arith, up.0, same)) in rw no (none_above i es up.1)
+  none_above i (e ∷ es) up = let no : nat_eq (key e) i ≡ false = ne_eqb (key e) i (λ same. omega (arith, up.0, same)) in rw no (none_above i es up.1)
 
   find_step : (t : X → Bool) (i : ℕ) (e : E) (es : List E) (o : Option X) (b : Bool) → part e ≡ o
       → nat_eq (key e) i ≡ b → Of o (λ x. t x ≡ b)
@@ -82,7 +71,7 @@ module _ {E X : Type 0} (key : E → ℕ) (part : E → Option X) where
         → Of o (λ y. number y ≡ key e) → insert_by number x zs ≡ x ∷ zs
         → insert_by number x (cons_option o zs) ≡ x ∷ cons_option o zs
     front_step x e zs None le same rest = rest
-    front_step x e zs (Some y) le same rest = let yes : nat_le (number x) (number y) ≡ true = lower (number x) (number y) (omega (arith, le, same)) in rw yes
+    front_step x e zs (Some y) le same rest = let yes : nat_le (number x) (number y) ≡ true = le-leb (number x) (number y) (omega (arith, le, same)) in rw yes
 
     -- what comes before all
     insert_front : (x : X) (es : List E) → AllByRecursion (λ e. number x ≤ key e) es
@@ -94,7 +83,7 @@ module _ {E X : Type 0} (key : E → ℕ) (part : E → Option X) where
         → Of o (λ y. number y ≡ key e) → cons_option o (insert_by number x zs)
         ≡ insert_by number x (cons_option o zs)
     past x e zs None lt same = refl
-    past x e zs (Some y) lt same = let no : nat_le (number x) (number y) ≡ false = higher (number x) (number y) (omega (arith, lt, same)) in rw no
+    past x e zs (Some y) lt same = let no : nat_le (number x) (number y) ≡ false = lt-leb (number x) (number y) (omega (arith, lt, same)) in rw no
 
     number_of : (e : E) (x : X) → part e ≡ Some x → number x ≡ key e
     number_of e x shows = rw shows at (numbered e)
@@ -140,7 +129,7 @@ module _ {E X : Type 0} (key : E → ℕ) (part : E → Option X) where
         → map (λ y. cond (nat_eq (number y) k) (h y) y) (cons_option o zs) ≡ cons_option o zs
     other_step h k e zs None differs same rest = rest
     other_step h k e zs (Some y) differs same rest =
-        let no : nat_eq (number y) k ≡ false = no_tie (number y) k (λ is. differs (omega (arith, is, same))) in rw (no, rest)
+        let no : nat_eq (number y) k ≡ false = ne_eqb (number y) k (λ is. differs (omega (arith, is, same))) in rw (no, rest)
 
     others : (h : X → X) (k : ℕ) (es : List E) → AllByRecursion (λ e. key e ≢ k) es
         → map (λ y. cond (nat_eq (number y) k) (h y) y) (filter_map part es) ≡ filter_map part es
@@ -152,7 +141,7 @@ module _ {E X : Type 0} (key : E → ℕ) (part : E → Option X) where
         → cons_option o zs ≡ map (λ y. cond (nat_eq (number y) k) (h y) y) (cons_option o ws)
     skip h k e zs ws None differs same rest = rest
     skip h k e zs ws (Some y) differs same rest =
-        let no : nat_eq (number y) k ≡ false = no_tie (number y) k (λ is. differs (omega (arith, is, same))) in rw (no, rest)
+        let no : nat_eq (number y) k ≡ false = ne_eqb (number y) k (λ is. differs (omega (arith, is, same))) in rw (no, rest)
 
     -- an element in the place of one of its number, which shows a function of what that one shows
     pub filter_map-set_changed : (h : X → X) (es : List E) (i k : ℕ) (e d : E) (w : X)
@@ -163,7 +152,7 @@ module _ {E X : Type 0} (key : E → ℕ) (part : E → Option X) where
     filter_map-set_changed h [] i k e d w up below is shows changed = absurd (omega arith)
     filter_map-set_changed h (y ∷ ys) zero k e d w up below is shows changed =
         let same = number_of y w shows in
-        let yes : nat_eq (number w) k ≡ true = tie (number w) k (omega (arith, same, is)) in
+        let yes : nat_eq (number w) k ≡ true = eq-eqb (number w) k (omega (arith, same, is)) in
         rw (changed, shows, yes) (ap (λ zs. h w ∷ zs) (sym
         (others h k ys (rec_weaker (λ z. key y < key z) (λ z. key z ≢ k) (λ z lt at. omega (arith, lt, at, is)) ys up.0))))
     filter_map-set_changed h (y ∷ ys) (suc i) k e d w up below is shows changed =
@@ -182,15 +171,3 @@ filter_map-map_same part f same (e ∷ es) = rw (same e, filter_map-map_same par
 abbrev pub made_of : {X Y : Type 0} → (X → Y) → Option X → Option Y
 made_of g None = None
 made_of g (Some x) = Some (g x)
-
-cons_made : {X Y : Type 0} (g : X → Y) (o : Option X) (zs : List X)
-    → cons_option (made_of g o) (map g zs) ≡ map g (cons_option o zs)
-cons_made g None zs = refl
-cons_made g (Some x) zs = refl
-
--- elements that show a function of what they did
-pub filter_map-map_changed : {E X Y : Type 0} (part : E → Option X) (part' : E → Option Y)
-    (f : E → E) (g : X → Y) → ((e : E) → part' (f e) ≡ made_of g (part e)) → (es : List E)
-    → filter_map part' (map f es) ≡ map g (filter_map part es)
-filter_map-map_changed part part' f g made [] = refl
-filter_map-map_changed part part' f g made (e ∷ es) = rw (made e, filter_map-map_changed part part' f g made es) (cons_made g (part e) (filter_map part es))

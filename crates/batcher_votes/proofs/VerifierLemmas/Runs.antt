@@ -2,7 +2,6 @@
 use Rattle.std.proofs.Common.{◌≡◌, ◌≤◌, ◌<◌, ◌+◌, ℕ, zero, suc, Bool, true, false, Some, List, [], ◌∷◌, ◌++◌, length, map, filter, take}
 use Rattle.std.proofs.Common.{drop, get_or, set, refl, ap, sym, subst, arith, ◌==◌, ◌||◌, ◌&&◌, ◌-◌, ◌∙◌, cond, replicate, length-append, append-nil, append_assoc, add-one}
 use Rattle.std.proofs.Math.Seq.{paste}
-use Rattle.std.proofs.Math.ListN.{drop_of_length-le}
 use Rattle.std.specs.List.{list_any, list_all}
 use Rattle.std.proofs.lemmas.List.{drop-drop, drop_more, length-drop, length-replicate, length-take-le, take-append-drop, take_at}
 use Rattle.std.proofs.lemmas.List.Edits.{drop-paste, length-paste, take-paste}
@@ -389,11 +388,3 @@ module _ {G D : Type 0} (same : D → D → Bool) (p : Proposal D) where
           rest = rest_next end e ∙ sym size;
           long = size ∙ h.long;
         }
-
-  -- all runs were looked at
-  pub moved_all : (runs : List (Run D)) (old new : List (Attestation G)) (kept start i : ℕ)
-      → Moved runs old new kept start i → length runs ≤ i → take kept new
-      ≡ fitting same p runs old
-  moved_all runs old new kept start i h end =
-      let none : drop i runs ≡ [] = drop_of_length-le runs end in
-      sym (append-nil (take kept new)) ∙ (ap (λ rs. take kept new ++ fitting same p rs (drop start new)) (sym none) ∙ h.all)

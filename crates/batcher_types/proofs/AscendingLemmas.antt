@@ -1,5 +1,5 @@
 -- Lists in ascending order: their uniqueness, the search by halves, and what a map does with them.
-use Rattle.std.proofs.Common.{◌≡◌, ◌≢◌, ◌≤◌, ◌<◌, ◌+◌, ◌-◌, ℕ, suc, zero, Bool, true, false, cond, nat_eq, nat_lt, nat_le, ◌&&◌, ◌⊎◌, inl, inr, List, [], ◌∷◌, ◌++◌, length, get_or, set, take, drop, find, Some, None, map, refl, ap, sym}
+use Rattle.std.proofs.Common.{◌≡◌, ◌≢◌, ◌≤◌, ◌<◌, ◌+◌, ◌-◌, ℕ, suc, zero, Bool, true, false, cond, nat_eq, nat_lt, nat_le, ◌⊎◌, inl, inr, List, [], ◌∷◌, ◌++◌, length, get_or, set, take, drop, find, Some, None, map, refl, ap, sym}
 use Rattle.std.proofs.Common.{subst, arith}
 use Rattle.std.specs.List.{AllByRecursion, All, AllAdjacentBelow, IsDistinct, list_all}
 use Rattle.std.specs.List.Sorted.{IsPermutation, IsNonDecreasingBy, IsPartitionPoint, IsSearchInRange, IsBinarySearchResult}
@@ -13,6 +13,7 @@ use Rattle.std.specs.Ordering.{nat_cmp, is_lt, ordering_index}
 use Rattle.std.proofs.lemmas.List.Sorted.{searchable_from_sorted}
 use Rattle.std.proofs.lemmas.Option.{none-some}
 use Rattle.std.specs.Prelude.{Result, Ok, Err, IfOk, IfErr}
+use Rattle.std.proofs.lemmas.Bool.{and_parts}
 use native.Mathlib.Numerals.{unary_clauses}
 use Rattle.batcher_types.specs.Ascending.{IsAscending, insert_by, ordered_by, is_ascending}
 use Rattle.batcher_types.specs.Lists.{EachOnce}
@@ -37,10 +38,6 @@ rec_both P Q R w (x ∷ xs) h g = (w x h.0 g.0, rec_both P Q R w xs h.1 g.1)
 no_mem : {X : Type 0} (x : X) → Mem x [] → ⊥
 unfolding Mem
 no_mem x m = m
-
-pub and_parts : (a b : Bool) → (a && b) ≡ true → (a ≡ true) × (b ≡ true)
-and_parts true b h = (refl, h)
-and_parts false b h = absurd (cc)
 
 module _ {X : Type 0} (key : X → ℕ) where
   rec_from_map : (P : ℕ → Type 0) (xs : List X) → AllByRecursion P (map key xs)
@@ -362,28 +359,6 @@ module _ {X : Type 0} (key : X → ℕ) where
   pub replace_none : (x : X) (xs : List X) → find (λ y. nat_eq (key y) (key x)) xs ≡ None
       → map (λ y. cond (nat_eq (key y) (key x)) x y) xs ≡ xs
   replace_none x xs h = unmatched x xs (key x) (none_differ xs (key x) h)
-
-  insert_find : (x y : X) (ys : List X) (i : ℕ) (le tx ty : Bool) → nat_le (key x) (key y) ≡ le
-      → nat_eq (key x) i ≡ tx → nat_eq (key y) i ≡ ty
-      → find (λ z. nat_eq (key z) i) (insert_by key x ys)
-      ≡ cond tx (Some x) (find (λ z. nat_eq (key z) i) ys)
-      → find (λ z. nat_eq (key z) i) (cond le (x ∷ y ∷ ys) (y ∷ insert_by key x ys))
-      ≡ cond tx (Some x) (cond ty (Some y) (find (λ z. nat_eq (key z) i) ys))
-  insert_find x y ys i true tx ty le ex ey rest = rw (ex, ey)
-  insert_find x y ys i false true true le ex ey rest =
-      let above : key y < key x = grind (arith, nat_tests) in
-      let same : key x ≡ i = grind (arith, nat_tests) in
-      let other : key y ≡ i = grind (arith, nat_tests) in
-      absurd (omega arith)
-  insert_find x y ys i false false true le ex ey rest = rw ey
-  insert_find x y ys i false tx false le ex ey rest = rw (ey, rest)
-
-  -- what a map finds after an insert
-  pub find-insert_by : (x : X) (xs : List X) (i : ℕ)
-      → find (λ z. nat_eq (key z) i) (insert_by key x xs)
-      ≡ cond (nat_eq (key x) i) (Some x) (find (λ z. nat_eq (key z) i) xs)
-  find-insert_by x [] i = refl
-  find-insert_by x (y ∷ ys) i = insert_find x y ys i (nat_le (key x) (key y)) (nat_eq (key x) i) (nat_eq (key y) i) refl refl refl (find-insert_by x ys i)
 
   -- the last element's number is the highest
   pub below_last : (xs : List X) (n j : ℕ) (d : X) → IsAscending key xs → suc n ≡ length xs → j ≤ n

@@ -1,8 +1,9 @@
 -- Kept votes that are restored once a proposal takes another's place.
-use Rattle.std.proofs.Common.{◌≡◌, ◌∙◌, ◌≤◌, ◌==◌, ◌+◌, ◌&&◌, ◌++◌, ◌∷◌, [], ℕ, Bool, true, false, not, cond, List, filter, length, Option, Some, None, is_some, append-nil, rules, refl, sym, ap, subst, arith}
+use Rattle.std.proofs.Common.{◌≡◌, ◌∙◌, ◌≤◌, ◌==◌, ◌+◌, ◌&&◌, ◌++◌, ◌∷◌, [], ℕ, Bool, true, false, not, cond, List, filter, length, Option, Some, None, is_some, append-nil, refl, sym, ap, subst, arith}
 use Rattle.std.specs.List.{AllPass}
 use Rattle.std.proofs.lemmas.List.{append_assoc}
 use Rattle.std.proofs.lemmas.List.Elements.{All-head, All-tail, filter-append, filter_passes}
+use Rattle.std.proofs.lemmas.Bool.{and_parts}
 use Rattle.batcher_types.specs.declared.positions.Round.{Round}
 use Rattle.batcher_types.specs.declared.messages.Proposal.{Proposal}
 use Rattle.batcher_types.specs.declared.messages.Vote.{Vote}
@@ -15,15 +16,18 @@ use Rattle.batcher_types.specs.Lawful.{filter_all}
 use Rattle.batcher_types.specs.Lists.{count, EachOnce}
 use Rattle.batcher_types.specs.Meaning.{Meaning}
 use Rattle.batcher_types.specs.Votes.{is_kind, is_of_kind, has_proposals, signer_of, same_proposal, waits}
+use Rattle.batcher_types.proofs.CountLemmas.{count-append, count-filter_le}
+use Rattle.batcher_types.proofs.KindLemmas.{each_kind, is_kind-true}
+use Rattle.batcher_types.proofs.VoteLemmas.{same_proposal-true, same_proposal-refl}
+use Rattle.batcher_types.proofs.ListLemmas.{AllPass-nil, AllPass-weaker, and-true}
 use Rattle.batcher_votes.specs.Selected.{proposal_of, updated, same_selected, replaces}
 use Rattle.batcher_votes.specs.Held.{of_kind, Tracked, Buffered}
 use Rattle.batcher_votes.specs.Tracking.{KeepsEach, kept_vote}
 use Rattle.batcher_votes.specs.Buffering.{Buffers, SetsProposal, FixesProposal, still_waiting}
 use Rattle.batcher_votes.specs.Sound.{IsSound, IsSoundKind, may_stand, WaitsWhereKept}
-use Rattle.batcher_votes.proofs.Changes.{IsTidy, Restores}
-use Rattle.batcher_votes.proofs.Counts.{count-append, count-filter_le}
-use Rattle.batcher_votes.proofs.Waits.{each_kind, kind_is, all_left, proposal_is, still_selected}
-use Rattle.batcher_votes.proofs.Soundness.{all_more, sound_buffers, sound_left}
+use Rattle.batcher_votes.proofs.VerifierLemmas.Changes.{IsTidy, Restores}
+use Rattle.batcher_votes.proofs.VerifierLemmas.WaitingVotes.{all_left, still_selected}
+use Rattle.batcher_votes.proofs.VerifierLemmas.Soundness.{sound_buffers, sound_left}
 
 -- through calls that put votes at the ends of the buffers and drop those that no longer wait
 module _ {G D : Type 0} (same : D → D → Bool) (old new : Buffered G D) (kind : Kind)
@@ -101,7 +105,7 @@ module _ {G D : Type 0} (same : D → D → Bool) (old new : Buffered G D) (rest
         }
 
     by_kind : (kind : Kind) (b : Bool) → is_kind restored kind ≡ b → Joins kind (cond b votes [])
-    by_kind kind true e = subst (λ k. Joins k votes) (kind_is restored kind e) own
+    by_kind kind true e = subst (λ k. Joins k votes) (is_kind-true restored kind e) own
     by_kind kind false e = other kind e
 
     -- the restored votes, as ones that join the buffers
@@ -115,9 +119,6 @@ module _ {D K G C : Type 0} (m : Meaning D K G C) (same : D → D → Bool) (num
   loosely Nullification h v e = absurd (cc)
   loosely Finalization h v e = rw e
 
-  none_at_all : (p : Vote G D → Bool) → AllPass p []
-  none_at_all p = λ k d below. absurd (omega arith)
-
   module _ (old new : Buffered G D) (kind : Kind) (votes : List (Vote G D))
       (proposals : has_proposals kind ≡ true) (kinds : AllPass (is_of_kind kind) votes)
       (once : EachOnce signer_of votes)
@@ -126,14 +127,14 @@ module _ {D K G C : Type 0} (m : Meaning D K G C) (same : D → D → Bool) (num
         → IsSoundKind m same number new kind
     sound_own s b =
         sound_buffers m same number old new kind votes [] s b
-        (all_more (is_of_kind kind) (may_stand same number None kind) (loosely kind proposals) votes kinds) (none_at_all _) (none_at_all _)
+        (AllPass-weaker (is_of_kind kind) (may_stand same number None kind) (loosely kind proposals) votes kinds) (AllPass-nil _) (AllPass-nil _)
         (rw (none.0, none.1) once)
 
     sound_by : (other : Kind) (b : Bool) → is_kind kind other ≡ b
         → IsSoundKind m same number old other → Buffers same old new other (cond b votes []) []
         → IsSoundKind m same number new other
     sound_by other true e =
-        subst (λ k. IsSoundKind m same number old k → Buffers same old new k votes [] → IsSoundKind m same number new k) (kind_is kind other e) sound_own
+        subst (λ k. IsSoundKind m same number old k → Buffers same old new k votes [] → IsSoundKind m same number new k) (is_kind-true kind other e) sound_own
     sound_by other false e = sound_left m same number old new other
 
     pub sound_restored : (q : ℕ) → IsSound m same number q old
@@ -141,25 +142,18 @@ module _ {D K G C : Type 0} (m : Meaning D K G C) (same : D → D → Bool) (num
         → IsSound m same number q new
     sound_restored q s b = record { some = s.some; enough = s.enough; kinds = λ other. sound_by other (is_kind kind other) refl (s.kinds other) (b other) }
 
-also : (a b : Bool) → (a && b) ≡ true → b ≡ true
-also true b h = h
-also false b h = absurd (cc)
-
 no_tie : (b : Bool) → (not b && true) ≡ true → b ≡ false
 no_tie true h = absurd (cc)
 no_tie false h = refl
 
 module _ {D : Type 0} (same : D → D → Bool) (identical : (a b : D) → same a b ≡ true → a ≡ b)
     (reflexive : (a : D) → same a a ≡ true) where
-  same_self : (p : Proposal D) → same_proposal same p p ≡ true
-  same_self p = let payload = reflexive p.payload in search rules
-
   apart : (p q r : Proposal D) (b : Bool) → same_proposal same p q ≡ false → same_proposal same p r
       ≡ true → same_proposal same q r ≡ b → b ≡ false
   apart p q r true differ tied e =
-      let one : p ≡ r = proposal_is same identical p r tied in
-      let two : q ≡ r = proposal_is same identical q r e in
-      let tie : same_proposal same p q ≡ true = ap (λ x. same_proposal same p x) (two ∙ sym one) ∙ same_self p in
+      let one : p ≡ r = same_proposal-true same identical p r tied in
+      let two : q ≡ r = same_proposal-true same identical q r e in
+      let tie : same_proposal same p q ≡ true = ap (λ x. same_proposal same p x) (two ∙ sym one) ∙ same_proposal-refl same reflexive p in
       absurd (cc)
   apart p q r false differ tied e = refl
 
@@ -210,24 +204,20 @@ module _ {G D : Type 0} (same : D → D → Bool) (identical : (a b : D) → sam
       let before = proposal_of old.selection in
       let after = proposal_of new.selection in
       let some : is_some after ≡ true = ap (λ s. is_some (proposal_of s)) sets.selection_is
-      ∙ still_selected old.selection next (also (not (same_selected same before after)) (is_some before) replaced) in (
+      ∙ still_selected old.selection next (and_parts (not (same_selected same before after)) (is_some before) replaced).1 in (
         b.pending ∙ emptied before after kind replaced some h (of_kind new.certified kind) (of_kind old.pending kind) pending,
         b.verified ∙ emptied before after kind replaced some h (of_kind new.certified kind) (of_kind old.verified kind) verified,
       )
 
 -- whether the selected proposal was replaced is whether the fixed one takes another's place
 module _ {D : Type 0} (same : D → D → Bool) where
-  also_true : (b : Bool) → (b && true) ≡ b
-  also_true true = refl
-  also_true false = refl
-
   pub replaced_is : ((a b : D) → same a b ≡ true → a ≡ b) → ((a : D) → same a a ≡ true)
       → (s : ProposalState D) (p : Proposal D)
       → (not (same_selected same (proposal_of s) (proposal_of (updated s (FixedProposal p))))
       && is_some (proposal_of s)) ≡ replaces same s p
   replaced_is identical reflexive Unknown p = refl
-  replaced_is identical reflexive (LeadersProposal q) p = also_true (not (same_proposal same q p))
-  replaced_is identical reflexive (FixedProposal q) p = rw (same_self same identical reflexive q) refl
+  replaced_is identical reflexive (LeadersProposal q) p = and-true (not (same_proposal same q p))
+  replaced_is identical reflexive (FixedProposal q) p = rw (same_proposal-refl same reflexive q) refl
 
   pub fixed_now : (s : ProposalState D) (p : Proposal D) → replaces same s p ≡ true
       → proposal_of (updated s (FixedProposal p)) ≡ Some p

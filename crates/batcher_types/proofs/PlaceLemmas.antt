@@ -1,5 +1,5 @@
 -- Where an item stands in an ascending list, or where it would.
-use Rattle.std.proofs.Common.{◌≡◌, ◌∙◌, ◌≤◌, ◌<◌, ◌+◌, ◌++◌, ℕ, suc, zero, Bool, true, false, cond, ◌||◌, nat_eq, nat_lt, nat_le, List, [], ◌∷◌, length, get_or, set, take, drop, map, find, Option, Some, None, is_some, Result, Ok}
+use Rattle.std.proofs.Common.{◌≡◌, ◌∙◌, ◌≤◌, ◌<◌, ◌+◌, ◌++◌, ℕ, suc, zero, Bool, true, false, cond, ◌||◌, nat_eq, nat_lt, nat_le, List, [], ◌∷◌, length, get_or, set, take, drop, map, find, Some, None, is_some, Result, Ok}
 use Rattle.std.proofs.Common.{Err, refl, ap}
 use Rattle.std.proofs.Common.{sym, arith}
 use Rattle.std.proofs.lemmas.Bool.Decides.{nat_tests}
@@ -12,7 +12,8 @@ use Rattle.batcher_types.specs.Ascending.{IsAscending, insert_by}
 use Rattle.batcher_types.specs.Lists.{count, is_some_and}
 use Rattle.batcher_types.specs.Items.{place_of, replace_by}
 use Rattle.batcher_types.specs.Ordered.{rec_weaker, rec_from_all, all_from_rec}
-use Rattle.batcher_types.proofs.Orders.{replace_at, find_at, found_key, lower, higher, searched_found, searched_absent}
+use Rattle.batcher_types.proofs.AscendingLemmas.{replace_at, find_at, found_key, lower, higher, searched_found, searched_absent}
+use Rattle.batcher_types.proofs.OptionLemmas.{is_some-false}
 
 found_of : (b : Bool) (n i : ℕ) → ◌≡◌ {A = Result ℕ ℕ} (cond b (Ok n) (Err n)) (Ok i) → (b ≡ true)
     × (n ≡ i)
@@ -26,10 +27,6 @@ absent_of false n i h = (refl, cc)
 
 one_more : (n : ℕ) → 1 + n ≡ suc n
 one_more n = omega arith
-
-none_of : {X : Type 0} (o : Option X) → is_some o ≡ false → o ≡ None
-none_of None h = refl
-none_of (Some x) h = absurd (cc)
 
 -- No number is below 0.
 pub none_below : (numbers : List ℕ) → count (λ s. nat_lt s 0) numbers ≡ 0
@@ -265,7 +262,7 @@ module _ {X : Type 0} (key : X → ℕ) where
   pub place_absent : (xs : List X) (k i : ℕ) → place_of (map key xs) k ≡ Err i
       → find (λ x. nat_eq (key x) k) xs ≡ None
   unfolding place_of
-  place_absent xs k i is = none_of _ (sym (any_found xs k) ∙ (absent_of _ _ i is).0)
+  place_absent xs k i is = is_some-false _ (sym (any_found xs k) ∙ (absent_of _ _ i is).0)
 
   pub place_within : (xs : List X) (k i : ℕ) → place_of (map key xs) k ≡ Err i → i ≤ length xs
   unfolding place_of

@@ -6,9 +6,9 @@ use Rattle.batcher_types.specs.Ascending.{IsAscending, insert_by}
 use Rattle.batcher_types.specs.Items.{replace_by}
 use Rattle.batcher_types.specs.Lists.{count}
 use Rattle.batcher_votes.specs.Entries.{put_by}
-use Rattle.batcher_types.proofs.Orders.{found_key, find_at, replace_at, All-insert_by}
-use Rattle.batcher_votes.proofs.Parts.{Of, shown_by, filter_map-insert_none, filter_map-insert_some, filter_map-set_same, filter_map-set_new, filter_map-set_changed}
-use Rattle.batcher_types.proofs.Places.{rank_below, rank_is, rank_replace, lower_count}
+use Rattle.batcher_types.proofs.AscendingLemmas.{found_key, find_at, replace_at, All-insert_by}
+use Rattle.batcher_votes.proofs.TrackerLemmas.ShownParts.{Of, shown_by, filter_map-insert_none, filter_map-insert_some, filter_map-set_same, filter_map-set_new, filter_map-set_changed}
+use Rattle.batcher_types.proofs.PlaceLemmas.{rank_below, rank_is, rank_replace, lower_count}
 
 pub count_few : {E : Type 0} (test : E → Bool) (es : List E) → count test es ≤ length es
 count_few test [] = omega arith

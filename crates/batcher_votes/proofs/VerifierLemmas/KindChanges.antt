@@ -8,21 +8,21 @@ use Rattle.batcher_types.specs.declared.messages.Vote.{Vote}
 use Rattle.batcher_types.specs.declared.messages.Kind.{Kind}
 use Rattle.batcher_types.specs.declared.messages.Kind.TheVariants.{Notarization, Nullification, Finalization}
 use Rattle.batcher_types.specs.Votes.{is_kind, kind_of, is_of_kind, waits}
+use Rattle.batcher_types.proofs.KindLemmas.{each_kind, is_kind-true, is_kind-refl}
 use Rattle.batcher_votes.specs.declared.verifier.ProposalState.{ProposalState}
 use Rattle.batcher_votes.specs.declared.verifier.certification.Certification.{Certification}
 use Rattle.batcher_votes.specs.Held.{PerKind, of_kind, Buffered}
 use Rattle.batcher_votes.specs.Kinds.{with_kind}
 use Rattle.batcher_votes.specs.Buffering.{SameBuffered, CompletesKind, vote_for}
 use Rattle.batcher_votes.specs.Certifications.{map_kinds, is_complete, pending_of, verified_of, held_by}
-use Rattle.batcher_votes.proofs.Changes.{Places, Restores, Absorbs, Retains}
-use Rattle.batcher_votes.proofs.Waits.{each_kind, kind_is, self_kind}
+use Rattle.batcher_votes.proofs.VerifierLemmas.Changes.{Places, Restores, Absorbs, Retains}
 
 -- what holds of a kind and of each other one holds of each
 pub own_or_other : (P : Kind → Type 0) (kind : Kind) → P kind
     → ((other : Kind) → is_kind kind other ≡ false → P other) → (other : Kind) → P other
 own_or_other P kind own others other = by_test (is_kind kind other) refl where
   by_test : (b : Bool) → is_kind kind other ≡ b → P other
-  by_test true e = subst P (kind_is kind other e) own
+  by_test true e = subst P (is_kind-true kind other e) own
   by_test false e = others other e
 
 module _ {X Y : Type 0} (f : X → Y) (all : PerKind X) where
@@ -98,13 +98,13 @@ module _ {G D : Type 0} (leader : Option Participant) (selection : ProposalState
         selection = refl;
         certified =
             own_or_other (λ other. of_kind new.certified other ≡ (is_kind kind other || of_kind old.certified other)) kind
-            (rw (self_kind kind) (mapped_own is_complete kinds kind one ∙ c)) (λ other e. rw e ((same_elsewhere other e).certified));
+            (rw (is_kind-refl kind) (mapped_own is_complete kinds kind one ∙ c)) (λ other e. rw e ((same_elsewhere other e).certified));
         pending =
             own_or_other (λ other. of_kind new.pending other ≡ cond (is_kind kind other) [] (of_kind old.pending other)) kind
-            (rw (self_kind kind) (mapped_own pending_of kinds kind one ∙ p)) (λ other e. rw e ((same_elsewhere other e).pending));
+            (rw (is_kind-refl kind) (mapped_own pending_of kinds kind one ∙ p)) (λ other e. rw e ((same_elsewhere other e).pending));
         verified =
             own_or_other (λ other. of_kind new.verified other ≡ cond (is_kind kind other) [] (of_kind old.verified other)) kind
-            (rw (self_kind kind) (mapped_own verified_of kinds kind one ∙ v)) (λ other e. rw e ((same_elsewhere other e).verified));
+            (rw (is_kind-refl kind) (mapped_own verified_of kinds kind one ∙ v)) (λ other e. rw e ((same_elsewhere other e).verified));
       }
 
   pub restores : (same : D → D → Bool) (p : Proposal D) (votes : List (Vote G D))
@@ -156,14 +156,14 @@ module _ {G D : Type 0} (leader : Option Participant) (selection : ProposalState
             own_or_other
             (λ other. of_kind new.pending other
             ≡ of_kind old.pending other ++ cond ((is_of_kind other vote && not is_verified) && not (of_kind old.certified other)) (vote ∷ []) []) kind
-            (rw (is, self_kind kind, of_mapped is_complete kinds kind)
+            (rw (is, is_kind-refl kind, of_mapped is_complete kinds kind)
             (by_own pending_of (λ xs. xs ++ cond (not is_verified && not (is_complete (of_kind kinds kind))) (vote ∷ []) []) p))
             (λ other e. rw (is, e, append-nil) ((same_elsewhere other e).pending));
         verified =
             own_or_other
             (λ other. of_kind new.verified other
             ≡ of_kind old.verified other ++ cond ((is_of_kind other vote && is_verified) && not (of_kind old.certified other)) (vote ∷ []) []) kind
-            (rw (is, self_kind kind, of_mapped is_complete kinds kind)
+            (rw (is, is_kind-refl kind, of_mapped is_complete kinds kind)
             (by_own verified_of (λ xs. xs ++ cond (is_verified && not (is_complete (of_kind kinds kind))) (vote ∷ []) []) v))
             (λ other e. rw (is, e, append-nil) ((same_elsewhere other e).verified));
       }

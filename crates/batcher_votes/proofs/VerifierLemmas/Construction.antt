@@ -4,7 +4,9 @@ use Rattle.std.specs.List.{All, AllPass, list_all}
 use Rattle.std.specs.Option.{option_map}
 use Rattle.std.proofs.lemmas.Bool.Decides.{nat_tests}
 use Rattle.std.proofs.lemmas.List.{map-append}
-use Rattle.std.proofs.lemmas.List.Elements.{All-cons, All-head, All-tail}
+use Rattle.std.proofs.lemmas.List.Elements.{All-cons, All-head, All-tail, All-nil}
+use Rattle.std.proofs.lemmas.Option.{same_Some}
+use Rattle.std.proofs.lemmas.Bool.{and_parts, and_from, not-true}
 use Rattle.rand_core.specs.Stream.{Stream}
 use Rattle.batcher_types.specs.declared.positions.Participant.{Participant}
 use Rattle.batcher_types.specs.declared.positions.Round.{Round}
@@ -23,55 +25,31 @@ use Rattle.batcher_types.specs.Quorum.{quorum_of}
 use Rattle.batcher_types.specs.Lists.{count, EachOnce}
 use Rattle.batcher_types.specs.Attestations.{index_of_signer}
 use Rattle.batcher_types.specs.Meaning.{Meaning, IsLawful}
-use Rattle.batcher_types.specs.Votes.{is_kind, is_of_kind, signer_of, subject_of, attestation_of, proposal_in, same_round, same_proposal, same_subject, subject_certified, content_of}
+use Rattle.batcher_types.specs.Votes.{is_kind, is_of_kind, signer_of, subject_of, attestation_of, proposal_in, same_subject, subject_certified, content_of}
 use Rattle.batcher_votes.specs.Selected.{proposal_of}
 use Rattle.batcher_votes.specs.Held.{of_kind, Buffered}
 use Rattle.batcher_types.specs.Attempts.{Tried, attempt_of}
+use Rattle.batcher_types.proofs.CountLemmas.{count-map}
+use Rattle.batcher_types.proofs.KindLemmas.{is_kind-true, is_kind-refl}
+use Rattle.batcher_types.proofs.VoteLemmas.{same_subject-true, same_subject-refl}
+use Rattle.batcher_types.proofs.OptionLemmas.{given, is_some-option_map, is_some-false}
 use Rattle.batcher_votes.specs.Buffering.{attestations_of, vote_for, subject_from, first_proposal, is_enough, is_ready, CompletesKind, certificate_for, subject_tried, batch_of, TriesKind, SameBuffered}
 use Rattle.batcher_votes.specs.Sound.{IsSound, IsSoundKind, attests_itself, is_about, may_stand}
-use Rattle.batcher_votes.proofs.Changes.{Absorbs}
+use Rattle.batcher_votes.proofs.VerifierLemmas.Changes.{Absorbs}
 use Rattle.batcher_votes.specs.Verifiers.{subject_ready, certifies_itself, BatchCertifies, NamesSomebody}
-use Rattle.batcher_votes.proofs.Counts.{count-map}
-use Rattle.batcher_votes.proofs.Pairing.{vote_again, attestation_again, subject_again}
-use Rattle.batcher_votes.proofs.Waits.{proposal_is, round_is, kind_is, self_kind}
-use Rattle.batcher_votes.proofs.Trying.{IsFine, fine}
-
-none_at_all : {X : Type 0} (P : X → Type 0) → All P []
-none_at_all P = λ k d below. absurd (omega arith)
-
-pub given : {X : Type 0} (b : Bool) (o : Option X) (x : X) → cond b o None ≡ Some x → (b ≡ true)
-    × (o ≡ Some x)
-given true o x h = (refl, h)
-given false o x h = absurd (cc)
-
-some_is : {X : Type 0} (x y : X) → Some x ≡ Some y → x ≡ y
-some_is x y e = cc
-
-pub both : (a b : Bool) → (a && b) ≡ true → (a ≡ true) × (b ≡ true)
-both true b h = (refl, h)
-both false b h = absurd (cc)
+use Rattle.batcher_votes.proofs.VerifierLemmas.Runs.{vote_again, attestation_again, subject_again}
+use Rattle.batcher_votes.proofs.VerifierLemmas.AttemptLaws.{IsFine, fine}
 
 module _ {D : Type 0} (same : D → D → Bool) (identical : (a b : D) → same a b ≡ true → a ≡ b) where
-  pub subject_is : (s t : Subject D) → same_subject same s t ≡ true → s ≡ t
-  subject_is (NotarizeSubject p) (NotarizeSubject r) h = ap NotarizeSubject (proposal_is same identical p r h)
-  subject_is (NotarizeSubject p) (NullifySubject r) h = absurd (cc)
-  subject_is (NotarizeSubject p) (FinalizeSubject r) h = absurd (cc)
-  subject_is (NullifySubject p) (NotarizeSubject r) h = absurd (cc)
-  subject_is (NullifySubject p) (NullifySubject r) h = ap NullifySubject (round_is p r h)
-  subject_is (NullifySubject p) (FinalizeSubject r) h = absurd (cc)
-  subject_is (FinalizeSubject p) (NotarizeSubject r) h = absurd (cc)
-  subject_is (FinalizeSubject p) (NullifySubject r) h = absurd (cc)
-  subject_is (FinalizeSubject p) (FinalizeSubject r) h = ap FinalizeSubject (proposal_is same identical p r h)
-
   module _ {G : Type 0} (number : Round) (subject : Subject D) where
     about_of : (proposal : Option (Proposal D)) (kind : Kind) (v : Vote G D)
         → may_stand same number proposal kind v ≡ true → subject_from kind number proposal
         ≡ Some subject → subject_of v ≡ subject
     about_of proposal kind v h e =
         let about : is_about same (subject_from kind number proposal) (subject_of v)
-        ≡ true = (both (is_of_kind kind v) (is_about same (subject_from kind number proposal) (subject_of v)) h).1 in
+        ≡ true = (and_parts (is_of_kind kind v) (is_about same (subject_from kind number proposal) (subject_of v)) h).1 in
         let there : is_about same (Some subject) (subject_of v) ≡ true = subst (λ o. is_about same o (subject_of v) ≡ true) e about in
-        sym (subject_is subject (subject_of v) there)
+        sym (same_subject-true same identical subject (subject_of v) there)
 
     -- the subject is known, so all that may stand are about it
     pub known : (proposal : Option (Proposal D)) (kind : Kind) (xs : List (Vote G D))
@@ -82,17 +60,17 @@ module _ {D : Type 0} (same : D → D → Bool) (identical : (a b : D) → same 
     all_alike : (s : Subject D) (xs : List (Vote G D)) → s ≡ subject
         → list_all (λ v. same_subject same s (subject_of v)) xs ≡ true
         → All (λ v. subject_of v ≡ subject) xs
-    all_alike s [] e h = none_at_all (λ v. subject_of v ≡ subject)
+    all_alike s [] e h = All-nil (λ v. subject_of v ≡ subject)
     all_alike s (x ∷ xs) e h =
-        let parts = both (same_subject same s (subject_of x)) (list_all (λ v. same_subject same s (subject_of v)) xs) h in
-        All-cons (λ v. subject_of v ≡ subject) x xs (sym (subject_is s (subject_of x) parts.0) ∙ e) (all_alike s xs e parts.1)
+        let parts = and_parts (same_subject same s (subject_of x)) (list_all (λ v. same_subject same s (subject_of v)) xs) h in
+        All-cons (λ v. subject_of v ≡ subject) x xs (sym (same_subject-true same identical s (subject_of x) parts.0) ∙ e) (all_alike s xs e parts.1)
 
     alike_notarizes : (x : Vote G D) (xs : List (Vote G D)) → is_of_kind Notarization x ≡ true
         → option_map NotarizeSubject (proposal_in (subject_of x)) ≡ Some subject
         → list_all (λ v. same_subject same (subject_of x) (subject_of v)) xs ≡ true
         → All (λ v. subject_of v ≡ subject) (x ∷ xs)
     alike_notarizes (NotarizeVote v) xs k e h =
-        let same_one = some_is (NotarizeSubject v.proposal) subject e in All-cons (λ w. subject_of w ≡ subject) (NotarizeVote v) xs same_one
+        let same_one = same_Some (NotarizeSubject v.proposal) subject e in All-cons (λ w. subject_of w ≡ subject) (NotarizeVote v) xs same_one
         (all_alike (NotarizeSubject v.proposal) xs same_one h)
     alike_notarizes (NullifyVote v) xs k e h = absurd (cc)
     alike_notarizes (FinalizeVote v) xs k e h = absurd (cc)
@@ -102,7 +80,7 @@ module _ {D : Type 0} (same : D → D → Bool) (identical : (a b : D) → same 
         → list_all (λ v. same_subject same (subject_of x) (subject_of v)) xs ≡ true
         → All (λ v. subject_of v ≡ subject) (x ∷ xs)
     alike_finalizes (FinalizeVote v) xs k e h =
-        let same_one = some_is (FinalizeSubject v.proposal) subject e in All-cons (λ w. subject_of w ≡ subject) (FinalizeVote v) xs same_one
+        let same_one = same_Some (FinalizeSubject v.proposal) subject e in All-cons (λ w. subject_of w ≡ subject) (FinalizeVote v) xs same_one
         (all_alike (FinalizeSubject v.proposal) xs same_one h)
     alike_finalizes (NullifyVote v) xs k e h = absurd (cc)
     alike_finalizes (NotarizeVote v) xs k e h = absurd (cc)
@@ -118,12 +96,12 @@ module _ {D : Type 0} (same : D → D → Bool) (identical : (a b : D) → same 
         → All (λ v. subject_of v ≡ subject) verified
     ready_about batchable q (Some p) kind verified pending h e stand = known (Some p) kind verified e stand
     ready_about batchable q None Nullification verified pending h e stand = known None Nullification verified e stand
-    ready_about batchable q None Notarization [] pending h e stand = none_at_all (λ v. subject_of v ≡ subject)
-    ready_about batchable q None Finalization [] pending h e stand = none_at_all (λ v. subject_of v ≡ subject)
+    ready_about batchable q None Notarization [] pending h e stand = All-nil (λ v. subject_of v ≡ subject)
+    ready_about batchable q None Finalization [] pending h e stand = All-nil (λ v. subject_of v ≡ subject)
     ready_about batchable q None Notarization (x ∷ xs) pending h e stand =
-        alike_notarizes x xs ((both _ _ (All-head (λ v. may_stand same number None Notarization v ≡ true) x xs stand)).0) e ((both _ _ h).1)
+        alike_notarizes x xs ((and_parts _ _ (All-head (λ v. may_stand same number None Notarization v ≡ true) x xs stand)).0) e ((and_parts _ _ h).1)
     ready_about batchable q None Finalization (x ∷ xs) pending h e stand =
-        alike_finalizes x xs ((both _ _ (All-head (λ v. may_stand same number None Finalization v ≡ true) x xs stand)).0) e ((both _ _ h).1)
+        alike_finalizes x xs ((and_parts _ _ (All-head (λ v. may_stand same number None Finalization v ≡ true) x xs stand)).0) e ((and_parts _ _ h).1)
 
     pub verified_about :
         (batchable : Bool) (q : ℕ) (held : Buffered G D) (kind : Kind)
@@ -133,14 +111,14 @@ module _ {D : Type 0} (same : D → D → Bool) (identical : (a b : D) → same 
         (of_kind held.verified kind)
     verified_about batchable q held kind ready stand =
         let parts = given _ _ subject ready in
-        let is = both _ _ parts.0 in
+        let is = and_parts _ _ parts.0 in
         ready_about batchable q (proposal_of held.selection) kind (of_kind held.verified kind) (of_kind held.pending kind) is.1 parts.1 stand
 
 module _ {D K G C : Type 0} (m : Meaning D K G C) (same : D → D → Bool) (number : Round)
     (subject : Subject D) where
   pub attested_about : (xs : List (Vote G D)) → All (λ v. subject_of v ≡ subject) xs
       → AllPass (attests_itself m same number) xs → AllPass (m.attests subject) (attestations_of xs)
-  attested_about [] about h = none_at_all (λ a. m.attests subject a ≡ true)
+  attested_about [] about h = All-nil (λ a. m.attests subject a ≡ true)
   attested_about (x ∷ xs) about h =
       All-cons (λ a. m.attests subject a ≡ true) (attestation_of x) (attestations_of xs)
       (subst (λ s. m.attests s (attestation_of x) ≡ true) (All-head (λ v. subject_of v ≡ subject) x xs about)
@@ -194,36 +172,19 @@ of_its_kind Finalization number None subject a e = absurd (cc)
 of_its_kind Finalization number (Some p) subject a e =
     let s : FinalizeSubject p ≡ subject = cc in subst (λ t. is_of_kind Finalization (vote_for t a) ≡ true) s refl
 
-number_is : (n : ℕ) → (n == n) ≡ true
-number_is n = grind (arith, nat_tests)
-
-all_true : (a b : Bool) → a ≡ true → b ≡ true → (a && b) ≡ true
-all_true a b e f = rw (e, f)
-
 module _ {D : Type 0} (same : D → D → Bool) (reflexive : (d : D) → same d d ≡ true) where
-  same_rounds : (r : Round) → same_round r r ≡ true
-  same_rounds r = all_true (r.epoch.0 == r.epoch.0) (r.view.0 == r.view.0) (number_is r.epoch.0) (number_is r.view.0)
-
-  pub same_proposals : (p : Proposal D) → same_proposal same p p ≡ true
-  same_proposals p = all_true _ _ (same_rounds p.round) (all_true _ _ (number_is p.parent.0) (reflexive p.payload))
-
-  pub same_subjects : (s : Subject D) → same_subject same s s ≡ true
-  same_subjects (NotarizeSubject p) = same_proposals p
-  same_subjects (NullifySubject r) = same_rounds r
-  same_subjects (FinalizeSubject p) = same_proposals p
-
   -- what is tried of a kind is what its votes have to be about
   about_tried : (number : Round) (proposal other : Option (Proposal D)) (kind : Kind)
       (subject : Subject D) → subject_from kind number (cond (is_none proposal) other proposal)
       ≡ Some subject → is_about same (subject_from kind number proposal) subject ≡ true
-  about_tried number (Some p) other kind subject e = subst (λ o. is_about same o subject ≡ true) (sym e) (same_subjects subject)
+  about_tried number (Some p) other kind subject e = subst (λ o. is_about same o subject ≡ true) (sym e) (same_subject-refl same reflexive subject)
   about_tried number None other Notarization subject e = refl
-  about_tried number None other Nullification subject e = subst (λ o. is_about same o subject ≡ true) (sym e) (same_subjects subject)
+  about_tried number None other Nullification subject e = subst (λ o. is_about same o subject ≡ true) (sym e) (same_subject-refl same reflexive subject)
   about_tried number None other Finalization subject e = refl
 
   all_of_map : {X Y : Type 0} (p : Y → Bool) (f : X → Y) (xs : List X) → ((x : X) → p (f x) ≡ true)
       → AllPass p (map f xs)
-  all_of_map p f [] h = none_at_all (λ y. p y ≡ true)
+  all_of_map p f [] h = All-nil (λ y. p y ≡ true)
   all_of_map p f (x ∷ xs) h = All-cons (λ y. p y ≡ true) (f x) (map f xs) (h x) (all_of_map p f xs h)
 
   stand_tried :
@@ -234,7 +195,7 @@ module _ {D : Type 0} (same : D → D → Bool) (reflexive : (d : D) → same d 
       (map (vote_for subject) ones)
   stand_tried number proposal other kind subject e ones =
       all_of_map (may_stand same number proposal kind) (vote_for subject) ones
-      (λ a. all_true (is_of_kind kind (vote_for subject a)) (is_about same (subject_from kind number proposal) (subject_of (vote_for subject a)))
+      (λ a. and_from (is_of_kind kind (vote_for subject a)) (is_about same (subject_from kind number proposal) (subject_of (vote_for subject a)))
       (of_its_kind kind number (cond (is_none proposal) other proposal) subject a e)
       (subst (λ s. is_about same (subject_from kind number proposal) s ≡ true) (sym (subject_again subject a))
       (about_tried number proposal other kind subject e)))
@@ -244,7 +205,7 @@ module _ {D K G C : Type 0} (m : Meaning D K G C) (same : D → D → Bool)
   attest_tried : (subject : Subject D) (ones : List (Attestation G))
       → AllPass (m.attests subject) ones
       → AllPass (attests_itself m same number) (map (vote_for subject) ones)
-  attest_tried subject [] h = none_at_all (λ v. attests_itself m same number v ≡ true)
+  attest_tried subject [] h = All-nil (λ v. attests_itself m same number v ≡ true)
   attest_tried subject (a ∷ ones) h =
       let here : attests_itself m same number (vote_for subject a) ≡ true
       =
@@ -262,7 +223,7 @@ module _ {D K G C : Type 0} (m : Meaning D K G C) (same : D → D → Bool)
       → IsSoundKind m same number new kind
   sound_tried old new kind subject outcome e fine sel certified pending verified =
       record {
-        pending = rw pending (none_at_all (λ v. may_stand same number (proposal_of new.selection) kind v ≡ true));
+        pending = rw pending (All-nil (λ v. may_stand same number (proposal_of new.selection) kind v ≡ true));
         verified =
             rw (verified, sel) (stand_tried same reflexive number (proposal_of old.selection) (first_proposal (of_kind old.verified kind)) kind subject e
             outcome.verified);
@@ -289,7 +250,7 @@ module _ {D K G C : Type 0} (m : Meaning D K G C) (same : D → D → Bool)
       → (is_kind tried kind ≡ false → SameBuffered old new kind) → new.selection ≡ old.selection
       → IsSoundKind m same number old kind → IsSoundKind m same number new tried
       → IsSoundKind m same number new kind
-  this_or_other old new tried kind true e others sel s this = subst (λ k. IsSoundKind m same number new k) (kind_is tried kind e) this
+  this_or_other old new tried kind true e others sel s this = subst (λ k. IsSoundKind m same number new k) (is_kind-true tried kind e) this
   this_or_other old new tried kind false e others sel s this = sound_same old new kind sel (others e) s
 
   -- what an attempt leaves is sound
@@ -365,9 +326,9 @@ module _ {G D : Type 0} (same : D → D → Bool) (number : Round) where
   some_subject batchable certified q None Notarization [] pending more stand = rw (none_reached certified true (nat_le q 0) more)
   some_subject batchable certified q None Finalization [] pending more stand = rw (none_reached certified true (nat_le q 0) more)
   some_subject batchable certified q None Notarization (x ∷ xs) pending more stand =
-      some_notarize x _ ((both _ _ (All-head (λ v. may_stand same number None Notarization v ≡ true) x xs stand)).0)
+      some_notarize x _ ((and_parts _ _ (All-head (λ v. may_stand same number None Notarization v ≡ true) x xs stand)).0)
   some_subject batchable certified q None Finalization (x ∷ xs) pending more stand =
-      some_finalize x _ ((both _ _ (All-head (λ v. may_stand same number None Finalization v ≡ true) x xs stand)).0)
+      some_finalize x _ ((and_parts _ _ (All-head (λ v. may_stand same number None Finalization v ≡ true) x xs stand)).0)
 
   -- a kind that is ready has something to try
   pub ready_some :
@@ -378,10 +339,6 @@ module _ {G D : Type 0} (same : D → D → Bool) (number : Round) where
   ready_some m q held kind s =
       some_subject m.batchable (of_kind held.certified kind) q (proposal_of held.selection) kind (of_kind held.verified kind) (of_kind held.pending kind)
       (quorum_some (length m.participants) q s.some s.enough) (s.kinds kind).verified
-
-pub not_true : (b : Bool) → not b ≡ true → b ≡ false
-not_true true h = absurd (cc)
-not_true false h = refl
 
 pub untouched : {X : Type 0} (b : Bool) (x y z : X) → b ≡ false → z ≡ cond b x y → z ≡ y
 untouched true x y z e h = absurd (cc)
@@ -423,9 +380,11 @@ module _ {D K G C : Type 0} (m : Meaning D K G C) (same : D → D → Bool) (num
             pending = untouched (is_kind kind other) [] (of_kind old.pending other) (of_kind new.pending other) e (c.pending other);
             verified = untouched (is_kind kind other) [] (of_kind old.verified other) (of_kind new.verified other) e (c.verified other);
           };
-          certified = either_true (is_kind kind kind) (of_kind old.certified kind) (of_kind new.certified kind) (self_kind kind) (c.certified kind) ∙ sym there;
-          pending = gone (is_kind kind kind) [] (of_kind old.pending kind) (of_kind new.pending kind) (self_kind kind) (c.pending kind);
-          verified = rw left (gone (is_kind kind kind) [] (of_kind old.verified kind) (of_kind new.verified kind) (self_kind kind) (c.verified kind));
+          certified =
+              either_true (is_kind kind kind) (of_kind old.certified kind) (of_kind new.certified kind) (is_kind-refl kind) (c.certified kind)
+              ∙ sym there;
+          pending = gone (is_kind kind kind) [] (of_kind old.pending kind) (of_kind new.pending kind) (is_kind-refl kind) (c.pending kind);
+          verified = rw left (gone (is_kind kind kind) [] (of_kind old.verified kind) (of_kind new.verified kind) (is_kind-refl kind) (c.verified kind));
         }
 
     -- none was given
@@ -437,7 +396,7 @@ module _ {D K G C : Type 0} (m : Meaning D K G C) (same : D → D → Bool) (num
         → TriesKind m number q old kind before batch after new
     tries_without joining none left about a =
         let parts = given _ _ subject ready in
-        let open_kind = not_true (of_kind old.certified kind) ((both _ _ parts.0).0) in
+        let open_kind = not-true (of_kind old.certified kind) ((and_parts _ _ parts.0).0) in
         record {
           subject = subject;
           outcome = t;
@@ -483,14 +442,6 @@ pub record Constructs {D K G C : Type 0} (m : Meaning D K G C) (same : D → D �
   pub names : NamesSomebody batch
   pub sound : IsSound m same number q new
 
-some_mapped : {X Y : Type 0} (f : X → Y) (o : Option X) → is_some (option_map f o) ≡ is_some o
-some_mapped f None = refl
-some_mapped f (Some x) = refl
-
-none_is : {X : Type 0} (o : Option X) → is_some o ≡ false → o ≡ None
-none_is None h = refl
-none_is (Some x) h = absurd (cc)
-
 -- a certificate is that of its subject, with its content
 pub certificate_is : {C D : Type 0} (certificate : Certificate C D) (subject : Subject D)
     (content : C) → subject_certified certificate ≡ subject → content_of certificate ≡ content
@@ -528,7 +479,7 @@ module _ {D K G C : Type 0} (m : Meaning D K G C) (lawful : IsLawful m) (same : 
     fine_gave = fine_attempt m lawful same number q old kind subject sound about before after gave attempted
 
     given_some : is_some batch.certificate ≡ is_some certificate
-    given_some = ap (λ b. is_some b.certificate) batch_is ∙ some_mapped (certificate_for subject) certificate
+    given_some = ap (λ b. is_some b.certificate) batch_is ∙ is_some-option_map (certificate_for subject) certificate
 
     constructs : (t : TriesKind m number q old kind before batch after new)
         → IsFine m t.subject t.outcome → Constructs m same number q old kind before batch after new
@@ -553,7 +504,7 @@ module _ {D K G C : Type 0} (m : Meaning D K G C) (lawful : IsLawful m) (same : 
     pub constructs_none : is_some batch.certificate ≡ false → Absorbs old kind subject joining new
         → Constructs m same number q old kind before batch after new
     constructs_none none a =
-        let absent : certificate ≡ None = none_is certificate (sym given_some ∙ none) in
+        let absent : certificate ≡ None = is_some-false certificate (sym given_some ∙ none) in
         constructs
         (tries_without m same number q old new kind subject ready before after batch gave attempted batch_is joining absent
         (ap (λ o. cond (is_some o) [] (attestations_of (of_kind old.verified kind) ++ joining)) absent) about a) fine_gave

@@ -4,6 +4,7 @@ use Rattle.std.proofs.Common.{map, refl, ap, sym, subst, arith, length-append}
 use Rattle.std.proofs.lemmas.Bool.Decides.{nat_tests}
 use Rattle.std.specs.List.{AllByRecursion, AllPass, filter_map, slice_get}
 use Rattle.std.specs.Prelude.{IfErr}
+use Rattle.std.proofs.lemmas.Bool.{and_parts}
 use Rattle.batcher_types.specs.declared.positions.Participant.{Participant}
 use Rattle.batcher_types.specs.declared.messages.Proposal.{Proposal}
 use Rattle.batcher_types.specs.declared.messages.Vote.{Vote}
@@ -22,11 +23,11 @@ use Rattle.batcher_votes.specs.Held.{PerKind, of_kind, for_each, Facts, Tracked}
 use Rattle.batcher_votes.specs.Tracking.{from_kept, is_seen, is_known, observed, kept_vote, no_facts, facts_with, facts_of_kept, recorded_facts, RecordsKind, outcome_by, outcome_of}
 use Rattle.batcher_votes.specs.Entries.{Entry, part, with_part, nothing_seen, key_of, seen_in, entry_or_new, put_by, entries_with, is_any, has_place, compared, seen_outcome, facts_seen, facts_part, facts_among, with_vote}
 use Rattle.batcher_votes.specs.Entries.{own_vote, vote_at, kept_part, kept_among, tracked_by, observed_seen, may_say, Fits, IsTracked, tested}
-use Rattle.batcher_types.proofs.Orders.{found_key}
-use Rattle.batcher_votes.proofs.Parts.{Of, shown_by}
-use Rattle.batcher_types.proofs.Places.{place_item, place_below, place_absent}
-use Rattle.batcher_votes.proofs.Putting.{put_there, put_new, Puts, puts, All-put, of_old, passes, count-put, filter_map-put_same, filter_map-put_new, filter_map-put_changed}
-use Rattle.batcher_votes.proofs.Shown.{both_of, facts_numbered, facts_found, kept_numbered, kept_is, facts_is, observed_by, observed_is, observed_says, nothing_by, kept_found, kept_says, no_vote, unknown}
+use Rattle.batcher_types.proofs.AscendingLemmas.{found_key}
+use Rattle.batcher_votes.proofs.TrackerLemmas.ShownParts.{Of, shown_by}
+use Rattle.batcher_types.proofs.PlaceLemmas.{place_item, place_below, place_absent}
+use Rattle.batcher_votes.proofs.TrackerLemmas.PutEntry.{put_there, put_new, Puts, puts, All-put, of_old, passes, count-put, filter_map-put_same, filter_map-put_new, filter_map-put_changed}
+use Rattle.batcher_votes.proofs.TrackerLemmas.SignerFacts.{facts_numbered, facts_found, kept_numbered, kept_is, facts_is, observed_by, observed_is, observed_says, nothing_by, kept_found, kept_says, no_vote, unknown}
 
 -- what holds of all elements holds of one that is found
 pub found_passes : {E : Type 0} (key : E → ℕ) (P : E → Type 0) (es : List E) (i : ℕ) (x : E)
@@ -198,7 +199,7 @@ module _ {G D : Type 0} where
   more_stands b kind votes v i Differs h = h
   more_stands b kind votes v i Matches h = h
   more_stands b kind votes v i (Kept p) h =
-      let own = (both_of (not b) (is_some_and (slice_get votes p) (is_vote_of kind i)) h).1 in
+      let own = (and_parts (not b) (is_some_and (slice_get votes p) (is_vote_of kind i)) h).1 in
       rw (some_before votes (v ∷ []) p (is_vote_of kind i) (slice_get votes p) refl own) h
 
   more_shown : (b : Bool) (kind : Kind) (votes : List (Vote G D)) (v : Vote G D) (i : ℕ) (s : Seen)
@@ -208,7 +209,7 @@ module _ {G D : Type 0} where
   more_shown b kind votes v i Differs h = refl
   more_shown b kind votes v i Matches h = refl
   more_shown b kind votes v i (Kept p) h =
-      let own = (both_of (not b) (is_some_and (slice_get votes p) (is_vote_of kind i)) h).1 in
+      let own = (and_parts (not b) (is_some_and (slice_get votes p) (is_vote_of kind i)) h).1 in
       some_before votes (v ∷ []) p (is_vote_of kind i) (slice_get votes p) refl own
 
   pub more_kept : (b : Bool) (kind : Kind) (votes : List (Vote G D)) (v : Vote G D)
@@ -406,19 +407,19 @@ module _ {G D : Type 0} (same : D → D → Bool) where
   outcome_says selected vote votes b i Uncompared h = refl
   outcome_says None (NotarizeVote v) votes b i Differs h = refl
   outcome_says (Some p) (NotarizeVote v) votes b i Differs h = rw (one_of (same_proposal same p v.proposal))
-  outcome_says selected (NullifyVote v) votes b i Differs h = let no = (both_of b false h).1 in absurd (cc)
+  outcome_says selected (NullifyVote v) votes b i Differs h = let no = (and_parts b false h).1 in absurd (cc)
   outcome_says None (FinalizeVote v) votes b i Differs h = refl
   outcome_says (Some p) (FinalizeVote v) votes b i Differs h = rw (one_of (same_proposal same p v.proposal))
   outcome_says None (NotarizeVote v) votes b i Matches h = refl
   outcome_says (Some p) (NotarizeVote v) votes b i Matches h = rw (other_of (same_proposal same p v.proposal))
-  outcome_says selected (NullifyVote v) votes b i Matches h = let no = (both_of b false h).1 in absurd (cc)
+  outcome_says selected (NullifyVote v) votes b i Matches h = let no = (and_parts b false h).1 in absurd (cc)
   outcome_says None (FinalizeVote v) votes b i Matches h = refl
   outcome_says (Some p) (FinalizeVote v) votes b i Matches h = rw (other_of (same_proposal same p v.proposal))
   outcome_says selected vote votes b i (Kept p) h = kept_says (slice_get votes p) h where
     kept_says : (o : Option (Vote G D))
         → (not b && is_some_and o (is_vote_of (kind_of vote) i)) ≡ true
         → Duplicate true ≡ outcome_by same selected b (from_kept o) vote
-    kept_says None h = let no = (both_of (not b) false h).1 in absurd (cc)
+    kept_says None h = let no = (and_parts (not b) false h).1 in absurd (cc)
     kept_says (Some v) h = refl
 
 module _ {G D : Type 0} where
@@ -488,7 +489,7 @@ module _ {G D : Type 0} where
         by_seen b i Uncompared h = refl
         by_seen b i Differs h = refl
         by_seen b i Matches h = refl
-        by_seen b i (Kept p) h = there (slice_get (of_kind votes kind) p) (both_of (not b) _ h).1 where
+        by_seen b i (Kept p) h = there (slice_get (of_kind votes kind) p) (and_parts (not b) _ h).1 where
           there : (v : Option (Vote G D)) → is_some_and v (is_vote_of kind i) ≡ true
               → true ≡ is_some v
           there None h = absurd (cc)
@@ -517,7 +518,7 @@ module _ {G D : Type 0} where
         by_seen b n Uncompared h = refl
         by_seen b n Differs h = refl
         by_seen b n Matches h = refl
-        by_seen b n (Kept p) h = there (slice_get (of_kind votes kind) p) (both_of (not b) _ h).1 where
+        by_seen b n (Kept p) h = there (slice_get (of_kind votes kind) p) (and_parts (not b) _ h).1 where
           there : (v : Option (Vote G D)) → is_some_and v (is_vote_of kind n) ≡ true
               → true ≡ is_seen (from_kept v)
           there None h = absurd (cc)
@@ -851,8 +852,8 @@ module _ {G D : Type 0} (same : D → D → Bool) (c : PerKind Bool) (votes : Pe
             → b ≡ true
         facts_there b Nothing none h seen = absurd (cc)
         facts_there b Uncompared none h seen = h
-        facts_there b Differs none h seen = (both_of b (has_proposals (kind_of vote)) h).0
-        facts_there b Matches none h seen = (both_of b (has_proposals (kind_of vote)) h).0
+        facts_there b Differs none h seen = (and_parts b (has_proposals (kind_of vote)) h).0
+        facts_there b Matches none h seen = (and_parts b (has_proposals (kind_of vote)) h).0
         facts_there b (Kept p) none h seen = absurd (cc)
 
   -- a vote of which one is kept is a duplicate
@@ -874,8 +875,8 @@ module _ {G D : Type 0} (same : D → D → Bool) (c : PerKind Bool) (votes : Pe
       → s ≡ Nothing
   nothing_there b Nothing off none h = refl
   nothing_there b Uncompared off none h = let clash : true ≡ false = sym h ∙ off in absurd (cc)
-  nothing_there b Differs off none h = let clash : true ≡ false = sym (both_of b (has_proposals (kind_of vote)) h).0 ∙ off in absurd (cc)
-  nothing_there b Matches off none h = let clash : true ≡ false = sym (both_of b (has_proposals (kind_of vote)) h).0 ∙ off in absurd (cc)
+  nothing_there b Differs off none h = let clash : true ≡ false = sym (and_parts b (has_proposals (kind_of vote)) h).0 ∙ off in absurd (cc)
+  nothing_there b Matches off none h = let clash : true ≡ false = sym (and_parts b (has_proposals (kind_of vote)) h).0 ∙ off in absurd (cc)
   nothing_there b (Kept p) off none h = absurd (cc)
 
   -- A vote of a kind that isn't compacted, of which none is kept, is the first.

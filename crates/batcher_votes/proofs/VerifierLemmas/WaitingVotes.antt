@@ -1,65 +1,25 @@
 -- Which votes wait, before and after a change of the selected proposal.
-use Rattle.std.proofs.Common.{◌≡◌, ℕ, Bor, Bool, true, false, not, cond, ◌&&◌, ◌||◌, ◌==◌, List, [], ◌∷◌, ◌++◌, filter, Option, Some, None, is_some, append-nil, refl, ap, subst, ◌∙◌, arith}
+use Rattle.std.proofs.Common.{◌≡◌, Bor, Bool, true, false, not, cond, ◌&&◌, List, [], ◌∷◌, ◌++◌, filter, Option, Some, None, is_some, append-nil, refl, ap, subst, ◌∙◌}
 use Rattle.std.specs.List.{AllPass}
 use Rattle.std.specs.Option.{option_copied}
-use Rattle.std.proofs.lemmas.Bool.Decides.{nat_tests}
 use Rattle.std.proofs.lemmas.List.Elements.{filter-append}
 use Rattle.batcher_types.specs.Lawful.{filter_all}
-use Rattle.batcher_types.specs.declared.positions.Round.{Round}
 use Rattle.batcher_types.specs.declared.messages.Proposal.{Proposal}
 use Rattle.batcher_types.specs.declared.messages.Vote.{Vote}
 use Rattle.batcher_types.specs.declared.messages.Kind.{Kind}
-use Rattle.batcher_types.specs.declared.messages.Kind.TheVariants.{Notarization, Nullification, Finalization}
 use Rattle.batcher_votes.specs.declared.verifier.ProposalState.{ProposalState}
 use Rattle.batcher_votes.specs.declared.verifier.ProposalState.TheVariants.{Unknown, Leader as LeadersProposal, Certificate as FixedProposal}
-use Rattle.batcher_types.specs.Votes.{is_kind, is_of_kind, same_round, same_proposal, waits}
+use Rattle.batcher_types.specs.Votes.{is_of_kind, same_proposal, waits}
+use Rattle.batcher_types.proofs.VoteLemmas.{same_proposal-true}
 use Rattle.batcher_votes.specs.Selected.{proposal_of, updated, selects, same_selected}
 use Rattle.batcher_votes.specs.Held.{of_kind, Buffered}
 use Rattle.batcher_votes.specs.Buffering.{leaders_vote, Buffers, AddsVote, SetsProposal}
-use Rattle.batcher_votes.proofs.Changes.{IsTidy, Places, Retains}
-
--- a fact for each kind
-pub each_kind : (P : Kind → Type 0) → P Notarization → P Nullification → P Finalization
-    → (kind : Kind) → P kind
-each_kind P a b c Notarization = a
-each_kind P a b c Nullification = b
-each_kind P a b c Finalization = c
-
-both : (a b : Bool) → (a && b) ≡ true → (a ≡ true) × (b ≡ true)
-both true b h = (refl, h)
-both false b h = absurd (cc)
-
-same_number : (a b : ℕ) → (a == b) ≡ true → a ≡ b
-same_number a b h = grind (arith, nat_tests)
-
-pub round_is : (a b : Round) → same_round a b ≡ true → a ≡ b
-round_is a b h =
-    let parts = both (a.epoch.0 == b.epoch.0) (a.view.0 == b.view.0) h in
-    let epoch = same_number a.epoch.0 b.epoch.0 parts.0 in
-    let view = same_number a.view.0 b.view.0 parts.1 in
-    let made : ℕ → ℕ → Round = λ e v. record { epoch = record { 0 = e }; view = record { 0 = v } } in
-    ap (λ e. made e a.view.0) epoch ∙ ap (λ v. made b.epoch.0 v) view
+use Rattle.batcher_votes.proofs.VerifierLemmas.Changes.{IsTidy, Places, Retains}
 
 module _ {D : Type 0} (same : D → D → Bool) (identical : (a b : D) → same a b ≡ true → a ≡ b) where
-  pub proposal_is : (a b : Proposal D) → same_proposal same a b ≡ true → a ≡ b
-  proposal_is a b h =
-      let parts = both (same_round a.round b.round) ((a.parent.0 == b.parent.0) && same a.payload b.payload) h in
-      let rest = both (a.parent.0 == b.parent.0) (same a.payload b.payload) parts.1 in
-      let round = round_is a.round b.round parts.0 in
-      let parent = same_number a.parent.0 b.parent.0 rest.0 in
-      let payload = identical a.payload b.payload rest.1 in
-      let made : Round → ℕ → D → Proposal D = λ r v d. record { round = r; parent = record { 0 = v }; payload = d } in
-      ap (λ r. made r a.parent.0 a.payload) round ∙ (ap (λ v. made b.round v a.payload) parent ∙ ap (λ d. made b.round b.parent.0 d) payload)
-
-  pub selected_is : (a b : Option (Proposal D)) → same_selected same a b ≡ true → a ≡ b
-  selected_is None None h = refl
-  selected_is None (Some q) h = absurd (cc)
-  selected_is (Some p) None h = absurd (cc)
-  selected_is (Some p) (Some q) h = ap Some (proposal_is p q h)
-
   kept_as_it_was : (p q : Proposal D) (b : Bool) → same_proposal same p q ≡ b → cond b None (Some q)
       ≡ None → p ≡ q
-  kept_as_it_was p q true e h = proposal_is p q e
+  kept_as_it_was p q true e h = same_proposal-true same identical p q e
   kept_as_it_was p q false e h = absurd (cc)
 
   -- no change was found, so the selected proposal is the same
@@ -149,27 +109,6 @@ pub a_change : {X : Type 0} (b : Bool) (after : Option X) (p : X) → cond b Non
     → after ≡ Some p
 a_change true after p h = absurd (cc)
 a_change false after p h = h
-
-pub kind_is : (a b : Kind) → is_kind a b ≡ true → a ≡ b
-kind_is Notarization Notarization h = refl
-kind_is Notarization Nullification h = absurd (cc)
-kind_is Notarization Finalization h = absurd (cc)
-kind_is Nullification Notarization h = absurd (cc)
-kind_is Nullification Nullification h = refl
-kind_is Nullification Finalization h = absurd (cc)
-kind_is Finalization Notarization h = absurd (cc)
-kind_is Finalization Nullification h = absurd (cc)
-kind_is Finalization Finalization h = refl
-
-pub self_kind : (kind : Kind) → is_kind kind kind ≡ true
-self_kind Notarization = refl
-self_kind Nullification = refl
-self_kind Finalization = refl
-
-pub not_both : (a b : Bool) → (a || not b) ≡ false → (a ≡ false) × (b ≡ true)
-not_both true b h = absurd (cc)
-not_both false true h = (refl, refl)
-not_both false false h = absurd (cc)
 
 module _ {G D : Type 0} (same : D → D → Bool) (old new : Buffered G D) (vote : Vote G D)
     (is_verified : Bool) where

@@ -3,6 +3,7 @@ use Rattle.std.proofs.Common.{◌≡◌, ◌≤◌, ◌+◌, ℕ, Bool, true, fa
 use Rattle.std.specs.List.{AllPass, list_any}
 use Rattle.std.proofs.lemmas.List.Elements.{All-append, All-cons, All-filter, All-head, All-tail, filter_passes}
 use Rattle.std.proofs.lemmas.Bool.Decides.{nat_tests}
+use Rattle.std.proofs.lemmas.Bool.{and_parts, or_parts}
 use Rattle.batcher_types.specs.declared.positions.Round.{Round}
 use Rattle.batcher_types.specs.declared.messages.Proposal.{Proposal}
 use Rattle.batcher_types.specs.declared.messages.Vote.{Vote}
@@ -15,35 +16,26 @@ use Rattle.batcher_types.specs.Lists.{count, EachOnce}
 use Rattle.batcher_types.specs.Quorum.{quorum_of}
 use Rattle.batcher_types.specs.Meaning.{Meaning}
 use Rattle.batcher_types.specs.Votes.{is_kind, kind_of, is_of_kind, is_vote_of, signer_of, waits}
+use Rattle.batcher_types.proofs.CountLemmas.{count-append, count-filter_le, once_fewer, once_none, count_none}
+use Rattle.batcher_types.proofs.KindLemmas.{is_kind-true, each_kind}
+use Rattle.batcher_types.proofs.ListLemmas.{AllPass-nil, AllPass-weaker}
 use Rattle.batcher_votes.specs.Selected.{proposal_of}
 use Rattle.batcher_votes.specs.Held.{of_kind, Buffered}
 use Rattle.batcher_votes.specs.Buffering.{Buffers, is_buffered, nothing_buffered, CompletesKind, SetsProposal}
 use Rattle.batcher_votes.specs.Sound.{IsSound, IsSoundKind, attests_itself, may_stand}
-use Rattle.batcher_votes.proofs.Changes.{IsTidy, Places}
+use Rattle.batcher_votes.proofs.VerifierLemmas.Changes.{IsTidy, Places}
 use Rattle.batcher_votes.specs.Verifiers.{is_of_round}
-use Rattle.batcher_votes.proofs.Counts.{count-append, count-filter_le, once_fewer, once_none}
-use Rattle.batcher_votes.proofs.Waits.{kind_is, each_kind, placed_buffers}
-
-pub all_more : {X : Type 0} (p q : X → Bool) → ((x : X) → p x ≡ true → q x ≡ true) → (xs : List X)
-    → AllPass p xs → AllPass q xs
-all_more p q f xs h = λ k d below. f _ (h k d below)
-
-none_at_all : {X : Type 0} (p : X → Bool) → AllPass p []
-none_at_all p = λ k d below. absurd (omega arith)
+use Rattle.batcher_votes.proofs.VerifierLemmas.WaitingVotes.{placed_buffers}
 
 all_left : {X : Type 0} (p : X → Bool) (b : Bool) (xs : List X) → AllPass p xs
     → AllPass p (cond b [] xs)
-all_left p true xs h = none_at_all p
+all_left p true xs h = AllPass-nil p
 all_left p false xs h = h
 
 pub fewer_left : {X : Type 0} (test p : X → Bool) (b : Bool) (xs : List X)
     → count test (cond b [] (filter p xs)) ≤ count test xs
 fewer_left test p true xs = omega arith
 fewer_left test p false xs = count-filter_le test p xs
-
-first : (a b : Bool) → (a && b) ≡ true → a ≡ true
-first true b h = refl
-first false b h = h
 
 module _ {G D : Type 0} (same : D → D → Bool) (number : Round) where
   -- a vote that may stand and waits with what is selected may stand then
@@ -95,7 +87,7 @@ module _ {G D : Type 0} (same : D → D → Bool) (number : Round) where
       → AllPass (may_stand same number selected kind) xs
       → AllPass (may_stand same number None kind) xs
   stand_loosely selected kind xs h =
-      all_more (may_stand same number selected kind) (may_stand same number None kind) (λ v s. stands_again selected None kind v s refl) xs h
+      AllPass-weaker (may_stand same number selected kind) (may_stand same number None kind) (λ v s. stands_again selected None kind v s refl) xs h
 
   -- by the signer alone, as all are of the kind
   pub any_of : (selected : Option (Proposal D)) (kind : Kind) (i : ℕ) (xs : List (Vote G D))
@@ -103,24 +95,10 @@ module _ {G D : Type 0} (same : D → D → Bool) (number : Round) where
       ≡ list_any (is_vote_of kind i) xs
   any_of selected kind i [] h = refl
   any_of selected kind i (x ∷ xs) h =
-      let of_this : is_of_kind kind x ≡ true = first _ _ (All-head (λ v. may_stand same number selected kind v ≡ true) x xs h) in
+      let of_this : is_of_kind kind x ≡ true = (and_parts _ _ (All-head (λ v. may_stand same number selected kind v ≡ true) x xs h)).0 in
       let here : (signer_of x == i) ≡ is_vote_of kind i x = ap (λ b. b && (signer_of x == i)) (sym of_this) in
       let others = any_of selected kind i xs (All-tail (λ v. may_stand same number selected kind v ≡ true) x xs h) in
       ap (λ b. b || list_any (λ v. signer_of v == i) xs) here ∙ ap (λ b. is_vote_of kind i x || b) others
-
-none_counted : {X : Type 0} (p : X → Bool) (x : X) (xs : List X) (b : Bool) → p x ≡ b
-    → (b || list_any p xs) ≡ false → (list_any p xs ≡ false → count p xs ≡ 0)
-    → cond b 1 0 + count p xs ≡ 0
-none_counted p x xs true e h rest = absurd (cc)
-none_counted p x xs false e h rest = let others = rest h in omega arith
-
-pub count_none : {X : Type 0} (p : X → Bool) (xs : List X) → list_any p xs ≡ false → count p xs ≡ 0
-count_none p [] h = refl
-count_none p (x ∷ xs) h = none_counted p x xs (p x) refl h (count_none p xs)
-
-second : (a b : Bool) → (a && b) ≡ true → b ≡ true
-second true b h = h
-second false b h = absurd (cc)
 
 at_most : (n i a c : ℕ) (b : Bool) → (n == i) ≡ b → a + c ≤ 1 → (n ≡ i → (a ≡ 0) × (c ≡ 0))
     → (a + cond b 1 0) + c ≤ 1
@@ -130,20 +108,16 @@ at_most n i a c true e h none =
     omega (arith, z.0, z.1)
 at_most n i a c false e h none = omega arith
 
-neither : (a b : Bool) → (a || b) ≡ false → (a ≡ false) × (b ≡ false)
-neither true b h = absurd (cc)
-neither false b h = (refl, h)
-
 module _ {D K G C : Type 0} (m : Meaning D K G C) (same : D → D → Bool) (number : Round) where
   pub tidy_from : (held : Buffered G D) (kind : Kind) → IsSoundKind m same number held kind
       → IsTidy same held kind
   tidy_from held kind s =
       record {
         pending =
-            all_more (may_stand same number (proposal_of held.selection) kind) (waits same (proposal_of held.selection))
+            AllPass-weaker (may_stand same number (proposal_of held.selection) kind) (waits same (proposal_of held.selection))
             (stands_waits same number (proposal_of held.selection) kind) (of_kind held.pending kind) s.pending;
         verified =
-            all_more (may_stand same number (proposal_of held.selection) kind) (waits same (proposal_of held.selection))
+            AllPass-weaker (may_stand same number (proposal_of held.selection) kind) (waits same (proposal_of held.selection))
             (stands_waits same number (proposal_of held.selection) kind) (of_kind held.verified kind) s.verified;
         none_pending = s.none_pending;
         none_verified = s.none_verified;
@@ -200,7 +174,7 @@ module _ {D K G C : Type 0} (m : Meaning D K G C) (same : D → D → Bool) (num
   pub sound_left : (old new : Buffered G D) (kind : Kind) → IsSoundKind m same number old kind
       → Buffers same old new kind [] [] → IsSoundKind m same number new kind
   sound_left old new kind s b =
-      sound_buffers old new kind [] [] s b (none_at_all _) (none_at_all _) (none_at_all _)
+      sound_buffers old new kind [] [] s b (AllPass-nil _) (AllPass-nil _) (AllPass-nil _)
       (once_fewer signer_of (of_kind old.verified kind ++ of_kind old.pending kind) ((of_kind old.verified kind ++ []) ++ (of_kind old.pending kind ++ []))
       (λ test. omega (
         arith,
@@ -220,25 +194,25 @@ module _ {D K G C : Type 0} (m : Meaning D K G C) (same : D → D → Bool) (num
         enough = enough;
         kinds = each_kind (IsSoundKind m same number nothing_buffered)
             (record {
-              pending = none_at_all _;
-              verified = none_at_all _;
-              attested = none_at_all _;
+              pending = AllPass-nil _;
+              verified = AllPass-nil _;
+              attested = AllPass-nil _;
               once = once_none (signer_of {G = G} {D = D});
               none_pending = λ _. refl;
               none_verified = λ _. refl;
             })
             (record {
-              pending = none_at_all _;
-              verified = none_at_all _;
-              attested = none_at_all _;
+              pending = AllPass-nil _;
+              verified = AllPass-nil _;
+              attested = AllPass-nil _;
               once = once_none (signer_of {G = G} {D = D});
               none_pending = λ _. refl;
               none_verified = λ _. refl;
             })
             (record {
-              pending = none_at_all _;
-              verified = none_at_all _;
-              attested = none_at_all _;
+              pending = AllPass-nil _;
+              verified = AllPass-nil _;
+              attested = AllPass-nil _;
               once = once_none (signer_of {G = G} {D = D});
               none_pending = λ _. refl;
               none_verified = λ _. refl;
@@ -254,10 +228,10 @@ module _ {D K G C : Type 0} (m : Meaning D K G C) (same : D → D → Bool) (num
       ≡ cond b [] (of_kind old.verified kind) → IsSoundKind m same number new kind
   sound_completed old new kind true s sel c p v =
       record {
-        pending = rw p (none_at_all _);
-        verified = rw v (none_at_all _);
+        pending = rw p (AllPass-nil _);
+        verified = rw v (AllPass-nil _);
         attested = rw v
-            (none_at_all _);
+            (AllPass-nil _);
         once = rw (p, v) (once_none (signer_of {G = G} {D = D}));
         none_pending = λ _. p;
         none_verified = λ _. v;
@@ -284,8 +258,8 @@ module _ {D K G C : Type 0} (m : Meaning D K G C) (same : D → D → Bool) (num
 
   joins_none : (b : Bool) (p : Vote G D → Bool) (v : Vote G D) → (b ≡ true → p v ≡ true)
       → AllPass p (cond b (v ∷ []) [])
-  joins_none true p v h = All-cons (λ x. p x ≡ true) v [] (h refl) (none_at_all p)
-  joins_none false p v h = none_at_all p
+  joins_none true p v h = All-cons (λ x. p x ≡ true) v [] (h refl) (AllPass-nil p)
+  joins_none false p v h = AllPass-nil p
 
   once_more :
       (fits is_verified : Bool) (verified pending : List (Vote G D)) (vote : Vote G D)
@@ -337,7 +311,7 @@ module _ {D K G C : Type 0} (m : Meaning D K G C) (same : D → D → Bool) (num
       → (count (λ v. signer_of v == i) (of_kind held.verified kind) ≡ 0)
       × (count (λ v. signer_of v == i) (of_kind held.pending kind) ≡ 0)
   none_by held kind i s h =
-      let parts = neither (list_any (is_vote_of kind i) (of_kind held.verified kind)) (list_any (is_vote_of kind i) (of_kind held.pending kind)) h in
+      let parts = or_parts (list_any (is_vote_of kind i) (of_kind held.verified kind)) (list_any (is_vote_of kind i) (of_kind held.pending kind)) h in
       let sel = proposal_of held.selection in (
         count_none (λ v. signer_of v == i) (of_kind held.verified kind) (any_of same number sel kind i (of_kind held.verified kind) s.verified ∙ parts.0),
         count_none (λ v. signer_of v == i) (of_kind held.pending kind) (any_of same number sel kind i (of_kind held.pending kind) s.pending ∙ parts.1),
@@ -371,15 +345,15 @@ module _ {D K G C : Type 0} (m : Meaning D K G C) (same : D → D → Bool) (num
         kinds = λ kind.
             let fits = is_of_kind kind vote in
             let stands : fits ≡ true → may_stand same number None kind vote ≡ true
-            = λ e. subst (λ k. may_stand same number None k vote ≡ true) (kind_is (kind_of vote) kind e) (stands_first same number vote may.of_round) in
+            = λ e. subst (λ k. may_stand same number None k vote ≡ true) (is_kind-true (kind_of vote) kind e) (stands_first same number vote may.of_round) in
             sound_buffers old new kind (cond (fits && not is_verified) (vote ∷ []) []) (cond (fits && is_verified) (vote ∷ []) []) (s.kinds kind)
             (buffers kind)
-            (joins_none (fits && not is_verified) (may_stand same number None kind) vote (λ e. stands (first fits (not is_verified) e)))
-            (joins_none (fits && is_verified) (may_stand same number None kind) vote (λ e. stands (first fits is_verified e)))
-            (joins_none (fits && is_verified) (attests_itself m same number) vote (λ e. may.attests (second fits is_verified e)))
+            (joins_none (fits && not is_verified) (may_stand same number None kind) vote (λ e. stands (and_parts fits (not is_verified) e).0))
+            (joins_none (fits && is_verified) (may_stand same number None kind) vote (λ e. stands (and_parts fits is_verified e).0))
+            (joins_none (fits && is_verified) (attests_itself m same number) vote (λ e. may.attests (and_parts fits is_verified e).1))
             (once_more fits is_verified (of_kind old.verified kind) (of_kind old.pending kind) vote (s.kinds kind).once
             (λ e. none_by old kind (signer_of vote) (s.kinds kind)
-            (subst (λ k. is_buffered old k (signer_of vote) ≡ false) (kind_is (kind_of vote) kind e) may.fresh)));
+            (subst (λ k. is_buffered old k (signer_of vote) ≡ false) (is_kind-true (kind_of vote) kind e) may.fresh)));
       }
 
   none_left : (test keeps : Vote G D → Bool) (certified : Bool) (xs : List (Vote G D))
@@ -396,7 +370,7 @@ module _ {D K G C : Type 0} (m : Meaning D K G C) (same : D → D → Bool) (num
         → list_any test (filter keeps xs) ≡ false
     none_kept [] h = refl
     none_kept (x ∷ xs) h =
-        let parts = neither (test x) (list_any test xs) h in
+        let parts = or_parts (test x) (list_any test xs) h in
         not_this (keeps x) x (filter keeps xs) parts.0 (none_kept xs parts.1)
 
   -- who has no vote in the buffers has none where votes went
@@ -405,7 +379,7 @@ module _ {D K G C : Type 0} (m : Meaning D K G C) (same : D → D → Bool) (num
   fresh_still old mid kind i b h =
       let test = is_vote_of kind i in
       let keeps = waits same (proposal_of mid.selection) in
-      let parts = neither (list_any test (of_kind old.verified kind)) (list_any test (of_kind old.pending kind)) h in
+      let parts = or_parts (list_any test (of_kind old.verified kind)) (list_any test (of_kind old.pending kind)) h in
       rw (
         b.verified,
         b.pending,
@@ -451,4 +425,4 @@ pub nullifies_stay : {G D : Type 0} (same : D → D → Bool) (number : Round) (
     → filter (waits same (Some p)) xs ≡ xs
 nullifies_stay same number o p xs pass =
     filter_all (waits same (Some p)) xs
-    (all_more (may_stand same number o Nullification) (waits same (Some p)) (nullifies_wait same number o p) xs pass)
+    (AllPass-weaker (may_stand same number o Nullification) (waits same (Some p)) (nullifies_wait same number o p) xs pass)

@@ -1,6 +1,7 @@
 -- What releasing a kind changes of what a tracker shows, by its entries and the votes that it keeps.
 use Rattle.std.proofs.Common.{◌≡◌, ◌∙◌, ℕ, Bool, true, false, cond, ◌&&◌, ◌||◌, List, [], ◌∷◌, map, Option, Some, None, refl, ap, sym, subst}
 use Rattle.std.specs.List.{AllByRecursion, filter_map, cons_option, slice_get}
+use Rattle.std.proofs.lemmas.Bool.{and_parts}
 use Rattle.batcher_types.specs.declared.messages.Proposal.{Proposal}
 use Rattle.batcher_types.specs.declared.messages.Vote.{Vote}
 use Rattle.batcher_types.specs.declared.messages.Kind.{Kind}
@@ -10,13 +11,15 @@ use Rattle.batcher_votes.specs.declared.votes.entry.Seen.TheVariants.{Nothing, U
 use Rattle.batcher_types.specs.Lists.{count, is_some_and}
 use Rattle.batcher_types.specs.Ordered.{rec_from_all, all_from_rec, rec_weaker}
 use Rattle.batcher_types.specs.Votes.{is_kind, is_vote_of, has_proposals, kind_of}
+use Rattle.batcher_types.proofs.KindLemmas.{is_kind-true}
+use Rattle.batcher_types.proofs.ListLemmas.{and-true}
 use Rattle.batcher_votes.specs.Held.{PerKind, of_kind}
 use Rattle.batcher_votes.specs.Tracking.{no_facts, facts_with, facts_of_kept, ReleasesKind, SameTracked}
 use Rattle.batcher_votes.specs.Entries.{Entry, with_mark, part, key_of, has_place, compared, facts_seen, facts_part, facts_among, without, own_vote, vote_at, kept_part, kept_among, tracked_by, may_say, Fits}
 use Rattle.batcher_votes.specs.Entries.{tested, tested_at, seen_released, entry_released}
-use Rattle.batcher_votes.proofs.Parts.{made_of, filter_map-map_same}
-use Rattle.batcher_votes.proofs.Shown.{both_of, signed, kept_is, facts_is}
-use Rattle.batcher_votes.proofs.Recorded.{compared_facts, compared_stands, facts_with_vote, none_tested, part_with, key_with}
+use Rattle.batcher_votes.proofs.TrackerLemmas.ShownParts.{made_of, filter_map-map_same}
+use Rattle.batcher_votes.proofs.TrackerLemmas.SignerFacts.{signed, kept_is, facts_is}
+use Rattle.batcher_votes.proofs.TrackerLemmas.RecordVote.{compared_facts, compared_stands, facts_with_vote, none_tested, part_with, key_with}
 
 of_kind-with_mark : (released : Kind) (c : PerKind Bool) (kind : Kind)
     → of_kind (with_mark released c) kind ≡ (is_kind released kind || of_kind c kind)
@@ -29,26 +32,6 @@ of_kind-with_mark Nullification c Finalization = refl
 of_kind-with_mark Finalization c Notarization = refl
 of_kind-with_mark Finalization c Nullification = refl
 of_kind-with_mark Finalization c Finalization = refl
-
-same_kind : (a b : Kind) → is_kind a b ≡ true → b ≡ a
-same_kind Notarization Notarization is = refl
-same_kind Notarization Nullification is = absurd (cc)
-same_kind Notarization Finalization is = absurd (cc)
-same_kind Nullification Notarization is = absurd (cc)
-same_kind Nullification Nullification is = refl
-same_kind Nullification Finalization is = absurd (cc)
-same_kind Finalization Notarization is = absurd (cc)
-same_kind Finalization Nullification is = absurd (cc)
-same_kind Finalization Finalization is = refl
-
-itself : (kind : Kind) → is_kind kind kind ≡ true
-itself Notarization = refl
-itself Nullification = refl
-itself Finalization = refl
-
-all_of : (b : Bool) → (b && true) ≡ b
-all_of true = refl
-all_of false = refl
 
 cons_made : {X Y : Type 0} (g : X → Y) (o : Option X) (zs : List X)
     → cons_option (made_of g o) (map g zs) ≡ map g (cons_option o zs)
@@ -129,8 +112,8 @@ module _ {G D : Type 0} (same : D → D → Bool) (selected : Option (Proposal D
       → tested_at same selected o ≡ None
   none_carried kind i None own none = absurd (cc)
   none_carried kind i (Some v) own none =
-      let is = same_kind (kind_of v) kind (both_of (is_kind (kind_of v) kind) _ own).0 in
-      none_tested same selected v (ap has_proposals (sym is) ∙ none)
+      let is = is_kind-true (kind_of v) kind (and_parts (is_kind (kind_of v) kind) _ own).0 in
+      none_tested same selected v (ap has_proposals is ∙ none)
 
   seen_stands : (kind : Kind) (votes : List (Vote G D)) (i : ℕ) (s : Seen)
       → may_say false kind votes i s ≡ true
@@ -160,7 +143,7 @@ module _ {G D : Type 0} (same : D → D → Bool) (selected : Option (Proposal D
     own_after kind own e =
         part_with released kind (seen_released same selected votes (part released e)) e
         ∙ ap (λ b. cond b (seen_released same selected votes (part released e)) (part kind e)) own
-        ∙ ap (λ k. seen_released same selected votes (part k e)) (sym (same_kind released kind own))
+        ∙ ap (λ k. seen_released same selected votes (part k e)) (is_kind-true released kind own)
 
     facts_beside : (kind : Kind) → is_kind released kind ≡ false → (e : Entry)
         → facts_part kind (after e) ≡ facts_part kind e
@@ -270,16 +253,16 @@ module _ {G D : Type 0} (same : D → D → Bool) (c c' : PerKind Bool)
   left kind = ap (λ x. of_kind x kind) dropped ∙ of_kind-without released votes kind
 
   own_full : (kind : Kind) → is_kind released kind ≡ true → of_kind c kind ≡ false
-  own_full kind own = ap (λ k. of_kind c k) (same_kind released kind own) ∙ full
+  own_full kind own = ap (λ k. of_kind c k) (sym (is_kind-true released kind own)) ∙ full
 
   theirs_own : (kind : Kind) → is_kind released kind ≡ true
       → of_kind votes released ≡ of_kind votes kind
-  theirs_own kind own = ap (λ k. of_kind votes k) (sym (same_kind released kind own))
+  theirs_own kind own = ap (λ k. of_kind votes k) (is_kind-true released kind own)
 
   pub released_now : (r : Bool) → r ≡ true → (kind : Kind) → ReleasesKind same
       (tracked_by c votes es) (tracked_by c' votes' es') selected (is_kind released kind && r) kind
   released_now r now kind =
-      let is : (is_kind released kind && r) ≡ is_kind released kind = rw now (all_of (is_kind released kind)) in
+      let is : (is_kind released kind && r) ≡ is_kind released kind = rw now (and-true (is_kind released kind)) in
       record {
         compacted = rw is (mark kind);
         kept =
@@ -359,7 +342,7 @@ module _ {G D : Type 0} (same : D → D → Bool) (c : PerKind Bool) (votes : Pe
   before_of kind on r = either (is_kind released kind) refl r where
     either : (own : Bool) → is_kind released kind ≡ own → (r : Bool)
         → of_kind c kind ≡ ((own && r) || of_kind c kind)
-    either true is true = ap (of_kind c) (same_kind released kind is) ∙ on
+    either true is true = ap (of_kind c) (sym (is_kind-true released kind is)) ∙ on
     either true is false = refl
     either false is r = refl
 

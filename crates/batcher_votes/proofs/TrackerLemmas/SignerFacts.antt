@@ -1,7 +1,8 @@
 -- What a tracker shows of a signer, by its entries and the votes that it keeps.
-use Rattle.std.proofs.Common.{◌≡◌, ◌==◌, ℕ, Bool, true, false, not, cond, nat_eq, ◌&&◌, List, find, Option, Some, None, refl, ap, arith}
+use Rattle.std.proofs.Common.{◌≡◌, ◌==◌, ℕ, Bool, true, false, not, cond, nat_eq, List, find, Option, Some, None, refl, ap, arith}
 use Rattle.std.proofs.lemmas.Bool.Decides.{nat_tests}
 use Rattle.std.specs.List.{filter_map, slice_get}
+use Rattle.std.proofs.lemmas.Bool.{and_parts}
 use Rattle.batcher_types.specs.declared.messages.Vote.{Vote}
 use Rattle.batcher_types.specs.declared.messages.Kind.{Kind}
 use Rattle.batcher_types.specs.declared.messages.Kind.TheVariants.{Notarization, Nullification, Finalization}
@@ -13,12 +14,7 @@ use Rattle.batcher_types.specs.Votes.{kind_of, signer_of, is_kind, is_of_kind, i
 use Rattle.batcher_votes.specs.Held.{PerKind, of_kind, Facts}
 use Rattle.batcher_votes.specs.Tracking.{Observed, unseen, from_kept, from_facts, observed, is_known}
 use Rattle.batcher_votes.specs.Entries.{Entry, part, key_of, facts_seen, facts_part, facts_among, own_vote, vote_at, kept_part, kept_among, tracked_by, observed_seen, may_say}
-use Rattle.batcher_votes.proofs.Parts.{Of, shown_by, find-filter_map}
-
-pub both_of : (a b : Bool) → (a && b) ≡ true → (a ≡ true) × (b ≡ true)
-both_of true true h = (refl, refl)
-both_of true false h = absurd (cc)
-both_of false b h = absurd (cc)
+use Rattle.batcher_votes.proofs.TrackerLemmas.ShownParts.{Of, shown_by, find-filter_map}
 
 facts_signed : (i : ℕ) (s : Seen) → Of (facts_seen i s) (λ f. f.signer ≡ i)
 facts_signed i Nothing = tt
@@ -77,7 +73,7 @@ module _ {G D : Type 0} where
   of_weaker P Q (Some v) w h = w v h
 
   pub signed : (kind : Kind) (i : ℕ) (v : Vote G D) → is_vote_of kind i v ≡ true → signer_of v ≡ i
-  signed kind i v own = let same = (both_of (is_kind (kind_of v) kind) (signer_of v == i) own).1 in grind (arith, nat_tests)
+  signed kind i v own = let same = (and_parts (is_kind (kind_of v) kind) (signer_of v == i) own).1 in grind (arith, nat_tests)
 
   module _ (votes : List (Vote G D)) where
     pub kept_numbered : (kind : Kind) (e : Entry)
@@ -90,12 +86,12 @@ module _ {G D : Type 0} where
         → Of (kept_part votes kind e) (λ v. is_of_kind kind v ≡ true)
     kept_kinded kind e =
         of_weaker (λ v. is_vote_of kind (key_of e) v ≡ true) (λ v. is_of_kind kind v ≡ true) (kept_part votes kind e)
-        (λ v own. (both_of (is_kind (kind_of v) kind) (signer_of v == key_of e) own).0) (own_of kind (key_of e) (vote_at votes (part kind e)))
+        (λ v own. (and_parts (is_kind (kind_of v) kind) (signer_of v == key_of e) own).0) (own_of kind (key_of e) (vote_at votes (part kind e)))
 
     tested_so : (k : ℕ) (kind : Kind) (i : ℕ) (v : Vote G D) → is_vote_of kind i v ≡ true
         → is_vote_of kind k v ≡ nat_eq i k
     tested_so k kind i v own =
-        let both = both_of (is_kind (kind_of v) kind) (signer_of v == i) own in
+        let both = and_parts (is_kind (kind_of v) kind) (signer_of v == i) own in
         rw both.0 (ap (λ n. nat_eq n k) (signed kind i v own))
 
     kept_tested : (k : ℕ) (kind : Kind) (e : Entry)
@@ -134,7 +130,7 @@ module _ {G D : Type 0} where
     kept_says b kind i Uncompared h = refl
     kept_says b kind i Differs h = refl
     kept_says b kind i Matches h = refl
-    kept_says b kind i (Kept p) h = own_same kind i (slice_get votes p) (both_of (not b) (is_some_and (slice_get votes p) (is_vote_of kind i)) h).1
+    kept_says b kind i (Kept p) h = own_same kind i (slice_get votes p) (and_parts (not b) (is_some_and (slice_get votes p) (is_vote_of kind i)) h).1
 
     pub no_vote : (kind : Kind) (i : ℕ) (s : Seen) → may_say true kind votes i s ≡ true
         → vote_at votes s ≡ None

@@ -12,9 +12,9 @@ use Rattle.batcher_types.specs.Votes.{signer_of, is_of_kind, is_vote_of}
 use Rattle.batcher_votes.specs.Held.{PerKind, of_kind}
 use Rattle.batcher_votes.specs.Tracking.{KeepsEach}
 use Rattle.batcher_votes.specs.Entries.{Entry, key_of, part, vote_at, kept_part, kept_among, may_say, Fits, tracked_by}
-use Rattle.batcher_votes.proofs.Parts.{Of}
-use Rattle.batcher_votes.proofs.Shown.{kept_numbered, kept_kinded, kept_is, kept_says, no_vote}
-use Rattle.batcher_votes.proofs.Recorded.{filter_map-same_each}
+use Rattle.batcher_votes.proofs.TrackerLemmas.ShownParts.{Of}
+use Rattle.batcher_votes.proofs.TrackerLemmas.SignerFacts.{kept_numbered, kept_kinded, kept_is, kept_says, no_vote}
+use Rattle.batcher_votes.proofs.TrackerLemmas.RecordVote.{filter_map-same_each}
 
 module _ {E X : Type 0} (part : E → Option X) where
   all_cons : (p : X → Bool) (o : Option X) (zs : List X) → Of o (λ x. p x ≡ true) → list_all p zs

@@ -1,1 +1,0 @@
-pub use Rattle.batcher_votes.proofs.Counts
