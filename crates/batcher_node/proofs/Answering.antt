@@ -46,8 +46,9 @@ use Rattle.batcher_node.specs.declared.slot.Slot.{Slot}
 use Rattle.batcher.specs.positions.Epoch.{Epoch}
 use Rattle.batcher_node.specs.Events.{NodeEvent, vote_came, certificate_came, vote_cast, view_entered, view_finalized, constructed, proposal_forwarded}
 use Rattle.batcher_node.specs.Events.{NodeHistory, told, at_view, told_by, window_after, peer_in, is_peer, cause_by, invalid_in}
-use Rattle.batcher_node.specs.Nodes.{NodeView, NodeSetting, judge_node, cause_at, slot_at, fresh_round, Tells, TellsThere, IsTended, HasChanged, NamesFault}
+use Rattle.batcher_node.specs.Nodes.{NodeView, NodeSetting, judge_node, cause_at, slot_at, fresh_round, Tells, TellsThere, IsTended, HasChanged}
 use Rattle.batcher_node.specs.Stands.{NodeStands, receipt, receipt_from, is_within, setting_of, is_due, ViewStands, IsNamed, Meets, MeetsCast, MeetsForward, cast_by}
+use Rattle.batcher_node.proofs.Telling.{NamesFault}
 use Rattle.batcher_node.proofs.Standing.{told_one, told_none, judged}
 
 -- a test that fails
@@ -576,10 +577,10 @@ module _ {S D K G C : Type 0} (meaning : S → Meaning D K G C) (compare_keys : 
 
   -- a view without a round hands on nothing
   pub forwards_nothing : (given : Option (Proposal D)) → given ≡ None
-      → slot_at old.rounds view ≡ None
-      → (rounds : List (ℕ × Slot (RoundView S G D))) → rounds ≡ old.rounds
-      → MeetsForward y old view me given (record old { rounds = rounds })
-  forwards_nothing given is absent rounds same =
-      subst (λ o. MatchOption o ((given ≡ None) × (record old { rounds = rounds } ≡ old))
-      (λ slot. Meets y old (proposal_forwarded view me given) (record old { rounds = rounds })))
-      (sym absent) (is, ap (λ r. record old { rounds = r }) same)
+      → slot_at old.rounds view ≡ None → (new : NodeView S G D)
+      → (rounds : List (ℕ × Slot (RoundView S G D))) → new ≡ record old { rounds = rounds }
+      → rounds ≡ old.rounds → MeetsForward y old view me given new
+  forwards_nothing given is absent new rounds left same =
+      subst (λ o. MatchOption o ((given ≡ None) × (new ≡ old))
+      (λ slot. Meets y old (proposal_forwarded view me given) new))
+      (sym absent) (is, left ∙ ap (λ r. record old { rounds = r }) same)

@@ -1,6 +1,6 @@
 -- What a map of rounds has once one of them was told something.
-use Rattle.std.proofs.Common.{◌≡◌, ◌≢◌, ℕ, Bool, true, false, cond, not, ◌||◌, is_some, Option, Some, None, [], Result, Ok, Err, refl, sym, ap, ◌∙◌, subst, inr}
-use Rattle.std.specs.Prelude.{OnErr, IfErr, IsErrAnd, is_err, ◌==◌, IfNone, IfSome}
+use Rattle.std.proofs.Common.{◌≡◌, ◌≢◌, ℕ, Bool, true, false, cond, not, ◌||◌, is_some, Option, Some, None, [], Result, Ok, Err, refl, sym, ap, ◌∙◌, subst, inl, inr}
+use Rattle.std.specs.Prelude.{OnErr, IfOk, IfErr, IsErrAnd, is_err, ◌==◌, IfNone, IfSome, MatchOption}
 use Rattle.std.proofs.lemmas.Bool.{true≢false}
 use Rattle.batcher.specs.positions.Participant.{Participant}
 use Rattle.std.specs.declared.cmp.Ordering.{Ordering}
@@ -29,10 +29,10 @@ use Rattle.batcher.specs.Selection.{is_released}
 use Rattle.batcher.specs.Steps.{fault_or_memory, unopposed_result, leader_set_answer}
 use Rattle.batcher.specs.Votes.{kind_of}
 use Rattle.batcher.specs.Held.{RoundView, SameRound}
-use Rattle.batcher.specs.Judged.{FollowsAlways, WhereverItStands}
+use Rattle.batcher.specs.Judged.{FollowsAlways, FollowsOnOk, WhereverItStands}
 use Rattle.batcher.specs.Stands.{Stands}
 use Rattle.batcher_node.specs.declared.slot.Slot.{Slot}
-use Rattle.batcher_node.specs.Nodes.{Tells, NamesFault, due_after}
+use Rattle.batcher_node.specs.Nodes.{Tells, Refuses, IsLedByAnother, due_after}
 
 unequal_is : (o : Ordering) → (o ≡ Equal → ⊥) → is_eq o ≡ false
 unequal_is Less apart = refl
@@ -62,6 +62,9 @@ on_err (Err e) p = p
 -- what holds of what is there
 pub if_some : {T : Type 0} (P : T → Type 0) (o : Option T) (x : T) → o ≡ Some x → IfSome o P → P x
 if_some P o x is h = subst (λ o. IfSome o P) is h
+
+pub if_ok : {A E : Type 0} (P : A → Type 0) (r : Result A E) (a : A) → r ≡ Ok a → IfOk r P → P a
+if_ok P r a is h = subst (λ r. IfOk r P) is h
 
 -- what holds at an error
 pub err_more : {A E : Type 0} (P Q : E → Type 0) → ((e : E) → P e → Q e) → (r : Result A E)
@@ -102,33 +105,89 @@ pub due_given : {D C : Type 0} (K G : Type 0) (given : Option (Batch (Certificat
 due_given K G None due = refl
 due_given K G (Some batch) due = refl
 
-module _ {S D K G C : Type 0} (judge : RoundView S G D → Setting D K G C)
-    (o : Option (Slot (RoundView S G D))) (vote : Vote G D) where
-  -- why a vote is refused where its view has no round
-  pub none_named : (fault : OwnFault) → o ≡ None → fault ≡ OutOfMemoryFault
-      → NamesFault judge o vote fault
-  none_named fault none is = subst (λ o. NamesFault judge o vote fault) (sym none) is
+-- what holds where an error leaves two values the same
+pub on_err_same : {A E X : Type 0} (r : Result A E) (a b : X) (Q : Type 0) → OnErr r (a ≡ b)
+    → (a ≡ b → Q) → OnErr r Q
+on_err_same (Ok x) a b Q h more = tt
+on_err_same (Err e) a b Q h more = more h
 
+-- A vote of the node's own is refused for the fault that its view's history names; where the view
+-- has no round, for memory alone.
+abbrev pub NamesFault : {S D K G C : Type 0} → (RoundView S G D → Setting D K G C)
+    → Option (Slot (RoundView S G D)) → Vote G D → OwnFault → Type 0
+NamesFault judge at vote fault =
+    MatchOption at (fault ≡ OutOfMemoryFault) (λ slot. WhereverItStands judge slot.round
+    (λ x past. fault ≡ fault_or_memory (own_answer x past vote)))
+
+module _ {S D K G C : Type 0} (judge : RoundView S G D → Setting D K G C) (vote : Vote G D) where
   first_named : (kind : Kind) (released : Bool)
       → fault_or_memory (unopposed_result kind (Added released)) ≡ OutOfMemoryFault
   first_named Notarization released = refl
   first_named Nullification released = refl
   first_named Finalization released = refl
 
-  pub fresh_named : (fault : OwnFault) → o ≡ None → (round : RoundView S G D)
-      → Stands (judge round) [] round.holds
-      → WhereverItStands judge round (λ x past. fault ≡ fault_or_memory (own_answer x past vote))
-      → NamesFault judge o vote fault
-  fresh_named fault none round stands named =
-      none_named fault none (named [] stands
-      ∙ first_named (kind_of vote) (not (is_released (judge round) [] (kind_of vote))))
+  -- why a vote is refused where there is no memory for its view's round
+  pub none_named : (o : Option (Slot (RoundView S G D))) (fault : OwnFault) → o ≡ None
+      → fault ≡ OutOfMemoryFault → NamesFault judge o vote fault
+  none_named o fault none is = subst (λ o. NamesFault judge o vote fault) (sym none) is
 
-  -- why it is refused where there is one
-  pub there_named : (fault : OwnFault) (slot : Slot (RoundView S G D)) → o ≡ Some slot
-      → WhereverItStands judge slot.round
-      (λ x past. fault ≡ fault_or_memory (own_answer x past vote))
+  -- why its view's round refuses it
+  pub own_refused : (o : Option (Slot (RoundView S G D))) (fresh : RoundView S G D)
+      (fault : OwnFault) → Refuses judge o fresh (λ round fault. WhereverItStands judge round
+      (λ x past. fault ≡ fault_or_memory (own_answer x past vote))) fault
       → NamesFault judge o vote fault
-  there_named fault slot there named = subst (λ o. NamesFault judge o vote fault) (sym there) named
+  own_refused None fresh fault h =
+      h.1 [] h.0 ∙ first_named (kind_of vote) (not (is_released (judge fresh) [] (kind_of vote)))
+  own_refused (Some slot) fresh fault h = h
+
+module _ {S D K G C A E : Type 0} (judge : RoundView S G D → Setting D K G C)
+    (old new : ℕ → Option (Slot (RoundView S G D))) (view : ℕ) (fresh : RoundView S G D)
+    (before after : Slot (RoundView S G D)) (there : old view ≡ Some before) where
+  -- a round that was there, and was told something
+  pub told_there : (call : Call K G C D) (answered : A → Answer G C D) (r : Result A E)
+      → new view ≡ Some after → ((other : ℕ) → other ≢ view → new other ≡ old other)
+      → FollowsOnOk judge before.round call answered r after.round.holds
+      → IfOk r (λ answer. after.changed ≡ due_after (call, answered answer) before.changed)
+      → SameRound before.round after.round
+      → IfOk r (λ answer. Tells judge old new view fresh call (answered answer))
+  told_there call answered (Err e) here others follows due same = tt
+  told_there call answered (Ok answer) here others follows due same =
+      inl (record {
+        slot = before;
+        there = there;
+        goes_on = record {
+          after = after.round;
+          same = same;
+          follows = follows;
+          here = here ∙ ap (λ b. Some (record { round = after.round; changed = b })) due;
+          others = others;
+        };
+      })
+
+-- what is known where a fresh round refuses
+pub refused_fresh : {S D K G C F : Type 0} (judge : RoundView S G D → Setting D K G C)
+    (o : Option (Slot (RoundView S G D))) (fresh round : RoundView S G D)
+    (why : RoundView S G D → F → Type 0) (fault : F) → o ≡ None → round ≡ fresh
+    → Stands (judge round) [] round.holds → why round fault → Refuses judge o fresh why fault
+refused_fresh judge o fresh round why fault none is stands named =
+    subst (λ o. Refuses judge o fresh why fault) (sym none)
+    (subst (λ r. Stands (judge r) [] r.holds × why r fault) is (stands, named))
+
+-- why a leader is refused by a view's round: another is named there, and none is in a fresh one
+pub led_refused : {S D K G C : Type 0} (judge : RoundView S G D → Setting D K G C)
+    (o : Option (Slot (RoundView S G D))) (fresh : RoundView S G D) (leader : Participant)
+    (fault : LeaderFault) → fresh.holds.buffered.leader ≡ None
+    → Refuses judge o fresh
+    (λ round fault. Err fault ≡ leader_set_answer round.holds.buffered.leader leader) fault
+    → IsLedByAnother o leader
+led_refused judge None fresh leader fault none h =
+    absurd (true≢false (ap is_err (h.1 ∙ ap (λ l. leader_set_answer l leader) none)))
+led_refused judge (Some slot) fresh leader fault none h =
+    record {
+      slot = slot;
+      there = refl;
+      another = is_another slot.round.holds.buffered.leader leader fault h;
+    }
 
 module _ {S D K G C : Type 0} (judge : RoundView S G D → Setting D K G C)
     (m middle n : BTreeMap ℕ (Slot (RoundView S G D))) (view : ℕ)

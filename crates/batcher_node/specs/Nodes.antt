@@ -134,21 +134,14 @@ pub record IsLedByAnother {S G D : Type 0} (at : Option (Slot (RoundView S G D))
   pub there : at ≡ Some slot
   pub another : leader_set_answer slot.round.holds.buffered.leader leader ≡ Err RoundLeaderChanged
 
--- Why a leader isn't named for a view in the window: another one was, or the view has no round and
--- there is no memory for one.
-abbrev pub NamesEnterFault : {S G D : Type 0} → Option (Slot (RoundView S G D)) → Participant
-    → EnterFault → Type 0
-NamesEnterFault at leader LeaderChanged = IsLedByAnother at leader
-NamesEnterFault at leader OutOfMemory = at ≡ None
-NamesEnterFault at leader Passed = ⊥
-
--- A vote of the node's own is refused for the fault that its view's history names; where the view
--- has no round, for memory alone.
-abbrev pub NamesFault : {S D K G C : Type 0} → (RoundView S G D → Setting D K G C)
-    → Option (Slot (RoundView S G D)) → Vote G D → OwnFault → Type 0
-NamesFault judge at vote fault =
-    MatchOption at (fault ≡ OutOfMemoryFault) (λ slot. WhereverItStands judge slot.round
-    (λ x past. fault ≡ fault_or_memory (own_answer x past vote)))
+-- Why a call is refused by the round of a view, of which `why` says it: by the one that is there, or
+-- by a fresh one.
+abbrev pub Refuses : {S D K G C F : Type 0} → (RoundView S G D → Setting D K G C)
+    → Option (Slot (RoundView S G D)) → RoundView S G D → (RoundView S G D → F → Type 0) → F
+    → Type 0
+Refuses judge at fresh why fault =
+    MatchOption at (Stands (judge fresh) [] fresh.holds × why fresh fault)
+    (λ slot. why slot.round fault)
 
 module _ {S D K G C : Type 0} (judge : RoundView S G D → Setting D K G C)
     (old new : ℕ → Option (Slot (RoundView S G D))) (view : ℕ) where

@@ -1,5 +1,5 @@
 -- What is promised of a node after any history of its calls.
-use Rattle.std.specs.Prelude.{◌≡◌, ◌≤◌, ⊤, ℕ, true, false, [], ◌∷◌, ◌++◌, Some, is_some, IfSome}
+use Rattle.std.specs.Prelude.{◌≡◌, ◌≤◌, ⊤, ℕ, true, false, List, [], ◌∷◌, ◌++◌, length, Some, is_some, IfSome}
 use Rattle.std.specs.List.{AllPass}
 use Rattle.batcher.specs.Lists.{is_some_and}
 use Rattle.batcher.specs.Standing.{ready_kind}
@@ -106,3 +106,11 @@ module _ {D K G C : Type 0} (x : NodeSetting D K G C) where
     pub promised : IsNodePromised past
     pub blocked_gave_cause : (i : ℕ) → IfSome (cause_at node.blocked i) (HadGivenCause past i)
     pub complete_at_rest : IsAtRest node → IsComplete past node
+
+module _ {S D K G C : Type 0} (judge : NodeView S G D → NodeSetting D K G C)
+    (participants : S → List K) where
+  -- What holds of a node of which somebody takes part, wherever it stands.
+  abbrev pub HoldsOfAll : (NodeHistory D K G C → NodeView S G D → Type 0) → Type 0
+  HoldsOfAll holds =
+      (node : NodeView S G D) → 1 ≤ length (participants node.scheme)
+      → (past : NodeHistory D K G C) → NodeStands (judge node) past node → holds past node

@@ -6,6 +6,7 @@ mod answers;
 mod node;
 mod rounds;
 mod slot;
+mod step;
 mod theorems;
 mod window;
 

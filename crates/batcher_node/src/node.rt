@@ -1,11 +1,8 @@
 //! A node: the rounds of a window of views, and the peers that are blocked in all of them.
 
-ghost use Rattle.std.specs.Prelude.{◌≡◌, ◌≤◌, ◌<◌, ◌∷◌, [], true, false, cond, ◌==◌, ℕ, length, IfOk, IfErr, OnOk, OnErr, IfSome, IfNone, Some, None, Ok, Err, is_some, find};
+ghost use Rattle.std.specs.Prelude.{◌≡◌, ◌≤◌, ◌<◌, ◌∷◌, [], true, false, cond, ◌==◌, ℕ, length, IfOk, IfErr, OnOk, OnErr, IfSome, IfNone, Some, None, Ok, Err, is_some};
 ghost use Rattle.std.specs.List.{list_any, range_with_len};
 ghost use Rattle.std.specs.Option.{option_map, option_copied, option_or};
-ghost use Rattle.std.specs.Map.{keys_of};
-ghost use Rattle.std.specs.Ordering.{nat_cmp};
-ghost use Rattle.std.specs.List.Sorted.{IsStrictlySortedBy};
 ghost use Rattle.batcher.specs.Votes.{subject_of, subject_certified, attestation_of, round_in};
 ghost use Rattle.batcher.specs.Verifiers.{certifies_itself};
 ghost use Rattle.batcher.specs.Answers.{own_answer};
@@ -14,20 +11,16 @@ ghost use Rattle.batcher_node.specs.declared.answers.Cause.TheVariants.{Vote as 
 ghost use Rattle.batcher_node.specs.declared.answers.EnterFault.TheVariants.{Passed as PassedFault, LeaderChanged as LeaderChangedFault, OutOfMemory as OutOfMemoryFault};
 ghost use Rattle.batcher_node.specs.Windows.{is_of, width, contains, numbered};
 ghost use Rattle.batcher_node.specs.Events.{peer_in, invalid_in, started, vote_came, certificate_came, view_entered, view_finalized, constructed, told};
-ghost use Rattle.batcher_node.specs.Nodes.{SameNode, IsAtRest, HasChanged, IsNext, Draws, IsLedByAnother, NamesEnterFault, cause_at, slot_at};
+ghost use Rattle.batcher_node.specs.Nodes.{SameNode, IsAtRest, HasChanged, IsNext, Draws, IsLedByAnother, cause_at, slot_at};
 ghost use Rattle.batcher_node.specs.Stands.{cast_by, Meets, MeetsCast, MeetsForward, NodeStands, WhereverNodeStands, IsHeard, setting_of, HasHistory};
 ghost use Rattle.batcher_node.specs.Promised.{HadGivenCause, IsComplete, KeepsPromises};
 
 use crate::answers::{Cast, Cause, EnterFault, Receipt, Verdict};
-use crate::rounds::{
-    Frame, Slots, forward_there, has_certificate, number_certified, number_of, tell_certificate,
-    tell_leader, tell_own, tell_to_construct, tell_vote, verifies,
-};
-use crate::slot::Slot;
-use crate::theorems::nodes_keep_their_promises;
+use crate::rounds::Rounds;
+use crate::step::{self, Heard, Led, Verified};
 use crate::window::Window;
 use batcher::messages::{Activity, Certificate, Digest, Proposal, Vote};
-use batcher::positions::{self, Epoch, Participant, View};
+use batcher::positions::{Epoch, Participant, View};
 use batcher::round::{Admission, BlockReason, Judge, OwnFault, Round};
 use batcher::scheme::Scheme;
 use batcher::verifier::Batch;
@@ -56,9 +49,7 @@ impl<D: Digest, S: Scheme<D>> NodeJudge<D> for S {
 /// A validator's rounds, over the views of its window.
 #[derive(Drop)]
 pub struct Node<S: Scheme<D>, D: Digest> {
-    frame: Frame<S>,
-    window: Window,
-    slots: Slots<S, D>,
+    rounds: Rounds<S, D>,
     /// Why each participant is blocked, if it is. So who is blocked later needs no memory.
     blocked: Vec<Option<Cause>>,
 }
@@ -70,20 +61,20 @@ impl<S: Scheme<D>, D: Digest> Model for Node<S, D> {
     ghost Value = { NodeView S S.Signature D };
 
     ghost view = { λ n. record {
-      scheme = n.frame.scheme.value;
-      epoch = n.frame.epoch;
-      retains = n.frame.retains;
-      window = n.window;
-      rounds = n.slots.entries;
+      scheme = n.rounds.scheme.value;
+      epoch = n.rounds.epoch;
+      retains = n.rounds.retains;
+      window = n.rounds.window;
+      rounds = n.rounds.slots.entries;
       blocked = n.blocked.items;
     } };
 
     ghost invariant = { λ n. IsNode S.meaning S.PublicKey.cmp S.Signature.eq D.eq (record {
-      scheme = n.frame.scheme.value;
-      epoch = n.frame.epoch;
-      retains = n.frame.retains;
-      window = n.window;
-      rounds = n.slots.entries;
+      scheme = n.rounds.scheme.value;
+      epoch = n.rounds.epoch;
+      retains = n.rounds.retains;
+      window = n.rounds.window;
+      rounds = n.rounds.slots.entries;
       blocked = n.blocked.items;
     }) };
 }
@@ -122,18 +113,18 @@ impl<S: Scheme<D>, D: Digest> Node<S, D> {
     {
         let blocked = none_blocked(alloc, scheme.participants().len())?;
         Ok(Node {
-            frame: Frame {
+            rounds: Rounds {
                 alloc,
                 scheme,
                 epoch,
                 retains: track_historical_votes,
+                window: Window {
+                    finalized: finalized.0,
+                    current: finalized.0,
+                    ahead,
+                },
+                slots: BTreeMap::new(alloc),
             },
-            window: Window {
-                finalized: finalized.0,
-                current: finalized.0,
-                ahead,
-            },
-            slots: BTreeMap::new(alloc),
             blocked,
         })
     }
@@ -163,12 +154,11 @@ impl<S: Scheme<D>, D: Digest> Node<S, D> {
         if is_blocked(self.blocked.as_slice(), sender) {
             return Ok(Receipt::Dropped);
         }
-        let number = number_of(&vote);
-        if !is_within(self.frame.epoch, self.window, number) {
+        let number = vote.round();
+        if !self.rounds.contains(number) {
             return Ok(Receipt::Outside);
         }
-        let view = number.view.0;
-        let admission = tell_vote(&mut self.slots, &self.frame, self.window, view, peer, vote)?;
+        let admission = self.rounds.tell(number.view.0, Heard { peer, vote })??;
         block_for_vote(&mut self.blocked, sender, admission.block);
         Ok(Receipt::Answered(admission))
     }
@@ -201,25 +191,19 @@ impl<S: Scheme<D>, D: Digest> Node<S, D> {
         if is_blocked(self.blocked.as_slice(), sender) {
             return Ok(Receipt::Dropped);
         }
-        let number = number_certified(certificate);
-        if !is_within(self.frame.epoch, self.window, number) {
+        let number = certificate.round();
+        if !self.rounds.contains(number) {
             return Ok(Receipt::Outside);
         }
         let view = number.view.0;
-        if has_certificate(&self.slots, view, certificate.kind()) {
+        if self.rounds.has_certificate(view, certificate.kind()) {
             return Ok(Receipt::Answered(Verdict::Known));
         }
-        if !verifies(&*self.frame.scheme, certificate) {
+        if !self.rounds.verifies(certificate) {
             block(&mut self.blocked, sender, Cause::Certificate);
             return Ok(Receipt::Answered(Verdict::Forged));
         }
-        let changed = tell_certificate(
-            &mut self.slots,
-            &self.frame,
-            self.window,
-            view,
-            certificate,
-        )?;
+        let changed = self.rounds.tell(view, Verified { certificate })??;
         Ok(Receipt::Answered(Verdict::Recorded(changed)))
     }
 
@@ -243,12 +227,11 @@ impl<S: Scheme<D>, D: Digest> Node<S, D> {
         ensures refused { OnErr result (self.new ≡ self.old) }
         ensures same { SameNode self.old self.new }
     {
-        let number = number_of(&vote);
-        if !is_within(self.frame.epoch, self.window, number) {
+        let number = vote.round();
+        if !self.rounds.contains(number) {
             return Ok(Cast::Outside);
         }
-        let view = number.view.0;
-        let answer = tell_own(&mut self.slots, &self.frame, self.window, view, vote)?;
+        let answer = self.rounds.tell(number.view.0, step::Cast { vote })??;
         Ok(cast_by(answer.1))
     }
 
@@ -266,11 +249,11 @@ impl<S: Scheme<D>, D: Digest> Node<S, D> {
         ensures refused { OnErr result (self.new ≡ self.old) }
         ensures same { SameNode self.old self.new }
     {
-        if view.0 < self.window.finalized {
+        if view.0 < self.rounds.window.finalized {
             return Err(EnterFault::Passed);
         }
-        tell_leader(&mut self.slots, &self.frame, self.window, view.0, leader)?;
-        self.window.enter(view.0);
+        self.rounds.tell(view.0, Led { leader })??;
+        self.rounds.window.enter(view.0);
         Ok(())
     }
 
@@ -282,8 +265,7 @@ impl<S: Scheme<D>, D: Digest> Node<S, D> {
         ensures dropped { (other : ℕ) → other < view.0 → slot_at self.new.rounds other ≡ None }
         ensures same { SameNode self.old self.new }
     {
-        self.window.finalize(view.0);
-        drop_before(&mut self.slots, self.window.finalized);
+        self.rounds.finalize(view.0);
     }
 
     /// Makes one construction, in the lowest view that changed since it was found to rest, and
@@ -313,11 +295,11 @@ impl<S: Scheme<D>, D: Digest> Node<S, D> {
         ensures refused { OnErr result (self.new ≡ self.old) }
         ensures same { SameNode self.old self.new }
     {
-        let Some(number) = first_due(&self.slots) else {
+        let Some(number) = self.rounds.next() else {
             self.promises();
             return Ok(None);
         };
-        let Some(batch) = tell_to_construct(&mut self.slots, number, rng)? else {
+        let Some(batch) = self.rounds.try_construct(number, rng)? else {
             return Ok(None);
         };
         block_named(&mut self.blocked, &batch);
@@ -332,7 +314,7 @@ impl<S: Scheme<D>, D: Digest> Node<S, D> {
             self.new }
         ensures same { SameNode self.old self.new }
     {
-        match forward_there(&mut self.slots, view.0, me) {
+        match self.rounds.try_forward_proposal(view.0, me) {
             Some(proposal) => proposal,
             None => None,
         }
@@ -343,7 +325,7 @@ impl<S: Scheme<D>, D: Digest> Node<S, D> {
     pub fn verifies(&self, certificate: &Certificate<S::Certificate, D>) -> bool
         ensures { result ≡ certifies_itself (S.meaning self.now.scheme) certificate.now }
     {
-        verifies(&*self.frame.scheme, certificate)
+        self.rounds.verifies(certificate)
     }
 
     /// The lowest view that changed since it was found to rest, in which the next construction is
@@ -352,7 +334,7 @@ impl<S: Scheme<D>, D: Digest> Node<S, D> {
         ensures next { IfSome result (λ view. IsNext self.now.rounds view.0) }
         ensures none { IfNone result (IsAtRest self.now) }
     {
-        match first_due(&self.slots) {
+        match self.rounds.next() {
             Some(number) => Some(View(number)),
             None => None,
         }
@@ -362,7 +344,7 @@ impl<S: Scheme<D>, D: Digest> Node<S, D> {
     pub fn window(&self) -> Window
         ensures { result ≡ self.now.window }
     {
-        self.window
+        self.rounds.window
     }
 
     /// How many rounds it keeps: no more than its window has views, whatever was sent.
@@ -370,7 +352,7 @@ impl<S: Scheme<D>, D: Digest> Node<S, D> {
         ensures count { result ≡ length self.now.rounds }
         ensures bound { result ≤ width self.now.window }
     {
-        self.slots.len()
+        self.rounds.slots.len()
     }
 
     /// Why each participant is blocked, if it is, by its index: for what it did in a history after
@@ -394,8 +376,7 @@ impl<S: Scheme<D>, D: Digest> Node<S, D> {
     pub fn promises(&self)
         ensures { KeepsPromises (⟦<S as NodeJudge<D>>⟧.of self.now) self.now }
     {
-        let _ = &self.frame;
-        nodes_keep_their_promises::<S, D>();
+        self.rounds.promises();
     }
 
     // The participant with the key.
@@ -403,7 +384,7 @@ impl<S: Scheme<D>, D: Digest> Node<S, D> {
         ensures peer { result ≡ peer_in (⟦<S as NodeJudge<D>>⟧.of self.now) peer.now }
         ensures in_range { IfSome result (λ p. p.0 < length self.now.blocked) }
     {
-        self.frame.scheme.participants().index(peer)
+        self.rounds.scheme.participants().index(peer)
     }
 
     /// The round of the view, if something was said in it.
@@ -414,18 +395,11 @@ impl<S: Scheme<D>, D: Digest> Node<S, D> {
             × ((round.now.number ≡ numbered self.now.epoch view.0)
             × (contains self.now.window view.0 ≡ true))) }
     {
-        match self.slots.get(&view.0) {
+        match self.rounds.slots.get(&view.0) {
             Some(slot) => Some(&slot.round),
             None => None,
         }
     }
-}
-
-// Whether a message of the number is of the epoch, and of a view in the window.
-fn is_within(epoch: Epoch, window: Window, number: positions::Round) -> bool
-    ensures { result ≡ is_of epoch window number }
-{
-    number.epoch == epoch && window.contains(number.view.0)
 }
 
 // What became of an own vote, by what is reported of it.
@@ -435,37 +409,6 @@ fn cast_by<G, D>(report: Option<Activity<G, D>>) -> Cast<G, D>
     match report {
         Some(report) => Cast::ToSend(report),
         None => Cast::Known,
-    }
-}
-
-// Drops the rounds of the views before this one.
-fn drop_before<R: Drop>(slots: &mut BTreeMap<u64, Slot<R>>, finalized: u64)
-    ensures kept { (view : ℕ) → finalized ≤ view
-        → slot_at slots.new.entries view ≡ slot_at slots.old.entries view }
-    ensures dropped { (view : ℕ) → view < finalized → slot_at slots.new.entries view ≡ None }
-{
-    slots.retain(move |view, _| *view >= finalized);
-}
-
-// The first view that changed since it was found to rest.
-fn first_due<R>(slots: &BTreeMap<u64, Slot<R>>) -> Option<u64>
-    ensures found { IfSome result (λ view. HasChanged (slot_at slots.now.entries view)) }
-    ensures lowest { IfSome result (λ view. (lower : ℕ) → lower < view
-        → IfSome (slot_at slots.now.entries lower) (λ slot. slot.changed ≡ false)) }
-    ensures none { IfNone result ((view : ℕ)
-        → IfSome (slot_at slots.now.entries view) (λ slot. slot.changed ≡ false)) }
-{
-    first_changed(slots)
-}
-
-// The same as the first of the entries, which ascend.
-fn first_changed<R>(slots: &BTreeMap<u64, Slot<R>>) -> Option<u64>
-    ensures first { result ≡ option_map (λ e. e.0) (find (λ e. e.1.changed) slots.now.entries) }
-    ensures ascending { IsStrictlySortedBy nat_cmp (keys_of slots.now.entries) }
-{
-    match slots.iter().find(|(_, slot)| slot.changed) {
-        Some((view, _)) => Some(*view),
-        None => None,
     }
 }
 

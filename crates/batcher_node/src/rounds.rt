@@ -1,437 +1,251 @@
-//! The rounds of views, each told what is said in its view.
+//! The rounds of a node's views, each told what is said in its view.
 
-ghost use Rattle.std.specs.Prelude.{◌≡◌, ◌≢◌, ◌≤◌, ℕ, true, false, length, MatchOption, [], Some, None, Ok, IfOk, IfErr, OnOk, OnErr, IfSome, IfNone};
+ghost use Rattle.std.specs.Prelude.{◌≡◌, ◌≢◌, ◌≤◌, ◌<◌, ℕ, false, length, [], None, find, MatchOption, IfOk, IfErr, OnOk, OnErr, IfSome, IfNone};
+ghost use Rattle.std.specs.Option.{option_map};
 ghost use Rattle.std.specs.Ordering.{nat_cmp};
+ghost use Rattle.std.specs.Map.{keys_of};
+ghost use Rattle.std.specs.List.Sorted.{IsStrictlySortedBy};
 ghost use Rattle.std.specs.BTreeMap.{get};
-ghost use Rattle.batcher.specs.calls.Call.TheVariants.{Network as NetworkCall, Own as OwnCall, Certificate as CertificateCall, Leader as LeaderCall, Construct as ConstructCall, Forward as ForwardCall};
-ghost use Rattle.batcher.specs.answers.Answer.TheVariants.{Network as NetworkAnswer, Own as OwnAnswer, Certificate as CertificateAnswer, Leader as LeaderAnswer, Construct as ConstructAnswer, Forward as ForwardAnswer};
-ghost use Rattle.batcher.specs.Votes.{subject_of, subject_certified, attestation_of, round_in};
+ghost use Rattle.batcher.specs.calls.Call.TheVariants.{Construct as ConstructCall, Forward as ForwardCall};
+ghost use Rattle.batcher.specs.answers.Answer.TheVariants.{Construct as ConstructAnswer, Forward as ForwardAnswer};
 ghost use Rattle.batcher.specs.Runs.{MayCall};
 ghost use Rattle.batcher.specs.Stands.{Stands};
 ghost use Rattle.batcher.specs.Judged.{WhereverItStands};
 ghost use Rattle.batcher.specs.Selection.{is_certified};
 ghost use Rattle.batcher.specs.Verifiers.{certifies_itself};
-ghost use Rattle.batcher_node.specs.Windows.{numbered};
-ghost use Rattle.batcher_node.specs.Nodes.{fresh_round, Tells, TellsThere, Draws, NamesFault, IsLedByAnother, NamesEnterFault};
+ghost use Rattle.batcher_node.specs.Windows.{is_of, entered, finalized, numbered};
+ghost use Rattle.batcher_node.specs.Nodes.{fresh_round, IsTended, Tells, TellsThere, Refuses, Draws, HasChanged, IsAtRest, slot_at};
+ghost use Rattle.batcher_node.specs.Promised.{HoldsOfAll, IsNodePromised, IsComplete};
 
-use crate::answers::EnterFault;
+use crate::node::NodeJudge;
 use crate::slot::Slot;
+use crate::step::Step;
+use crate::theorems::nodes_keep_their_promises;
 use crate::window::Window;
-use batcher::messages::{Activity, Certificate, Digest, Kind, Proposal, Subject, Vote};
+use batcher::messages::{Certificate, Digest, Kind, Proposal};
 use batcher::positions::{self, Epoch, Participant, View};
-use batcher::round::{Admission, Judge, OwnFault, Round};
+use batcher::round::{Judge, Round};
 use batcher::scheme::Scheme;
-use batcher::verifier::{Batch, LeaderFault};
-use batcher::votes::Outcome;
+use batcher::verifier::Batch;
 use rand_core::CryptoRng;
 use std::alloc::{AllocError, Global};
 use std::collections::BTreeMap;
 use std::mem::drop;
 use std::rc::Rc;
 
-pub(crate) type Slots<S, D> = BTreeMap<u64, Slot<Round<S, D>>>;
-
-// What all rounds of a node have in common.
+/// The rounds of the views in which something was said, and what they have in common.
 #[derive(Drop)]
-pub(crate) struct Frame<S: Drop> {
+pub(crate) struct Rounds<S: Scheme<D>, D: Digest> {
     pub(crate) alloc: Global,
     pub(crate) scheme: Rc<S>,
     pub(crate) epoch: Epoch,
+    /// Whether rounds keep their votes in full to their end.
     pub(crate) retains: bool,
+    pub(crate) window: Window,
+    pub(crate) slots: BTreeMap<u64, Slot<Round<S, D>>>,
 }
 
-// The round number of a vote.
-pub(crate) fn number_of<G, D: Copy>(vote: &Vote<G, D>) -> positions::Round
-    ensures { result ≡ round_in (subject_of vote.now) }
-{
-    match vote {
-        Vote::Notarize(notarize) => notarize.proposal.round,
-        Vote::Nullify(nullify) => nullify.round,
-        Vote::Finalize(finalize) => finalize.proposal.round,
+impl<S: Scheme<D>, D: Digest> Rounds<S, D> {
+    /// Whether a message of the number is of the epoch, and of a view in the window.
+    pub(crate) fn contains(&self, number: positions::Round) -> bool
+        ensures { result ≡ is_of self.now.epoch self.now.window number }
+    {
+        number.epoch == self.epoch && self.window.contains(number.view.0)
     }
-}
 
-// The round number of a certificate.
-pub(crate) fn number_certified<C, D: Copy>(certificate: &Certificate<C, D>) -> positions::Round
-    ensures { result ≡ round_in (subject_certified certificate.now) }
-{
-    match certificate {
-        Certificate::Notarization(notarization) => notarization.proposal.round,
-        Certificate::Nullification(nullification) => nullification.round,
-        Certificate::Finalization(finalization) => finalization.proposal.round,
+    /// Whether the certificate certifies what it names.
+    pub(crate) fn verifies(&self, certificate: &Certificate<S::Certificate, D>) -> bool
+        ensures { result ≡ certifies_itself (S.meaning self.now.scheme.value) certificate.now }
+    {
+        self.scheme
+            .verify_certificate(certificate.subject(), certificate.content())
     }
-}
 
-// Whether the certificate certifies what it names.
-pub(crate) fn verifies<S: Scheme<D>, D: Digest>(
-    scheme: &S,
-    certificate: &Certificate<S::Certificate, D>,
-) -> bool
-    ensures { result ≡ certifies_itself (S.meaning scheme.now) certificate.now }
-{
-    match certificate {
-        Certificate::Notarization(made) => {
-            let proposal = made.proposal;
-            scheme.verify_certificate(Subject::Notarize { proposal }, &made.certificate)
-        }
-        Certificate::Nullification(made) => {
-            let round = made.round;
-            scheme.verify_certificate(Subject::Nullify { round }, &made.certificate)
-        }
-        Certificate::Finalization(made) => {
-            let proposal = made.proposal;
-            scheme.verify_certificate(Subject::Finalize { proposal }, &made.certificate)
+    /// Whether the view has a certificate of the kind.
+    pub(crate) fn has_certificate(&self, view: u64, kind: Kind) -> bool
+        ensures { MatchOption (get nat_cmp self.now.slots view) (result ≡ false) (λ slot.
+            WhereverItStands ⟦<S as Judge<D>>⟧.of slot.round
+            (λ _ past. result ≡ is_certified past kind)) }
+    {
+        match self.slots.get(&view) {
+            Some(slot) => slot.round.has_certificate(kind),
+            None => false,
         }
     }
-}
 
-// Whether the view has a certificate of the kind.
-pub(crate) fn has_certificate<S: Scheme<D>, D: Digest>(
-    slots: &Slots<S, D>,
-    view: u64,
-    kind: Kind,
-) -> bool
-    ensures { MatchOption (get nat_cmp slots.now view) (result ≡ false) (λ slot.
-        WhereverItStands ⟦<S as Judge<D>>⟧.of slot.round
-        (λ _ past. result ≡ is_certified past kind)) }
-{
-    match slots.get(&view) {
-        Some(slot) => slot.round.has_certificate(kind),
-        None => false,
+    // A round of a view in which nothing was said.
+    fn fresh(&self, view: u64) -> Result<Slot<Round<S, D>>, AllocError>
+        requires { 1 ≤ length (S.meaning self.now.scheme.value).participants }
+        ensures made { IfOk result (λ slot. slot ≡ record {
+          round = fresh_round self.now.scheme.value self.now.epoch self.now.retains self.now.window
+              view;
+          changed = false;
+        }) }
+        ensures stands { IfOk result (λ slot.
+            Stands (⟦<S as Judge<D>>⟧.of slot.round) [] slot.round.holds) }
+    {
+        let number = positions::Round::new(self.epoch, View::new(view));
+        let mode = self.window.mode(view, self.retains);
+        let round = Round::in_mode(self.alloc, number, Rc::clone(&self.scheme)?, mode);
+        Ok(Slot {
+            round,
+            changed: false,
+        })
     }
-}
 
-// A round of a view in which nothing was said.
-fn fresh<S: Scheme<D>, D: Digest>(
-    frame: &Frame<S>,
-    window: Window,
-    view: u64,
-) -> Result<Round<S, D>, AllocError>
-    requires { 1 ≤ length (S.meaning frame.now.scheme.value).participants }
-    ensures made { IfOk result (λ round. round
-        ≡ fresh_round frame.now.scheme.value frame.now.epoch frame.now.retains window view) }
-    ensures stands { IfOk result (λ round. Stands (⟦<S as Judge<D>>⟧.of round) [] round.holds) }
-{
-    let number = positions::Round::new(frame.epoch, View::new(view));
-    let scheme = Rc::clone(&frame.scheme)?;
-    if view < window.current {
-        Ok(Round::skipped(frame.alloc, number, scheme))
-    } else {
-        Ok(Round::new(frame.alloc, number, scheme, frame.retains))
-    }
-}
-
-// Tells the round of a view a vote that a peer sent, where there is a round.
-fn tell_vote_there<S: Scheme<D>, D: Digest>(
-    slots: &mut Slots<S, D>,
-    view: u64,
-    peer: S::PublicKey,
-    vote: Vote<S::Signature, D>,
-) -> Result<Option<Admission<S::Signature, D>>, AllocError>
-    requires { IfSome (get nat_cmp slots.old view)
-        (λ slot. round_in (subject_of vote) ≡ slot.round.number) }
-    ensures tells { IfOk result (λ told. IfSome told (λ answer. TellsThere ⟦<S as Judge<D>>⟧.of
-        (get nat_cmp slots.old) (get nat_cmp slots.new) view
-        (NetworkCall peer vote) (NetworkAnswer answer))) }
-    ensures absent { IfOk result (λ told. IfNone told (get nat_cmp slots.old view ≡ None)) }
-    ensures untold { IfOk result (λ told. IfNone told (slots.new.entries ≡ slots.old.entries)) }
-    ensures refused { OnErr result (slots.new.entries ≡ slots.old.entries) }
-{
-    match slots.get_mut(&view) {
-        Some(slot) => {
-            let admission = slot.round.add_network(peer, vote)?;
-            let changed = admission.added | slot.changed;
-            slot.changed = changed;
-            Ok(Some(admission))
+    /// Makes a call in the round of a view. Where there is none, one is made, and kept unless the
+    /// call is refused.
+    ///
+    /// The error is that there is no memory for a round that is made; what the round itself
+    /// refuses is in the answer.
+    pub(crate) fn tell<T: Step<S, D>>(
+        &mut self,
+        view: u64,
+        step: T,
+    ) -> Result<Result<T::Answer, T::Fault>, AllocError>
+        requires tended { IsTended (length (S.meaning self.old.scheme.value).participants)
+            self.old.scheme.value self.old.epoch self.old.window self.old.slots.entries }
+        requires may { MayCall (S.meaning self.old.scheme.value) (numbered self.old.epoch view)
+            (T.call step) }
+        ensures tells { IfOk result (λ told. IfOk told (λ answer. Tells ⟦<S as Judge<D>>⟧.of
+            (get nat_cmp self.old.slots) (get nat_cmp self.new.slots) view
+            (fresh_round self.old.scheme.value self.old.epoch self.old.retains self.old.window view)
+            (T.call step) (T.answered answer))) }
+        ensures named { IfOk result (λ told. IfErr told (Refuses ⟦<S as Judge<D>>⟧.of
+            (get nat_cmp self.old.slots view)
+            (fresh_round self.old.scheme.value self.old.epoch self.old.retains self.old.window view)
+            (T.refuses step))) }
+        ensures needed { OnErr result (get nat_cmp self.old.slots view ≡ None) }
+        ensures declined { IfOk result (λ told.
+            OnErr told (self.new.slots.entries ≡ self.old.slots.entries)) }
+        ensures refused { OnErr result (self.new.slots.entries ≡ self.old.slots.entries) }
+        ensures same { self.new ≡ record self.old { slots = self.new.slots } }
+    {
+        match self.slots.get_mut(&view) {
+            Some(slot) => Ok(step.make(slot)),
+            None => {
+                let mut slot = self.fresh(view)?;
+                match step.make(&mut slot) {
+                    Ok(answer) => {
+                        // What is given up is handed to `drop`, here and below: where `?` drops a
+                        // round, each function takes ten seconds more to prove.
+                        drop(self.slots.insert(view, slot)?);
+                        Ok(Ok(answer))
+                    }
+                    Err(fault) => {
+                        drop(slot);
+                        Ok(Err(fault))
+                    }
+                }
+            }
         }
-        None => Ok(None),
     }
-}
 
-// Tells it a vote of the node's own.
-fn tell_own_there<S: Scheme<D>, D: Digest>(
-    slots: &mut Slots<S, D>,
-    view: u64,
-    vote: Vote<S::Signature, D>,
-) -> Result<Option<(Outcome, Option<Activity<S::Signature, D>>)>, OwnFault>
-    requires { IfSome (get nat_cmp slots.old view)
-        (λ slot. MayCall (S.meaning slot.round.scheme) slot.round.number
-        (OwnCall vote)) }
-    ensures tells { IfOk result (λ told. IfSome told (λ answer. TellsThere ⟦<S as Judge<D>>⟧.of
-        (get nat_cmp slots.old) (get nat_cmp slots.new) view
-        (OwnCall vote) (OwnAnswer answer.0 answer.1))) }
-    ensures absent { IfOk result (λ told. IfNone told (get nat_cmp slots.old view ≡ None)) }
-    ensures untold { IfOk result (λ told. IfNone told (slots.new.entries ≡ slots.old.entries)) }
-    ensures named { IfErr result
-        (NamesFault ⟦<S as Judge<D>>⟧.of (get nat_cmp slots.old view) vote) }
-    ensures refused { OnErr result (slots.new.entries ≡ slots.old.entries) }
-{
-    match slots.get_mut(&view) {
-        Some(slot) => {
-            let answer = slot.round.accept_vote(vote)?;
-            slot.changed = true;
-            Ok(Some(answer))
+    /// Lets the round of a view construct. Where it gives no batch, it rests until it is told
+    /// something.
+    pub(crate) fn try_construct<R: CryptoRng>(
+        &mut self,
+        view: u64,
+        rng: &mut R,
+    ) -> Result<Option<Option<Batch<Certificate<S::Certificate, D>>>>, AllocError>
+        ensures tells { IfOk result (λ told. IfSome told (λ answer. TellsThere ⟦<S as Judge<D>>⟧.of
+            (get nat_cmp self.old.slots) (get nat_cmp self.new.slots) view
+            ConstructCall (ConstructAnswer answer))) }
+        ensures draws { IfOk result (λ told. IfSome told (λ answer. Draws ⟦<S as Judge<D>>⟧.of
+            (get nat_cmp self.old.slots) (get nat_cmp self.new.slots) view
+            (R.stream rng.old) answer (R.stream rng.new))) }
+        ensures absent { IfOk result (λ told. IfNone told
+            (get nat_cmp self.old.slots view ≡ None)) }
+        ensures untold { IfOk result (λ told. IfNone told
+            (self.new.slots.entries ≡ self.old.slots.entries)) }
+        ensures refused { OnErr result (self.new.slots.entries ≡ self.old.slots.entries) }
+        ensures same { self.new ≡ record self.old { slots = self.new.slots } }
+    {
+        match self.slots.get_mut(&view) {
+            Some(slot) => {
+                let batch = slot.round.try_construct(rng)?;
+                slot.changed = batch.is_some();
+                Ok(Some(batch))
+            }
+            None => Ok(None),
         }
-        None => Ok(None),
     }
-}
 
-// Tells it a certificate that was verified.
-fn tell_certificate_there<S: Scheme<D>, D: Digest>(
-    slots: &mut Slots<S, D>,
-    view: u64,
-    certificate: &Certificate<S::Certificate, D>,
-) -> Result<Option<bool>, AllocError>
-    requires { IfSome (get nat_cmp slots.old view)
-        (λ slot. round_in (subject_certified certificate.now) ≡ slot.round.number) }
-    ensures tells { IfOk result (λ told. IfSome told (λ answer. TellsThere ⟦<S as Judge<D>>⟧.of
-        (get nat_cmp slots.old) (get nat_cmp slots.new) view
-        (CertificateCall certificate.now) (CertificateAnswer answer))) }
-    ensures absent { IfOk result (λ told. IfNone told (get nat_cmp slots.old view ≡ None)) }
-    ensures untold { IfOk result (λ told. IfNone told (slots.new.entries ≡ slots.old.entries)) }
-    ensures refused { OnErr result (slots.new.entries ≡ slots.old.entries) }
-{
-    match slots.get_mut(&view) {
-        Some(slot) => {
-            let answer = slot.round.record_certificate(certificate)?;
-            slot.changed = true;
-            Ok(Some(answer))
+    /// Asks the round of a view for the proposal that a participant is to hand on.
+    pub(crate) fn try_forward_proposal(
+        &mut self,
+        view: u64,
+        me: Participant,
+    ) -> Option<Option<Proposal<D>>>
+        ensures tells { IfSome result (λ answer. TellsThere ⟦<S as Judge<D>>⟧.of
+            (get nat_cmp self.old.slots) (get nat_cmp self.new.slots) view
+            (ForwardCall me) (ForwardAnswer answer)) }
+        ensures absent { IfNone result (get nat_cmp self.old.slots view ≡ None) }
+        ensures untold { IfNone result (self.new.slots.entries ≡ self.old.slots.entries) }
+        ensures same { self.new ≡ record self.old { slots = self.new.slots } }
+    {
+        match self.slots.get_mut(&view) {
+            Some(slot) => Some(slot.round.try_forward_proposal(me)),
+            None => None,
         }
-        None => Ok(None),
+    }
+
+    /// The lowest view that changed since it was found to rest.
+    pub(crate) fn next(&self) -> Option<u64>
+        ensures found { IfSome result (λ view. HasChanged (slot_at self.now.slots.entries view)) }
+        ensures lowest { IfSome result (λ view. (lower : ℕ) → lower < view
+            → IfSome (slot_at self.now.slots.entries lower) (λ slot. slot.changed ≡ false)) }
+        ensures none { IfNone result ((view : ℕ)
+            → IfSome (slot_at self.now.slots.entries view) (λ slot. slot.changed ≡ false)) }
+    {
+        first_changed(&self.slots)
+    }
+
+    /// A view was finalized: the rounds before it are dropped.
+    pub(crate) fn finalize(&mut self, view: u64)
+        ensures window { self.new.window ≡ finalized self.old.window view }
+        ensures kept { (other : ℕ) → self.new.window.finalized ≤ other
+            → slot_at self.new.slots.entries other ≡ slot_at self.old.slots.entries other }
+        ensures dropped { (other : ℕ) → other < self.new.window.finalized
+            → slot_at self.new.slots.entries other ≡ None }
+        ensures same { self.new ≡ record self.old {
+          window = self.new.window;
+          slots = self.new.slots;
+        } }
+    {
+        self.window.finalize(view);
+        drop_before(&mut self.slots, self.window.finalized);
+    }
+
+    /// Does nothing. Its contract is what `nodes_keep_their_promises` says of all nodes over the
+    /// scheme.
+    pub(crate) fn promises(&self)
+        ensures promised { HoldsOfAll ⟦<S as NodeJudge<D>>⟧.of (λ s. (S.meaning s).participants)
+            (λ past node. IsNodePromised (⟦<S as NodeJudge<D>>⟧.of node) past) }
+        ensures complete { HoldsOfAll ⟦<S as NodeJudge<D>>⟧.of (λ s. (S.meaning s).participants)
+            (λ past node. IsAtRest node
+            → IsComplete (⟦<S as NodeJudge<D>>⟧.of node) past node) }
+    {
+        nodes_keep_their_promises::<S, D>();
     }
 }
 
-// Tells it its leader.
-fn tell_leader_there<S: Scheme<D>, D: Digest>(
-    slots: &mut Slots<S, D>,
-    view: u64,
-    leader: Participant,
-) -> Result<Option<()>, LeaderFault>
-    ensures tells { IfOk result (λ told. IfSome told (λ answer. TellsThere ⟦<S as Judge<D>>⟧.of
-        (get nat_cmp slots.old) (get nat_cmp slots.new) view
-        (LeaderCall leader) (LeaderAnswer (Ok answer)))) }
-    ensures absent { IfOk result (λ told. IfNone told (get nat_cmp slots.old view ≡ None)) }
-    ensures untold { IfOk result (λ told. IfNone told (slots.new.entries ≡ slots.old.entries)) }
-    ensures led { OnErr result (IsLedByAnother (get nat_cmp slots.old view) leader) }
-    ensures refused { OnErr result (slots.new.entries ≡ slots.old.entries) }
+// Drops the rounds of the views before this one.
+fn drop_before<R: Drop>(slots: &mut BTreeMap<u64, Slot<R>>, finalized: u64)
+    ensures kept { (view : ℕ) → finalized ≤ view
+        → slot_at slots.new.entries view ≡ slot_at slots.old.entries view }
+    ensures dropped { (view : ℕ) → view < finalized → slot_at slots.new.entries view ≡ None }
 {
-    match slots.get_mut(&view) {
-        Some(slot) => {
-            slot.round.set_leader(leader)?;
-            slot.changed = true;
-            Ok(Some(()))
-        }
-        None => Ok(None),
-    }
+    slots.retain(move |view, _| *view >= finalized);
 }
 
-// Lets it construct. Where it gives no batch, it rests until it is told something.
-pub(crate) fn tell_to_construct<S: Scheme<D>, D: Digest, R: CryptoRng>(
-    slots: &mut Slots<S, D>,
-    view: u64,
-    rng: &mut R,
-) -> Result<Option<Option<Batch<Certificate<S::Certificate, D>>>>, AllocError>
-    ensures tells { IfOk result (λ told. IfSome told (λ answer. TellsThere ⟦<S as Judge<D>>⟧.of
-        (get nat_cmp slots.old) (get nat_cmp slots.new) view
-        ConstructCall (ConstructAnswer answer))) }
-    ensures draws { IfOk result (λ told. IfSome told (λ answer. Draws ⟦<S as Judge<D>>⟧.of
-        (get nat_cmp slots.old) (get nat_cmp slots.new) view
-        (R.stream rng.old) answer (R.stream rng.new))) }
-    ensures absent { IfOk result (λ told. IfNone told (get nat_cmp slots.old view ≡ None)) }
-    ensures untold { IfOk result (λ told. IfNone told (slots.new.entries ≡ slots.old.entries)) }
-    ensures refused { OnErr result (slots.new.entries ≡ slots.old.entries) }
+// The view of the first entry that changed. The entries ascend.
+fn first_changed<R>(slots: &BTreeMap<u64, Slot<R>>) -> Option<u64>
+    ensures first { result ≡ option_map (λ e. e.0) (find (λ e. e.1.changed) slots.now.entries) }
+    ensures ascending { IsStrictlySortedBy nat_cmp (keys_of slots.now.entries) }
 {
-    match slots.get_mut(&view) {
-        Some(slot) => {
-            let batch = slot.round.try_construct(rng)?;
-            slot.changed = batch.is_some();
-            Ok(Some(batch))
-        }
-        None => Ok(None),
-    }
-}
-
-// Asks it for the proposal that a participant is to hand on.
-pub(crate) fn forward_there<S: Scheme<D>, D: Digest>(
-    slots: &mut Slots<S, D>,
-    view: u64,
-    me: Participant,
-) -> Option<Option<Proposal<D>>>
-    ensures tells { IfSome result (λ answer. TellsThere ⟦<S as Judge<D>>⟧.of
-        (get nat_cmp slots.old) (get nat_cmp slots.new) view
-        (ForwardCall me) (ForwardAnswer answer)) }
-    ensures absent { IfNone result (get nat_cmp slots.old view ≡ None) }
-    ensures untold { IfNone result (slots.new.entries ≡ slots.old.entries) }
-{
-    match slots.get_mut(&view) {
-        Some(slot) => Some(slot.round.try_forward_proposal(me)),
+    match slots.iter().find(|(_, slot)| slot.changed) {
+        Some((view, _)) => Some(*view),
         None => None,
-    }
-}
-
-// Keeps a fresh round of a view, to which something was told. A round that is given up is handed to
-// `drop`, here and below: where `?` drops one, each function takes ten seconds more to prove.
-fn keep<S: Scheme<D>, D: Digest>(
-    slots: &mut Slots<S, D>,
-    view: u64,
-    round: Round<S, D>,
-    changed: bool,
-) -> Result<(), AllocError>
-    ensures here { OnOk result (get nat_cmp slots.new view
-        ≡ Some (record { round = round; changed = changed })) }
-    ensures others { OnOk result ((other : ℕ) → other ≢ view
-        → get nat_cmp slots.new other ≡ get nat_cmp slots.old other) }
-    ensures refused { OnErr result (slots.new.entries ≡ slots.old.entries) }
-{
-    drop(slots.insert(view, Slot { round, changed })?);
-    Ok(())
-}
-
-// Tells the round of a view a vote that a peer sent. Where there is none, one is made.
-pub(crate) fn tell_vote<S: Scheme<D>, D: Digest>(
-    slots: &mut Slots<S, D>,
-    frame: &Frame<S>,
-    window: Window,
-    view: u64,
-    peer: S::PublicKey,
-    vote: Vote<S::Signature, D>,
-) -> Result<Admission<S::Signature, D>, AllocError>
-    requires some { 1 ≤ length (S.meaning frame.now.scheme.value).participants }
-    requires belongs { round_in (subject_of vote) ≡ numbered frame.now.epoch view }
-    requires number { IfSome (get nat_cmp slots.old view)
-        (λ slot. slot.round.number ≡ numbered frame.now.epoch view) }
-    ensures tells { IfOk result (λ answer. Tells ⟦<S as Judge<D>>⟧.of
-        (get nat_cmp slots.old) (get nat_cmp slots.new) view
-        (fresh_round frame.now.scheme.value frame.now.epoch frame.now.retains window view)
-        (NetworkCall peer vote) (NetworkAnswer answer)) }
-    ensures refused { OnErr result (slots.new.entries ≡ slots.old.entries) }
-{
-    match tell_vote_there(slots, view, peer, vote)? {
-        Some(answer) => Ok(answer),
-        None => {
-            let mut round = fresh(frame, window, view)?;
-            match round.add_network(peer, vote) {
-                Ok(admission) => {
-                    keep(slots, view, round, admission.added)?;
-                    Ok(admission)
-                }
-                Err(error) => {
-                    drop(round);
-                    Err(error)
-                }
-            }
-        }
-    }
-}
-
-// Tells it a vote of the node's own.
-pub(crate) fn tell_own<S: Scheme<D>, D: Digest>(
-    slots: &mut Slots<S, D>,
-    frame: &Frame<S>,
-    window: Window,
-    view: u64,
-    vote: Vote<S::Signature, D>,
-) -> Result<(Outcome, Option<Activity<S::Signature, D>>), OwnFault>
-    requires some { 1 ≤ length (S.meaning frame.now.scheme.value).participants }
-    requires belongs { round_in (subject_of vote) ≡ numbered frame.now.epoch view }
-    requires attests { (S.meaning frame.now.scheme.value).attests (subject_of vote)
-        (attestation_of vote) ≡ true }
-    requires kept { IfSome (get nat_cmp slots.old view)
-        (λ slot. (slot.round.scheme ≡ frame.now.scheme.value)
-        × (slot.round.number ≡ numbered frame.now.epoch view)) }
-    ensures tells { IfOk result (λ answer. Tells ⟦<S as Judge<D>>⟧.of
-        (get nat_cmp slots.old) (get nat_cmp slots.new) view
-        (fresh_round frame.now.scheme.value frame.now.epoch frame.now.retains window view)
-        (OwnCall vote) (OwnAnswer answer.0 answer.1)) }
-    ensures named { IfErr result
-        (NamesFault ⟦<S as Judge<D>>⟧.of (get nat_cmp slots.old view) vote) }
-    ensures refused { OnErr result (slots.new.entries ≡ slots.old.entries) }
-{
-    match tell_own_there(slots, view, vote)? {
-        Some(answer) => Ok(answer),
-        None => {
-            let mut round = fresh(frame, window, view)?;
-            match round.accept_vote(vote) {
-                Ok(answer) => {
-                    keep(slots, view, round, true)?;
-                    Ok(answer)
-                }
-                Err(fault) => {
-                    drop(round);
-                    Err(fault)
-                }
-            }
-        }
-    }
-}
-
-// Tells it a certificate that was verified.
-pub(crate) fn tell_certificate<S: Scheme<D>, D: Digest>(
-    slots: &mut Slots<S, D>,
-    frame: &Frame<S>,
-    window: Window,
-    view: u64,
-    certificate: &Certificate<S::Certificate, D>,
-) -> Result<bool, AllocError>
-    requires some { 1 ≤ length (S.meaning frame.now.scheme.value).participants }
-    requires belongs { round_in (subject_certified certificate.now)
-        ≡ numbered frame.now.epoch view }
-    requires number { IfSome (get nat_cmp slots.old view)
-        (λ slot. slot.round.number ≡ numbered frame.now.epoch view) }
-    ensures tells { IfOk result (λ answer. Tells ⟦<S as Judge<D>>⟧.of
-        (get nat_cmp slots.old) (get nat_cmp slots.new) view
-        (fresh_round frame.now.scheme.value frame.now.epoch frame.now.retains window view)
-        (CertificateCall certificate.now) (CertificateAnswer answer)) }
-    ensures refused { OnErr result (slots.new.entries ≡ slots.old.entries) }
-{
-    match tell_certificate_there(slots, view, certificate)? {
-        Some(answer) => Ok(answer),
-        None => {
-            let mut round = fresh(frame, window, view)?;
-            match round.record_certificate(certificate) {
-                Ok(answer) => {
-                    keep(slots, view, round, true)?;
-                    Ok(answer)
-                }
-                Err(error) => {
-                    drop(round);
-                    Err(error)
-                }
-            }
-        }
-    }
-}
-
-// Tells it its leader.
-pub(crate) fn tell_leader<S: Scheme<D>, D: Digest>(
-    slots: &mut Slots<S, D>,
-    frame: &Frame<S>,
-    window: Window,
-    view: u64,
-    leader: Participant,
-) -> Result<(), EnterFault>
-    requires some { 1 ≤ length (S.meaning frame.now.scheme.value).participants }
-    ensures tells { IfOk result (λ answer. Tells ⟦<S as Judge<D>>⟧.of
-        (get nat_cmp slots.old) (get nat_cmp slots.new) view
-        (fresh_round frame.now.scheme.value frame.now.epoch frame.now.retains window view)
-        (LeaderCall leader) (LeaderAnswer (Ok answer))) }
-    ensures fault { IfErr result (NamesEnterFault (get nat_cmp slots.old view) leader) }
-    ensures refused { OnErr result (slots.new.entries ≡ slots.old.entries) }
-{
-    match tell_leader_there(slots, view, leader)? {
-        Some(answer) => Ok(answer),
-        None => {
-            let mut round = fresh(frame, window, view)?;
-            match round.set_leader(leader) {
-                Ok(()) => {
-                    keep(slots, view, round, true)?;
-                    Ok(())
-                }
-                Err(fault) => {
-                    drop(round);
-                    Err(fault.into())
-                }
-            }
-        }
     }
 }

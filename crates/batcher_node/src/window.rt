@@ -2,6 +2,8 @@
 
 ghost use Rattle.std.specs.Prelude.{◌≡◌};
 
+use batcher::votes::Mode;
+
 /// Views by their numbers: those from the finalized one to some beyond the current one are in it.
 #[derive(Clone, Copy, Debug, PartialEq, Eq)]
 pub struct Window {
@@ -14,13 +16,27 @@ pub struct Window {
 }
 
 impl Window {
-    ghost use Rattle.batcher_node.specs.Windows.{contains, entered, finalized};
+    ghost use Rattle.batcher_node.specs.Windows.{contains, entered, finalized, mode_now};
 
     /// Whether the view of this number is in the window.
     pub fn contains(&self, view: u64) -> bool
         ensures { result ≡ contains self.now view }
     {
         self.finalized <= view && (view <= self.current || view - self.current <= self.ahead)
+    }
+
+    // How a round of the view keeps its votes that is made now. It is skipped where its view was
+    // passed over.
+    pub(crate) fn mode(&self, view: u64, retains: bool) -> Mode
+        ensures { result ≡ mode_now retains self.now view }
+    {
+        if view < self.current {
+            Mode::Skipped
+        } else if retains {
+            Mode::Retaining
+        } else {
+            Mode::Releasing
+        }
     }
 
     // The window once a view was entered.

@@ -1,7 +1,9 @@
-use Rattle.std.proofs.Common.{◌∷◌, refl, arith, rules}
+use Rattle.std.proofs.Common.{◌∷◌, refl, arith, rules, sym, ap, subst, ◌∙◌}
+use Rattle.batcher.specs.Judged.{judge}
+use Rattle.batcher_node.specs.Stands.{IsNode}
+use Rattle.batcher_node.specs.Windows.{entered}
 use Rattle.batcher_node.specs.Events.{view_entered}
-use Rattle.batcher_node.specs.Nodes.{NamesEnterFault}
-use Rattle.batcher_node.proofs.Telling.{err_known, err_fact}
+use Rattle.batcher_node.proofs.Telling.{err_fact, if_ok, led_refused}
 use Rattle.batcher_node.proofs.Answering.{entered_told}
 use Rattle.batcher_node.proofs.node.Node.enter.Goals as goal
 
@@ -10,17 +12,29 @@ returns-clause-meets g c = λ past.
     rw (← c.self.view_is)
     (entered_told g.S.Scheme.meaning g.S.PublicKey.Ord.cmp
     g.S.Signature.PartialEq.eq g.D.PartialEq.eq past _ _ c.args.view.0 c.args.leader _
-    c.self.invariant.tended (omega arith) c.in_ok-tell_leader.ensures.tells c.enter.ensures refl)
+    c.self.invariant.tended (omega arith) (if_ok _ _ _ c.in_ok-branch.was c.in_ok-tell.ensures.tells)
+    (c.enter.ensures ∙ ap (λ r. entered r.window c.args.view.0) c.tell.ensures.same) refl)
 
-pub returns-in_err-tell_leader-clause-led : goal.returns-in_err-tell_leader-clause-led
-returns-in_err-tell_leader-clause-led g c = λ is.
+pub returns-in_err-branch-clause-led : goal.returns-in_err-branch-clause-led
+returns-in_err-branch-clause-led g c = λ is.
     rw (← c.self.view_is)
-    (err_fact (NamesEnterFault _ c.args.leader) _ (err_known _ _ c.in_err-tell_leader.ensures.fault _ c.from_residual.ensures.1) _ is)
+    (led_refused (judge g.S.Scheme.meaning g.S.PublicKey.Ord.cmp
+    g.S.Signature.PartialEq.eq g.D.PartialEq.eq) _ _ c.args.leader _ refl
+    (err_fact _ _ c.in_ok-tell.ensures.named _ c.in_err-branch.was))
 
 pub invariant_of-self-2 : goal.invariant_of-self-2
 invariant_of-self-2 g c =
     let h = c.self.invariant.history in
-    record {
+    rw c.enter.ensures (subst (λ r. IsNode g.S.Scheme.meaning g.S.PublicKey.Ord.cmp g.S.Signature.PartialEq.eq
+    g.D.PartialEq.eq (record {
+      scheme = r.scheme.value;
+      epoch = r.epoch;
+      retains = r.retains;
+      window = entered r.window c.args.view.0;
+      rounds = r.slots.entries;
+      blocked = c.self.inside.blocked.items;
+    })) (sym c.tell.ensures.same)
+    (record {
       tended = search rules;
       each = search rules;
       history =
@@ -29,7 +43,7 @@ invariant_of-self-2 g c =
             stands =
                 entered_told g.S.Scheme.meaning g.S.PublicKey.Ord.cmp g.S.Signature.PartialEq.eq
                 g.D.PartialEq.eq h.past _ _ c.args.view.0 c.args.leader _
-                c.self.invariant.tended (omega arith) c.in_ok-tell_leader.ensures.tells
-                c.enter.ensures refl h.stands;
+                c.self.invariant.tended (omega arith) (if_ok _ _ _ c.in_ok-branch.was c.in_ok-tell.ensures.tells)
+                refl refl h.stands;
           };
-    }
+    }))

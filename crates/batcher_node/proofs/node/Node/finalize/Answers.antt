@@ -1,4 +1,5 @@
-use Rattle.std.proofs.Common.{◌∷◌, refl, rules}
+use Rattle.std.proofs.Common.{◌∷◌, refl, rules, sym, ap, subst}
+use Rattle.batcher_node.specs.Stands.{IsNode}
 use Rattle.batcher_node.specs.Events.{view_finalized}
 use Rattle.batcher_node.proofs.Answering.{finalized_told}
 use Rattle.batcher_node.proofs.node.Node.finalize.Goals as goal
@@ -8,12 +9,21 @@ returns-clause-meets g c = λ past.
     rw (← c.self.view_is)
     (finalized_told g.S.Scheme.meaning g.S.PublicKey.Ord.cmp
     g.S.Signature.PartialEq.eq g.D.PartialEq.eq past _ _ c.args.view.0
-    c.finalize.ensures refl c.drop_before.ensures.kept)
+    c.finalize.ensures.window refl c.finalize.ensures.kept)
 
 pub invariant_of-self : goal.invariant_of-self
 invariant_of-self g c =
     let h = c.self.invariant.history in
-    record {
+    subst (λ r. IsNode g.S.Scheme.meaning g.S.PublicKey.Ord.cmp g.S.Signature.PartialEq.eq
+    g.D.PartialEq.eq (record {
+      scheme = r.scheme.value;
+      epoch = r.epoch;
+      retains = r.retains;
+      window = r.window;
+      rounds = r.slots.entries;
+      blocked = c.self.inside.blocked.items;
+    })) (sym c.finalize.ensures.same)
+    (record {
       tended = search rules;
       each = search rules;
       history =
@@ -22,6 +32,6 @@ invariant_of-self g c =
             stands =
                 finalized_told g.S.Scheme.meaning g.S.PublicKey.Ord.cmp g.S.Signature.PartialEq.eq
                 g.D.PartialEq.eq h.past _ _ c.args.view.0
-                c.finalize.ensures refl c.drop_before.ensures.kept h.stands;
+                c.finalize.ensures.window refl c.finalize.ensures.kept h.stands;
           };
-    }
+    })

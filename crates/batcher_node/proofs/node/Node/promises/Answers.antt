@@ -5,7 +5,7 @@ pub returns : goal.returns
 returns g c =
     let h = c.self.invariant.history in
     let some = c.self.invariant.tended.some in
-    let kept = c.nodes_keep_their_promises.ensures in
+    let kept = c.promises.ensures in
     rw (← c.self.view_is)
     (record {
       past = h.past;

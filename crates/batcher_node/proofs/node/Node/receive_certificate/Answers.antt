@@ -1,35 +1,51 @@
-use Rattle.std.proofs.Common.{◌∷◌, ◌∙◌, sym, refl, rules}
+use Rattle.std.proofs.Common.{◌∷◌, ◌∙◌, sym, refl, rules, ap, subst}
+use Rattle.batcher_node.specs.Stands.{IsNode}
 use Rattle.batcher_node.specs.declared.answers.Receipt.TheVariants.{Answered}
 use Rattle.batcher_node.specs.declared.answers.Verdict.TheVariants.{Recorded, Forged}
 use Rattle.batcher_node.specs.Events.{certificate_came}
+use Rattle.batcher_node.proofs.Telling.{if_ok}
 use Rattle.batcher_node.proofs.Answering.{not_far, certified_there, certificate_told, certificate_forged}
+use Rattle.batcher_node.proofs.Tending.{still_tended}
 use Rattle.batcher_node.proofs.node.Node.receive_certificate.Goals as goal
 
 pub returns-clause-meets : goal.returns-clause-meets
 returns-clause-meets g c = λ past.
-    let number = c.number_certified-number.ensures in
+    let number = c.round-number.ensures in
     rw (← c.self.view_is)
     (certificate_told g.S.Scheme.meaning g.S.PublicKey.Ord.cmp g.S.Signature.PartialEq.eq
     g.D.PartialEq.eq past _ _ c.args.peer c.args.certificate.now c.in_ok-changed.changed _
     c.in-Some.sender
     c.self.invariant.tended (search rules) (search rules) (search rules)
-    (rw (← number) (sym c.is_within.ensures ∙ c.if-not-is_within.false))
+    (rw (← number) (sym c.contains.ensures ∙ c.if-not-contains.false))
     (λ h. sym c.if-has_certificate.false
     ∙ rw (← c.kind.ensures, ← number)
     (certified_there g.S.Scheme.meaning g.S.PublicKey.Ord.cmp g.S.Signature.PartialEq.eq
     g.D.PartialEq.eq past _ c.args.self.now _ _ _ _ c.self.invariant.tended
-    (not_far c.self.inside.frame.epoch c.self.inside.window c.number_certified-number.result
-    (sym c.is_within.ensures ∙ c.if-not-is_within.false)) c.has_certificate.ensures h))
-    (rw (← c.deref.ensures) (sym c.verifies.ensures ∙ c.if-not-verifies.false))
-    (rw (← number) c.in_ok-changed.ensures.tells)
-    refl refl)
+    (not_far c.self.inside.rounds.epoch c.self.inside.rounds.window c.round-number.result
+    (sym c.contains.ensures ∙ c.if-not-contains.false)) c.has_certificate.ensures h))
+    (sym c.verifies.ensures ∙ c.if-not-verifies.false)
+    (rw (← number) (if_ok _ _ _ c.in_ok-changed.was c.in_ok-tell.ensures.tells))
+    (ap (λ r. r.window) c.tell.ensures.same) refl)
 
 pub invariant_of-self-2 : goal.invariant_of-self-2
 invariant_of-self-2 g c =
     let h = c.self.invariant.history in
-    let number = c.number_certified-number.ensures in
-    record {
-      tended = search rules;
+    let number = c.round-number.ensures in
+    subst (λ r. IsNode g.S.Scheme.meaning g.S.PublicKey.Ord.cmp g.S.Signature.PartialEq.eq
+    g.D.PartialEq.eq (record {
+      scheme = r.scheme.value;
+      epoch = r.epoch;
+      retains = r.retains;
+      window = r.window;
+      rounds = r.slots.entries;
+      blocked = c.self.inside.blocked.items;
+    })) (sym c.tell.ensures.same)
+    (record {
+      tended =
+          still_tended _ _ _ _ _ _ _ c.self.invariant.tended _ _ _ _
+          (not_far c.self.inside.rounds.epoch c.self.inside.rounds.window c.round-number.result
+          (sym c.contains.ensures ∙ c.if-not-contains.false))
+          (if_ok _ _ _ c.in_ok-changed.was c.in_ok-tell.ensures.tells);
       each = search rules;
       history =
           record {
@@ -41,22 +57,22 @@ invariant_of-self-2 g c =
                 g.S.Signature.PartialEq.eq g.D.PartialEq.eq h.past _ _ c.args.peer
                 c.args.certificate.now c.in_ok-changed.changed _ c.in-Some.sender
                 c.self.invariant.tended (search rules) (search rules) (search rules)
-                (rw (← number) (sym c.is_within.ensures ∙ c.if-not-is_within.false))
+                (rw (← number) (sym c.contains.ensures ∙ c.if-not-contains.false))
                 (λ stood. sym c.if-has_certificate.false ∙ rw (← c.kind.ensures, ← number)
                 (certified_there g.S.Scheme.meaning g.S.PublicKey.Ord.cmp
                 g.S.Signature.PartialEq.eq g.D.PartialEq.eq h.past _ c.args.self.now _ _ _ _
                 c.self.invariant.tended
-                (not_far c.self.inside.frame.epoch c.self.inside.window c.number_certified-number.result
-                (sym c.is_within.ensures ∙ c.if-not-is_within.false)) c.has_certificate.ensures stood))
-                (rw (← c.deref.ensures) (sym c.verifies.ensures ∙ c.if-not-verifies.false))
-                (rw (← number) c.in_ok-changed.ensures.tells) refl refl h.stands;
+                (not_far c.self.inside.rounds.epoch c.self.inside.rounds.window c.round-number.result
+                (sym c.contains.ensures ∙ c.if-not-contains.false)) c.has_certificate.ensures stood))
+                (sym c.verifies.ensures ∙ c.if-not-verifies.false)
+                (rw (← number) (if_ok _ _ _ c.in_ok-changed.was c.in_ok-tell.ensures.tells)) refl refl h.stands;
           };
-    }
+    })
 
 pub invariant_of-self : goal.invariant_of-self
 invariant_of-self g c =
     let h = c.self.invariant.history in
-    let number = c.number_certified-number.ensures in
+    let number = c.round-number.ensures in
     record {
       tended = search rules;
       each = search rules;
@@ -68,14 +84,14 @@ invariant_of-self g c =
                 g.S.Signature.PartialEq.eq g.D.PartialEq.eq h.past _ _ c.args.peer
                 c.args.certificate.now c.in-Some.sender
                 (search rules) (search rules) (search rules)
-                (rw (← number) (sym c.is_within.ensures ∙ c.if-not-is_within.false))
+                (rw (← number) (sym c.contains.ensures ∙ c.if-not-contains.false))
                 (λ stood. sym c.if-has_certificate.false ∙ rw (← c.kind.ensures, ← number)
                 (certified_there g.S.Scheme.meaning g.S.PublicKey.Ord.cmp
                 g.S.Signature.PartialEq.eq g.D.PartialEq.eq h.past _ c.args.self.now _ _ _ _
                 c.self.invariant.tended
-                (not_far c.self.inside.frame.epoch c.self.inside.window c.number_certified-number.result
-                (sym c.is_within.ensures ∙ c.if-not-is_within.false)) c.has_certificate.ensures stood))
-                (rw (← c.deref.ensures) (sym c.verifies.ensures ∙ c.if-not-verifies.true))
+                (not_far c.self.inside.rounds.epoch c.self.inside.rounds.window c.round-number.result
+                (sym c.contains.ensures ∙ c.if-not-contains.false)) c.has_certificate.ensures stood))
+                (sym c.verifies.ensures ∙ c.if-not-verifies.true)
                 refl refl (λ i within. c.block.ensures.blocks i (search rules)) h.stands;
           };
     }

@@ -1,27 +1,43 @@
-use Rattle.std.proofs.Common.{◌∷◌, ◌∙◌, sym, refl, rules}
+use Rattle.std.proofs.Common.{◌∷◌, ◌∙◌, sym, refl, rules, ap, subst}
+use Rattle.batcher_node.specs.Stands.{IsNode}
 use Rattle.batcher_node.specs.declared.answers.Receipt.TheVariants.{Answered}
 use Rattle.batcher_node.specs.Events.{vote_came}
-use Rattle.batcher_node.proofs.Answering.{vote_told}
+use Rattle.batcher_node.proofs.Telling.{if_ok}
+use Rattle.batcher_node.proofs.Answering.{not_far, vote_told}
+use Rattle.batcher_node.proofs.Tending.{still_tended}
 use Rattle.batcher_node.proofs.node.Node.receive_vote.Goals as goal
 
 pub returns-clause-meets : goal.returns-clause-meets
 returns-clause-meets g c = λ past.
-    let number = c.number_of-number.ensures in
+    let number = c.round-number.ensures in
     rw (← c.self.view_is)
     (vote_told g.S.Scheme.meaning g.S.PublicKey.Ord.cmp g.S.Signature.PartialEq.eq
     g.D.PartialEq.eq past _ _ c.args.peer c.args.vote c.in_ok-admission.admission _ _
     c.self.invariant.tended (search rules) (search rules) (search rules)
-    (rw (← number) (sym c.is_within.ensures ∙ c.if-not-is_within.false))
-    (rw (← number) c.in_ok-admission.ensures.tells)
-    refl
+    (rw (← number) (sym c.contains.ensures ∙ c.if-not-contains.false))
+    (rw (← number) (if_ok _ _ _ c.in_ok-admission.was c.in_ok-tell.ensures.tells))
+    (ap (λ r. r.window) c.tell.ensures.same)
     (λ i within. c.block_for_vote.ensures.blocks i (search rules)))
 
 pub invariant_of-self-2 : goal.invariant_of-self-2
 invariant_of-self-2 g c =
     let h = c.self.invariant.history in
-    let number = c.number_of-number.ensures in
-    record {
-      tended = search rules;
+    let number = c.round-number.ensures in
+    subst (λ r. IsNode g.S.Scheme.meaning g.S.PublicKey.Ord.cmp g.S.Signature.PartialEq.eq
+    g.D.PartialEq.eq (record {
+      scheme = r.scheme.value;
+      epoch = r.epoch;
+      retains = r.retains;
+      window = r.window;
+      rounds = r.slots.entries;
+      blocked = c.block_for_vote.new.blocked.items;
+    })) (sym c.tell.ensures.same)
+    (record {
+      tended =
+          still_tended _ _ _ _ _ _ _ c.self.invariant.tended _ _ _ _
+          (not_far c.self.inside.rounds.epoch c.self.inside.rounds.window c.round-number.result
+          (sym c.contains.ensures ∙ c.if-not-contains.false))
+          (if_ok _ _ _ c.in_ok-admission.was c.in_ok-tell.ensures.tells);
       each = search rules;
       history =
           record {
@@ -31,8 +47,8 @@ invariant_of-self-2 g c =
                 g.D.PartialEq.eq h.past _ _ c.args.peer c.args.vote
                 c.in_ok-admission.admission _ _ c.self.invariant.tended
                 (search rules) (search rules) (search rules)
-                (rw (← number) (sym c.is_within.ensures ∙ c.if-not-is_within.false))
-                (rw (← number) c.in_ok-admission.ensures.tells) refl
+                (rw (← number) (sym c.contains.ensures ∙ c.if-not-contains.false))
+                (rw (← number) (if_ok _ _ _ c.in_ok-admission.was c.in_ok-tell.ensures.tells)) refl
                 (λ i within. c.block_for_vote.ensures.blocks i (search rules)) h.stands;
           };
-    }
+    })

@@ -1,4 +1,5 @@
-use Rattle.std.proofs.Common.{◌∷◌, refl, rules}
+use Rattle.std.proofs.Common.{◌∷◌, refl, rules, sym, ap, subst}
+use Rattle.batcher_node.specs.Stands.{IsNode}
 use Rattle.batcher_node.specs.Events.{constructed}
 use Rattle.batcher_node.proofs.Telling.{if_some}
 use Rattle.batcher_node.proofs.Answering.{construction_told}
@@ -9,7 +10,8 @@ returns-clause-meets g c = λ past.
     rw (← c.self.view_is)
     (construction_told g.S.Scheme.meaning g.S.PublicKey.Ord.cmp
     g.S.Signature.PartialEq.eq g.D.PartialEq.eq past _ _ _ _ _
-    c.self.invariant.tended (search rules) (search rules) (search rules) refl
+    c.self.invariant.tended (search rules) (search rules) (search rules)
+    (ap (λ r. r.window) c.try_construct.ensures.same)
     (λ i within. c.block_named.ensures.blocks i (search rules)))
 
 pub returns-clause-draws : goal.returns-clause-draws
@@ -19,7 +21,16 @@ returns-clause-draws g c =
 pub invariant_of-self-2 : goal.invariant_of-self-2
 invariant_of-self-2 g c =
     let h = c.self.invariant.history in
-    record {
+    subst (λ r. IsNode g.S.Scheme.meaning g.S.PublicKey.Ord.cmp g.S.Signature.PartialEq.eq
+    g.D.PartialEq.eq (record {
+      scheme = r.scheme.value;
+      epoch = r.epoch;
+      retains = r.retains;
+      window = r.window;
+      rounds = r.slots.entries;
+      blocked = c.block_named.new.blocked.items;
+    })) (sym c.try_construct.ensures.same)
+    (record {
       tended = search rules;
       each = search rules;
       history =
@@ -31,7 +42,7 @@ invariant_of-self-2 g c =
                 c.self.invariant.tended (search rules) (search rules) (search rules) refl
                 (λ i within. c.block_named.ensures.blocks i (search rules)) h.stands;
           };
-    }
+    })
 
 pub returns-in_default-clause-complete : goal.returns-in_default-clause-complete
 returns-in_default-clause-complete g c = λ is.

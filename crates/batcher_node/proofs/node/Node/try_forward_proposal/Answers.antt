@@ -1,4 +1,5 @@
-use Rattle.std.proofs.Common.{refl}
+use Rattle.std.proofs.Common.{refl, sym, ap, subst}
+use Rattle.batcher_node.specs.Stands.{IsNode}
 use Rattle.batcher_node.proofs.Answering.{forwards_there, forwards_nothing}
 use Rattle.batcher_node.proofs.Forwarding.{still_node}
 use Rattle.batcher_node.proofs.node.Node.try_forward_proposal.Goals.{in-Some, in-None}
@@ -6,18 +7,35 @@ use Rattle.batcher_node.proofs.node.Node.try_forward_proposal.Goals as goal
 
 pub returns-clause-meets : goal.returns-clause-meets
 returns-clause-meets g c =
-    rw (← c.self.view_is) (elim c.match-forward_there.branch [
+    rw (← c.self.view_is) (elim c.match-try_forward_proposal.branch [
       | in-Some w ↦ forwards_there g.S.Scheme.meaning g.S.PublicKey.Ord.cmp
           g.S.Signature.PartialEq.eq g.D.PartialEq.eq _ c.args.view.0 c.args.me _ _ w.result-is _ _
-          c.self.invariant.tended w.in-Some.ensures.tells refl refl
+          c.self.invariant.tended w.in-Some.ensures.tells
+          (ap (λ r. r.window) c.try_forward_proposal.ensures.same) refl
       | in-None w ↦ forwards_nothing g.S.Scheme.meaning g.S.PublicKey.Ord.cmp
           g.S.Signature.PartialEq.eq g.D.PartialEq.eq _ c.args.view.0 c.args.me _ w.result-is
-          w.in-None.ensures.absent _ w.in-None.ensures.untold
+          w.in-None.ensures.absent _ _ (ap (λ r. record {
+            scheme = r.scheme.value;
+            epoch = r.epoch;
+            retains = r.retains;
+            window = r.window;
+            rounds = r.slots.entries;
+            blocked = c.self.inside.blocked.items;
+          }) c.try_forward_proposal.ensures.same) w.in-None.ensures.untold
     ])
 
 pub invariant_of-self : goal.invariant_of-self
 invariant_of-self g c =
-    still_node g.S.Scheme.meaning g.S.PublicKey.Ord.cmp g.S.Signature.PartialEq.eq
-    g.D.PartialEq.eq _ c.forward_there.new.slots.entries c.args.view.0 c.args.me
-    c.forward_there.result c.forward_there.ensures.tells c.forward_there.ensures.untold
-    c.self.invariant
+    subst (λ r. IsNode g.S.Scheme.meaning g.S.PublicKey.Ord.cmp g.S.Signature.PartialEq.eq
+    g.D.PartialEq.eq (record {
+      scheme = r.scheme.value;
+      epoch = r.epoch;
+      retains = r.retains;
+      window = r.window;
+      rounds = r.slots.entries;
+      blocked = c.self.inside.blocked.items;
+    })) (sym c.try_forward_proposal.ensures.same)
+    (still_node g.S.Scheme.meaning g.S.PublicKey.Ord.cmp g.S.Signature.PartialEq.eq
+    g.D.PartialEq.eq _ c.try_forward_proposal.new.self.slots.entries c.args.view.0 c.args.me
+    c.try_forward_proposal.result c.try_forward_proposal.ensures.tells
+    c.try_forward_proposal.ensures.untold c.self.invariant)

@@ -1,7 +1,7 @@
 use Rattle.std.proofs.Common.{rules}
 use Rattle.std.proofs.lemmas.Map.Made.{filter_same_pairs}
 use Rattle.batcher_node.proofs.Dropping.{is_kept, kept_from, none_before}
-use Rattle.batcher_node.proofs.node.drop_before.Goals as goal
+use Rattle.batcher_node.proofs.rounds.drop_before.Goals as goal
 
 pub returns-clause-kept : goal.returns-clause-kept
 returns-clause-kept g c =

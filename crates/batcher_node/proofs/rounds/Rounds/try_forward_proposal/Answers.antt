@@ -1,6 +1,6 @@
 use Rattle.std.proofs.Common.{sym, rules}
 use Rattle.batcher_node.proofs.Telling.{not_at}
-use Rattle.batcher_node.proofs.rounds.forward_there.Goals as goal
+use Rattle.batcher_node.proofs.rounds.Rounds.try_forward_proposal.Goals as goal
 
 pub returns-in-Some-clause-tells : goal.returns-in-Some-clause-tells
 returns-in-Some-clause-tells g c =

@@ -1,7 +1,7 @@
 use Rattle.std.proofs.Common.{◌∙◌, sym, ap, Some, rules}
 use Rattle.std.proofs.lemmas.Map.Steps.{set_value_same}
 use Rattle.batcher_node.proofs.Telling.{not_at, on_err, due_given}
-use Rattle.batcher_node.proofs.rounds.tell_to_construct.Goals as goal
+use Rattle.batcher_node.proofs.rounds.Rounds.try_construct.Goals as goal
 
 pub returns-in_err-batch-in-Some-clause-refused : goal.returns-in_err-batch-in-Some-clause-refused
 returns-in_err-batch-in-Some-clause-refused g c =
