@@ -2,7 +2,6 @@
 use Rattle.std.proofs.Common.{◌≡◌, ℕ, Bool, true, false, not, cond, ◌&&◌, List, [], ◌∷◌, ◌++◌, Option, Some, None, refl, ap, sym, ◌∙◌, ⊎_elim, eqb}
 use Rattle.std.specs.Prelude.{filter, find, is_some, option_and_then}
 use Rattle.std.specs.Option.{option_or}
-use Rattle.std.specs.List.{list_any}
 use Rattle.std.proofs.lemmas.Bool.{cases_Bool, and_parts, false_from_ne_true, and_right, and_left, eqb-true}
 use Rattle.std.proofs.Math.Bool.{and-true}
 use Rattle.batcher_types.specs.declared.positions.Participant.{Participant}
@@ -21,12 +20,12 @@ use Rattle.batcher_types.specs.Lists.{is_some_and, is_empty, exactly_one}
 use Rattle.batcher_types.specs.Votes.{is_kind, kind_of, signer_of, proposal_in, kind_certified, subject_certified, has_proposals, is_vote_of, is_for, opposes, are_opposite}
 use Rattle.batcher_types.proofs.ListLemmas.{filter_none}
 use Rattle.batcher_votes.specs.Selected.{proposal_of, fixes}
-use Rattle.batcher_votes.specs.Held.{Held}
+use Rattle.batcher_votes.specs.Held.{Facts, Held}
 use Rattle.batcher_votes.specs.Tracking.{observed_opposite, conflicts_with, outcome_by, is_skipped, is_released_in}
 use Rattle.batcher_histories.specs.Steps.{admission, own_result, own_result_by, fixed_by, forward_answer, missing_in, has_block as has_block_held}
 use Rattle.batcher_histories.specs.Known.{known_in, known_by, forward_by, has_block_by, missing_by, network_by, own_by}
 use Rattle.batcher_histories.specs.History.{History, cast_votes}
-use Rattle.batcher_histories.specs.FirstVotes.{first_votes, first_vote, first_like, opposite_vote}
+use Rattle.batcher_histories.specs.FirstVotes.{first_votes, first_vote, first_like}
 use Rattle.batcher_histories.specs.Selection.{selection_by, selection, selected_proposal, is_certified, certificate_of, finalized_by, fixed_proposal, fixing_evidence, leaders_proposal, is_released}
 use Rattle.batcher_histories.specs.Comparison.{compared_votes, is_compared, is_compared_at_release, facts_of, known_opposite, known_after, has_block}
 use Rattle.batcher_histories.specs.Answers.{network_answer, own_answer, forward_after, missing_after}
@@ -152,24 +151,6 @@ module _ {D K G C : Type 0} (x : Setting D K G C) where
           (unreleased_before (event ∷ past) (kind_of v) by_new unfixed))
           (cases_Bool (is_skipped x.mode))
 
-  -- the opposite vote, by kind
-  abbrev pub opposite_first : History D K G C → Vote G D → Option (Vote G D)
-  opposite_first past (NotarizeVote v) = None
-  opposite_first past (NullifyVote v) = first_vote x past Finalization v.attestation.signer.0
-  opposite_first past (FinalizeVote v) = first_vote x past Nullification v.attestation.signer.0
-
-  pub opposite_is : (past : History D K G C) (vote : Vote G D) → opposite_vote x past vote
-      ≡ opposite_first past vote
-  opposite_is past (NotarizeVote v) =
-      find_same (λ w. opposes w (NotarizeVote v)) (λ w. false) (first_votes x past)
-      (λ w. and_right (eqb (signer_of w) v.attestation.signer.0) _ (against_notarize (kind_of w))) ∙ find_never (first_votes x past)
-  opposite_is past (NullifyVote v) =
-      find_same (λ w. opposes w (NullifyVote v)) (is_vote_of Finalization v.attestation.signer.0) (first_votes x past)
-      (λ w. and_swap (eqb (signer_of w) v.attestation.signer.0) _ _ (against_nullify (kind_of w)))
-  opposite_is past (FinalizeVote v) =
-      find_same (λ w. opposes w (FinalizeVote v)) (is_vote_of Nullification v.attestation.signer.0) (first_votes x past)
-      (λ w. and_swap (eqb (signer_of w) v.attestation.signer.0) _ _ (against_finalize (kind_of w)))
-
   -- What is known of a first vote is by its own kind and signer.
   known_first : (past : History D K G C) (kind : Kind) (i : ℕ) (first : Option (Vote G D))
       → first_vote x past kind i ≡ first
@@ -184,13 +165,17 @@ module _ {D K G C : Type 0} (x : Setting D K G C) where
   pub opposite_same : (past : History D K G C) (held : Held G D) (vote : Vote G D)
       → Stands x past held
       → observed_opposite held.tracked vote ≡ (known_after x past).opposite vote
-  opposite_same past held (NotarizeVote v) stands = ap (known_opposite x past) (sym (opposite_is past (NotarizeVote v)))
+  opposite_same past held (NotarizeVote v) stands =
+      sym (ap (known_opposite x past) (find_same (λ w. opposes w (NotarizeVote v)) (λ w. false) (first_votes x past)
+      (λ w. and_right (eqb (signer_of w) v.attestation.signer.0) _ (against_notarize (kind_of w))) ∙ find_never (first_votes x past)))
   opposite_same past held (NullifyVote v) stands =
       observed_is x past held Finalization v.attestation.signer.0 stands ∙ known_first past Finalization v.attestation.signer.0 _ refl
-      ∙ ap (known_opposite x past) (sym (opposite_is past (NullifyVote v)))
+      ∙ sym (ap (known_opposite x past) (find_same (λ w. opposes w (NullifyVote v)) (is_vote_of Finalization v.attestation.signer.0) (first_votes x past)
+      (λ w. and_swap (eqb (signer_of w) v.attestation.signer.0) _ _ (against_nullify (kind_of w)))))
   opposite_same past held (FinalizeVote v) stands =
       observed_is x past held Nullification v.attestation.signer.0 stands ∙ known_first past Nullification v.attestation.signer.0 _ refl
-      ∙ ap (known_opposite x past) (sym (opposite_is past (FinalizeVote v)))
+      ∙ sym (ap (known_opposite x past) (find_same (λ w. opposes w (FinalizeVote v)) (is_vote_of Nullification v.attestation.signer.0) (first_votes x past)
+      (λ w. and_swap (eqb (signer_of w) v.attestation.signer.0) _ _ (against_finalize (kind_of w)))))
 
   -- What is known by what is held is what is known by the history, and so are all answers by it.
   pub known_is : (past : History D K G C) (held : Held G D) → Stands x past held
@@ -230,28 +215,11 @@ module _ {D K G C : Type 0} (x : Setting D K G C) where
   fixed_selects (Some g) leaders None f e = refl
   fixed_selects (Some g) leaders (Some p) f e = refl
 
-  unmatched : (i : ℕ) (kind : Kind) (selected with_evidence : Option (Proposal D)) (vote : Vote G D)
-      (others : List (Vote G D)) → filter (is_vote_of kind i) others ≡ [] →
-      conflicts_with x.same_digest with_evidence vote
-      (record {
-        signer = i;
-        has_compared = not (is_empty (filter (is_vote_of kind i) others));
-        has_matched = is_some_and selected
-            (λ q. list_any (is_for x.same_digest q) (filter (is_vote_of kind i) others));
-      })
-      ≡ conflicts_with x.same_digest selected vote
-      (record {
-        signer = i;
-        has_compared = not (is_empty (filter (is_vote_of kind i) others));
-        has_matched = is_some_and selected
-            (λ q. list_any (is_for x.same_digest q) (filter (is_vote_of kind i) others));
-      })
-  unmatched i kind selected with_evidence vote others none =
-      ap (λ c. not (is_empty c) && is_some_and with_evidence
-      (λ p. exactly_one (is_for x.same_digest p vote) (is_some_and selected (λ q. list_any (is_for x.same_digest q) (filter (is_vote_of kind i) others))))) none
-      ∙ sym (ap (λ c. not (is_empty c) && is_some_and selected
-      (λ p. exactly_one (is_for x.same_digest p vote) (is_some_and selected (λ q. list_any (is_for x.same_digest q) (filter (is_vote_of kind i) others)))))
-      none)
+  -- A vote conflicts with nothing while none of its kind and signer was compared.
+  uncompared : (selected : Option (Proposal D)) (vote : Vote G D) (facts : Facts)
+      → facts.has_compared ≡ false → conflicts_with x.same_digest selected vote facts ≡ false
+  uncompared selected vote facts none =
+      ap (λ b. b && is_some_and selected (λ p. exactly_one (is_for x.same_digest p vote) facts.has_matched)) none
 
   -- The evidence of an own finalize makes no difference to a conflict: nothing is compared before a
   -- proposal is fixed.
@@ -262,8 +230,8 @@ module _ {D K G C : Type 0} (x : Setting D K G C) where
       ≡ conflicts_with x.same_digest (selected_proposal x past) vote
       (facts_of x past (kind_of vote) (signer_of vote))
   own_conflict past vote None e =
-      unmatched (signer_of vote) (kind_of vote) (selected_proposal x past) _ vote (compared_votes x past)
-      (ap (filter (is_vote_of (kind_of vote) (signer_of vote))) (compared_if_fixed past e))
+      let none = ap (λ vs. not (is_empty (filter (is_vote_of (kind_of vote) (signer_of vote)) vs))) (compared_if_fixed past e) in
+      uncompared _ vote (facts_of x past (kind_of vote) (signer_of vote)) none ∙ sym (uncompared _ vote (facts_of x past (kind_of vote) (signer_of vote)) none)
   own_conflict past vote (Some f) e =
       ap (λ s. conflicts_with x.same_digest s vote (facts_of x past (kind_of vote) (signer_of vote)))
       (fixed_selects (fixed_proposal past) (leaders_proposal x past) (fixed_by vote) f e)
