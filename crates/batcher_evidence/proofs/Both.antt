@@ -5,6 +5,8 @@ use Rattle.std.specs.Option.{option_map}
 use Rattle.std.specs.List.{list_any, list_all, find, filter_map, cons_option, AllByRecursion}
 use Rattle.std.proofs.lemmas.Bool.{cases_Bool, and_right, and_from, and_parts, eqb-true, lt-ltb}
 use Rattle.std.proofs.lemmas.List.Sums.{AllPass-from_list_all, list_all-from_AllPass}
+use Rattle.batcher.proofs.ListLemmas.{and-true}
+use Rattle.batcher.proofs.CountLemmas.{quorums_overlap}
 use Rattle.batcher.specs.Quorum.{quorum_of}
 use Rattle.batcher.specs.Ascending.{IsAscending}
 use Rattle.batcher.specs.Attestations.{index_of_signer}
@@ -16,11 +18,7 @@ use Rattle.batcher.specs.messages.Certificate.{Certificate}
 use Rattle.batcher_evidence.specs.declared.certificates.Culprit.{Culprit}
 use Rattle.batcher_evidence.specs.Shown.{ShowsQuorum, has_signed}
 use Rattle.batcher_evidence.specs.Culprits.{AreCulprits, attests_both, beside, index_of_culprit, signed_both}
-use Rattle.batcher_evidence.proofs.Counting.{below_both, below_more, distinct_below, few_have, has_number, quorums_overlap}
-
-with_true : (b : Bool) → (b && true) ≡ b
-with_true true = refl
-with_true false = refl
+use Rattle.batcher_evidence.proofs.Counting.{below_both, below_more, distinct_below, few_have, has_number}
 
 -- Parts of elements, each with the number of its element.
 module _ {X Y : Type 0} (number : X → ℕ) (key : Y → ℕ) (part : X → Option Y)
@@ -149,7 +147,7 @@ module _ {G : Type 0} where
       (λ same.
       let at : index_of_signer a ≡ i = eqb-true (index_of_signer a) i same in
       ap (λ b. has_number index_of_signer ys (index_of_signer a) && b) same
-      ∙ (with_true (has_number index_of_signer ys (index_of_signer a))
+      ∙ (and-true (has_number index_of_signer ys (index_of_signer a))
       ∙ (ap (λ j. list_any (λ b. index_of_signer b == j) ys) at
       ∙ ap (λ b. b && list_any (λ c. index_of_signer c == i) ys) (sym same))))
       (λ other.
@@ -187,7 +185,7 @@ module _ {G : Type 0} where
       ap
       (λ b. ((index_of_signer a == i) && b) || list_any (λ c. (index_of_signer c == i) && p c) xs)
       parts.0
-      ∙ (ap (λ b. b || list_any (λ c. (index_of_signer c == i) && p c) xs) (with_true (index_of_signer a == i))
+      ∙ (ap (λ b. b || list_any (λ c. (index_of_signer c == i) && p c) xs) (and-true (index_of_signer a == i))
       ∙ ap (λ b. (index_of_signer a == i) || b) (any_attests p xs i parts.1))
 
 module _ {D K G C : Type 0} (m : Meaning D K G C) (lawful : IsLawful m) where

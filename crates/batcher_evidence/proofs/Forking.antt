@@ -2,23 +2,24 @@
 use Rattle.std.proofs.Common.{inl, inr, ◌≡◌, ◌≤◌, ◌+◌, ◌==◌, ◌&&◌, ◌||◌, ℕ, Bool, true, false, cond, nat_lt, List, [], ◌∷◌, length, filter, Option, Some, None, refl, ap, sym, ◌∙◌, subst, arith}
 use Rattle.std.specs.Prelude.{IfSome}
 use Rattle.std.specs.List.{AllByRecursion, list_any, list_all}
-use Rattle.std.proofs.lemmas.Bool.{and_parts, eqb-true}
+use Rattle.std.proofs.lemmas.Bool.{and_parts}
 use Rattle.std.proofs.lemmas.List.Sums.{list_all-from_AllPass}
 use Rattle.std.specs.declared.cmp.Ordering.{Ordering}
+use Rattle.batcher.proofs.VoteLemmas.{same_subject-true}
+use Rattle.batcher.proofs.ListLemmas.{and-true}
+use Rattle.batcher.proofs.CountLemmas.{any_within, count-append, count-filter, count_mono, quorums_overlap}
 use Rattle.batcher.specs.Quorum.{quorum_of}
 use Rattle.batcher.specs.Lists.{count, EachOnce, ElementsWithin}
 use Rattle.batcher.specs.Meaning.{Meaning}
 use Rattle.batcher.specs.Setting.{Setting, participants_in, quorum_in}
-use Rattle.batcher.specs.Votes.{signer_of, subject_of, subject_certified, same_round, same_proposal, same_subject}
+use Rattle.batcher.specs.Votes.{signer_of, subject_of, subject_certified, same_subject}
 use Rattle.batcher.specs.History.{Event, History, batch_given, certificate_given, cast_votes}
 use Rattle.batcher.specs.FirstVotes.{first_votes, is_free}
 use Rattle.batcher.specs.Promises.{AtEachEvent, votes_cast}
 use Rattle.batcher.specs.Reported.{subjects_contradict}
 use Rattle.batcher.specs.Backed.{GivesBacked, IsBacked, IsGiven, votes_behind}
 use Rattle.batcher.specs.positions.Round.{Round}
-use Rattle.batcher.specs.messages.Proposal.{Proposal}
 use Rattle.batcher.specs.messages.Subject.{Subject}
-use Rattle.batcher.specs.messages.Subject.TheVariants.{Notarize as NotarizeSubject, Nullify as NullifySubject, Finalize as FinalizeSubject}
 use Rattle.batcher.specs.messages.Vote.{Vote}
 use Rattle.batcher.specs.messages.Certificate.{Certificate}
 use Rattle.batcher.specs.votes.Mode.{Mode}
@@ -28,46 +29,9 @@ use Rattle.batcher.specs.answers.Answer.TheVariants.{OutOfMemory, Network as Net
 use Rattle.batcher.specs.answers.Answer.TheVariants.{Leader as LeaderAnswer, Construct as ConstructAnswer, Forward as ForwardAnswer, Missing as MissingAnswer}
 use Rattle.batcher_evidence.specs.Culprits.{certificates_contradict}
 use Rattle.batcher_evidence.specs.Rounds.{TakeContradictingVotes, TakesContradicting, count_below, votes_contradict, round_of}
-use Rattle.batcher_evidence.proofs.Counting.{any_within, below_both, below_more, count-append, count-filter, count_mono, distinct_below, filter_passes, has_number, quorums_overlap}
-
--- subjects that are the same by the test of digests
-made_round : ℕ → ℕ → Round
-made_round e v = record { epoch = record { 0 = e }; view = record { 0 = v } }
-
-round_is : (a b : Round) → same_round a b ≡ true → a ≡ b
-unfolding made_round
-round_is a b h =
-    let parts = and_parts (a.epoch.0 == b.epoch.0) (a.view.0 == b.view.0) h in
-    let epoch = eqb-true a.epoch.0 b.epoch.0 parts.0 in
-    let view = eqb-true a.view.0 b.view.0 parts.1 in
-    ap (λ e. made_round e a.view.0) epoch ∙ ap (λ v. made_round b.epoch.0 v) view
+use Rattle.batcher_evidence.proofs.Counting.{below_both, below_more, distinct_below, filter_passes, has_number}
 
 module _ {D : Type 0} (same : D → D → Bool) (identical : (a b : D) → same a b ≡ true → a ≡ b) where
-  made_proposal : Round → ℕ → D → Proposal D
-  made_proposal r v d = record { round = r; parent = record { 0 = v }; payload = d }
-
-  proposal_is : (a b : Proposal D) → same_proposal same a b ≡ true → a ≡ b
-  unfolding made_proposal
-  proposal_is a b h =
-      let parts = and_parts (same_round a.round b.round) ((a.parent.0 == b.parent.0) && same a.payload b.payload) h in
-      let rest = and_parts (a.parent.0 == b.parent.0) (same a.payload b.payload) parts.1 in
-      let round = round_is a.round b.round parts.0 in
-      let parent = eqb-true a.parent.0 b.parent.0 rest.0 in
-      let payload = identical a.payload b.payload rest.1 in
-      ap (λ r. made_proposal r a.parent.0 a.payload) round
-      ∙ (ap (λ v. made_proposal b.round v a.payload) parent ∙ ap (λ d. made_proposal b.round b.parent.0 d) payload)
-
-  subject_is : (s t : Subject D) → same_subject same s t ≡ true → s ≡ t
-  subject_is (NotarizeSubject p) (NotarizeSubject r) h = ap NotarizeSubject (proposal_is p r h)
-  subject_is (NotarizeSubject p) (NullifySubject r) h = absurd (cc)
-  subject_is (NotarizeSubject p) (FinalizeSubject r) h = absurd (cc)
-  subject_is (NullifySubject p) (NotarizeSubject r) h = absurd (cc)
-  subject_is (NullifySubject p) (NullifySubject r) h = ap NullifySubject (round_is p r h)
-  subject_is (NullifySubject p) (FinalizeSubject r) h = absurd (cc)
-  subject_is (FinalizeSubject p) (NotarizeSubject r) h = absurd (cc)
-  subject_is (FinalizeSubject p) (NullifySubject r) h = absurd (cc)
-  subject_is (FinalizeSubject p) (FinalizeSubject r) h = ap FinalizeSubject (proposal_is p r h)
-
   pub all_about :
       {G : Type 0} (s : Subject D) (vs : List (Vote G D))
       → list_all (λ v. same_subject same s (subject_of v)) vs ≡ true
@@ -75,11 +39,7 @@ module _ {D : Type 0} (same : D → D → Bool) (identical : (a b : D) → same 
   all_about s [] h = tt
   all_about s (v ∷ vs) h =
       let parts = and_parts (same_subject same s (subject_of v)) (list_all (λ w. same_subject same s (subject_of w)) vs) h in
-      (subject_is s (subject_of v) parts.0, all_about s vs parts.1)
-
-with_true : (b : Bool) → (b && true) ≡ b
-with_true true = refl
-with_true false = refl
+      (same_subject-true same identical s (subject_of v) parts.0, all_about s vs parts.1)
 
 module _ {G D : Type 0} where
   -- Where all votes are about one subject of which something is true, it is true of those that
@@ -98,7 +58,7 @@ module _ {G D : Type 0} where
           ap
           (λ b. (p v && b) || list_any (λ w. p w && q (subject_of w)) vs)
           (ap q (sym about.0) ∙ holds)
-          ∙ (ap (λ b. b || list_any (λ w. p w && q (subject_of w)) vs) (with_true (p v)) ∙ ap (λ b. p v || b) (alike vs about.1))
+          ∙ (ap (λ b. b || list_any (λ w. p w && q (subject_of w)) vs) (and-true (p v)) ∙ ap (λ b. p v || b) (alike vs about.1))
 
   -- Votes that were cast, about two subjects that contradict each other.
   pub voted_both :

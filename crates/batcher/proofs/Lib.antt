@@ -1,0 +1,3 @@
+pub use Rattle.batcher_types.proofs.CountLemmas
+pub use Rattle.batcher_types.proofs.ListLemmas
+pub use Rattle.batcher_types.proofs.VoteLemmas
