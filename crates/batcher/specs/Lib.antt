@@ -13,7 +13,8 @@ pub use Rattle.batcher_votes.specs.Tracking
 pub use Rattle.batcher_votes.specs.Buffering
 pub use Rattle.batcher_votes.specs.Waiting
 pub use Rattle.batcher_votes.specs.Sound
-pub use Rattle.batcher_votes.specs.States
+pub use Rattle.batcher_votes.specs.Kinds
+pub use Rattle.batcher_votes.specs.Certifications
 pub use Rattle.batcher_votes.specs.Verifiers
 pub use Rattle.batcher_types.specs.Hashed
 pub use Rattle.batcher_types.specs.Keyed
