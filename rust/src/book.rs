@@ -7,7 +7,7 @@ use crate::flat::{block_of, done, kind_of, subject_of};
 use crate::messages::{Activity, Attestation, Certificate, Kind, Subject, Vote};
 use crate::positions::Participant;
 use crate::scheme::Scheme;
-use crate::table::{Kept, Numbers, Table};
+use crate::table::{Kept, Table};
 
 /// Attestations of one subject, on each of which a verdict is wanted. It is plain data: it may go
 /// to another thread, and the round or node goes on meanwhile.
@@ -102,14 +102,14 @@ impl<G: Clone + Eq> Book<G> {
         &mut self,
         vote: &Vote<G>,
         sender: Option<Participant>,
-        numbers: &mut Numbers,
+        unused: impl FnOnce() -> u64,
         participants: u32,
     ) -> Result<Numbered, Error> {
         let (kind, signer) = (vote.kind(), vote.signer());
         let (number, is_first) = match self.table.get(kind, signer) {
             Some(kept) if kept.vote == *vote => (kept.number, false),
-            Some(_) => (numbers.unused(), false),
-            None => (numbers.unused(), true),
+            Some(_) => (unused(), false),
+            None => (unused(), true),
         };
         let may_keep = is_first && sender == Some(signer) && self.keeps(kind);
         if may_keep {
@@ -129,15 +129,16 @@ impl<G: Clone + Eq> Book<G> {
         numbered: Numbered,
         vote: Vote<G>,
     ) -> Result<Admission<G>, Error> {
-        let admission = Admission {
-            added: answer.added,
-            block: block_of(answer.block)?,
-            report: self.report(answer, numbered, &vote)?,
-        };
+        let block = block_of(answer.block)?;
+        let report = self.report(answer, numbered, &vote)?;
         if answer.added {
             self.keep(numbered, vote, None);
         }
-        Ok(admission)
+        Ok(Admission {
+            added: answer.added,
+            block,
+            report,
+        })
     }
 
     /// Keeps a vote that was added.
@@ -148,12 +149,33 @@ impl<G: Clone + Eq> Book<G> {
     }
 
     /// The report of an answer to this vote. Another vote in it is one that is kept.
+    #[inline]
     pub(crate) fn report(
         &self,
         answer: &ffi::Admission,
         numbered: Numbered,
         vote: &Vote<G>,
     ) -> Result<Option<Activity<G>>, Error> {
+        Ok(match answer.report {
+            0 => None,
+            // Of one vote it is this one, which is new.
+            1..=3 => Some(match vote {
+                Vote::Notarize(vote) => Activity::Notarize(vote.clone()),
+                Vote::Nullify(vote) => Activity::Nullify(vote.clone()),
+                Vote::Finalize(vote) => Activity::Finalize(vote.clone()),
+            }),
+            _ => Some(self.contradiction(answer, numbered, vote)?),
+        })
+    }
+
+    /// The report of an answer that has two votes, of which one may be this one.
+    #[cold]
+    fn contradiction(
+        &self,
+        answer: &ffi::Admission,
+        numbered: Numbered,
+        vote: &Vote<G>,
+    ) -> Result<Activity<G>, Error> {
         let of = |flat: &ffi::Vote| {
             if flat.attestation.number == numbered.listed.number {
                 return Ok(vote.clone());
@@ -163,27 +185,18 @@ impl<G: Clone + Eq> Book<G> {
                 None => Err(Error::Unknown(answer.report)),
             }
         };
-        Ok(Some(match answer.report {
-            0 => return Ok(None),
-            // Of one vote it is this one, which is new.
-            1..=3 => match vote {
-                Vote::Notarize(vote) => Activity::Notarize(vote.clone()),
-                Vote::Nullify(vote) => Activity::Nullify(vote.clone()),
-                Vote::Finalize(vote) => Activity::Finalize(vote.clone()),
-            },
-            report => match (report, of(&answer.first)?, of(&answer.second)?) {
-                (4, Vote::Notarize(first), Vote::Notarize(second)) => {
-                    Activity::ConflictingNotarize(first, second)
-                }
-                (5, Vote::Finalize(first), Vote::Finalize(second)) => {
-                    Activity::ConflictingFinalize(first, second)
-                }
-                (6, Vote::Nullify(first), Vote::Finalize(second)) => {
-                    Activity::NullifyFinalize(first, second)
-                }
-                (other, _, _) => return Err(Error::Unknown(other)),
-            },
-        }))
+        match (answer.report, of(&answer.first)?, of(&answer.second)?) {
+            (4, Vote::Notarize(first), Vote::Notarize(second)) => {
+                Ok(Activity::ConflictingNotarize(first, second))
+            }
+            (5, Vote::Finalize(first), Vote::Finalize(second)) => {
+                Ok(Activity::ConflictingFinalize(first, second))
+            }
+            (6, Vote::Nullify(first), Vote::Finalize(second)) => {
+                Ok(Activity::NullifyFinalize(first, second))
+            }
+            (other, _, _) => Err(Error::Unknown(other)),
+        }
     }
 
     /// Hands a verdict to the library, or the earlier one on the same attestation.
@@ -212,47 +225,49 @@ impl<G: Clone + Eq> Book<G> {
         let kind = wanted.subject.kind();
         for (listed, attests) in wanted.listed.iter().zip(verdicts) {
             // What was forgotten meanwhile is needed no more.
-            if self.kept(kind, listed).is_some() {
-                self.record_verdict(library, kind, *listed, *attests)?;
+            let kept = self.table.get_mut(kind, Participant::new(listed.signer));
+            if let Some(kept) = kept.filter(|kept| kept.number == listed.number) {
+                let attests = *kept.verdict.get_or_insert(*attests);
+                done(library.record_verdict(listed.number, attests))?;
             }
         }
         Ok(())
     }
 
-    /// Those of the attestations that a step wants verdicts on, without those on which there is
-    /// one, as on a vote that was restored. The library is handed that.
-    pub(crate) fn without_known(
+    /// What is handed out to be verified: those of the attestations that a step wants verdicts on,
+    /// without those on which there is one, as on a vote that was restored. The library is handed
+    /// that. None where there is one on each.
+    pub(crate) fn wanted(
         &self,
         library: &mut impl Library,
         step: &ffi::Step,
         list: &[ffi::Attestation],
-    ) -> Result<Vec<ffi::Attestation>, Error> {
+        owner: u64,
+    ) -> Result<Option<Wanted<G>>, Error> {
         let kind = kind_of(step.kind)?;
-        let mut unknown = Vec::new();
-        reserve(&mut unknown, list.len())?;
-        for listed in list {
-            match self.kept(kind, listed).map(|kept| kept.verdict) {
-                Some(Some(attests)) => done(library.record_verdict(listed.number, attests))?,
-                _ => unknown.push(*listed),
+        let mut listed = Vec::new();
+        let mut attestations = Vec::new();
+        reserve(&mut listed, list.len())?;
+        reserve(&mut attestations, list.len())?;
+        for one in list {
+            let kept = self.kept(kind, one).ok_or(Error::Unknown(code::VERIFY))?;
+            match kept.verdict {
+                Some(attests) => done(library.record_verdict(one.number, attests))?,
+                None => {
+                    listed.push(*one);
+                    attestations.push(kept.vote.attestation().clone());
+                }
             }
         }
-        Ok(unknown)
-    }
-
-    /// What is handed out to be verified.
-    pub(crate) fn wanted(
-        &self,
-        step: &ffi::Step,
-        listed: Vec<ffi::Attestation>,
-        owner: u64,
-    ) -> Result<Wanted<G>, Error> {
-        let kind = kind_of(step.kind)?;
-        Ok(Wanted {
+        if listed.is_empty() {
+            return Ok(None);
+        }
+        Ok(Some(Wanted {
             subject: subject_of(kind, &step.proposal),
-            attestations: self.attestations(kind, &listed)?,
+            attestations,
             listed,
             owner,
-        })
+        }))
     }
 
     /// What is handed out to be verified as a whole.
@@ -265,8 +280,14 @@ impl<G: Clone + Eq> Book<G> {
         let mut listed = Vec::new();
         reserve(&mut listed, list.len())?;
         listed.extend_from_slice(list);
+        let kind = kind_of(step.kind)?;
         Ok(WantedTogether {
-            wanted: self.wanted(step, listed, owner)?,
+            wanted: Wanted {
+                subject: subject_of(kind, &step.proposal),
+                attestations: self.attestations(kind, &listed)?,
+                listed,
+                owner,
+            },
             verified: step.verified as usize,
         })
     }

@@ -18,19 +18,30 @@ pub(crate) fn flat_proposal(proposal: &Proposal) -> ffi::Proposal {
 pub(crate) fn flat_subject(subject: &Subject) -> ffi::Proposal {
     match subject {
         Subject::Notarize { proposal } | Subject::Finalize { proposal } => flat_proposal(proposal),
-        Subject::Nullify { round } => ffi::Proposal {
-            epoch: round.epoch.get(),
-            view: round.view.get(),
-            ..ffi::Proposal::default()
-        },
+        Subject::Nullify { round } => flat_round(round),
     }
 }
 
+/// A proposal of which the round alone counts.
+fn flat_round(round: &Round) -> ffi::Proposal {
+    ffi::Proposal {
+        epoch: round.epoch.get(),
+        view: round.view.get(),
+        ..ffi::Proposal::default()
+    }
+}
+
+#[inline]
 pub(crate) fn flat_vote<G>(vote: &Vote<G>, listed: ffi::Attestation) -> ffi::Vote {
+    let (kind, proposal) = match vote {
+        Vote::Notarize(vote) => (Kind::Notarization, flat_proposal(&vote.proposal)),
+        Vote::Nullify(vote) => (Kind::Nullification, flat_round(&vote.round)),
+        Vote::Finalize(vote) => (Kind::Finalization, flat_proposal(&vote.proposal)),
+    };
     ffi::Vote {
-        proposal: flat_subject(&vote.subject()),
+        proposal,
         attestation: listed,
-        kind: vote.kind() as u8,
+        kind: kind as u8,
     }
 }
 

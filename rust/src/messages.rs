@@ -184,7 +184,11 @@ impl<G> Vote<G> {
 
     /// The kind of certificate that it is for.
     pub fn kind(&self) -> Kind {
-        self.subject().kind()
+        match self {
+            Vote::Notarize(_) => Kind::Notarization,
+            Vote::Nullify(_) => Kind::Nullification,
+            Vote::Finalize(_) => Kind::Finalization,
+        }
     }
 
     /// What its signer signs.

@@ -340,7 +340,7 @@ impl<S: Scheme> Node<S> {
         let participants = self.scheme.participants().len();
         self.books.reserve()?;
         let book = self.books.open(view, self.mode_of(view));
-        let numbered = book.number(&vote, Some(sender), &mut self.numbers, participants)?;
+        let numbered = book.number(&vote, Some(sender), || self.numbers.unused(), participants)?;
         let mut answer = ffi::Admission::default();
         let flat = flat_vote(&vote, numbered.listed);
         match self
@@ -562,7 +562,7 @@ impl<S: Scheme> Node<S> {
         let (kind, signer, view) = (vote.kind(), Some(vote.signer()), vote.round().view);
         self.books.reserve()?;
         let book = self.books.open(view, self.mode_of(view));
-        let numbered = book.number(&vote, signer, &mut self.numbers, participants)?;
+        let numbered = book.number(&vote, signer, || self.numbers.unused_own(), participants)?;
         book.record_verdict(&mut self.library, kind, numbered.listed, true)?;
         let mut answer = ffi::Admission::default();
         let flat = flat_vote(&vote, numbered.listed);
@@ -712,9 +712,8 @@ impl<S: Scheme> Node<S> {
                 let wanted = book.wanted_together(&step, list, self.identity)?;
                 return Ok(Step::VerifyTogether(wanted));
             }
-            let unknown = book.without_known(&mut self.library, &step, list)?;
-            if !unknown.is_empty() {
-                let wanted = book.wanted(&step, unknown, self.identity)?;
+            let wanted = book.wanted(&mut self.library, &step, list, self.identity)?;
+            if let Some(wanted) = wanted {
                 return Ok(Step::Verify(wanted));
             }
         }

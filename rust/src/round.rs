@@ -208,9 +208,9 @@ impl<S: Scheme> Round<S> {
         let participants = self.scheme.participants();
         let sender = participants.index_near(sender, vote.signer());
         let name = sender.map_or(NOBODY, |index| u64::from(index.get()));
-        let numbered = self
-            .book
-            .number(&vote, sender, &mut self.numbers, participants.len())?;
+        let numbered =
+            self.book
+                .number(&vote, sender, || self.numbers.unused(), participants.len())?;
         let mut answer = ffi::Admission::default();
         let flat = flat_vote(&vote, numbered.listed);
         done(self.library.add_network(name, &flat, &mut answer))?;
@@ -303,9 +303,9 @@ impl<S: Scheme> Round<S> {
         let kind = vote.kind();
         let participants = self.scheme.participants().len();
         let signer = Some(vote.signer());
-        let numbered = self
-            .book
-            .number(&vote, signer, &mut self.numbers, participants)?;
+        let numbered =
+            self.book
+                .number(&vote, signer, || self.numbers.unused_own(), participants)?;
         self.book
             .record_verdict(&mut self.library, kind, numbered.listed, true)?;
         let mut answer = ffi::Admission::default();
@@ -636,9 +636,10 @@ impl<S: Scheme> Round<S> {
                 code::IDLE => return Ok(Step::Idle),
                 code::DONE => return self.finish(step),
                 code::VERIFY => {
-                    let unknown = self.book.without_known(&mut self.library, &step, list)?;
-                    if !unknown.is_empty() {
-                        let wanted = self.book.wanted(&step, unknown, self.identity)?;
+                    let wanted = self
+                        .book
+                        .wanted(&mut self.library, &step, list, self.identity)?;
+                    if let Some(wanted) = wanted {
                         return Ok(Step::Verify(wanted));
                     }
                 }

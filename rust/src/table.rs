@@ -32,18 +32,32 @@ struct Places<G> {
 }
 
 /// Numbers that were never used.
+///
+/// The library records verdicts fastest on ascending numbers. One on an own vote is recorded before
+/// those on the votes of others, most of which have come by then, so own votes have lower numbers.
 pub(crate) struct Numbers {
     next: u64,
+    next_own: u64,
 }
 
 impl Numbers {
     pub(crate) fn new() -> Self {
-        Numbers { next: 0 }
+        Numbers {
+            next: 1 << 63,
+            next_own: 0,
+        }
     }
 
     pub(crate) fn unused(&mut self) -> u64 {
         let number = self.next;
         self.next += 1;
+        number
+    }
+
+    /// One for an own vote.
+    pub(crate) fn unused_own(&mut self) -> u64 {
+        let number = self.next_own;
+        self.next_own += 1;
         number
     }
 }
@@ -85,10 +99,10 @@ impl<G: Eq> Table<G> {
             index.resize(participants as usize, 0);
         }
         if kept.len() == kept.capacity() {
-            // A quarter more at a time, and no more than the participants, so that what is unused
-            // stays small beside the votes.
+            // Twice as many at a time, since votes are moved then, and no more than the
+            // participants, so that nothing is unused where all vote.
             let left = (participants as usize).saturating_sub(kept.len());
-            let more = left.min(8.max(kept.len() / 4));
+            let more = left.min(8.max(kept.len()));
             kept.try_reserve_exact(more)
                 .map_err(|_| Error::OutOfMemory)?;
         }

@@ -1,9 +1,11 @@
 -- What is known of attestations.
-use Rattle.std.specs.Prelude.{◌==◌, ◌&&◌, ℕ, Bool, cond, List, filter, Option, Some, None, is_none, option_and_then}
+use Rattle.std.specs.Prelude.{◌==◌, ◌&&◌, ℕ, Bool, cond, List, filter, map, Option, Some, None, is_none, option_and_then}
 use Rattle.std.specs.Ordering.{nat_cmp}
+use Rattle.std.specs.Option.{option_map}
 use Rattle.std.specs.Map.{lookup}
 use Rattle.std.specs.BTreeMap.{is_at}
 use Rattle.std.specs.Cmp.Lexicographic.{pointwise}
+use Rattle.batcher_types.specs.Items.{item_of}
 use Rattle.batcher_types.specs.declared.messages.Attestation.{Attestation}
 use Rattle.batcher_external.specs.declared.truth.Truth.{Ghosts}
 use Rattle.batcher_external.specs.declared.truth.Verdict.{Verdict}
@@ -19,6 +21,15 @@ module _ {T : Type 0} {truth : Ghosts T} where
   known_in verdicts number =
       option_and_then (λ v. cond (v.number == number) (Some v.attests) None)
       (lookup (is_at (nat_cmp number)) verdicts)
+
+  -- each verdict of a list with its number
+  abbrev pub numbered : List (Verdict T truth) → List (ℕ × Verdict T truth)
+  numbered verdicts = map (λ v. (v.number, v)) verdicts
+
+  -- the verdict in a list on the attestation of a number, where there is one
+  abbrev pub known_in_run : List (Verdict T truth) → ℕ → Option Bool
+  known_in_run verdicts number =
+      option_map (λ v. v.attests) (item_of (λ v. v.number) verdicts number)
 
   -- whether there is no verdict on it
   abbrev pub is_unknown_in : List (ℕ × Verdict T truth) → Attestation ℕ → Bool

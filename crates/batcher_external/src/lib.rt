@@ -2,7 +2,9 @@
 //! and the scheme looks them up.
 #![tactic(auto)]
 
+mod run;
 mod scheme;
+mod table;
 mod truth;
 mod verdicts;
 

@@ -61,8 +61,8 @@ pub struct External<T: Truth, const BATCHABLE: bool> {
 }
 
 impl<T: Truth, const BATCHABLE: bool> External<T, BATCHABLE> {
-    // Whether it attests. An error where that isn't known.
-    fn verdict(&self, attestation: &Attestation<u64>) -> Result<bool, AllocError>
+    // Whether it attests. An error where that isn't known. The place is as of `single_near`.
+    fn verdict(&self, place: &mut usize, attestation: &Attestation<u64>) -> Result<bool, AllocError>
         ensures { IfOk result (λ good. good
             ≡ attests T.Truth (length self.now.participants) attestation.now) }
     {
@@ -72,7 +72,7 @@ impl<T: Truth, const BATCHABLE: bool> External<T, BATCHABLE> {
         let Ok(verdicts) = self.verdicts.try_borrow() else {
             return Err(AllocError);
         };
-        match verdicts.single(attestation.signature) {
+        match verdicts.single_near(place, attestation.signature) {
             Some(good) => Ok(good),
             None => Err(AllocError),
         }
@@ -84,8 +84,9 @@ impl<T: Truth, const BATCHABLE: bool> External<T, BATCHABLE> {
         ensures { IfOk result (λ all. all
             ≡ list_all (attests T.Truth (length self.now.participants)) attestations.now) }
     {
+        let mut place = 0usize;
         for attestation in attestations {
-            if !self.verdict(attestation)? {
+            if !self.verdict(&mut place, attestation)? {
                 return Ok(false);
             }
         }
@@ -170,8 +171,9 @@ impl<T: Truth, const BATCHABLE: bool> Scheme<Sha256Digest> for External<T, BATCH
         let _ = subject;
         let mut verified = Vec::new(alloc);
         let mut invalid = Vec::new(alloc);
+        let mut place = 0usize;
         for attestation in pending {
-            if self.verdict(attestation)? {
+            if self.verdict(&mut place, attestation)? {
                 verified.push(*attestation)?;
             } else {
                 invalid.push(attestation.signer)?;

@@ -3,26 +3,27 @@
 ghost use Rattle.std.specs.Prelude.{◌≡◌, ◌≢◌, ◌++◌, ℕ, None, Some, IfOk, IfSome, OnOk, OnErr};
 ghost use Rattle.std.specs.Bool.{Decides};
 ghost use Rattle.batcher_external.specs.Known.{known_in, known_of_whole, is_unknown_in, unknown_among};
+ghost use Rattle.batcher_external.specs.Tables.{entries_of};
 
-use crate::truth::{Truth, Verdict, Whole};
+use crate::table::Table;
+use crate::truth::{Truth, Whole};
 use batcher_types::messages::Attestation;
 use std::alloc::{AllocError, Global};
-use std::collections::BTreeMap;
 
 /// The verdicts that were recorded.
 #[derive(Drop)]
 pub struct Verdicts<T: Truth> {
-    singles: BTreeMap<u64, Verdict<T>>,
+    singles: Table<T>,
     whole: Option<Whole<T>>,
 }
 
 impl<T: Truth> Verdicts<T> {
     /// No verdict. It takes no memory.
     pub fn new(alloc: Global) -> Self
-        ensures none { (number : ℕ) → known_in result.singles.entries number ≡ None }
+        ensures none { (number : ℕ) → known_in (entries_of result.singles) number ≡ None }
     {
         Verdicts {
-            singles: BTreeMap::new(alloc),
+            singles: Table::new(alloc),
             whole: None,
         }
     }
@@ -30,16 +31,15 @@ impl<T: Truth> Verdicts<T> {
     /// Records a verdict. A refusal for memory changes nothing.
     pub fn record(&mut self, number: u64, attests: bool) -> Result<(), AllocError>
         requires { T.attests number ≡ attests }
-        ensures recorded { OnOk result (known_in self.new.singles.entries number ≡ Some attests) }
+        ensures recorded { OnOk result
+            (known_in (entries_of self.new.singles) number ≡ Some attests) }
         ensures others { OnOk result ((other : ℕ) → other ≢ number
-            → known_in self.new.singles.entries other ≡ known_in self.old.singles.entries other) }
-        ensures refused { OnErr result (self.new.singles.entries ≡ self.old.singles.entries) }
+            → known_in (entries_of self.new.singles) other
+            ≡ known_in (entries_of self.old.singles) other) }
+        ensures refused { OnErr result (entries_of self.new.singles ≡ entries_of self.old.singles) }
         ensures whole { self.new.whole ≡ self.old.whole }
     {
-        match self.singles.insert(number, Verdict::new(number, attests)) {
-            Ok(_) => Ok(()),
-            Err(_) => Err(AllocError),
-        }
+        self.singles.record(number, attests)
     }
 
     /// Records whether attestations pass as a whole, in place of those before.
@@ -53,7 +53,7 @@ impl<T: Truth> Verdicts<T> {
 
     /// Forgets all of them.
     pub fn forget(&mut self)
-        ensures singles { (number : ℕ) → known_in self.new.singles.entries number ≡ None }
+        ensures singles { (number : ℕ) → known_in (entries_of self.new.singles) number ≡ None }
         ensures whole { self.new.whole ≡ None }
     {
         self.singles.clear();
@@ -62,14 +62,20 @@ impl<T: Truth> Verdicts<T> {
 
     /// The verdict on the attestation of a number, where there is one.
     pub fn single(&self, number: u64) -> Option<bool>
-        ensures known { result ≡ known_in self.now.singles.entries number }
+        ensures known { result ≡ known_in (entries_of self.now.singles) number }
         ensures agrees { IfSome result (λ attests. attests ≡ T.attests number) }
     {
-        let verdict = self.singles.get(&number)?;
-        if verdict.number != number {
-            return None;
-        }
-        Some(verdict.attests)
+        let mut place = 0usize;
+        self.singles.known(&mut place, number)
+    }
+
+    /// The same for whoever asks about attestations in the order in which they were recorded: the
+    /// place is 0 at first, and then what the last call has left.
+    pub fn single_near(&self, place: &mut usize, number: u64) -> Option<bool>
+        ensures known { result ≡ known_in (entries_of self.now.singles) number }
+        ensures agrees { IfSome result (λ attests. attests ≡ T.attests number) }
+    {
+        self.singles.known(place, number)
     }
 
     /// The attestations on which there is no verdict, in order.
@@ -79,11 +85,12 @@ impl<T: Truth> Verdicts<T> {
         attestations: &[Attestation<u64>],
     ) -> Result<Vec<Attestation<u64>>, AllocError>
         ensures { IfOk result (λ list. list.items
-            ≡ unknown_among self.now.singles.entries attestations.now) }
+            ≡ unknown_among (entries_of self.now.singles) attestations.now) }
     {
         let mut unknown = Vec::new(alloc);
+        let mut place = 0usize;
         for attestation in attestations {
-            if self.is_unknown(attestation) {
+            if self.is_unknown(&mut place, attestation) {
                 unknown.push(*attestation)?;
             }
         }
@@ -91,10 +98,10 @@ impl<T: Truth> Verdicts<T> {
     }
 
     // Whether there is no verdict on it.
-    fn is_unknown(&self, attestation: &Attestation<u64>) -> bool
-        ensures { result ≡ is_unknown_in self.now.singles.entries attestation.now }
+    fn is_unknown(&self, place: &mut usize, attestation: &Attestation<u64>) -> bool
+        ensures { result ≡ is_unknown_in (entries_of self.now.singles) attestation.now }
     {
-        self.single(attestation.signature).is_none()
+        self.single_near(place, attestation.signature).is_none()
     }
 
     /// Whether all of these attestations pass as a whole, where that is known.

@@ -34,6 +34,7 @@ pub struct Ledger<T: Truth> {
 
 impl<T: Truth> Model for Ledger<T> {
     ghost use Rattle.std.specs.Prelude.{◌≤◌};
+    ghost use Rattle.batcher_external.specs.Tables.{entries_of};
     ghost use Rattle.batcher_session.specs.Ledgers.{LedgerView, singles_of, together_of};
 
     ghost Value = { LedgerView };
@@ -41,7 +42,7 @@ impl<T: Truth> Model for Ledger<T> {
     ghost view = { λ l. record {
       participants = l.participants;
       aggregates = l.aggregates;
-      singles = singles_of l.verdicts.singles.entries;
+      singles = singles_of (entries_of l.verdicts.singles);
       together = together_of l.verdicts.whole;
     } };
 

@@ -1,5 +1,5 @@
 use Rattle.std.proofs.Common.{◌∙◌, sym}
-use Rattle.batcher_external.proofs.Wholes.{same_beginning, other_beginning, too_short}
+use Rattle.batcher_external.proofs.Wholes.{same_beginning, other_beginning}
 use Rattle.batcher_external.proofs.verdicts.are_both.Goals as goal
 
 pub returns-then-eq : goal.returns-then-eq

@@ -1,4 +1,4 @@
-use Rattle.std.proofs.Common.{rules, ◌≡◌, ◌∙◌, ◌++◌, Some, true, false, sym, ap}
+use Rattle.std.proofs.Common.{rules, ◌≡◌, ◌∙◌, ◌++◌, Some, true, false, sym}
 use Rattle.std.specs.Cmp.Lexicographic.{pointwise}
 use Rattle.batcher_external.specs.Known.{same_attestation}
 use Rattle.batcher_external.proofs.Wholes.{decided}

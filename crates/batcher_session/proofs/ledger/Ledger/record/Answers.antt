@@ -1,19 +1,20 @@
 use Rattle.std.proofs.Common.{◌∙◌, ap, sym}
 use Rattle.batcher_session.specs.Ledgers.{known_in}
+use Rattle.batcher_external.specs.Tables.{entries_of}
 use Rattle.batcher_session.proofs.Plain.{same_known, on_ok}
 use Rattle.batcher_session.proofs.ledger.Ledger.record.Goals as goal
 
 pub returns-clause-recorded : goal.returns-clause-recorded
 returns-clause-recorded g c =
     on_ok c.record.result
-    (λ e. same_known c.record.new.self.singles.entries c.args.number ∙ e)
+    (λ e. same_known (entries_of c.record.new.self.singles) c.args.number ∙ e)
     c.record.ensures.recorded
 
 pub returns-clause-others : goal.returns-clause-others
 returns-clause-others g c =
     on_ok c.record.result
-    (λ each. λ other differs. same_known c.record.new.self.singles.entries other
+    (λ each. λ other differs. same_known (entries_of c.record.new.self.singles) other
     ∙ each other differs
-    ∙ sym (same_known c.self.inside.verdicts.singles.entries other)
+    ∙ sym (same_known (entries_of c.self.inside.verdicts.singles) other)
     ∙ ap (λ l. known_in l.singles other) c.self.view_is)
     c.record.ensures.others

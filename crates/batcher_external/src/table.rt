@@ -1,0 +1,79 @@
+//! Verdicts by number.
+
+ghost use Rattle.std.specs.Prelude.{◌≡◌, ◌≢◌, [], ℕ, Some, IfSome, OnOk, OnErr};
+ghost use Rattle.batcher_external.specs.Known.{known_in};
+ghost use Rattle.batcher_external.specs.Tables.{entries_of};
+
+use crate::run::Run;
+use crate::truth::{Truth, Verdict};
+use std::alloc::{AllocError, Global};
+use std::collections::BTreeMap;
+
+/// Verdicts by number. One on a number above all others goes to the end of a list, which costs
+/// little, and each other one to a map, so that they may come in any order.
+#[derive(Drop)]
+pub struct Table<T: Truth> {
+    run: Run<T>,
+    others: BTreeMap<u64, Verdict<T>>,
+}
+
+impl<T: Truth> Table<T> {
+    /// No verdict. It takes no memory.
+    pub fn new(alloc: Global) -> Self
+        ensures { entries_of result ≡ [] }
+    {
+        Table {
+            run: Run::new(alloc),
+            others: BTreeMap::new(alloc),
+        }
+    }
+
+    /// Records a verdict. A refusal for memory changes nothing.
+    pub fn record(&mut self, number: u64, attests: bool) -> Result<(), AllocError>
+        requires { T.attests number ≡ attests }
+        ensures recorded { OnOk result (known_in (entries_of self.new) number ≡ Some attests) }
+        ensures others { OnOk result ((other : ℕ) → other ≢ number
+            → known_in (entries_of self.new) other ≡ known_in (entries_of self.old) other) }
+        ensures refused { OnErr result (entries_of self.new ≡ entries_of self.old) }
+    {
+        if self.run.is_below(number) {
+            return self.run.push(Verdict::new(number, attests));
+        }
+        // A number has one truth, so what was recorded before is the same.
+        let mut place = 0usize;
+        if self.run.known(&mut place, number).is_some() {
+            return Ok(());
+        }
+        match self.others.insert(number, Verdict::new(number, attests)) {
+            Ok(_) => Ok(()),
+            Err(_) => Err(AllocError),
+        }
+    }
+
+    /// The verdict on the attestation of a number, where there is one. Whoever asks about them in
+    /// the order in which they were recorded hands in the place that the last call has left, and 0
+    /// at first, which spares a search.
+    pub fn known(&self, place: &mut usize, number: u64) -> Option<bool>
+        ensures known { result ≡ known_in (entries_of self.now) number }
+        ensures agrees { IfSome result (λ attests. attests ≡ T.attests number) }
+    {
+        match self.run.known(place, number) {
+            Some(attests) => Some(attests),
+            None => {
+                let verdict = self.others.get(&number)?;
+                if verdict.number != number {
+                    return None;
+                }
+                Some(verdict.attests)
+            }
+        }
+    }
+
+    /// Forgets all of them. It keeps the room of the list.
+    pub fn clear(&mut self)
+        ensures { entries_of self.new ≡ [] }
+    {
+        self.run.clear();
+        self.others.clear();
+    }
+}

@@ -1,0 +1,114 @@
+//! Plays rounds for `tools/instructions`, which counts their instructions: each is a row of the
+//! benchmark, in which n participants notarize, a certificate is made, they finalize, and another
+//! is made. Nothing is printed.
+//!
+//! usage: counted ROUNDS PARTICIPANTS BYTES made|added|constructed
+//!
+//! `made` makes the rounds and drops them, `added` hands in the votes too, and `constructed` makes
+//! the certificates too.
+
+use batcher::positions::Round as Number;
+use batcher::{
+    Attestation, Epoch, Participant, Proposal, Round, Scheme, Set, Sha256Digest, Subject, View,
+    Vote,
+};
+use std::hint::black_box;
+use std::sync::Arc;
+
+const NUMBER: Number = Number::new(Epoch::zero(), View::new(1));
+
+/// A scheme whose signatures cost nothing to verify.
+struct Trusting<const BYTES: usize>(Set<u32>);
+
+impl<const BYTES: usize> Scheme for Trusting<BYTES> {
+    type PublicKey = u32;
+    type Signature = [u8; BYTES];
+    type Certificate = usize;
+
+    fn participants(&self) -> &Set<u32> {
+        &self.0
+    }
+
+    fn verify_attestations(
+        &self,
+        _: &Subject,
+        attestations: &[Attestation<[u8; BYTES]>],
+    ) -> Vec<bool> {
+        vec![true; attestations.len()]
+    }
+
+    fn assemble(&self, _: &Subject, attestations: &[Attestation<[u8; BYTES]>]) -> usize {
+        attestations.len()
+    }
+
+    fn verify_certificate(&self, _: &Subject, certificate: &usize) -> bool {
+        *certificate >= batcher::quorum(self.0.len()) as usize
+    }
+}
+
+fn vote<const BYTES: usize>(signer: u32, subject: Subject) -> Vote<[u8; BYTES]> {
+    let mut signature = [7; BYTES];
+    signature[..4].copy_from_slice(&signer.to_be_bytes());
+    Vote::new(
+        subject,
+        Attestation::new(Participant::new(signer), signature),
+    )
+}
+
+fn play<const BYTES: usize>(rounds: u32, participants: u32, adds: bool, constructs: bool) {
+    let keys = Set::new((0..participants).collect()).expect("keys differ");
+    let scheme = Arc::new(Trusting::<BYTES>(keys));
+    let proposal = Proposal::new(NUMBER, View::zero(), Sha256Digest([7; 32]));
+    let votes = [
+        Subject::Notarize { proposal },
+        Subject::Finalize { proposal },
+    ]
+    .map(|subject| {
+        let each = (0..participants).map(|signer| vote(signer, subject));
+        each.collect::<Vec<_>>()
+    });
+    for _ in 0..rounds {
+        let mut round = Round::new(NUMBER, scheme.clone(), true).expect("participants are there");
+        round
+            .set_leader(Participant::new(0))
+            .expect("it takes part");
+        for votes in &votes {
+            for vote in votes.iter().filter(|_| adds) {
+                let sender = vote.signer().get();
+                let admission = round.add_network(&sender, *vote);
+                black_box(&admission);
+                assert!(
+                    matches!(&admission, Ok(it) if it.added),
+                    "each is the first"
+                );
+            }
+            if constructs {
+                let batch = round.try_construct().expect("memory is there");
+                let certificate = batch.and_then(|it| it.certificate);
+                assert_eq!(
+                    certificate.map(|it| *it.content()),
+                    Some(participants as usize)
+                );
+            }
+        }
+    }
+}
+
+fn main() {
+    let words: Vec<_> = std::env::args().skip(1).collect();
+    let [rounds, participants, bytes, phase] = &words[..] else {
+        panic!("usage: counted ROUNDS PARTICIPANTS BYTES made|added|constructed");
+    };
+    let number = |word: &str| word.parse().expect("a number");
+    let (adds, constructs) = match &phase[..] {
+        "made" => (false, false),
+        "added" => (true, false),
+        "constructed" => (true, true),
+        other => panic!("{other} is none of made, added and constructed"),
+    };
+    match &bytes[..] {
+        "8" => play::<8>(number(rounds), number(participants), adds, constructs),
+        "64" => play::<64>(number(rounds), number(participants), adds, constructs),
+        other => panic!("signatures of {other} bytes aren't played"),
+    }
+}
