@@ -26,10 +26,6 @@ module _ (all first rest : List (Attestation ℕ)) where
       → b ≡ pointwise same_attestation all (first ++ rest)
   decided b decides = same_from_decides b _ decides (lists_decide all (first ++ rest))
 
-  pub too_short : length all < length first → Decides false (all ≡ first ++ rest)
-  too_short short = (
-    λ e. absurd (cc),
-    λ e. absurd (Prim.grind (arith, short, ap length e, length-append first rest)),
   )
 
   module _ (before after : List (Attestation ℕ))

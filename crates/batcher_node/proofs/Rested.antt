@@ -56,11 +56,6 @@ module _ {D K G C : Type 0} (y : Setting D K G C) where
       not certified && nat_le (quorum_in y) (length (filter (is_valid y)
       (cond (is_skipped y.mode) [] (filter (λ v. is_of_kind kind v && is_counted y selected v) votes))))
 
-  is_by : (past : History D K G C) (kind : Kind) → prompt.is_due y past kind
-      ≡ due_by (is_certified past kind) (fixed_proposal past) (leader_of past)
-      (first_votes y past) kind
-  is_by past kind = refl
-
   -- An event that adds no vote, names no leader and brings no evidence leaves what is due.
   unmoved : (event : Event D K G C) (past : History D K G C) (kind : Kind)
       → is_certified (event ∷ past) kind ≡ is_certified past kind

@@ -50,10 +50,6 @@ module _ {X : Type 0} where
       → get nat_cmp n key ≡ get nat_cmp m key
   same_get m n same key = ap (λ es. lookup (λ k. is_eq (nat_cmp key k)) es) same
 
--- what holds where there is nothing
-pub if_none : {T P : Type 0} (o : Option T) → o ≡ None → IfNone o P → P
-if_none {P = P} o is h = subst (λ o. IfNone o P) is h
-
 -- what holds at each error
 pub on_err : {A E P : Type 0} (r : Result A E) → P → OnErr r P
 on_err (Ok a) p = tt
@@ -92,11 +88,6 @@ pub is_another : (known : Option Participant) (leader : Participant) (e : Leader
     → Err e ≡ leader_set_answer known leader → leader_set_answer known leader ≡ Err LeaderChanged
 is_another None leader e is = absurd (true≢false (ap is_err is))
 is_another (Some known) leader e is = by_same (known.0 == leader.0) e tt is
-
--- a fresh round is due where the vote that it is told was added
-pub or_false : (added : Bool) → added ≡ (added || false)
-or_false true = refl
-or_false false = refl
 
 -- a round that constructs is due where it gives a batch
 pub due_given : {D C : Type 0} (K G : Type 0) (given : Option (Batch (Certificate C D)))

@@ -134,8 +134,8 @@ pub record IsLedByAnother {S G D : Type 0} (at : Option (Slot (RoundView S G D))
   pub there : at ≡ Some slot
   pub another : leader_set_answer slot.round.holds.buffered.leader leader ≡ Err RoundLeaderChanged
 
--- Why a call is refused by the round of a view, of which `why` says it: by the one that is there, or
--- by a fresh one.
+-- Why a call is refused by the round of a view, of which `why` says it: by the one that is there,
+-- or by a fresh one.
 abbrev pub Refuses : {S D K G C F : Type 0} → (RoundView S G D → Setting D K G C)
     → Option (Slot (RoundView S G D)) → RoundView S G D → (RoundView S G D → F → Type 0) → F
     → Type 0

@@ -22,19 +22,6 @@ use Rattle.batcher_node_session.proofs.Asking.{none_there}
 use Rattle.batcher_node_session.proofs.Over.{slot_at-over}
 
 module _ {R : Type 0} (es : List (ℕ × Slot R)) where
-  -- A view that changed isn't at rest.
-  pub changed_or_rests : (view : ℕ) → HasChanged (slot_at es view)
-      → IfSome (slot_at es view) (λ slot. slot.changed ≡ false) → ⊥
-  changed_or_rests view h rest =
-      true≢false (sym h.changed ∙ subst (λ o. IfSome o (λ slot. slot.changed ≡ false)) h.there rest)
-
-  not_below : (a b : ℕ) → IsNext es a → IsNext es b → a < b → ⊥
-  not_below a b first second below = changed_or_rests a first.changed (second.lowest a below)
-
-  -- There is one alone.
-  pub next_same : (a b : ℕ) → IsNext es a → IsNext es b → a ≡ b
-  next_same a b first second =
-      omega (arith, not_below a b first second, not_below b a second first)
 
 module _ {T : Type 0} {truth : Ghosts T} {b : ℕ} (batchable : Bool)
     (node : NodeView (External T b truth) ℕ Sha256Digest) (view : ℕ)

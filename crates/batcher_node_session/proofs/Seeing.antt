@@ -41,9 +41,6 @@ module _ {T : Type 0} {truth : Ghosts T} {b : ℕ} (batchable : Bool) where
           → NodeStands x past node → NodeStands x past (seen batchable node)
       stands_seen past h = stands_over x (scheme_seen batchable) past node h
 
-      pub history_seen : HasHistory x node → HasHistory x (seen batchable node)
-      history_seen h = has_history_over x (scheme_seen batchable) node h
-
       pub wherever_seen : (P : NodeHistory Sha256Digest Name ℕ (Content T truth) → Type 0)
           → WhereverNodeStands x node P → WhereverNodeStands x (seen batchable node) P
       wherever_seen P h = wherever_over x (scheme_seen batchable) node P h

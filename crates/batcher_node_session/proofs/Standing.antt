@@ -77,11 +77,6 @@ module _ {D K G C : Type 0} (x : NodeSetting D K G C) where
               (from_over see (AtView past view) node.rounds view (h.views view within));
         }
 
-    pub has_history_over : (node : NodeView S G D) → HasHistory x node
-        → HasHistory x (node_over see node)
-    has_history_over node h =
-        record { past = h.past; stands = stands_over h.past node h.stands }
-
     pub wherever_over : (node : NodeView S G D) (P : NodeHistory D K G C → Type 0)
         → WhereverNodeStands x node P → WhereverNodeStands x (node_over see node) P
     wherever_over node P h = λ past stands. h past (stands_under past node stands)

@@ -44,11 +44,6 @@ module _ {T : Type 0} {truth : Ghosts T} where
   same_unknown singles attestations =
       ap (λ p. filter p attestations) (λ i. λ a. is_none (same_known singles a.signature i))
 
-  pub same_together : (whole : Option (Whole T truth)) (attestations : List (Attestation ℕ))
-      → known_together (together_of whole) attestations ≡ known_of_whole whole attestations
-  same_together None attestations = refl
-  same_together (Some w) attestations = refl
-
 pub on_ok : {A E P Q : Type 0} (result : Result A E) → (P → Q) → OnOk result P → OnOk result Q
 on_ok (Ok a) f p = f p
 on_ok (Err e) f p = tt

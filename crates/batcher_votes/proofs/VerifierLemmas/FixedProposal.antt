@@ -38,12 +38,6 @@ module _ {D : Type 0} where
   fixes_any (LeadersProposal q) (Some p) h = refl
   fixes_any (FixedProposal q) (Some p) h = refl
 
-  pub fixed_stays : (same : D → D → Bool) (state : ProposalState D) (p : Proposal D)
-      → is_fixed state ≡ true → replaces same state p ≡ false
-  fixed_stays same Unknown p h = refl
-  fixed_stays same (LeadersProposal q) p h = absurd (cc)
-  fixed_stays same (FixedProposal q) p h = refl
-
   -- a finalization is for a proposal
   pub finalization_for : {C : Type 0} (certificate : Certificate C D)
       → is_kind (kind_certified certificate) Finalization ≡ true
