@@ -62,7 +62,7 @@ module _ {D K G C : Type 0} (x : Setting D K G C) where
       conflicts_with x.same_digest (selected_proposal x past) vote
       (facts_of past (kind_of vote) (signer_of vote))
 
-  -- what is known of the nullify that stands against a finalize, or the reverse
+  -- what is known of the nullify that opposes a finalize, or the reverse
   abbrev pub known_opposite : History D K G C → Option (Vote G D) → Observed G D
   known_opposite past None = unseen
   known_opposite past (Some earlier) =

@@ -31,7 +31,7 @@ pub record Known (G D : Type 0) : Type 0 where
   pub is_released : Kind → Bool
   -- the first vote of the kind and signer: none was seen, or it is kept, or facts are
   pub observed : Kind → ℕ → Observed G D
-  -- the same of the finalize that stands against a nullify, or the reverse
+  -- the same of the finalize of its signer that opposes a nullify, or the reverse
   pub opposite : Vote G D → Observed G D
 
 -- A first vote is known in full until its kind is released, and by facts from then on.
@@ -110,8 +110,8 @@ own_by same known vote =
 
 -- NETWORK
 module _ {D K G C : Type 0} (x : Setting D K G C) where
-  -- What a vote that names its sender is answered where no opposite one stands against it: by what
-  -- is known of the first one of its kind and signer.
+  -- What a vote that names its sender is answered where none opposes it: by what is known of the
+  -- first one of its kind and signer.
   abbrev pub admission_by : Option (Proposal D) → Observed G D → Vote G D → Admission G D
   admission_by selected unseen vote = addition vote
   admission_by selected (in_full kept) vote =
