@@ -11,7 +11,7 @@ use std::alloc::AllocError;
 
 /// A call of a round: what it is in the history of the round's view, and how it is made.
 pub(crate) trait Step<S: Scheme<D>, D: Digest>: Drop {
-    ghost use Rattle.std.specs.Prelude.{◌≡◌, IfOk, IfErr, OnErr};
+    ghost use Rattle.std.specs.Prelude.{◌≡◌, ⊤, IfOk, IfErr, OnErr};
     ghost use Rattle.batcher.specs.calls.Call.{Call as TheCall};
     ghost use Rattle.batcher.specs.answers.Answer.{Answer as TheAnswer};
     ghost use Rattle.batcher.specs.Held.{RoundView, SameRound};
@@ -28,7 +28,7 @@ pub(crate) trait Step<S: Scheme<D>, D: Digest>: Drop {
     ghost answered: { Self.Answer → TheAnswer S.Signature S.Certificate D };
 
     // What is known of the round where it refuses the call.
-    ghost refuses: { Self → RoundView S S.Signature D → Self.Fault → Type 0 } = { λ _ _ _. Unit {0} };
+    ghost refuses: { Self → RoundView S S.Signature D → Self.Fault → Type 0 } = { λ _ _ _. ⊤ };
 
     /// Makes the call, and notes whether the round has to be looked at after it.
     fn make(self, slot: &mut Slot<Round<S, D>>) -> Result<Self::Answer, Self::Fault>
