@@ -12,7 +12,7 @@ use Rattle.batcher.specs.Judged.{judge}
 use Rattle.batcher_node.specs.declared.slot.Slot.{Slot}
 use Rattle.batcher_node.specs.Windows.{contains, numbered}
 use Rattle.batcher_node.specs.Events.{proposal_forwarded}
-use Rattle.batcher_node.specs.Nodes.{NodeView, IsTended, TellsThere, slot_at}
+use Rattle.batcher_node.specs.Nodes.{NodeView, TellsThere, slot_at}
 use Rattle.batcher_node.specs.Stands.{IsNode}
 use Rattle.batcher_node.proofs.Telling.{if_some}
 use Rattle.batcher_node.proofs.Tending.{still_tended}

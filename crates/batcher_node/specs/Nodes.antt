@@ -8,10 +8,7 @@ use Rattle.std.specs.Map.{lookup}
 use Rattle.std.specs.BTreeMap.{is_at}
 use Rattle.batcher.specs.positions.Epoch.{Epoch}
 use Rattle.batcher.specs.positions.Participant.{Participant}
-use Rattle.batcher.specs.messages.Vote.{Vote}
 use Rattle.batcher.specs.verifier.LeaderFault.TheVariants.{LeaderChanged as RoundLeaderChanged}
-use Rattle.batcher.specs.answers.OwnFault.{OwnFault}
-use Rattle.batcher.specs.answers.OwnFault.TheVariants.{OutOfMemory as OutOfMemoryFault}
 use Rattle.batcher.specs.calls.Call.{Call}
 use Rattle.batcher.specs.calls.Call.TheVariants.{Network as NetworkCall, Construct as ConstructCall, Forward as ForwardCall}
 use Rattle.batcher.specs.answers.Answer.{Answer}
@@ -21,15 +18,12 @@ use Rattle.batcher.specs.verifier.Batch.{Batch}
 use Rattle.batcher.specs.Meaning.{Meaning}
 use Rattle.batcher.specs.Setting.{Setting}
 use Rattle.batcher.specs.Held.{RoundView, SameRound}
-use Rattle.batcher.specs.Steps.{nothing_held, leader_set_answer, fault_or_memory, AfterConstruct}
+use Rattle.batcher.specs.Steps.{nothing_held, leader_set_answer, AfterConstruct}
 use Rattle.batcher.specs.History.{Event}
-use Rattle.batcher.specs.Answers.{own_answer}
-use Rattle.batcher.specs.Judged.{FollowsAlways, WhereverItStands}
+use Rattle.batcher.specs.Judged.{FollowsAlways}
 use Rattle.batcher.specs.Stands.{Stands}
 use Rattle.batcher_node.specs.declared.window.Window.{Window}
 use Rattle.batcher_node.specs.declared.answers.Cause.{Cause}
-use Rattle.batcher_node.specs.declared.answers.EnterFault.{EnterFault}
-use Rattle.batcher_node.specs.declared.answers.EnterFault.TheVariants.{Passed, LeaderChanged, OutOfMemory}
 use Rattle.batcher_node.specs.declared.slot.Slot.{Slot}
 use Rattle.batcher_node.specs.Windows.{contains, mode_now, numbered}
 
@@ -134,8 +128,8 @@ pub record IsLedByAnother {S G D : Type 0} (at : Option (Slot (RoundView S G D))
   pub there : at ≡ Some slot
   pub another : leader_set_answer slot.round.holds.buffered.leader leader ≡ Err RoundLeaderChanged
 
--- Why a call is refused by the round of a view, of which `why` says it: by the one that is there,
--- or by a fresh one.
+-- Why the round of a view refuses a call, where `why` says that of a round: it is the one that is
+-- there, or a fresh one.
 abbrev pub Refuses : {S D K G C F : Type 0} → (RoundView S G D → Setting D K G C)
     → Option (Slot (RoundView S G D)) → RoundView S G D → (RoundView S G D → F → Type 0) → F
     → Type 0

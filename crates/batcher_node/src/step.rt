@@ -11,7 +11,7 @@ use std::alloc::AllocError;
 
 /// A call of a round: what it is in the history of the round's view, and how it is made.
 pub(crate) trait Step<S: Scheme<D>, D: Digest>: Drop {
-    ghost use Rattle.std.specs.Prelude.{◌≡◌, IfOk, IfErr, OnErr, ⊤};
+    ghost use Rattle.std.specs.Prelude.{◌≡◌, ⊤, IfOk, IfErr, OnErr};
     ghost use Rattle.batcher.specs.calls.Call.{Call as TheCall};
     ghost use Rattle.batcher.specs.answers.Answer.{Answer as TheAnswer};
     ghost use Rattle.batcher.specs.Held.{RoundView, SameRound};

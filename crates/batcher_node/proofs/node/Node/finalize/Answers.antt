@@ -1,4 +1,4 @@
-use Rattle.std.proofs.Common.{◌∷◌, refl, rules, sym, ap, subst}
+use Rattle.std.proofs.Common.{◌∷◌, refl, rules, sym, subst}
 use Rattle.batcher_node.specs.Stands.{IsNode}
 use Rattle.batcher_node.specs.Events.{view_finalized}
 use Rattle.batcher_node.proofs.Answering.{finalized_told}
