@@ -181,7 +181,13 @@ fn print_reports<S: TestScheme, W: Write>(
                     output.print(format_args!("node {number}: {report} convicts {found}"))?;
                 }
             }
-            _ => {}
+            Answer::Own(..)
+            | Answer::OwnRefused(_)
+            | Answer::Certificate(_)
+            | Answer::Leader(_)
+            | Answer::Construct(_)
+            | Answer::Forward(_)
+            | Answer::Missing(_) => {}
         }
     }
     Ok(())

@@ -13,7 +13,7 @@ use batcher::scheme::{Counter, Name};
 use batcher::verifier::Batch;
 use batcher_rows::plain::{Padded, Plain, Tally, mixed};
 use batcher_rows::plan::{NUMBER, Step, names, steps_of};
-use batcher_rows::rows::{Mode, Row, Size};
+use batcher_rows::rows::{Row, Size};
 use std::alloc::{AllocError, Global};
 use std::fmt;
 use std::rc::Rc;
@@ -200,11 +200,7 @@ fn round_of<P: Copy + Eq>(
     requires { 1 ≤ length scheme.value.participants }
     ensures { result.number ≡ NUMBER }
 {
-    match row.mode {
-        Mode::Retaining => Round::new(alloc, NUMBER, scheme, true),
-        Mode::Releasing => Round::new(alloc, NUMBER, scheme, false),
-        Mode::Skipped => Round::skipped(alloc, NUMBER, scheme),
-    }
+    Round::in_mode(alloc, NUMBER, scheme, row.mode)
 }
 
 // The calls of a round stand in functions that promise little, since what a call promises is

@@ -29,7 +29,12 @@ pub fn contradict<D: Digest>(a: Subject<D>, b: Subject<D>) -> bool
         (Subject::Finalize { proposal }, Subject::Nullify { round }) => {
             is_same_round(proposal.round, round)
         }
-        _ => false,
+        (
+            Subject::Notarize { .. } | Subject::Nullify { .. },
+            Subject::Notarize { .. } | Subject::Nullify { .. },
+        )
+        | (Subject::Notarize { .. }, Subject::Finalize { .. })
+        | (Subject::Finalize { .. }, Subject::Notarize { .. }) => false,
     }
 }
 

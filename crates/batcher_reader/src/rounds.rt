@@ -1,8 +1,7 @@
 //! The round that a script asks for, and what it answers.
 
-ghost use Rattle.std.specs.Prelude.{◌≡◌, ◌≤◌, true, length, IfOk};
+ghost use Rattle.std.specs.Prelude.{◌≡◌, true, length, IfOk};
 ghost use Rattle.std.specs.List.{list_all, AllZip};
-ghost use Rattle.batcher_histories.specs.Steps.{nothing_held};
 ghost use Rattle.batcher_reader.specs.Calls.{IsCallOf};
 ghost use Rattle.batcher_reader.specs.Commands.{is_among};
 ghost use Rattle.batcher_reader.specs.Played.{IsPlayed};
@@ -13,7 +12,6 @@ use batcher_round::round::Round;
 use batcher_run::run::{Answer, Call, run};
 use batcher_types::messages::Sha256Digest;
 use batcher_types::scheme::{Counter, Name};
-use batcher_votes::votes::Mode;
 use std::alloc::{AllocError, Global};
 use std::rc::Rc;
 
@@ -51,28 +49,10 @@ pub fn answer_all<S: TestScheme>(
         answered.calls.items answered.answers.items) }
 {
     let calls = calls_of(alloc, &*scheme, opening.round, commands)?;
-    let round = fresh_round(alloc, opening, scheme);
+    let round = Round::in_mode(alloc, opening.round, scheme, opening.mode);
     let ran = run(alloc, round, &mut Counter::new(0), calls.as_slice())?;
     Ok(Answered {
         calls,
         answers: ran.into_answers(),
     })
-}
-
-// The round that the first line asks for.
-fn fresh_round<S: TestScheme>(
-    alloc: Global,
-    opening: &Opening,
-    scheme: Rc<S>,
-) -> Round<S, Sha256Digest>
-    requires { 1 ≤ length (S.meaning scheme.value).participants }
-    ensures scheme { result.scheme ≡ scheme.value }
-    ensures number { result.number ≡ opening.now.round }
-    ensures fresh { result.holds ≡ nothing_held result.mode }
-{
-    match opening.mode {
-        Mode::Retaining => Round::new(alloc, opening.round, scheme, true),
-        Mode::Releasing => Round::new(alloc, opening.round, scheme, false),
-        Mode::Skipped => Round::skipped(alloc, opening.round, scheme),
-    }
 }

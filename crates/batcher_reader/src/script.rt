@@ -195,7 +195,12 @@ impl Command {
     {
         match self {
             Command::Own { signer, ballot: _ } => *signer < participants,
-            _ => true,
+            Command::Network { .. }
+            | Command::Certificate(_)
+            | Command::Leader(_)
+            | Command::Construct
+            | Command::Forward(_)
+            | Command::Missing(_) => true,
         }
     }
 

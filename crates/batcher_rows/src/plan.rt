@@ -81,7 +81,7 @@ fn early(row: &Row) -> usize
 {
     match row.course {
         Course::GoesOn => quorum(row.participants) as usize,
-        _ => row.participants as usize,
+        Course::Once | Course::Repeated | Course::BadThird => row.participants as usize,
     }
 }
 

@@ -3,6 +3,7 @@
 
 ghost use Rattle.std.specs.Prelude.{◌≤◌};
 
+pub use batcher::votes::Mode;
 use std::alloc::{AllocError, Global};
 use std::fmt;
 
@@ -25,16 +26,6 @@ pub enum Course {
     BadThird,
     /// A quorum before the certificate, and the others after it.
     GoesOn,
-}
-
-/// How a round keeps its votes.
-#[derive(Clone, Copy, Debug, PartialEq, Eq)]
-pub enum Mode {
-    Retaining,
-    /// The votes of a kind are released once it is certified.
-    Releasing,
-    /// The view is skipped: votes are noted, none is kept and nothing is certified.
-    Skipped,
 }
 
 /// How many bytes a signature has.
@@ -66,16 +57,6 @@ impl fmt::Display for Size {
     }
 }
 
-impl fmt::Display for Mode {
-    fn fmt<W: fmt::Write>(&self, f: &mut fmt::Formatter<W>) -> fmt::Result {
-        f.pad(match self {
-            Mode::Retaining => "retaining",
-            Mode::Releasing => "releasing",
-            Mode::Skipped => "skipped",
-        })
-    }
-}
-
 impl fmt::Display for Order {
     fn fmt<W: fmt::Write>(&self, f: &mut fmt::Formatter<W>) -> fmt::Result {
         f.pad(match self {
@@ -101,7 +82,7 @@ impl fmt::Display for Row {
     fn fmt<W: fmt::Write>(&self, f: &mut fmt::Formatter<W>) -> fmt::Result {
         let participants = self.participants;
         let size = self.size;
-        let mode = self.mode;
+        let mode = mode_word(self.mode);
         let order = self.order;
         let course = self.course;
         write!(
@@ -139,6 +120,14 @@ fn size_named(word: &str) -> Option<Size> {
         "32" => Some(Size::Bytes32),
         "64" => Some(Size::Bytes64),
         _ => None,
+    }
+}
+
+fn mode_word(mode: Mode) -> &'static str {
+    match mode {
+        Mode::Retaining => "retaining",
+        Mode::Releasing => "releasing",
+        Mode::Skipped => "skipped",
     }
 }
 

@@ -20,6 +20,7 @@ use batcher::positions::{self, Epoch, Participant, Set, View};
 use batcher::round::Round;
 use batcher::scheme::{AttestationList, Counter, Keyed, Name, Scheme};
 use batcher::verifier::Batch;
+use batcher_reader::calls::names;
 use std::alloc::{AllocError, Global};
 use std::process::Abort;
 use std::rc::Rc;
@@ -45,17 +46,7 @@ fn proposal(byte: u8) -> Proposal<Digest> {
     Proposal::new(number(), View::zero(), Sha256Digest([byte; 32]))
 }
 
-// The names below `n`, so that participant i has the name i. They are distinct, so nothing but
-// memory can be wanting.
-fn names(alloc: Global, n: u64) -> Result<Set<Name>, AllocError> {
-    let mut keys = Vec::new(alloc);
-    for i in 0..n {
-        keys.push(Name(i))?;
-    }
-    Set::new(keys).map_err(|_| AllocError)
-}
-
-fn keyed(alloc: Global, n: u64) -> Result<Keyed<true>, AllocError> {
+fn keyed(alloc: Global, n: u32) -> Result<Keyed<true>, AllocError> {
     Ok(Keyed::new(names(alloc, n)?, ROOT))
 }
 
@@ -63,7 +54,7 @@ fn keyed(alloc: Global, n: u64) -> Result<Keyed<true>, AllocError> {
 fn round(
     rt: &impl Abort,
     alloc: Global,
-    n: u64,
+    n: u32,
     track_historical_votes: bool,
 ) -> Result<TestRound, AllocError> {
     let participants = names(alloc, n)?;
@@ -76,7 +67,7 @@ fn round(
 fn fresh(
     rt: &impl Abort,
     alloc: Global,
-    n: u64,
+    n: u32,
     track_historical_votes: bool,
 ) -> Result<(TestRound, Keyed<true>), AllocError> {
     let scheme = keyed(alloc, n)?;

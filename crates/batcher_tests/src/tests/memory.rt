@@ -21,14 +21,14 @@ fn twice<T: Drop, E: Drop, F: Fn() -> Result<T, E>>(make: F) -> Result<T, E>
     }
 }
 
-fn keyed_twice(alloc: Global, n: u64) -> Result<Keyed<true>, AllocError> {
+fn keyed_twice(alloc: Global, n: u32) -> Result<Keyed<true>, AllocError> {
     twice(|| keyed(alloc, n))
 }
 
 fn fresh_twice(
     rt: &impl Abort,
     alloc: Global,
-    n: u64,
+    n: u32,
     track_historical_votes: bool,
 ) -> Result<(TestRound, Keyed<true>), AllocError> {
     twice(|| fresh(rt, alloc, n, track_historical_votes))
@@ -443,10 +443,12 @@ fn convicts(
 
 // Two notarizes of one signer for the payloads 1 and 2.
 fn conflict(scheme: &Keyed<true>, signer: u32) -> Option<Activity<[u8; 32], Digest>> {
-    match (notarize(scheme, signer, 1), notarize(scheme, signer, 2)) {
-        (Vote::Notarize(a), Vote::Notarize(b)) => Some(Activity::ConflictingNotarize(a, b)),
-        _ => None,
-    }
+    let (Vote::Notarize(a), Vote::Notarize(b)) =
+        (notarize(scheme, signer, 1), notarize(scheme, signer, 2))
+    else {
+        return None;
+    };
+    Some(Activity::ConflictingNotarize(a, b))
 }
 
 #[test]

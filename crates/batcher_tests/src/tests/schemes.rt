@@ -1,13 +1,8 @@
 //! The test schemes, and one that is written outside the library.
 
-ghost use Rattle.std.specs.Prelude.{◌≡◌, ◌&&◌, true, Option, Some, nat_lt, length, IfOk, IfErr, OnOk};
-ghost use Rattle.std.specs.Result.{result_ok};
-ghost use Rattle.rand_core.specs.Stream.{Stream};
-ghost use Rattle.batcher.specs.Attestations.{Sorts};
-
 use super::*;
-use batcher::scheme::{Sealed, Verification};
-use rand_core::CryptoRng;
+use batcher::scheme::Sealed;
+use batcher_example::Trusting;
 
 fn hex(alloc: Global, bytes: &[u8]) -> Result<String, Fail> {
     let mut text = String::new(alloc);
@@ -84,7 +79,7 @@ where
 {
     match certificate {
         Some(Certificate::Nullification(nullification)) => Some(nullification.certificate),
-        _ => None,
+        Some(Certificate::Notarization(_) | Certificate::Finalization(_)) | None => None,
     }
 }
 
@@ -193,119 +188,6 @@ fn a_scheme_that_is_not_batchable_verifies_each_vote_at_once(rt: HostRuntime) ->
     assert!(rt; batch.certificate.is_none());
     assert!(rt; !batch.fallback);
     Ok(())
-}
-
-/// A scheme in which a signature is the word of its signer, and a certificate a mere claim.
-#[derive(Drop)]
-struct Trusting {
-    participants: Set<Name>,
-}
-
-impl Scheme<Digest> for Trusting {
-    type PublicKey = Name;
-
-    type Signature = bool;
-
-    type Certificate = ();
-
-    ghost meaning = { λ s. record {
-      participants = s.participants;
-      batchable = true;
-      attests = λ subject a. nat_lt a.signer.0 (length s.participants) && a.signature;
-      certifies = λ subject c. true;
-      left_by_verifying = λ subject pending stream. stream;
-      assembled_at_once = λ subject pending verified stream. (Some tt, stream);
-      assembled = λ subject prior fresh. tt;
-    } };
-
-    ghost use Rattle.std.proofs.Common.{refl, arith};
-    ghost use Rattle.std.proofs.lemmas.Bool.Decides.{nat_tests};
-
-    ghost lawful = { λ s. record {
-      signers_in_range = λ subject a h. Prim.grind (arith, nat_tests, h);
-      optimistic_certifies = λ subject pending verified stream c may e. refl;
-      optimistic_gives = λ subject pending verified stream may all. refl;
-      assembled_certifies = λ subject prior fresh some quorum pass. refl;
-    } };
-
-    fn participants(&self) -> &Set<Name> {
-        &self.participants
-    }
-
-    fn is_batchable() -> bool {
-        true
-    }
-
-    fn verify_attestations<R: CryptoRng>(
-        &self,
-        alloc: Global,
-        rng: &mut R,
-        subject: Subject<Digest>,
-        pending: &[Attestation<bool>],
-    ) -> Result<Verification<bool>, AllocError>
-        ensures sorts { IfOk result (Sorts
-            (λ a. nat_lt a.signer.0 (length self.now.participants) && a.signature) pending.now) }
-        ensures stream { OnOk result (R.stream rng.new ≡ R.stream rng.old) }
-    {
-        let _ = rng;
-        let _ = subject;
-        let mut verified = Vec::new(alloc);
-        let mut invalid = Vec::new(alloc);
-        for attestation in pending {
-            if (attestation.signer.0 as usize) < self.participants.len() && attestation.signature {
-                verified.push(*attestation)?;
-            } else {
-                invalid.push(attestation.signer)?;
-            }
-        }
-        Ok(Verification { verified, invalid })
-    }
-
-    fn optimistic_assemble<R: CryptoRng>(
-        &self,
-        alloc: Global,
-        rng: &mut R,
-        subject: Subject<Digest>,
-        pending: &[Attestation<bool>],
-        verified: &[Attestation<bool>],
-    ) -> Result<Result<(), Verification<bool>>, AllocError>
-        ensures sorts { IfOk result (λ answer. IfErr answer
-            (Sorts (λ a. nat_lt a.signer.0 (length self.now.participants) && a.signature)
-            pending.now)) }
-        ensures function { IfOk result (λ answer. ◌≡◌ {A = Option (Unit {0}) × Stream}
-            (result_ok answer, R.stream rng.new) (Some tt, R.stream rng.old)) }
-    {
-        let _ = alloc;
-        let _ = rng;
-        let _ = subject;
-        let _ = pending;
-        let _ = verified;
-        Ok(Ok(()))
-    }
-
-    fn assemble(
-        &self,
-        alloc: Global,
-        subject: Subject<Digest>,
-        prior: &[Attestation<bool>],
-        fresh: &[Attestation<bool>],
-    ) -> Result<(), AllocError>
-        ensures function { IfOk result (λ certificate. certificate ≡ tt) }
-    {
-        let _ = alloc;
-        let _ = subject;
-        let _ = prior;
-        let _ = fresh;
-        Ok(())
-    }
-
-    fn verify_certificate(&self, subject: Subject<Digest>, certificate: &()) -> bool
-        ensures { result ≡ true }
-    {
-        let _ = subject;
-        let _ = certificate;
-        true
-    }
 }
 
 #[test]
