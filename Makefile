@@ -3,11 +3,12 @@
 # make audit [SCRIPT=file] names who voted both ways in the scripts of one or two nodes; without any, in a fork
 # make demo [SEED=n]       plays a network of validators, four of them faulty, and draws it; without a seed, of 1
 # make prove               proves and builds these programs, which are played unproved until then
-# make bench               plays the rows of the benchmark and takes their time
+# make bench               proves the benchmark, plays its rows and takes their time
 # make quick               proves what has changed, and plays all scripts
-# make rust                tests the doors for Rust and C, for which it takes cargo and cc
+# make rust                tests the interfaces for Rust and C, for which it takes cargo and cc
 # make test                proves everything and runs every test
 # make clean               removes all that rt has kept and built
+# make help                prints this list, as make does by itself
 
 # These come to the shell by the environment, so that a space or a shell character in them does no harm.
 export MAKEFILE_NAMED = $(value MAKEFILE_LIST)
@@ -21,7 +22,11 @@ unexport SCRIPT SEED
 # make begins its list of files with a space.
 TOP = "$$(dirname "$${MAKEFILE_NAMED\# }")"
 
-.PHONY: run hello audit demo prove bench quick rust test clean
+.PHONY: help run hello audit demo prove bench quick rust test clean
+
+# The list at the top is what it prints.
+help:
+	@sed -n '/^# /!q; s/^# //p' "$${MAKEFILE_NAMED# }"
 
 run:
 	@$(TOP)/tools/run "$$SCRIPT_NAMED"

@@ -23,6 +23,19 @@ fn word_of(role: Role) -> &'static str {
     }
 }
 
+// What a faulty one does wrong.
+fn deed_of(role: Role) -> &'static str {
+    match role {
+        Role::Honest => "does nothing wrong",
+        Role::Equivocates => "sends notarizes for two proposals in the view that it leads",
+        Role::SignsBadly => "flips a bit of the signature of each vote that it sends",
+        Role::Silent => "sends nothing: its row shows what its own node did",
+        Role::Floods => "sends a nullify of a far view with each vote",
+        Role::Forges => "makes a certificate of each vote alone, and sends it to a few",
+        Role::Repeats => "sends its last eight votes again with each vote",
+    }
+}
+
 /// Draws the network and says what came of it.
 pub(crate) fn draw(rt: &impl Print, seed: u64, network: &Network) -> Result<()> {
     let steps = network.steps;
@@ -39,6 +52,8 @@ pub(crate) fn draw(rt: &impl Print, seed: u64, network: &Network) -> Result<()> 
     draw_total(rt, network, Kind::Finalization, "finalized at")?;
     println!(rt; "")?;
     draw_legend(rt)?;
+    println!(rt; "")?;
+    draw_deeds(rt, network)?;
     println!(rt; "")?;
     for peer in 0..VALIDATORS {
         draw_blocks(rt, network, peer)?;
@@ -60,23 +75,27 @@ fn draw_heading(rt: &impl Print) -> Result<()> {
 
 fn draw_row(rt: &impl Print, validator: &Validator, role: Role) -> Result<()> {
     let me = validator.me;
-    let role = word_of(role);
-    print!(rt; "{me:>2} {role:<16}")?;
+    let word = word_of(role);
+    print!(rt; "{me:>2} {word:<16}")?;
     for view in 1..=VIEWS {
-        draw_cell(rt, validator, view)?;
+        draw_cell(rt, validator, role == Role::Silent, view)?;
     }
     println!(rt; "")?;
     Ok(())
 }
 
-fn draw_cell(rt: &impl Print, validator: &Validator, view: u64) -> Result<()> {
+fn draw_cell(rt: &impl Print, validator: &Validator, is_silent: bool, view: u64) -> Result<()> {
     let seen = validator.seen(view);
     let leads = if leader_of(view) == validator.me {
         '>'
     } else {
         ' '
     };
-    let own = own_mark(&seen);
+    let own = if is_silent {
+        unsent_mark(&seen)
+    } else {
+        own_mark(&seen)
+    };
     let made = certified_mark(&seen);
     let block = if validator.has_blocked_in(view) {
         '!'
@@ -106,6 +125,15 @@ fn own_mark(seen: &Seen) -> char {
         }
         (None, true) => 'z',
         (None, false) => '.',
+    }
+}
+
+// The same of one that sends nothing.
+fn unsent_mark(seen: &Seen) -> char {
+    if seen.voted.is_some() || seen.gave_up {
+        '-'
+    } else {
+        '.'
     }
 }
 
@@ -142,8 +170,23 @@ fn draw_total(rt: &impl Print, network: &Network, kind: Kind, title: &str) -> Re
 fn draw_legend(rt: &impl Print) -> Result<()> {
     print!(rt; "> leads   a, b notarized that proposal   A, B gave the view up after that")?;
     println!(rt; "   z gave it up")?;
+    println!(rt; "- voted, and sent nothing   . nothing yet")?;
     print!(rt; "F finalized   N notarized   0 nullified   * notarized and nullified")?;
     println!(rt; "   ! blocked somebody")?;
+    Ok(())
+}
+
+// What each faulty one does wrong.
+fn draw_deeds(rt: &impl Print, network: &Network) -> Result<()> {
+    for validator in network.validators.as_slice() {
+        let me = validator.me;
+        let role = network.role(me);
+        if role != Role::Honest {
+            let word = word_of(role);
+            let deed = deed_of(role);
+            println!(rt; "{me:>2} {word:<12} {deed}")?;
+        }
+    }
     Ok(())
 }
 
@@ -223,7 +266,7 @@ fn draw_checks(rt: &impl Print, checks: &Checks) -> Result<()> {
     let rested = yes_or_no(checks.rested);
     let completed = yes_or_no(checks.completed);
     println!(rt; "all honest validators finalized the same {finalized} views: {agreed}")?;
-    println!(rt; "the faulty are blocked by the honest who saw why, and by no others: {caught}")?;
+    println!(rt; "each honest one blocked just those that it saw reason to block: {caught}")?;
     println!(rt; "no honest one is blocked by anybody: {spared}")?;
     println!(rt; "no vote that came again woke a view that was at rest: {rested}")?;
     println!(rt;

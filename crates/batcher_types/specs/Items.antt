@@ -1,6 +1,7 @@
 -- A list of items in ascending order of their signers, as a map from signers.
-use Rattle.std.specs.Prelude.{ℕ, Bool, nat_eq, nat_lt, ◌&&◌, ◌==◌, is_none, if◌then◌else◌, List, Option, Result, Ok, Err, find, map}
+use Rattle.std.specs.Prelude.{◌≡◌, ◌<◌, ◌≤◌, ℕ, Bool, nat_eq, nat_lt, ◌&&◌, ◌==◌, is_none, if◌then◌else◌, List, length, insert, slice_index_or, Option, Some, None, Result, Ok, Err, find, map}
 use Rattle.std.specs.List.{list_any}
+use Rattle.batcher_types.specs.Ascending.{insert_by}
 use Rattle.batcher_types.specs.Lists.{count}
 
 -- What a map shows: the bound on signers, the items in the order of their signers, and for how many
@@ -29,3 +30,16 @@ unfoldable pub place_of : List ℕ → ℕ → Result ℕ ℕ
 place_of signers i =
     if list_any (λ s. s == i) signers then Ok (count (λ s. nat_lt s i) signers) else Err
     (count (λ s. nat_lt s i) signers)
+
+module _ {T : Type 0} (signer : T → ℕ) (items : List T) (i : ℕ) where
+  -- The item of a signer is at this place.
+  abbrev pub IsPlaced : ℕ → Type 0
+  IsPlaced place =
+      (place < length items)
+      × ((d : T) → item_of signer items i ≡ Some (slice_index_or items place d))
+
+  -- The signer has no item, and one that is inserted at this place is in the order of the signers.
+  abbrev pub GoesTo : ℕ → Type 0
+  GoesTo place =
+      (place ≤ length items) × (item_of signer items i ≡ None)
+      × ((x : T) → signer x ≡ i → insert items place x ≡ insert_by signer x items)

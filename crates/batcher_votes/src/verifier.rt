@@ -13,11 +13,12 @@ ghost use Rattle.batcher_types.specs.Votes.{is_kind, kind_of, is_of_kind, has_pr
 ghost use Rattle.batcher_votes.specs.Selected.{proposal_of, selects, updated, same_selected, replaces};
 ghost use Rattle.batcher_votes.specs.Held.{of_kind, SameVerifier};
 ghost use Rattle.batcher_types.specs.Attempts.{attempt_of};
-ghost use Rattle.batcher_votes.specs.Buffering.{attestations_of, nothing_buffered, subject_from, is_buffered, is_dropped, leaders_vote, leader_answer, is_ready, subject_tried, certificate_for};
-ghost use Rattle.batcher_votes.specs.Buffering.{Buffers, TriesKind, AddsVote, SetsLeader, SetsProposal, CompletesKind};
+ghost use Rattle.batcher_votes.specs.Buffering.{attestations_of, nothing_buffered, subject_from, is_buffered, is_dropped, leaders_vote, leader_answer, subject_tried, certificate_for};
+ghost use Rattle.batcher_votes.specs.Buffering.{AddsVote, SetsLeader, SetsProposal, CompletesKind};
 ghost use Rattle.batcher_votes.specs.Looked.{pending_tried, verified_tried};
 ghost use Rattle.batcher_votes.specs.Sound.{IsSound, KeepsAllRoom, KeepsOtherRoom, RestoresRoom};
-ghost use Rattle.batcher_votes.specs.Verifiers.{is_of_round, subject_ready, IfGiven, BatchCertifies, NamesSomebody};
+ghost use Rattle.batcher_votes.specs.Verifiers.{is_of_round, subject_ready, is_ready_in, Tries, IfGiven, BatchCertifies, NamesSomebody, IsLeftAlone};
+ghost use Rattle.batcher_votes.specs.Verifiers.{room_for, taken_by, HasRoomToRestore, RestoresAll};
 
 mod attempt;
 mod buffer;
@@ -185,12 +186,11 @@ impl<S: Scheme<D>, D: Digest> Verifier<S, D> {
         ensures adds { OnOk result (AddsVote D.eq self.old.holds vote verified self.new.holds) }
         ensures unchanged { OnErr result (self.new.holds ≡ self.old.holds) }
         ensures dropped { is_dropped D.eq self.old.holds vote ≡ true → IsOk result }
-        ensures no_memory { 1 ≤ cond verified (of_kind self.old.verified_room (kind_of vote))
-            (of_kind self.old.pending_room (kind_of vote)) → IsOk result }
-        ensures pending_room { (kind : TheKind) → of_kind self.old.pending_room kind
-            ≤ of_kind self.new.pending_room kind + cond (is_of_kind kind vote && not verified) 1 0 }
-        ensures verified_room { (kind : TheKind) → of_kind self.old.verified_room kind
-            ≤ of_kind self.new.verified_room kind + cond (is_of_kind kind vote && verified) 1 0 }
+        ensures no_memory { 1 ≤ room_for self.old (kind_of vote) verified → IsOk result }
+        ensures pending_room { (kind : TheKind) → room_for self.old kind false
+            ≤ room_for self.new kind false + taken_by vote verified kind false }
+        ensures verified_room { (kind : TheKind) → room_for self.old kind true
+            ≤ room_for self.new kind true + taken_by vote verified kind true }
         ensures same { SameVerifier self.old self.new }
     {
         if !self.drops(&vote) {
@@ -212,8 +212,7 @@ impl<S: Scheme<D>, D: Digest> Verifier<S, D> {
         requires fresh { is_buffered self.old.holds (kind_of vote.now) (signer_of vote.now)
             ≡ false }
         requires room { is_dropped D.eq self.old.holds vote.now ≡ false
-            → 1 ≤ cond verified (of_kind self.old.verified_room (kind_of vote.now))
-            (of_kind self.old.pending_room (kind_of vote.now)) }
+            → 1 ≤ room_for self.old (kind_of vote.now) verified }
         ensures adds { AddsVote D.eq self.old.holds vote.now verified self.new.holds }
         ensures same { SameVerifier self.old self.new }
     {
@@ -326,14 +325,10 @@ impl<S: Scheme<D>, D: Digest> Verifier<S, D> {
         requires once { EachOnce signer_of votes }
         requires none_wait { (of_kind self.old.holds.pending kind ≡ [])
             × (of_kind self.old.holds.verified kind ≡ []) }
-        requires room { of_kind self.old.holds.certified kind ≡ false
-            → length (filter (waits D.eq (proposal_of self.old.holds.selection)) votes)
-            ≤ of_kind self.old.pending_room kind }
+        requires room { HasRoomToRestore D.eq self.old kind votes }
         ensures leader { self.new.holds.leader ≡ self.old.holds.leader }
         ensures selection { self.new.holds.selection ≡ self.old.holds.selection }
-        ensures buffers { (other : TheKind)
-            → Buffers D.eq self.old.holds self.new.holds other
-            (cond (is_kind kind other) votes.entry []) [] }
+        ensures buffers { RestoresAll D.eq self.old.holds kind votes.entry self.new.holds }
         ensures room { RestoresRoom kind self.old.pending_room self.old.verified_room
             self.new.pending_room self.new.verified_room }
         ensures same { SameVerifier self.old self.new }
@@ -397,11 +392,8 @@ impl<S: Scheme<D>, D: Digest> Verifier<S, D> {
     ) -> Result<(), AllocError>
         ensures holds { self.new.holds ≡ self.old.holds }
         ensures kept { KeepsAllRoom self.old self.new }
-        ensures room { OnOk result (additional
-            ≤ cond verified (of_kind self.new.verified_room kind)
-            (of_kind self.new.pending_room kind)) }
-        ensures no_memory { additional ≤ cond verified (of_kind self.old.verified_room kind)
-            (of_kind self.old.pending_room kind) → IsOk result }
+        ensures room { OnOk result (additional ≤ room_for self.new kind verified) }
+        ensures no_memory { additional ≤ room_for self.old kind verified → IsOk result }
         ensures same { SameVerifier self.old self.new }
     {
         let most = self.scheme.participants().len();
@@ -416,16 +408,13 @@ impl<S: Scheme<D>, D: Digest> Verifier<S, D> {
         rng: &mut R,
     ) -> Result<Option<Batch<Certificate<S::Certificate, D>>>, AllocError>
         ensures ready { IfOk result (λ given. is_some given
-            ≡ is_ready D.eq (S.meaning self.old.scheme).batchable self.old.quorum self.old.holds
-            TheNotarization) }
-        ensures tries { IfGiven result (λ batch.
-            TriesKind (S.meaning self.old.scheme) self.old.number self.old.quorum self.old.holds
-            TheNotarization (R.stream rng.old) batch (R.stream rng.new) self.new.holds) }
+            ≡ is_ready_in S.meaning D.eq self.old TheNotarization) }
+        ensures tries { IfGiven result (λ batch. Tries S.meaning self.old TheNotarization
+            (R.stream rng.old) batch (R.stream rng.new) self.new) }
         ensures certifies { IfGiven result (BatchCertifies (S.meaning self.old.scheme)) }
         ensures names { IfGiven result NamesSomebody }
-        ensures not_ready { is_ready D.eq (S.meaning self.old.scheme).batchable self.old.quorum
-            self.old.holds TheNotarization ≡ false → (IsOk result) × (self.new ≡ self.old)
-            × (R.stream rng.new ≡ R.stream rng.old) }
+        ensures not_ready { is_ready_in S.meaning D.eq self.old TheNotarization ≡ false
+            → IsLeftAlone result self.old self.new (R.stream rng.old) (R.stream rng.new) }
         ensures unchanged { OnErr result (self.new.holds ≡ self.old.holds) }
         ensures same { SameVerifier self.old self.new }
     {
@@ -438,16 +427,13 @@ impl<S: Scheme<D>, D: Digest> Verifier<S, D> {
         rng: &mut R,
     ) -> Result<Option<Batch<Certificate<S::Certificate, D>>>, AllocError>
         ensures ready { IfOk result (λ given. is_some given
-            ≡ is_ready D.eq (S.meaning self.old.scheme).batchable self.old.quorum self.old.holds
-            TheNullification) }
-        ensures tries { IfGiven result (λ batch.
-            TriesKind (S.meaning self.old.scheme) self.old.number self.old.quorum self.old.holds
-            TheNullification (R.stream rng.old) batch (R.stream rng.new) self.new.holds) }
+            ≡ is_ready_in S.meaning D.eq self.old TheNullification) }
+        ensures tries { IfGiven result (λ batch. Tries S.meaning self.old TheNullification
+            (R.stream rng.old) batch (R.stream rng.new) self.new) }
         ensures certifies { IfGiven result (BatchCertifies (S.meaning self.old.scheme)) }
         ensures names { IfGiven result NamesSomebody }
-        ensures not_ready { is_ready D.eq (S.meaning self.old.scheme).batchable self.old.quorum
-            self.old.holds TheNullification ≡ false → (IsOk result) × (self.new ≡ self.old)
-            × (R.stream rng.new ≡ R.stream rng.old) }
+        ensures not_ready { is_ready_in S.meaning D.eq self.old TheNullification ≡ false
+            → IsLeftAlone result self.old self.new (R.stream rng.old) (R.stream rng.new) }
         ensures unchanged { OnErr result (self.new.holds ≡ self.old.holds) }
         ensures same { SameVerifier self.old self.new }
     {
@@ -460,16 +446,13 @@ impl<S: Scheme<D>, D: Digest> Verifier<S, D> {
         rng: &mut R,
     ) -> Result<Option<Batch<Certificate<S::Certificate, D>>>, AllocError>
         ensures ready { IfOk result (λ given. is_some given
-            ≡ is_ready D.eq (S.meaning self.old.scheme).batchable self.old.quorum self.old.holds
-            TheFinalization) }
-        ensures tries { IfGiven result (λ batch.
-            TriesKind (S.meaning self.old.scheme) self.old.number self.old.quorum self.old.holds
-            TheFinalization (R.stream rng.old) batch (R.stream rng.new) self.new.holds) }
+            ≡ is_ready_in S.meaning D.eq self.old TheFinalization) }
+        ensures tries { IfGiven result (λ batch. Tries S.meaning self.old TheFinalization
+            (R.stream rng.old) batch (R.stream rng.new) self.new) }
         ensures certifies { IfGiven result (BatchCertifies (S.meaning self.old.scheme)) }
         ensures names { IfGiven result NamesSomebody }
-        ensures not_ready { is_ready D.eq (S.meaning self.old.scheme).batchable self.old.quorum
-            self.old.holds TheFinalization ≡ false → (IsOk result) × (self.new ≡ self.old)
-            × (R.stream rng.new ≡ R.stream rng.old) }
+        ensures not_ready { is_ready_in S.meaning D.eq self.old TheFinalization ≡ false
+            → IsLeftAlone result self.old self.new (R.stream rng.old) (R.stream rng.new) }
         ensures unchanged { OnErr result (self.new.holds ≡ self.old.holds) }
         ensures same { SameVerifier self.old self.new }
     {
@@ -483,18 +466,15 @@ impl<S: Scheme<D>, D: Digest> Verifier<S, D> {
         rng: &mut R,
     ) -> Result<Option<Batch<Certificate<S::Certificate, D>>>, AllocError>
         ensures ready { IfOk result (λ given. is_some given
-            ≡ is_ready D.eq (S.meaning self.old.scheme).batchable self.old.quorum self.old.holds
-            kind) }
-        ensures tries { IfGiven result (λ batch.
-            TriesKind (S.meaning self.old.scheme) self.old.number self.old.quorum self.old.holds
-            kind (R.stream rng.old) batch (R.stream rng.new) self.new.holds) }
+            ≡ is_ready_in S.meaning D.eq self.old kind) }
+        ensures tries { IfGiven result (λ batch. Tries S.meaning self.old kind
+            (R.stream rng.old) batch (R.stream rng.new) self.new) }
         ensures certifies { IfGiven result (BatchCertifies (S.meaning self.old.scheme)) }
         ensures names { IfGiven result NamesSomebody }
         ensures sound { IsSound (S.meaning self.old.scheme) D.eq self.old.number self.old.quorum
             self.old.holds }
-        ensures not_ready { is_ready D.eq (S.meaning self.old.scheme).batchable self.old.quorum
-            self.old.holds kind ≡ false → (IsOk result) × (self.new ≡ self.old)
-            × (R.stream rng.new ≡ R.stream rng.old) }
+        ensures not_ready { is_ready_in S.meaning D.eq self.old kind ≡ false
+            → IsLeftAlone result self.old self.new (R.stream rng.old) (R.stream rng.new) }
         ensures unchanged { OnErr result (self.new.holds ≡ self.old.holds) }
         ensures same { SameVerifier self.old self.new }
     {
@@ -506,8 +486,7 @@ impl<S: Scheme<D>, D: Digest> Verifier<S, D> {
 
     /// What an attempt at a kind's certificate would look at, where the kind is ready.
     pub fn next_attempt(&self, kind: Kind) -> Option<NextAttempt<'_, S::Signature, D>>
-        ensures ready { is_some result ≡ is_ready D.eq (S.meaning self.now.scheme).batchable
-            self.now.quorum self.now.holds kind }
+        ensures ready { is_some result ≡ is_ready_in S.meaning D.eq self.now kind }
         ensures subject { option_map (λ a. a.subject) result
             ≡ subject_ready D.eq (S.meaning self.now.scheme).batchable self.now.quorum
             self.now.holds self.now.number kind }
@@ -574,8 +553,7 @@ impl<S: Scheme<D>, D: Digest> Verifier<S, D> {
     fn subject_ready(&self, kind: Kind) -> Option<Subject<D>>
         ensures subject { result ≡ subject_ready D.eq (S.meaning self.now.scheme).batchable
             self.now.quorum self.now.holds self.now.number kind }
-        ensures ready { is_some result ≡ is_ready D.eq (S.meaning self.now.scheme).batchable
-            self.now.quorum self.now.holds kind }
+        ensures ready { is_some result ≡ is_ready_in S.meaning D.eq self.now kind }
         ensures sound { IsSound (S.meaning self.now.scheme) D.eq self.now.number self.now.quorum
             self.now.holds }
     {
@@ -655,9 +633,8 @@ impl<S: Scheme<D>, D: Digest> Verifier<S, D> {
     ) -> Result<Batch<Certificate<S::Certificate, D>>, AllocError>
         requires { subject_ready D.eq (S.meaning self.old.scheme).batchable self.old.quorum
             self.old.holds self.old.number kind ≡ Some subject }
-        ensures tries { IfOk result (λ batch. TriesKind (S.meaning self.old.scheme) self.old.number
-            self.old.quorum self.old.holds kind (R.stream rng.old) batch (R.stream rng.new)
-            self.new.holds) }
+        ensures tries { IfOk result (λ batch. Tries S.meaning self.old kind (R.stream rng.old)
+            batch (R.stream rng.new) self.new) }
         ensures certifies { IfOk result (BatchCertifies (S.meaning self.old.scheme)) }
         ensures names { IfOk result NamesSomebody }
         ensures unchanged { OnErr result (self.new.holds ≡ self.old.holds) }

@@ -1,6 +1,6 @@
 //! The votes of a round: the first of each kind per signer, in full or as facts.
 
-ghost use Rattle.std.specs.Prelude.{ℕ, ◌≡◌, ◌≤◌, ◌<◌, ◌+◌, ◌^◌, true, false, ◌&&◌, ◌||◌, nat_lt, cond, is_ok, is_some, IsOk, IfOk, IfErr, OnOk, OnErr, Some, None, length, filter, map, slice_set, slice_index_or};
+ghost use Rattle.std.specs.Prelude.{ℕ, ◌≡◌, ◌≤◌, ◌<◌, ◌+◌, ◌^◌, true, false, ◌&&◌, ◌||◌, nat_lt, cond, if◌then◌else◌, is_ok, is_some, IsOk, IfOk, IfErr, OnOk, OnErr, Some, None, length, filter, map, slice_set, slice_index_or};
 ghost use Rattle.std.specs.Option.{option_copied, option_map};
 ghost use Rattle.std.specs.Iterator.{YieldsFirst, item_count};
 ghost use Rattle.batcher_types.specs.declared.messages.Kind.{Kind};
@@ -330,7 +330,7 @@ impl<G: Copy, D: Digest> VoteTracker<G, D> {
         requires { lower ≡ count (λ s. nat_lt s signer.0) self.now.signers }
         ensures place { result ≡ place_of self.now.signers signer.0 }
         ensures next { count (λ s. nat_lt s (signer.0 + 1)) self.now.signers
-            ≡ lower + cond (is_ok result) 1 0 }
+            ≡ lower + (if is_ok result then 1 else 0) }
     {
         self.entries.place_after(lower, signer)
     }

@@ -19,7 +19,7 @@ ghost use Rattle.batcher_histories.specs.Answers.{IsPossible};
 use crate::messages::Digest;
 use crate::scheme::Scheme;
 
-/// Does nothing. Its contract is the worked examples of `docs/DEFINITIONS.md`: what histories of
+/// Does nothing. Its contract is the worked examples of `docs/GUARANTEES.md`: what histories of
 /// small rounds name as answers, computed from the definitions.
 pub fn worked_examples()
     ensures answers { WorkedExamples }

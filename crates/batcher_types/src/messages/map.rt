@@ -1,12 +1,12 @@
 //! A map from signers to their items.
 
 ghost use Rattle.std.specs.Prelude.{ℕ, ◌≡◌, ◌+◌, ◌-◌, ◌<◌, ◌≤◌, ◌↔◌, List, [], Some, None, false, length, IsTrue, IsOk, IfOk, OnOk, OnErr, IfErr, vec_len, vec_capacity, slice_get, slice_index_or, slice_set, insert, map, Err, if◌then◌else◌};
-ghost use Rattle.std.specs.Prelude.{MatchResult, is_ok, cond, nat_lt, ◌==◌};
+ghost use Rattle.std.specs.Prelude.{MatchResult, is_ok, nat_lt, ◌==◌};
 ghost use Rattle.std.specs.List.{All};
 ghost use Rattle.std.specs.Option.{option_copied};
 ghost use Rattle.std.specs.Iterator.{YieldsFirstRef, item_count};
 ghost use Rattle.batcher_types.specs.Ascending.{IsAscending, insert_by};
-ghost use Rattle.batcher_types.specs.Items.{Items, item_of, is_new, replace_by, place_of};
+ghost use Rattle.batcher_types.specs.Items.{Items, item_of, is_new, replace_by, place_of, IsPlaced, GoesTo};
 ghost use Rattle.batcher_types.specs.Lists.{count, is_some_and};
 
 use crate::messages::Attributable;
@@ -200,13 +200,10 @@ impl<T: Attributable> AttributableMap<T> {
     pub fn place(&self, signer: Participant) -> Place
         ensures place { result ≡ place_of (map (λ x. (T.signed_by x).0) self.now.items) signer.0 }
         ensures ascending { IsAscending (λ x. (T.signed_by x).0) self.now.items }
-        ensures found { IfOk result (λ i. (i < length self.now.items)
-            × ((d : T) → item_of (λ x. (T.signed_by x).0) self.now.items signer.0
-            ≡ Some (slice_index_or self.now.items i d))) }
-        ensures absent { IfErr result (λ i. (i ≤ length self.now.items)
-            × (item_of (λ x. (T.signed_by x).0) self.now.items signer.0 ≡ None)
-            × ((x : T) → (T.signed_by x).0 ≡ signer.0 → insert self.now.items i x
-            ≡ insert_by (λ x. (T.signed_by x).0) x self.now.items)) }
+        ensures found { IfOk result
+            (IsPlaced (λ x. (T.signed_by x).0) self.now.items signer.0) }
+        ensures absent { IfErr result
+            (GoesTo (λ x. (T.signed_by x).0) self.now.items signer.0) }
     {
         let index = usize::from(signer);
         if self.is_below(signer) {
@@ -227,7 +224,8 @@ impl<T: Attributable> AttributableMap<T> {
             (map (λ x. (T.signed_by x).0) self.now.items) }
         ensures place { result ≡ place_of (map (λ x. (T.signed_by x).0) self.now.items) signer.0 }
         ensures next { count (λ s. nat_lt s (signer.0 + 1))
-            (map (λ x. (T.signed_by x).0) self.now.items) ≡ lower + cond (is_ok result) 1 0 }
+            (map (λ x. (T.signed_by x).0) self.now.items)
+            ≡ lower + (if is_ok result then 1 else 0) }
     {
         if self.is_at(lower, signer) {
             Ok(lower)
@@ -274,13 +272,10 @@ impl<T: Attributable> AttributableMap<T> {
     // Where the signer's item stands, else where it would, by halves.
     fn searched_place(&self, signer: Participant) -> Place
         ensures place { result ≡ place_of (map (λ x. (T.signed_by x).0) self.now.items) signer.0 }
-        ensures found { IfOk result (λ i. (i < length self.now.items)
-            × ((d : T) → item_of (λ x. (T.signed_by x).0) self.now.items signer.0
-            ≡ Some (slice_index_or self.now.items i d))) }
-        ensures absent { IfErr result (λ i. (i ≤ length self.now.items)
-            × (item_of (λ x. (T.signed_by x).0) self.now.items signer.0 ≡ None)
-            × ((x : T) → (T.signed_by x).0 ≡ signer.0 → insert self.now.items i x
-            ≡ insert_by (λ x. (T.signed_by x).0) x self.now.items)) }
+        ensures found { IfOk result
+            (IsPlaced (λ x. (T.signed_by x).0) self.now.items signer.0) }
+        ensures absent { IfErr result
+            (GoesTo (λ x. (T.signed_by x).0) self.now.items signer.0) }
     {
         self.items
             .binary_search_by_key(&signer.0, |item| item.signer().0)
