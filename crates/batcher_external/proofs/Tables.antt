@@ -11,7 +11,7 @@ use Rattle.std.proofs.lemmas.Bool.Decides.{nat_tests}
 use Rattle.batcher_types.specs.Ascending.{IsAscending, is_ascending}
 use Rattle.batcher_types.specs.Items.{item_of}
 use Rattle.batcher_types.specs.Ordered.{rec_from_all, is_ascending-true}
-use Rattle.batcher_types.proofs.Orders.{last_absent, ascending_from_test}
+use Rattle.batcher_types.proofs.AscendingLemmas.{last_absent, ascending_from_test}
 use Rattle.batcher_external.specs.declared.truth.Truth.{Ghosts}
 use Rattle.batcher_external.specs.declared.truth.Verdict.{Verdict}
 use Rattle.batcher_external.specs.Known.{known_in, known_in_run, numbered}

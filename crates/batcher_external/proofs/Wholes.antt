@@ -26,8 +26,6 @@ module _ (all first rest : List (Attestation ℕ)) where
       → b ≡ pointwise same_attestation all (first ++ rest)
   decided b decides = same_from_decides b _ decides (lists_decide all (first ++ rest))
 
-  )
-
   module _ (before after : List (Attestation ℕ))
       (split : IsSplitAt all (length first) before after) where
     parts : all ≡ before ++ after

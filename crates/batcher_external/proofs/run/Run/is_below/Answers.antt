@@ -1,5 +1,5 @@
 use Rattle.std.proofs.Common.{refl}
-use Rattle.batcher_types.proofs.Orders.{all_below_last, ascending_from_test}
+use Rattle.batcher_types.proofs.AscendingLemmas.{all_below_last, ascending_from_test}
 use Rattle.batcher_external.proofs.run.Run.is_below.Goals as goal
 
 pub returns-in-Some : goal.returns-in-Some

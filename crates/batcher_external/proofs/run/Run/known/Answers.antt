@@ -1,7 +1,7 @@
 use Rattle.std.proofs.Common.{rules, ◌∙◌, Some, ap, sym, refl}
 use Rattle.std.specs.Option.{option_map}
 use Rattle.std.proofs.lemmas.List.Sorted.{answers_always}
-use Rattle.batcher_types.proofs.Orders.{last_absent, ascending_from_test, search_found, search_absent}
+use Rattle.batcher_types.proofs.AscendingLemmas.{last_absent, ascending_from_test, search_found, search_absent}
 use Rattle.batcher_external.proofs.run.Run.known.Goals as goal
 
 pub returns-then-is_below : goal.returns-then-is_below

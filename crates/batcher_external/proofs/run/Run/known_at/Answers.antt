@@ -2,7 +2,7 @@ use Rattle.std.proofs.Common.{◌≡◌, ◌∙◌, Some, ap, sym, arith, slice_
 use Rattle.std.proofs.lemmas.Grind.{common_steps}
 use Rattle.std.proofs.lemmas.Option.{gets}
 use Rattle.std.specs.Option.{option_map, option_copied}
-use Rattle.batcher_types.proofs.Orders.{ascending_from_test}
+use Rattle.batcher_types.proofs.AscendingLemmas.{ascending_from_test}
 use Rattle.batcher_external.proofs.Tables.{find_slice}
 use Rattle.batcher_external.proofs.run.Run.known_at.Goals as goal
 
