@@ -21,8 +21,6 @@ use Rattle.batcher_node_session.specs.Steps.{AsksNext}
 use Rattle.batcher_node_session.proofs.Asking.{none_there}
 use Rattle.batcher_node_session.proofs.Over.{slot_at-over}
 
-module _ {R : Type 0} (es : List (ℕ × Slot R)) where
-
 module _ {T : Type 0} {truth : Ghosts T} {b : ℕ} (batchable : Bool)
     (node : NodeView (External T b truth) ℕ Sha256Digest) (view : ℕ)
     (round : RoundView (External T b truth) ℕ Sha256Digest) where

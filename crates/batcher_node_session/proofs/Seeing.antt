@@ -14,7 +14,7 @@ use Rattle.batcher_node.specs.Promised.{KeepsPromises}
 use Rattle.batcher_node.specs.Stands.{NodeStands, HasHistory, Meets, MeetsCast, MeetsForward, WhereverNodeStands}
 use Rattle.batcher_node.specs.declared.answers.Cast.{Cast}
 use Rattle.batcher_node_session.proofs.Over.{led_over, next_over, none_over}
-use Rattle.batcher_node_session.proofs.Standing.{stands_over, has_history_over, wherever_over, meets_over, cast_over, forward_over, rests_over, keeps_over}
+use Rattle.batcher_node_session.proofs.Standing.{stands_over, wherever_over, meets_over, cast_over, forward_over, rests_over, keeps_over}
 use Rattle.batcher_node_session.specs.Seen.{seen}
 use Rattle.batcher_session.specs.Schemes.{scheme_seen}
 
