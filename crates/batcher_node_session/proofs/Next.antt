@@ -1,8 +1,7 @@
 -- The view of the next construction, and what its round asks.
-use Rattle.std.proofs.Common.{◌≡◌, ◌<◌, ◌∙◌, ℕ, Bool, false, List, Option, Some, None, arith, sym, ap, subst}
+use Rattle.std.proofs.Common.{◌≡◌, ◌∙◌, ℕ, Bool, Option, Some, None, sym, ap, subst}
 use Rattle.std.specs.Prelude.{IfSome}
 use Rattle.std.specs.Option.{option_map}
-use Rattle.std.proofs.lemmas.Bool.{true≢false}
 use Rattle.batcher.specs.messages.Sha256Digest.{Sha256Digest}
 use Rattle.batcher.specs.messages.Subject.{Subject}
 use Rattle.batcher.specs.Held.{RoundView}
@@ -10,7 +9,7 @@ use Rattle.batcher_round.specs.Next.{subject_next}
 use Rattle.batcher_external.specs.declared.truth.Truth.{Ghosts}
 use Rattle.batcher_external.specs.declared.scheme.External.{External}
 use Rattle.batcher_node.specs.declared.slot.Slot.{Slot}
-use Rattle.batcher_node.specs.Nodes.{NodeView, HasChanged, IsNext, slot_at}
+use Rattle.batcher_node.specs.Nodes.{NodeView, IsNext, slot_at}
 use Rattle.batcher_node.proofs.Finding.{some_is, some_same}
 use Rattle.batcher_session.specs.Ledgers.{LedgerView}
 use Rattle.batcher_session.specs.Schemes.{SchemeView, scheme_seen}

@@ -11,7 +11,7 @@ use Rattle.batcher_external.specs.declared.truth.Truth.{Ghosts}
 use Rattle.batcher_node.specs.Events.{NodeEvent, NodeHistory}
 use Rattle.batcher_node.specs.Nodes.{NodeSetting, NodeView, IsAtRest, IsLedByAnother, IsNext, slot_at}
 use Rattle.batcher_node.specs.Promised.{KeepsPromises}
-use Rattle.batcher_node.specs.Stands.{NodeStands, HasHistory, Meets, MeetsCast, MeetsForward, WhereverNodeStands}
+use Rattle.batcher_node.specs.Stands.{NodeStands, Meets, MeetsCast, MeetsForward, WhereverNodeStands}
 use Rattle.batcher_node.specs.declared.answers.Cast.{Cast}
 use Rattle.batcher_node_session.proofs.Over.{led_over, next_over, none_over}
 use Rattle.batcher_node_session.proofs.Standing.{stands_over, wherever_over, meets_over, cast_over, forward_over, rests_over, keeps_over}

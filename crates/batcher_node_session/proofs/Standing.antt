@@ -12,7 +12,7 @@ use Rattle.batcher_node.specs.declared.slot.Slot.{Slot}
 use Rattle.batcher_node.specs.Events.{NodeEvent, NodeHistory, proposal_forwarded, told}
 use Rattle.batcher_node.specs.Nodes.{NodeView, NodeSetting, IsAtRest, slot_at}
 use Rattle.batcher_node.specs.Promised.{KeepsPromises}
-use Rattle.batcher_node.specs.Stands.{ViewStands, NodeStands, HasHistory, Meets, MeetsCast, MeetsForward, WhereverNodeStands}
+use Rattle.batcher_node.specs.Stands.{ViewStands, NodeStands, Meets, MeetsCast, MeetsForward, WhereverNodeStands}
 use Rattle.batcher_node_session.specs.Seen.{slot_over, node_over}
 use Rattle.batcher_node_session.proofs.Over.{to_over, from_over, rest_over, rest_under}
 
