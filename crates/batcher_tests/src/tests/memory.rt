@@ -443,9 +443,10 @@ fn convicts(
 
 // Two notarizes of one signer for the payloads 1 and 2.
 fn conflict(scheme: &Keyed<true>, signer: u32) -> Option<Activity<[u8; 32], Digest>> {
-    let (Vote::Notarize(a), Vote::Notarize(b)) =
-        (notarize(scheme, signer, 1), notarize(scheme, signer, 2))
-    else {
+    let (Vote::Notarize(a), Vote::Notarize(b)) = (
+        notarize(scheme, signer, 1),
+        notarize(scheme, signer, 2),
+    ) else {
         return None;
     };
     Some(Activity::ConflictingNotarize(a, b))
