@@ -177,7 +177,8 @@ impl<S: Scheme<D>, D: Digest> Verifier<S, D> {
         self.kinds.get(kind).contains(signer)
     }
 
-    /// Takes a vote in, where it can still count. The leader's notarize selects its proposal.
+    /// Takes a vote in, where it can still count. The leader's notarize selects its proposal. A
+    /// round makes the room first, and then calls `take`.
     pub fn add(&mut self, vote: Vote<S::Signature, D>, verified: bool) -> Result<(), AllocError>
         requires attests { verified ≡ true
             → (S.meaning self.old.scheme).attests (subject_of vote) (attestation_of vote) ≡ true }

@@ -52,7 +52,8 @@ impl Mode {
 pub enum Outcome {
     /// It is the first of its kind and signer.
     Added { retained: bool },
-    /// There was one before, and nothing shows that the two differ.
+    /// There was one before. Of one that is kept in full nothing is compared here: a round does
+    /// that. Of a compacted one the facts don't show that the two differ.
     Duplicate { retained: bool },
     /// There was one before, and only one of the two is for the selected proposal.
     Conflicting,

@@ -226,6 +226,8 @@ impl<S: Scheme<D>, D: Digest> Ballots<S, D> {
         ensures all { AllOrNothing result self.old self.new }
     {
         let kind = vote.kind();
+        // Also a vote for another proposal than the selected one, which isn't buffered, asks for
+        // room. `needs_memory` says so too.
         let waits = !self.tracker.is_compacted(kind) && !self.verifier.has_certificate(kind);
         self.verifier.make_room(kind, false, usize::from(waits))?;
         let outcome = self
@@ -355,7 +357,8 @@ impl<S: Scheme<D>, D: Digest> Ballots<S, D> {
             return Ok(None);
         };
         if let Some(certificate) = &batch.certificate {
-            // No other proposal is selected, since votes for others don't wait.
+            // No other proposal is selected, since votes for others don't wait. So nothing is
+            // restored, and no room is needed.
             let proposal = certificate.proposal();
             fix_proposal(&mut self.verifier, &self.tracker, proposal);
             self.tracker.release(kind, proposal);
@@ -435,7 +438,8 @@ fn reserve_to_record<G: Copy, D: Digest>(
 
 // Fixes the proposal, where there is one and none is fixed, and answers whether another is
 // selected than before. Where it takes another's place, the kept votes for it are restored as
-// pending. Tracker and verifier may disagree then on which kinds are certified, so it is no method.
+// pending. `complete` and `construct` call it after a kind is certified and before its votes are
+// released. There the invariant of `Ballots` doesn't hold, so it is no method.
 fn fix_proposal<S: Scheme<D>, D: Digest>(
     verifier: &mut Verifier<S, D>,
     tracker: &VoteTracker<S::Signature, D>,
