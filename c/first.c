@@ -54,10 +54,10 @@ static int three_nullifies(void) {
     CHECK(construct(&round, &step) == BATCHER_VERIFY);
     CHECK(step.listed == 3 && step.verified == 0 && step.kind == BATCHER_NULLIFICATION);
     CHECK(step.proposal.epoch == 0 && step.proposal.view == 1);
-    for (uint32_t place = 0; place < 3; place++) {
+    for (uint32_t place = 0; place < 3; place++)
         CHECK(list[place].number == 100 + place && list[place].signer == place);
-        CHECK(batcher_round_record_verdict(&round, list[place].number, true) == BATCHER_DONE);
-    }
+    const bool verdicts[] = {true, true, true};
+    CHECK(batcher_round_record_verdicts(&round, list, 3, verdicts, 3) == BATCHER_DONE);
     CHECK(construct(&round, &step) == BATCHER_DONE);
     CHECK(step.processed == 3 && step.invalid == 0 && !step.fallback);
     CHECK(step.certified && step.kind == BATCHER_NULLIFICATION && step.listed == 3);

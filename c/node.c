@@ -63,8 +63,10 @@ static int two_views(void) {
     }
     CHECK(batcher_node_has_nullify(&node, 2, 1, &flag) == BATCHER_DONE && flag);
     CHECK(construct(&node, &step) == BATCHER_VERIFY && step.view == 2 && step.listed == 3);
-    for (uint64_t place = 0; place < step.listed; place++)
-        CHECK(batcher_node_record_verdict(&node, list[place].number, list[place].signer != 1) == BATCHER_DONE);
+    const bool verdicts[] = {false, true, true};
+    CHECK(list[0].signer == 1 && list[1].signer == 2 && list[2].signer == 3);
+    CHECK(batcher_node_record_verdicts(&node, list, 3, verdicts, 2) == BATCHER_MALFORMED);
+    CHECK(batcher_node_record_verdicts(&node, list, 3, verdicts, 3) == BATCHER_DONE);
     CHECK(construct(&node, &step) == BATCHER_DONE && step.invalid == 1 && signers[0] == 1 && !step.certified);
     CHECK(batcher_node_blocked(&node, causes, PARTICIPANTS, &count) == BATCHER_DONE && count == PARTICIPANTS);
     CHECK(causes[1] == BATCHER_CAUSE_SIGNATURE && causes[2] == BATCHER_CAUSE_NONE);

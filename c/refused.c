@@ -9,9 +9,11 @@ static uint8_t construct(struct batcher_round *round, struct batcher_step *step,
     for (;;) {
         uint8_t code = AGAIN(batcher_round_try_construct(round, step, list, PARTICIPANTS, signers, PARTICIPANTS));
         if (code == BATCHER_VERIFY) {
+            bool verdicts[PARTICIPANTS];
             for (uint64_t place = 0; place < step->listed; place++)
-                if (AGAIN(batcher_round_record_verdict(round, list[place].number, list[place].number != bad))
-                    != BATCHER_DONE) return BATCHER_NONE;
+                verdicts[place] = list[place].number != bad;
+            if (AGAIN(batcher_round_record_verdicts(round, list, step->listed, verdicts, step->listed)) != BATCHER_DONE)
+                return BATCHER_NONE;
         } else if (code == BATCHER_VERIFY_TOGETHER) {
             if (AGAIN(batcher_round_record_verdict_together(round, list, step->listed, bad == 0)) != BATCHER_DONE)
                 return BATCHER_NONE;

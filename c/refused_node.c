@@ -14,9 +14,11 @@ static uint8_t construct(struct batcher_node *node, struct batcher_step *step, u
     for (;;) {
         uint8_t code = AGAIN(batcher_node_try_construct(node, step, list, PARTICIPANTS, signers, PARTICIPANTS));
         if (code == BATCHER_VERIFY) {
+            bool verdicts[PARTICIPANTS];
             for (uint64_t place = 0; place < step->listed; place++)
-                if (AGAIN(batcher_node_record_verdict(node, list[place].number, list[place].number != bad))
-                    != BATCHER_DONE) return BATCHER_NONE;
+                verdicts[place] = list[place].number != bad;
+            if (AGAIN(batcher_node_record_verdicts(node, list, step->listed, verdicts, step->listed)) != BATCHER_DONE)
+                return BATCHER_NONE;
         } else if (code == BATCHER_VERIFY_TOGETHER) {
             if (AGAIN(batcher_node_record_verdict_together(node, list, step->listed, bad == 0)) != BATCHER_DONE)
                 return BATCHER_NONE;

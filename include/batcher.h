@@ -29,9 +29,9 @@ struct batcher_node {
 enum batcher_code {
     BATCHER_DONE, /* of a construction: a batch was made */
     BATCHER_NONE, /* the handle is empty */
-    BATCHER_MALFORMED, /* a code that means nothing, or no participant */
+    BATCHER_MALFORMED, /* a code that means nothing, no participant, or not one verdict for each */
     BATCHER_ELSEWHERE, /* of another round; of a node, of another epoch or outside of its window */
-    BATCHER_OUT_OF_MEMORY, /* all is as it was, but for the verdicts of a construction */
+    BATCHER_OUT_OF_MEMORY, /* all is as it was, but for the verdicts of a construction or a list */
     BATCHER_LEADER_CHANGED, /* another leader was named before */
     BATCHER_NOT_VERIFIED, /* an own vote without a verdict that it attests */
     BATCHER_DUPLICATE_NOTARIZE, /* a notarize of its signer is kept */
@@ -146,6 +146,12 @@ void batcher_round_free(struct batcher_round *round);
 /* Whether the attestation of a number attests what it is of. */
 uint8_t batcher_round_record_verdict(struct batcher_round *round, uint64_t number, bool attests);
 
+/* The same of each attestation of a list, in their order. OUT_OF_MEMORY: the first ones may be recorded,
+ * and the same call can be made again. */
+uint8_t batcher_round_record_verdicts(struct batcher_round *round,
+                                      const struct batcher_attestation *list, size_t list_length,
+                                      const bool *verdicts, size_t verdicts_length);
+
 /* Whether these attestations pass as a whole, in place of such a verdict before. */
 uint8_t batcher_round_record_verdict_together(struct batcher_round *round,
                                               const struct batcher_attestation *list,
@@ -210,6 +216,10 @@ uint8_t batcher_node_new(struct batcher_node *node, uint64_t epoch, uint32_t par
 void batcher_node_free(struct batcher_node *node);
 
 uint8_t batcher_node_record_verdict(struct batcher_node *node, uint64_t number, bool attests);
+
+uint8_t batcher_node_record_verdicts(struct batcher_node *node,
+                                     const struct batcher_attestation *list, size_t list_length,
+                                     const bool *verdicts, size_t verdicts_length);
 
 uint8_t batcher_node_record_verdict_together(struct batcher_node *node,
                                              const struct batcher_attestation *list,

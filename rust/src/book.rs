@@ -16,7 +16,7 @@ pub struct Wanted<G> {
     subject: Subject,
     attestations: Vec<Attestation<G>>,
     pub(crate) listed: Vec<ffi::Attestation>,
-    /// Tells whom it is to be handed back to.
+    /// Whom it is to be handed back to.
     pub(crate) owner: u64,
 }
 
@@ -60,9 +60,11 @@ impl<G> WantedTogether<G> {
 /// Where verdicts go.
 pub(crate) trait Library {
     fn record_verdict(&mut self, number: u64, attests: bool) -> u8;
+
+    fn record_verdicts(&mut self, list: &[ffi::Attestation], verdicts: &[bool]) -> u8;
 }
 
-/// What the library is told of a vote in place of its signature.
+/// What the library is given of a vote in place of its signature.
 #[derive(Clone, Copy)]
 pub(crate) struct Numbered {
     pub(crate) listed: ffi::Attestation,
@@ -98,6 +100,7 @@ impl<G: Clone + Eq> Book<G> {
 
     /// Gives a vote its number, and makes room for it where the library may keep it, which it does
     /// of no vote that isn't from its signer.
+    #[inline]
     pub(crate) fn number(
         &mut self,
         vote: &Vote<G>,
@@ -123,6 +126,7 @@ impl<G: Clone + Eq> Book<G> {
     }
 
     /// What the library has answered to a network vote.
+    #[inline]
     pub(crate) fn admission(
         &mut self,
         answer: &ffi::Admission,
@@ -142,6 +146,7 @@ impl<G: Clone + Eq> Book<G> {
     }
 
     /// Keeps a vote that was added.
+    #[inline]
     pub(crate) fn keep(&mut self, numbered: Numbered, vote: Vote<G>, verdict: Option<bool>) {
         if numbered.may_keep {
             self.table.insert(vote, numbered.listed.number, verdict);
@@ -207,11 +212,8 @@ impl<G: Clone + Eq> Book<G> {
         listed: ffi::Attestation,
         attests: bool,
     ) -> Result<(), Error> {
-        let kept = self.table.get_mut(kind, Participant::new(listed.signer));
-        let attests = match kept {
-            Some(kept) if kept.number == listed.number => *kept.verdict.get_or_insert(attests),
-            _ => attests,
-        };
+        let kept = self.kept_mut(kind, &listed);
+        let attests = kept.map_or(attests, |kept| *kept.verdict.get_or_insert(attests));
         done(library.record_verdict(listed.number, attests))
     }
 
@@ -223,11 +225,20 @@ impl<G: Clone + Eq> Book<G> {
         verdicts: &[bool],
     ) -> Result<(), Error> {
         let kind = wanted.subject.kind();
+        let mut count = 0;
         for (listed, attests) in wanted.listed.iter().zip(verdicts) {
-            // What was forgotten meanwhile is needed no more.
-            let kept = self.table.get_mut(kind, Participant::new(listed.signer));
-            if let Some(kept) = kept.filter(|kept| kept.number == listed.number) {
-                let attests = *kept.verdict.get_or_insert(*attests);
+            let kept = self.kept_mut(kind, listed);
+            count += usize::from(
+                kept.is_some_and(|kept| *kept.verdict.get_or_insert(*attests) == *attests),
+            );
+        }
+        if count == verdicts.len() {
+            return done(library.record_verdicts(&wanted.listed, verdicts));
+        }
+        // Of two verdicts on one attestation the first counts, and what was forgotten meanwhile is
+        // needed no more.
+        for listed in &wanted.listed {
+            if let Some(attests) = self.kept(kind, listed).and_then(|kept| kept.verdict) {
                 done(library.record_verdict(listed.number, attests))?;
             }
         }
@@ -251,11 +262,17 @@ impl<G: Clone + Eq> Book<G> {
         reserve(&mut attestations, list.len())?;
         for one in list {
             let kept = self.kept(kind, one).ok_or(Error::Unknown(code::VERIFY))?;
-            match kept.verdict {
-                Some(attests) => done(library.record_verdict(one.number, attests))?,
-                None => {
-                    listed.push(*one);
-                    attestations.push(kept.vote.attestation().clone());
+            if kept.verdict.is_none() {
+                attestations.push(kept.vote.attestation().clone());
+            }
+        }
+        if attestations.len() == list.len() {
+            listed.extend_from_slice(list);
+        } else {
+            for one in list {
+                match self.kept(kind, one).and_then(|kept| kept.verdict) {
+                    Some(attests) => done(library.record_verdict(one.number, attests))?,
+                    None => listed.push(*one),
                 }
             }
         }
@@ -335,6 +352,11 @@ impl<G: Clone + Eq> Book<G> {
 
     fn kept(&self, kind: Kind, listed: &ffi::Attestation) -> Option<&Kept<G>> {
         let kept = self.table.get(kind, Participant::new(listed.signer))?;
+        (kept.number == listed.number).then_some(kept)
+    }
+
+    fn kept_mut(&mut self, kind: Kind, listed: &ffi::Attestation) -> Option<&mut Kept<G>> {
+        let kept = self.table.get_mut(kind, Participant::new(listed.signer))?;
         (kept.number == listed.number).then_some(kept)
     }
 

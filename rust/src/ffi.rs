@@ -114,6 +114,13 @@ unsafe extern "C" {
     ) -> u8;
     fn batcher_round_free(round: *mut RoundHandle);
     fn batcher_round_record_verdict(round: *mut RoundHandle, number: u64, attests: bool) -> u8;
+    fn batcher_round_record_verdicts(
+        round: *mut RoundHandle,
+        list: *const Attestation,
+        list_length: usize,
+        verdicts: *const bool,
+        verdicts_length: usize,
+    ) -> u8;
     fn batcher_round_record_verdict_together(
         round: *mut RoundHandle,
         list: *const Attestation,
@@ -249,6 +256,19 @@ impl Round {
         unsafe { batcher_round_record_verdict(self.handle.get(), number, attests) }
     }
 
+    pub(crate) fn record_verdicts(&mut self, list: &[Attestation], verdicts: &[bool]) -> u8 {
+        // SAFETY: as above.
+        unsafe {
+            batcher_round_record_verdicts(
+                self.handle.get(),
+                list.as_ptr(),
+                list.len(),
+                verdicts.as_ptr(),
+                verdicts.len(),
+            )
+        }
+    }
+
     pub(crate) fn record_verdict_together(&mut self, list: &[Attestation], passes: bool) -> u8 {
         // SAFETY: as above.
         unsafe {
@@ -261,6 +281,7 @@ impl Round {
         }
     }
 
+    #[inline]
     pub(crate) fn add_network(
         &mut self,
         sender: u64,

@@ -81,6 +81,7 @@ pub(crate) fn subject_of(kind: Kind, flat: &ffi::Proposal) -> Subject {
     }
 }
 
+#[inline]
 pub(crate) fn block_of(flat: u8) -> Result<Option<BlockReason>, Error> {
     Ok(Some(match flat {
         0 => return Ok(None),
@@ -116,6 +117,7 @@ pub(crate) fn error_of(answer: u8) -> Error {
 }
 
 /// An error where the code isn't that all went well.
+#[inline]
 pub(crate) fn done(answer: u8) -> Result<(), Error> {
     match answer {
         code::DONE => Ok(()),

@@ -112,7 +112,7 @@ impl Subject {
     }
 }
 
-/// A signature with the index of its signer. Only a scheme can tell what it is worth.
+/// A signature with the index of its signer. Only a scheme can verify it.
 #[derive(Clone, Copy, Debug, PartialEq, Eq, Hash)]
 pub struct Attestation<G> {
     /// Who signed it, as it says itself.

@@ -213,10 +213,12 @@ pub struct Node<S: Scheme> {
     // wanted.
     list: Vec<ffi::Attestation>,
     signers: Vec<u32>,
+    // Where the library answers to a vote.
+    answer: ffi::Admission,
 }
 
 impl<S: Scheme> Node<S> {
-    /// A node that was told nothing, with `finalized` as its current view. The window goes from it
+    /// A new node, with `finalized` as its current view. The window goes from it
     /// to so many views beyond the current one.
     ///
     /// Where historical votes are tracked, votes are kept in full until their view is passed, else
@@ -276,6 +278,7 @@ impl<S: Scheme> Node<S> {
             unfinished: None,
             list: Vec::new(),
             signers: Vec::new(),
+            answer: ffi::Admission::default(),
         })
     }
 
@@ -341,11 +344,10 @@ impl<S: Scheme> Node<S> {
         self.books.reserve()?;
         let book = self.books.open(view, self.mode_of(view));
         let numbered = book.number(&vote, Some(sender), || self.numbers.unused(), participants)?;
-        let mut answer = ffi::Admission::default();
         let flat = flat_vote(&vote, numbered.listed);
         match self
             .library
-            .receive_vote(u64::from(sender.get()), &flat, &mut answer)
+            .receive_vote(u64::from(sender.get()), &flat, &mut self.answer)
         {
             code::DONE => {}
             code::ELSEWHERE => return Ok(Receipt::Outside),
@@ -353,7 +355,7 @@ impl<S: Scheme> Node<S> {
             code::UNKNOWN => return Ok(Receipt::Unknown),
             other => return Err(error_of(other)),
         }
-        let admission = book.admission(&answer, numbered, vote)?;
+        let admission = book.admission(&self.answer, numbered, vote)?;
         if admission.block.is_some() {
             self.note_blocked()?;
         }
@@ -564,15 +566,14 @@ impl<S: Scheme> Node<S> {
         let book = self.books.open(view, self.mode_of(view));
         let numbered = book.number(&vote, signer, || self.numbers.unused_own(), participants)?;
         book.record_verdict(&mut self.library, kind, numbered.listed, true)?;
-        let mut answer = ffi::Admission::default();
         let flat = flat_vote(&vote, numbered.listed);
-        match self.library.cast_vote(&flat, &mut answer) {
+        match self.library.cast_vote(&flat, &mut self.answer) {
             code::DONE => {}
             code::KNOWN => return Ok(Cast::Known),
             code::ELSEWHERE => return Ok(Cast::Outside),
             other => return Err(error_of(other)),
         }
-        match book.report(&answer, numbered, &vote)? {
+        match book.report(&self.answer, numbered, &vote)? {
             Some(report) => {
                 book.keep(numbered, vote, Some(true));
                 Ok(Cast::ToSend(report))
@@ -1011,6 +1012,10 @@ impl<S: Scheme> Node<S> {
 impl Library for node::Node {
     fn record_verdict(&mut self, number: u64, attests: bool) -> u8 {
         node::Node::record_verdict(self, number, attests)
+    }
+
+    fn record_verdicts(&mut self, list: &[ffi::Attestation], verdicts: &[bool]) -> u8 {
+        node::Node::record_verdicts(self, list, verdicts)
     }
 }
 

@@ -13,10 +13,10 @@ use std::fmt;
 use std::sync::Arc;
 use std::sync::atomic::{AtomicU64, Ordering};
 
-/// What the library is told of a sender that is no participant. All of these have lower names.
+/// What the library is given for a sender that is no participant. All of these have lower names.
 pub(crate) const NOBODY: u64 = u64::MAX;
 
-/// A number that tells a round, or a node, from all others of the process.
+/// A number that distinguishes a round, or a node, from all others of the process.
 pub(crate) fn identity() -> u64 {
     static NEXT: AtomicU64 = AtomicU64::new(0);
     NEXT.fetch_add(1, Ordering::Relaxed)
@@ -68,13 +68,15 @@ pub struct Round<S: Scheme> {
     identity: u64,
     book: Book<S::Signature>,
     numbers: Numbers,
-    /// A batch that the library has made, and that memory was refused for here. It stands in the
+    /// A batch that the library has made, and that memory was refused for here. It is in the
     /// lists.
     unfinished: Option<ffi::Step>,
     // Where the library lists attestations and signers: a place for each participant, once one is
     // wanted.
     list: Vec<ffi::Attestation>,
     signers: Vec<u32>,
+    // Where the library answers to a vote.
+    answer: ffi::Admission,
 }
 
 impl<S: Scheme> Round<S> {
@@ -140,6 +142,7 @@ impl<S: Scheme> Round<S> {
             unfinished: None,
             list: Vec::new(),
             signers: Vec::new(),
+            answer: ffi::Admission::default(),
         })
     }
 
@@ -211,10 +214,9 @@ impl<S: Scheme> Round<S> {
         let numbered =
             self.book
                 .number(&vote, sender, || self.numbers.unused(), participants.len())?;
-        let mut answer = ffi::Admission::default();
         let flat = flat_vote(&vote, numbered.listed);
-        done(self.library.add_network(name, &flat, &mut answer))?;
-        self.book.admission(&answer, numbered, vote)
+        done(self.library.add_network(name, &flat, &mut self.answer))?;
+        self.book.admission(&self.answer, numbered, vote)
     }
 
     /// Takes in a vote of the node's own, which the scheme is asked to verify. **It is to be sent
@@ -308,12 +310,11 @@ impl<S: Scheme> Round<S> {
                 .number(&vote, signer, || self.numbers.unused_own(), participants)?;
         self.book
             .record_verdict(&mut self.library, kind, numbered.listed, true)?;
-        let mut answer = ffi::Admission::default();
         let flat = flat_vote(&vote, numbered.listed);
-        done(self.library.accept_vote(&flat, &mut answer))?;
-        let report = self.book.report(&answer, numbered, &vote)?;
-        let retained = answer.retained;
-        if !answer.added {
+        done(self.library.accept_vote(&flat, &mut self.answer))?;
+        let report = self.book.report(&self.answer, numbered, &vote)?;
+        let retained = self.answer.retained;
+        if !self.answer.added {
             return Ok(Outcome::Duplicate { retained });
         }
         // A vote that was added is reported.
@@ -324,7 +325,7 @@ impl<S: Scheme> Round<S> {
 
     /// Takes in a certificate that came from elsewhere, which the scheme is asked to verify. It
     /// completes its kind, fixes its proposal where none is fixed, and releases the votes of its
-    /// kind. Where [`Round::has_certificate`] says that one of its kind is there, it tells nothing
+    /// kind. Where [`Round::has_certificate`] says that one of its kind is there, it says nothing
     /// new, and needn't be handed in. Those that the round made are recorded already.
     ///
     /// Of a notarization it answers whether another proposal is selected than before. Of other
@@ -727,6 +728,10 @@ impl<S: Scheme> Round<S> {
 impl Library for ffi::Round {
     fn record_verdict(&mut self, number: u64, attests: bool) -> u8 {
         ffi::Round::record_verdict(self, number, attests)
+    }
+
+    fn record_verdicts(&mut self, list: &[ffi::Attestation], verdicts: &[bool]) -> u8 {
+        ffi::Round::record_verdicts(self, list, verdicts)
     }
 }
 

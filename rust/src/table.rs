@@ -1,6 +1,6 @@
-//! Which number stands for which attestation.
+//! The number of each attestation.
 //!
-//! The library tells attestations apart by numbers alone. So the same vote has to get the same
+//! The library distinguishes attestations by numbers alone. So the same vote has to get the same
 //! number each time that it comes, or else its sender would be blocked for a vote that differs from
 //! its first, and another vote another number, or else an equivocation would pass for a repeat.
 //!
@@ -23,12 +23,38 @@ pub(crate) struct Kept<G> {
     pub(crate) verdict: Option<bool>,
 }
 
+/// How many votes of a kind there is room for at first.
+const FIRST: usize = 32;
+
 /// The votes of one kind: at most one for each signer.
 struct Places<G> {
     /// Of each signer one more than the place of its vote in `kept`, or 0. It is empty until the
     /// first vote comes.
     index: Vec<u32>,
     kept: Vec<Kept<G>>,
+}
+
+impl<G> Places<G> {
+    /// Makes room for more votes.
+    #[cold]
+    fn grow(&mut self, participants: usize) -> Result<(), Error> {
+        let Places { index, kept } = self;
+        if index.is_empty() {
+            index
+                .try_reserve_exact(participants)
+                .map_err(|_| Error::OutOfMemory)?;
+            index.resize(participants, 0);
+        }
+        // Votes are moved where there are more than the first room holds, so once these are there
+        // it becomes room for the votes of all participants, of which many are likely.
+        let left = participants.saturating_sub(kept.len());
+        let more = if kept.is_empty() {
+            left.min(FIRST)
+        } else {
+            left
+        };
+        kept.try_reserve_exact(more).map_err(|_| Error::OutOfMemory)
+    }
 }
 
 /// Numbers that were never used.
@@ -90,26 +116,17 @@ impl<G: Eq> Table<G> {
     }
 
     /// Makes room for a vote of a kind, so that `insert` takes no memory.
+    #[inline]
     pub(crate) fn reserve(&mut self, kind: Kind, participants: u32) -> Result<(), Error> {
-        let Places { index, kept } = &mut self.kinds[kind as usize];
-        if index.is_empty() {
-            index
-                .try_reserve_exact(participants as usize)
-                .map_err(|_| Error::OutOfMemory)?;
-            index.resize(participants as usize, 0);
-        }
-        if kept.len() == kept.capacity() {
-            // Twice as many at a time, since votes are moved then, and no more than the
-            // participants, so that nothing is unused where all vote.
-            let left = (participants as usize).saturating_sub(kept.len());
-            let more = left.min(8.max(kept.len()));
-            kept.try_reserve_exact(more)
-                .map_err(|_| Error::OutOfMemory)?;
+        let places = &mut self.kinds[kind as usize];
+        if places.kept.len() == places.kept.capacity() {
+            places.grow(participants as usize)?;
         }
         Ok(())
     }
 
     /// Keeps the first vote of its kind and signer. There is room for it.
+    #[inline]
     pub(crate) fn insert(&mut self, vote: Vote<G>, number: u64, verdict: Option<bool>) {
         let Places { index, kept } = &mut self.kinds[vote.kind() as usize];
         if let Some(place) = index.get_mut(usize::from(vote.signer())) {

@@ -313,6 +313,33 @@ fn the_first_verdict_counts() {
     );
 }
 
+// Also among verdicts that come at once, of which the others are new.
+#[test]
+fn the_first_verdicts_count_among_many() {
+    let scheme = Toy::new(4);
+    let mut round = round(&scheme, Mode::Retaining);
+    for signer in 0..3 {
+        hear(&mut round, nullify(signer));
+    }
+    let Step::Verify(three) = round.step().unwrap() else {
+        panic!("three are a quorum")
+    };
+    hear(&mut round, nullify(3));
+    let Step::Verify(four) = round.step().unwrap() else {
+        panic!("no verdict is there")
+    };
+    assert_eq!(four.attestations().len(), 4);
+    round.record_verdicts(&three, &[true, false, true]).unwrap();
+    round.record_verdicts(&four, &[true; 4]).unwrap();
+    let Step::Made(batch) = round.step().unwrap() else {
+        panic!("a verdict on each is there")
+    };
+    assert_eq!((batch.processed, batch.fallback), (4, true));
+    assert_eq!(batch.invalid, [Participant::new(1)]);
+    let signers = batch.certificate.map(|it| it.content().len());
+    assert_eq!(signers, Some(3));
+}
+
 #[test]
 fn what_is_of_another_round_is_refused() {
     let scheme = Toy::new(4);

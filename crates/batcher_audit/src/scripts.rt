@@ -12,7 +12,7 @@ pub struct Scripts {
     pub malformed: Option<usize>,
 }
 
-/// Reads the scripts up to the first malformed line. Want of memory is the only error.
+/// Reads the scripts up to the first malformed line. Out of memory is the only error.
 ///
 /// A second `round` line that names another round, other participants or another scheme than the
 /// first is malformed.
@@ -46,7 +46,7 @@ pub fn read_scripts(alloc: Global, bytes: &[u8]) -> Result<Scripts, AllocError> 
 struct Parts<'a> {
     front: &'a [u8],
     rest: Option<&'a [u8]>,
-    /// How many lines stand before the second part.
+    /// How many lines are before the second part.
     before: usize,
 }
 
@@ -86,7 +86,7 @@ fn begins_script(line: &[u8]) -> bool {
 }
 
 // Whether two scripts name the same round, participants and scheme. Where the first line of one is
-// malformed there is nothing to compare, and its own reading tells that.
+// malformed there is nothing to compare, and its own reading says so.
 fn are_of_one_round(first: &Script, second: &Script) -> bool {
     match (&first.lines.opening, &second.lines.opening) {
         (Some(a), Some(b)) => {

@@ -2,7 +2,7 @@
 //! each row what came of its votes.
 //!
 //! `time` prints nanoseconds a vote too. `rounds COUNT ROW` plays one row so many times more, for a
-//! profiler, and `places ROW` plays one and tells where it stands, for who counts its memory; a row
+//! profiler, and `places ROW` plays one and says where it is, for who counts its memory; a row
 //! is named by the words in its line, as `100 8 retaining shuffled once`.
 #![tactic(auto)]
 
@@ -90,7 +90,7 @@ fn print_rounds(rt: &(impl AllocGlobal + Print), row: Row, rounds: u32) -> Resul
 }
 
 // The heading comes first, so that a closed output is known before anything is timed, and each row
-// as soon as its last time is taken. Where the passes are is told on standard error.
+// as soon as its last time is taken. Where the passes are is said on standard error.
 fn print_times(rt: &(impl AllocGlobal + Clock + Print + Eprint)) -> Result<()> {
     print!(rt; "participants bytes mode      order      course    votes added ")?;
     println!(rt; "certificates checksum            ns a vote")?;

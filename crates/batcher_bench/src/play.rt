@@ -9,10 +9,10 @@ use anyhow::{Result, ensure};
 use batcher::messages::{Activity, Certificate, Nullification, Sha256Digest, Vote};
 use batcher::positions::Participant;
 use batcher::round::{Admission, Round};
-use batcher::scheme::{Counter, Name};
+use batcher::scheme::{Counter, Name, names};
 use batcher::verifier::Batch;
 use batcher_rows::plain::{Padded, Plain, Tally, mixed};
-use batcher_rows::plan::{NUMBER, Step, names, steps_of};
+use batcher_rows::plan::{NUMBER, Step, steps_of};
 use batcher_rows::rows::{Row, Size};
 use std::alloc::{AllocError, Global};
 use std::fmt;
@@ -126,7 +126,7 @@ impl Measured {
     }
 }
 
-/// Plays the row once, and tells on standard error where it stands: when the round is made, before
+/// Plays the row once, and says on standard error where it is: when the round is made, before
 /// and after each construction, and when a nullification came from outside. Who counts the requests
 /// for memory sees there what the round holds.
 pub(crate) fn tell_places(rt: &(impl AllocGlobal + Eprint), row: &Row) -> Result<()> {
@@ -203,7 +203,7 @@ fn round_of<P: Copy + Eq>(
     Round::in_mode(alloc, NUMBER, scheme, row.mode)
 }
 
-// The calls of a round stand in functions that promise little, since what a call promises is
+// The calls of a round are in functions that promise little, since what a call promises is
 // carried to its caller's end. Here participant 0 becomes the leader.
 fn lead<P: Copy + Eq>(round: &mut Round<Plain<P>, Sha256Digest>) -> bool
     ensures { round.new.number ≡ round.old.number }
@@ -272,7 +272,7 @@ fn play<P: Copy + Eq>(
     Ok(played)
 }
 
-// Plays the steps on a fresh round, and drops it. Nothing else happens where the round stands, so
+// Plays the steps on a fresh round, and drops it. Nothing else happens where the round is, so
 // that the prover need not follow it through a caller's returns.
 fn play_fresh<P: Copy + Eq>(
     alloc: Global,

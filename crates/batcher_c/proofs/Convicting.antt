@@ -1,7 +1,7 @@
 -- Whom a report convicts is the same for all schemes of so many participants.
-use Rattle.std.proofs.Common.{◌≡◌, ◌==◌, ◌&&◌, ◌∙◌, ℕ, cond, length, Option, Some, None, Result, Ok, Err, ap, sym}
+use Rattle.std.proofs.Common.{◌≡◌, ◌==◌, ◌&&◌, ◌∙◌, ℕ, cond, Option, Some, None, Result, Ok, Err, ap, sym}
 use Rattle.std.specs.Prelude.{IfOk, option_and_then}
-use Rattle.batcher.specs.Reported.{subjects_contradict, evidence_in}
+use Rattle.batcher.specs.Reports.{subjects_contradict, evidence_in}
 use Rattle.batcher_types.specs.declared.messages.Sha256Digest.{Sha256Digest}
 use Rattle.batcher_types.specs.declared.messages.Activity.{Activity}
 use Rattle.batcher_types.specs.declared.messages.Vote.{Vote}
@@ -9,7 +9,7 @@ use Rattle.batcher_types.specs.declared.positions.Participant.{Participant}
 use Rattle.batcher_types.specs.Votes.{signer_of, subject_of, attestation_of}
 use Rattle.batcher_external.specs.External.{attests}
 use Rattle.batcher_c.specs.contracts.caller.CallerTruth.TheImpl.{ghosts}
-use Rattle.batcher_c.specs.Convicted.{Convicts, same_digest}
+use Rattle.batcher_c.specs.Convictions.{Convicts, same_digest}
 
 -- whom two votes convict among so many participants
 abbrev convicted_of : ℕ → Vote ℕ Sha256Digest → Vote ℕ Sha256Digest → Option Participant

@@ -32,7 +32,7 @@ use Rattle.std.specs.contracts.alloc.Global as heap
 use Rattle.std.specs.contracts.impls.GlobalAllocator.TheImpl.{ghosts}
 use Rattle.std.proofs.alloc.Global.TheLaws as heap_laws
 use Rattle.std.proofs.GlobalToken.{dealloc_token-Testable}
-use Rattle.batcher_c.specs.Owned.{block_owned, owned_or_null}
+use Rattle.batcher_c.specs.Ownership.{block_owned, owned_or_null}
 use Rattle.batcher_c.specs.contracts.unboxed.Unboxed as unboxed
 
 abbrev pub word : Ptr → Val → Val

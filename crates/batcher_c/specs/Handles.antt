@@ -1,7 +1,7 @@
 -- What a call does to a handle, and to what it is of.
 use Rattle.std.specs.Prelude.{◌≡◌, ◌≢◌, ℕ, Option, Some, None}
 use Rattle.batcher_session.specs.Sessions.{SessionView}
-use Rattle.batcher_node_session.specs.Seen.{NodeSessionView}
+use Rattle.batcher_node_session.specs.Views.{NodeSessionView}
 use Rattle.batcher_c.specs.declared.codes.TheConstants.{NONE}
 
 -- A call on an empty handle leaves it empty, and what it writes to as it was, and the code says so.

@@ -1,9 +1,10 @@
-pub mod Owned
+pub mod Ownership
 pub mod Truths
 pub mod Rows
 pub mod Flat
-pub mod Written
+pub mod Output
+pub mod VerdictLists
 pub mod Handles
 pub mod Rounds
 pub mod Nodes
-pub mod Convicted
+pub mod Convictions

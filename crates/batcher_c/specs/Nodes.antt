@@ -1,5 +1,5 @@
 -- What the calls of a node do and answer, by codes and flat values.
-use Rattle.std.specs.Prelude.{◌≡◌, ◌≢◌, ◌↔◌, ◌≤◌, ◌<◌, ◌==◌, not, ℕ, Bool, true, false, List, [], ◌∷◌, length, map, Option, Some, None, IfSome, IsSomeAnd}
+use Rattle.std.specs.Prelude.{◌≡◌, ◌≢◌, ◌↔◌, ◌≤◌, ◌<◌, ◌==◌, not, ℕ, Bool, true, false, List, [], ◌∷◌, length, take, map, Option, Some, None, IfSome, IsSomeAnd}
 use Rattle.batcher_types.specs.declared.messages.Sha256Digest.{Sha256Digest}
 use Rattle.batcher_types.specs.declared.messages.Activity.{Activity}
 use Rattle.batcher_types.specs.declared.messages.Subject.{Subject}
@@ -9,7 +9,7 @@ use Rattle.batcher_types.specs.Keys.{participant}
 use Rattle.batcher_types.specs.Votes.{attestation_of, subject_of, subject_certified, content_of, round_in as round_signed}
 use Rattle.batcher_votes.specs.declared.verifier.Batch.{Batch}
 use Rattle.batcher_histories.specs.declared.answers.OwnFault.{OwnFault}
-use Rattle.batcher_histories.specs.Setting.{Setting}
+use Rattle.batcher_histories.specs.Config.{Config}
 use Rattle.batcher_histories.specs.History.{History}
 use Rattle.batcher_histories.specs.Selection.{leader_of, selected_proposal, is_certified}
 use Rattle.batcher_histories.specs.Comparison.{has_block}
@@ -18,18 +18,17 @@ use Rattle.batcher_histories.specs.Answers.{keeps_nullify, missing_after, own_an
 use Rattle.batcher_external.specs.declared.scheme.Content.{Content}
 use Rattle.batcher_session.specs.Ledgers.{SameScheme, known_in, known_together, is_known_to_attest}
 use Rattle.batcher_session.specs.Wants.{Asked}
-use Rattle.batcher_node.specs.declared.window.Window.{Window}
 use Rattle.batcher_node.specs.declared.answers.Receipt.{Receipt}
 use Rattle.batcher_node.specs.declared.answers.Receipt.TheVariants.{Answered, Outside, Dropped, Unknown}
 use Rattle.batcher_node.specs.declared.answers.Verdict.{Verdict}
 use Rattle.batcher_node.specs.declared.answers.Verdict.TheVariants.{Recorded, Forged, Known as KnownCertificate}
 use Rattle.batcher_node.specs.declared.answers.Cast.TheVariants.{ToSend, Known as KnownVote}
 use Rattle.batcher_node.specs.Windows.{is_of, width}
-use Rattle.batcher_node.specs.Events.{NodeEvent, NodeHistory, started, vote_came, certificate_came, view_entered, view_finalized, constructed, told}
-use Rattle.batcher_node.specs.Nodes.{NodeSetting, SameNode, IsAtRest, IsLedByAnother, slot_at}
-use Rattle.batcher_node.specs.Promised.{IsComplete, KeepsPromises}
-use Rattle.batcher_node.specs.Stands.{NodeStands, HasHistory, Meets, MeetsCast, MeetsForward, WhereverNodeStands, IsHeard, setting_of}
-use Rattle.batcher_node_session.specs.Seen.{NodeSessionView, judged, InView}
+use Rattle.batcher_node.specs.Events.{NodeEvent, started, vote_came, certificate_came, view_entered, view_finalized, constructed, view_history}
+use Rattle.batcher_node.specs.Nodes.{NodeConfig, SameNode, IsAtRest, IsLedByAnother, slot_at}
+use Rattle.batcher_node.specs.NodePromises.{IsComplete, KeepsPromises}
+use Rattle.batcher_node.specs.Represents.{NodeRepresents, HasHistory, Meets, SimulatesCast, SimulatesForward, ForEachNodeHistory, IsHeard, config_of}
+use Rattle.batcher_node_session.specs.Views.{NodeSessionView, config_by, InView}
 use Rattle.batcher_node_session.specs.Steps.{AsksNext}
 use Rattle.batcher_c.specs.contracts.caller.CallerTruth.TheImpl.{ghosts}
 use Rattle.batcher_c.specs.declared.caller.Caller.{Caller}
@@ -40,21 +39,22 @@ use Rattle.batcher_c.specs.declared.flat.FlatVote.{FlatVote}
 use Rattle.batcher_c.specs.declared.flat.FlatAdmission.{FlatAdmission}
 use Rattle.batcher_c.specs.declared.flat.FlatStep.{FlatStep}
 use Rattle.batcher_c.specs.Flat.{kind_in, cause_in, fault_in, vote_in, subject_in, attestation_in, admission_in, proposal_in}
-use Rattle.batcher_c.specs.Written.{Made, IsWritten, WritesBatch}
+use Rattle.batcher_c.specs.Output.{Made, IsWritten, WritesBatch}
+use Rattle.batcher_c.specs.VerdictLists.{AreRecorded}
 use Rattle.batcher_c.specs.Rounds.{is_one_of, refusals, wants, WantsOf, IsReceived}
 
--- what a node is judged by
-abbrev pub node_judged : NodeSessionView → NodeSetting Sha256Digest Name ℕ (Content Caller ghosts)
-node_judged s = judged ghosts s.node
+-- the configuration of a node
+abbrev pub node_config_of : NodeSessionView → NodeConfig Sha256Digest Name ℕ (Content Caller ghosts)
+node_config_of s = config_by ghosts s.node
 
--- It holds of the history of a view that isn't before the finalized one, by what the view's round
--- is judged by, whichever history the node stands after.
+-- It holds of the history of a view that isn't before the finalized one, in the configuration of
+-- the view's round, whichever history the node represents.
 abbrev pub HoldsInView : NodeSessionView → ℕ
-    → (Setting Sha256Digest Name ℕ (Content Caller ghosts)
+    → (Config Sha256Digest Name ℕ (Content Caller ghosts)
     → History Sha256Digest Name ℕ (Content Caller ghosts) → Type 0) → Type 0
-HoldsInView s view holds = InView (node_judged s) s.node view holds
+HoldsInView s view holds = InView (node_config_of s) s.node view holds
 
--- a node of these participants and this sort of scheme that was told nothing
+-- a node of these participants and this sort of scheme in which nothing was called
 pub record IsNewNode (epoch participants finalized ahead : ℕ) (retains batchable aggregates : Bool)
     (made : NodeSessionView) : Type 0 where
   pub epoch_is : made.node.epoch.0 ≡ epoch
@@ -66,7 +66,7 @@ pub record IsNewNode (epoch participants finalized ahead : ℕ) (retains batchab
   pub window_is :
       made.node.window
       ≡ record { finalized = finalized; current = finalized; ahead = ahead }
-  pub stands : NodeStands (node_judged made) (started made.node.window ∷ []) made.node
+  pub represents : NodeRepresents (node_config_of made) (started made.node.window ∷ []) made.node
   pub unknown : (number : ℕ) → known_in made.ledger.singles number ≡ None
 
 -- What a call that makes a node does to a handle: where it fails, the handle stays as it was.
@@ -99,7 +99,7 @@ module _ (s : NodeSessionView) (code : ℕ) where
     pub codes : code ≡ DONE
     pub counted : count ≡ length s.node.blocked
     pub listed : IsWritten cause_in s.node.blocked room list
-    pub promised : KeepsPromises (node_judged s) s.node
+    pub promised : KeepsPromises (node_config_of s) s.node
 
   pub record AsksLeaderOf (view old out : ℕ) : Type 0 where
     pub codes : is_one_of (DONE ∷ IDLE ∷ []) code ≡ true
@@ -144,9 +144,9 @@ module _ (s : NodeSessionView) (code : ℕ) where
 
 -- Calls of a node, and what is answered to them. One that is refused leaves all as it was.
 module _ (before : NodeSessionView) (code : ℕ) (after : NodeSessionView) where
-  -- the node goes on with an event, whichever history it stands after
+  -- the node goes on with an event, whichever history it represents
   abbrev pub NodeGoes : NodeEvent Sha256Digest Name ℕ (Content Caller ghosts) → Type 0
-  NodeGoes event = Meets (node_judged before) before.node event after.node
+  NodeGoes event = Meets (node_config_of before) before.node event after.node
 
   pub record RecordsNodeVerdict (number : ℕ) (attests : Bool) : Type 0 where
     pub codes : is_one_of (DONE ∷ OUT_OF_MEMORY ∷ []) code ≡ true
@@ -155,6 +155,19 @@ module _ (before : NodeSessionView) (code : ℕ) (after : NodeSessionView) where
         → known_in after.ledger.singles other ≡ known_in before.ledger.singles other
     pub together : after.ledger.together ≡ before.ledger.together
     pub stays : code ≡ OUT_OF_MEMORY → after ≡ before
+    pub scheme : SameScheme before.ledger after.ledger
+    pub node : after.node ≡ before.node
+
+  -- a verdict on each of the attestations of a list, as if each were recorded by itself; where
+  -- memory is refused, on so many of the first
+  pub record RecordsNodeVerdicts (list : List FlatAttestation) (verdicts : List Bool) : Type 0 where
+    pub codes : is_one_of (DONE ∷ MALFORMED ∷ OUT_OF_MEMORY ∷ []) code ≡ true
+    pub malformed : (code ≡ MALFORMED) ↔ (length verdicts ≢ length list)
+    pub recorded : code ≡ DONE → AreRecorded before.ledger after.ledger list
+    pub begun : code ≡ OUT_OF_MEMORY
+        → (count : ℕ) × AreRecorded before.ledger after.ledger (take count list)
+    pub stays : code ≡ MALFORMED → after ≡ before
+    pub together : after.ledger.together ≡ before.ledger.together
     pub scheme : SameScheme before.ledger after.ledger
     pub node : after.node ≡ before.node
 
@@ -182,7 +195,7 @@ module _ (before : NodeSessionView) (code : ℕ) (after : NodeSessionView) where
     pub unknown : code ≡ UNKNOWN → IfSome (vote_in vote) (λ typed.
         NodeGoes (vote_came (record { 0 = peer }) typed Unknown))
     pub needed : code ≡ OUT_OF_MEMORY → IfSome (vote_in vote) (λ typed.
-        IsHeard (node_judged before) before.node (record { 0 = peer })
+        IsHeard (node_config_of before) before.node (record { 0 = peer })
         (round_signed (subject_of typed)))
     pub stays : code ≢ DONE → (after ≡ before) × (out ≡ old)
     pub verdicts : after.ledger ≡ before.ledger
@@ -213,7 +226,7 @@ module _ (before : NodeSessionView) (code : ℕ) (after : NodeSessionView) where
         → CertificateCame peer kind proposal number (Answered KnownCertificate)
     pub forged : code ≡ FORGED → CertificateCame peer kind proposal number (Answered Forged)
     pub needed : code ≡ OUT_OF_MEMORY → IfSome (subject_in kind proposal) (λ subject.
-        IsHeard (node_judged before) before.node (record { 0 = peer }) (round_signed subject))
+        IsHeard (node_config_of before) before.node (record { 0 = peer }) (round_signed subject))
     pub needs_to_certify : code ≡ OUT_OF_MEMORY → certifies ≡ true
     pub stays : code ≢ DONE → code ≢ FORGED → after ≡ before
     pub out_stays : code ≢ DONE → out ≡ old
@@ -226,9 +239,9 @@ module _ (before : NodeSessionView) (code : ℕ) (after : NodeSessionView) where
     pub malformed : (code ≡ MALFORMED) ↔ (vote_in vote ≡ None)
     pub done : code ≡ DONE → IfSome (vote_in vote) (λ typed. (report : Activity ℕ Sha256Digest)
         × ((admission_in out ≡ record { added = true; block = None; report = Some report })
-        × MeetsCast (node_judged before) before.node typed (ToSend report) after.node))
+        × SimulatesCast (node_config_of before) before.node typed (ToSend report) after.node))
     pub known : code ≡ KNOWN → IfSome (vote_in vote) (λ typed.
-        MeetsCast (node_judged before) before.node typed KnownVote after.node)
+        SimulatesCast (node_config_of before) before.node typed KnownVote after.node)
     pub elsewhere : code ≡ ELSEWHERE → IfSome (vote_in vote) (λ typed.
         is_of before.node.epoch before.node.window (round_signed (subject_of typed)) ≡ false)
     pub verified : is_one_of (DONE ∷ KNOWN ∷ []) code ≡ true → IfSome (vote_in vote) (λ typed.
@@ -236,10 +249,10 @@ module _ (before : NodeSessionView) (code : ℕ) (after : NodeSessionView) where
     pub not_verified : code ≡ NOT_VERIFIED → IfSome (vote_in vote) (λ typed.
         is_known_to_attest before.ledger (attestation_of typed) ≡ false)
     pub named : (fault : OwnFault) → fault_in code ≡ Some fault → IfSome (vote_in vote) (λ typed.
-        WhereverNodeStands (node_judged before) before.node (λ past.
+        ForEachNodeHistory (node_config_of before) before.node (λ past.
         let view = (round_signed (subject_of typed)).view.0 in
         fault ≡ fault_or_memory
-        (own_answer (setting_of (node_judged before) past view) (told view past) typed)))
+        (own_answer (config_of (node_config_of before) past view) (view_history view past) typed)))
     pub needed : (fault : OwnFault) → fault_in code ≡ Some fault → IfSome (vote_in vote) (λ typed.
         is_of before.node.epoch before.node.window (round_signed (subject_of typed)) ≡ true)
     pub stays : code ≢ DONE → code ≢ KNOWN → after ≡ before
@@ -269,10 +282,10 @@ module _ (before : NodeSessionView) (code : ℕ) (after : NodeSessionView) where
   pub record ForwardsInView (view me : ℕ) (old out : FlatProposal) : Type 0 where
     pub codes : is_one_of (DONE ∷ IDLE ∷ []) code ≡ true
     pub done : code ≡ DONE
-        → MeetsForward (node_judged before) before.node view (participant me)
+        → SimulatesForward (node_config_of before) before.node view (participant me)
         (Some (proposal_in out)) after.node
     pub none : code ≡ IDLE
-        → MeetsForward (node_judged before) before.node view (participant me) None after.node
+        → SimulatesForward (node_config_of before) before.node view (participant me) None after.node
     pub out_stays : code ≡ IDLE → out ≡ old
     pub verdicts : after.ledger ≡ before.ledger
     pub same : SameNode before.node after.node
@@ -304,8 +317,8 @@ module _ (before : NodeSessionView) (code : ℕ) (after : NodeSessionView) where
     pub asked_stays : wants code ≡ true → after ≡ before
     pub rests : code ≡ IDLE → (after ≡ before) × IsAtRest before.node
     pub complete : code ≡ IDLE
-        → (h : HasHistory (node_judged after) after.node)
-        × IsComplete (node_judged after) h.past after.node
+        → (h : HasHistory (node_config_of after) after.node)
+        × IsComplete (node_config_of after) h.past after.node
     pub done : code ≡ DONE → (batch : Batch Made)
         × (WritesBatch step room list signers_room signers batch
         × NodeGoes (constructed step.view (Some batch)))

@@ -1,5 +1,5 @@
 -- What the calls of a round do and answer, by codes and flat values.
-use Rattle.std.specs.Prelude.{◌≡◌, ◌≢◌, ◌↔◌, ◌≤◌, ◌==◌, not, ℕ, Bool, true, false, List, [], ◌∷◌, length, map, Option, Some, None, Ok, IfSome, IsSomeAnd}
+use Rattle.std.specs.Prelude.{◌≡◌, ◌≢◌, ◌↔◌, ◌≤◌, ◌==◌, not, ℕ, Bool, true, false, List, [], ◌∷◌, length, take, map, Option, Some, None, Ok, IfSome, IsSomeAnd}
 use Rattle.std.specs.List.{list_any}
 use Rattle.batcher_types.specs.declared.messages.Sha256Digest.{Sha256Digest}
 use Rattle.batcher_types.specs.declared.positions.Participant.{Participant}
@@ -11,8 +11,8 @@ use Rattle.batcher_histories.specs.declared.calls.Call.TheVariants.{Network as N
 use Rattle.batcher_histories.specs.declared.answers.Answer.TheVariants.{Network as NetworkAnswer, Own as OwnAnswer, Construct as ConstructAnswer, Leader as LeaderAnswer, Forward as ForwardAnswer}
 use Rattle.batcher_histories.specs.declared.answers.Answer.TheVariants.{Certificate as CertificateAnswer, Missing as MissingAnswer}
 use Rattle.batcher_histories.specs.History.{History, Event}
-use Rattle.batcher_histories.specs.Stands.{Stands}
-use Rattle.batcher_histories.specs.Setting.{Setting}
+use Rattle.batcher_histories.specs.Represents.{Represents}
+use Rattle.batcher_histories.specs.Config.{Config}
 use Rattle.batcher_histories.specs.Selection.{leader_of, selected_proposal, is_certified}
 use Rattle.batcher_histories.specs.Comparison.{has_block}
 use Rattle.batcher_histories.specs.declared.answers.OwnFault.{OwnFault}
@@ -22,7 +22,7 @@ use Rattle.batcher_round.specs.Next.{subject_next}
 use Rattle.batcher_external.specs.declared.scheme.Content.{Content}
 use Rattle.batcher_external.specs.declared.scheme.Content.TheVariants.{Listed, Received}
 use Rattle.batcher_session.specs.Ledgers.{SameScheme, known_in, known_together, is_known_to_attest}
-use Rattle.batcher_session.specs.Sessions.{SessionView, judged, GoesOn, AfterAnyHistory, SameRound}
+use Rattle.batcher_session.specs.Sessions.{SessionView, config_by, GoesOn, ForEachHistory, SameRound}
 use Rattle.batcher_session.specs.Wants.{Asked, asked_next}
 use Rattle.batcher_c.specs.contracts.caller.CallerTruth.TheImpl.{ghosts}
 use Rattle.batcher_c.specs.declared.caller.Caller.{Caller}
@@ -34,7 +34,8 @@ use Rattle.batcher_c.specs.declared.flat.FlatVote.{FlatVote}
 use Rattle.batcher_c.specs.declared.flat.FlatAdmission.{FlatAdmission}
 use Rattle.batcher_c.specs.declared.flat.FlatStep.{FlatStep}
 use Rattle.batcher_c.specs.Flat.{kind_in, fault_in, mode_in, vote_in, subject_in, attestation_in, admission_in, outcome_in, report_in, proposal_in}
-use Rattle.batcher_c.specs.Written.{Made, IsWritten, WritesBatch}
+use Rattle.batcher_c.specs.Output.{Made, IsWritten, WritesBatch}
+use Rattle.batcher_c.specs.VerdictLists.{AreRecorded}
 
 abbrev pub is_one_of : List ℕ → ℕ → Bool
 is_one_of codes code = list_any (λ c. c == code) codes
@@ -52,14 +53,14 @@ wants code = is_one_of (VERIFY ∷ VERIFY_TOGETHER ∷ []) code
 abbrev pub is_made : ℕ → Bool
 is_made code = is_one_of (DONE ∷ IDLE ∷ []) code
 
--- what the round of a session is judged by
-abbrev pub setting_of : SessionView → Setting Sha256Digest Name ℕ (Content Caller ghosts)
-setting_of s = judged ghosts s.round
+-- the configuration of the round of a session
+abbrev pub config_of : SessionView → Config Sha256Digest Name ℕ (Content Caller ghosts)
+config_of s = config_by ghosts s.round
 
--- It holds of every history after which the round stands.
+-- It holds of every history that the round represents.
 abbrev pub AfterAny : SessionView
     → (History Sha256Digest Name ℕ (Content Caller ghosts) → Type 0) → Type 0
-AfterAny s holds = AfterAnyHistory ghosts s.round holds
+AfterAny s holds = ForEachHistory ghosts s.round holds
 
 -- A certificate came from elsewhere, under the number.
 abbrev pub IsReceived : ℕ → Content Caller ghosts → Type 0
@@ -75,7 +76,7 @@ pub record IsNew (epoch view participants mode : ℕ) (batchable aggregates : Bo
   pub participants_are : length made.round.scheme.participants ≡ participants
   pub batchable_is : made.round.scheme.batchable ≡ batchable
   pub aggregates_is : made.ledger.aggregates ≡ aggregates
-  pub stands : Stands (setting_of made) [] made.round.holds
+  pub represents : Represents (config_of made) [] made.round.holds
 
 -- What a call that makes a round does to a handle: where it fails, the handle stays as it was.
 pub record MakesRound (old new : Option SessionView) (code : ℕ)
@@ -106,8 +107,8 @@ module _ (s : SessionView) (code : ℕ) where
   pub record AsksProposal (old out : FlatProposal) : Type 0 where
     pub codes : is_one_of (DONE ∷ IDLE ∷ []) code ≡ true
     pub done : code ≡ DONE
-        → AfterAny s (λ past. selected_proposal (setting_of s) past ≡ Some (proposal_in out))
-    pub none : code ≡ IDLE → AfterAny s (λ past. selected_proposal (setting_of s) past ≡ None)
+        → AfterAny s (λ past. selected_proposal (config_of s) past ≡ Some (proposal_in out))
+    pub none : code ≡ IDLE → AfterAny s (λ past. selected_proposal (config_of s) past ≡ None)
     pub stays : code ≡ IDLE → out ≡ old
 
   pub record AsksCertificate (kind : ℕ) (old out : Bool) : Type 0 where
@@ -119,12 +120,12 @@ module _ (s : SessionView) (code : ℕ) where
 
   pub record AsksNullify (signer : ℕ) (out : Bool) : Type 0 where
     pub codes : code ≡ DONE
-    pub done : AfterAny s (λ past. out ≡ keeps_nullify (setting_of s) past signer)
+    pub done : AfterAny s (λ past. out ≡ keeps_nullify (config_of s) past signer)
 
   pub record AsksMissing (proposal : FlatProposal) (asked : ℕ) (out : Bool) : Type 0 where
     pub codes : code ≡ DONE
     pub done : AfterAny s
-        (λ past. out ≡ not (has_block (setting_of s) past asked (proposal_in proposal)))
+        (λ past. out ≡ not (has_block (config_of s) past asked (proposal_in proposal)))
 
   pub record ListsMissing (proposal : FlatProposal) (room list : List ℕ) (old count : ℕ)
       : Type 0 where
@@ -136,7 +137,7 @@ module _ (s : SessionView) (code : ℕ) where
 
 -- Calls of a round, and what is answered to them. One that isn't done leaves all as it was.
 module _ (before : SessionView) (code : ℕ) (after : SessionView) where
-  -- the round goes on with a call and its answer, whichever history it stands after
+  -- the round goes on with a call and its answer, whichever history it represents
   abbrev pub Goes : Event Sha256Digest Name ℕ (Content Caller ghosts) → Type 0
   Goes event = GoesOn ghosts before.round event after.round
 
@@ -147,6 +148,19 @@ module _ (before : SessionView) (code : ℕ) (after : SessionView) where
         → known_in after.ledger.singles other ≡ known_in before.ledger.singles other
     pub together : after.ledger.together ≡ before.ledger.together
     pub stays : code ≡ OUT_OF_MEMORY → after ≡ before
+    pub scheme : SameScheme before.ledger after.ledger
+    pub round : after.round ≡ before.round
+
+  -- a verdict on each of the attestations of a list, as if each were recorded by itself; where
+  -- memory is refused, on so many of the first
+  pub record RecordsVerdicts (list : List FlatAttestation) (verdicts : List Bool) : Type 0 where
+    pub codes : is_one_of (DONE ∷ MALFORMED ∷ OUT_OF_MEMORY ∷ []) code ≡ true
+    pub malformed : (code ≡ MALFORMED) ↔ (length verdicts ≢ length list)
+    pub recorded : code ≡ DONE → AreRecorded before.ledger after.ledger list
+    pub begun : code ≡ OUT_OF_MEMORY
+        → (count : ℕ) × AreRecorded before.ledger after.ledger (take count list)
+    pub stays : code ≡ MALFORMED → after ≡ before
+    pub together : after.ledger.together ≡ before.ledger.together
     pub scheme : SameScheme before.ledger after.ledger
     pub round : after.round ≡ before.round
 
@@ -185,7 +199,7 @@ module _ (before : SessionView) (code : ℕ) (after : SessionView) where
         is_known_to_attest before.ledger (attestation_of typed) ≡ false)
     pub named : (fault : OwnFault) → fault_in code ≡ Some fault → IfSome (vote_in vote) (λ typed.
         AfterAny before (λ past. fault
-        ≡ fault_or_memory (own_answer (setting_of before) past typed)))
+        ≡ fault_or_memory (own_answer (config_of before) past typed)))
     pub stays : code ≢ DONE → after ≡ before
     pub out_stays : code ≢ DONE → out ≡ old
     pub verdicts : after.ledger ≡ before.ledger
@@ -228,13 +242,13 @@ module _ (before : SessionView) (code : ℕ) (after : SessionView) where
       (signers_room signers : List ℕ) : Type 0 where
     pub codes : is_one_of (DONE ∷ IDLE ∷ VERIFY ∷ VERIFY_TOGETHER ∷ OUT_OF_MEMORY ∷ []) code ≡ true
     pub asks : wants code ≡ true
-        → IsSomeAnd (asked_next before.ledger (setting_of before) before.round.holds)
+        → IsSomeAnd (asked_next before.ledger (config_of before) before.round.holds)
         (WantsOf step room list (code == VERIFY_TOGETHER))
     pub subject : wants code ≡ true
-        → subject_in step.kind step.proposal ≡ subject_next (setting_of before) before.round.holds
+        → subject_in step.kind step.proposal ≡ subject_next (config_of before) before.round.holds
     pub stays : wants code ≡ true → after ≡ before
     pub asks_nothing : is_made code ≡ true
-        → asked_next before.ledger (setting_of before) before.round.holds ≡ None
+        → asked_next before.ledger (config_of before) before.round.holds ≡ None
     pub done : code ≡ DONE → (batch : Batch Made)
         × (WritesBatch step room list signers_room signers batch
         × Goes (ConstructCall, ConstructAnswer (Some batch)))

@@ -1,4 +1,4 @@
--- What is true of what a caller verifies. What stands on the right is never seen: outside of this
+-- What is true of what a caller verifies. What is on the right is never seen: outside of this
 -- module nothing unfolds these definitions, so each proof holds of any other in their place.
 use Rattle.std.specs.Prelude.{ℕ, Bool, true, List}
 use Rattle.batcher_types.specs.declared.messages.Attestation.{Attestation}

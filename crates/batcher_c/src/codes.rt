@@ -4,7 +4,8 @@
 pub const DONE: u8 = 0;
 /// The handle is empty.
 pub const NONE: u8 = 1;
-/// A code or a number that means nothing, or no participant.
+/// A code or a number that means nothing, no participant, or a list of verdicts that isn't as long
+/// as that of attestations.
 pub const MALFORMED: u8 = 2;
 /// It is of another round.
 pub const ELSEWHERE: u8 = 3;

@@ -1,7 +1,7 @@
 //! Whom two votes convict, by the caller's verdicts on both. It rests on no round and no node.
 
 ghost use Rattle.std.specs.Prelude.{◌≡◌, ◌≤◌, IfOk, Some};
-ghost use Rattle.batcher_c.specs.Convicted.{AsksConvicted, Convicts, is_malformed, report_made, report_of_both};
+ghost use Rattle.batcher_c.specs.Convictions.{AsksConvicted, Convicts, is_malformed, report_made, report_of_both};
 ghost use Rattle.batcher_c.specs.Truths.{number_attests};
 
 use crate::caller::Caller;
@@ -71,7 +71,9 @@ fn report_made(
         (Vote::Finalize(a), Vote::Finalize(b)) => Some(Activity::ConflictingFinalize(a, b)),
         (Vote::Nullify(a), Vote::Finalize(b)) => Some(Activity::NullifyFinalize(a, b)),
         (Vote::Finalize(a), Vote::Nullify(b)) => Some(Activity::NullifyFinalize(b, a)),
-        _ => None,
+        (Vote::Notarize(_), Vote::Nullify(_) | Vote::Finalize(_))
+        | (Vote::Nullify(_), Vote::Notarize(_) | Vote::Nullify(_))
+        | (Vote::Finalize(_), Vote::Notarize(_)) => None,
     }
 }
 

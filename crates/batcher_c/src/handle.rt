@@ -4,7 +4,7 @@
 ghost use Rattle.std.specs.Prelude.{◌≡◌, Option, None, Some};
 ghost use Rattle.std.specs.Option.{MatchOption};
 ghost use Rattle.batcher_session.specs.Sessions.{SessionView};
-ghost use Rattle.batcher_node_session.specs.Seen.{NodeSessionView};
+ghost use Rattle.batcher_node_session.specs.Views.{NodeSessionView};
 
 use crate::caller::Caller;
 use crate::nodes::Node;
@@ -25,7 +25,7 @@ pub struct RoundHandle {
 }
 
 impl Model for RoundHandle {
-    ghost use Rattle.batcher_c.specs.Owned.{owned_or_null};
+    ghost use Rattle.batcher_c.specs.Ownership.{owned_or_null};
     ghost use Rattle.batcher_c.specs.Rows.{session_row};
 
     ghost also_owns = { λ h. owned_or_null session_row h.alloc h.at h.value };
@@ -108,7 +108,7 @@ pub struct NodeHandle {
 }
 
 impl Model for NodeHandle {
-    ghost use Rattle.batcher_c.specs.Owned.{owned_or_null};
+    ghost use Rattle.batcher_c.specs.Ownership.{owned_or_null};
     ghost use Rattle.batcher_c.specs.Rows.{node_row};
 
     ghost also_owns = { λ h. owned_or_null node_row h.alloc h.at h.value };

@@ -4,7 +4,8 @@ ghost use Rattle.std.specs.Prelude.{◌≡◌, ◌≢◌, ◌↔◌, true, map, 
 ghost use Rattle.batcher_histories.specs.declared.answers.OwnFault.{OwnFault as TheFault};
 ghost use Rattle.batcher_c.specs.Flat.{attestation_in, fault_in};
 ghost use Rattle.batcher_c.specs.Truths.{number_attests, list_passes, number_certifies};
-ghost use Rattle.batcher_c.specs.Rounds.{is_one_of, refusals, RecordsVerdict, RecordsTogether, AddsNetwork, AcceptsVote, RecordsCertificate, SetsLeader, Forwards, AsksLeader, AsksProposal};
+ghost use Rattle.batcher_c.specs.VerdictLists.{AreTrue};
+ghost use Rattle.batcher_c.specs.Rounds.{is_one_of, refusals, RecordsVerdict, RecordsVerdicts, RecordsTogether, AddsNetwork, AcceptsVote, RecordsCertificate, SetsLeader, Forwards, AsksLeader, AsksProposal};
 ghost use Rattle.batcher_c.specs.Rounds.{AsksCertificate, AsksNullify, AsksMissing, ListsMissing, Constructs};
 
 use crate::codes::{
@@ -33,6 +34,25 @@ pub fn record_verdict(session: &mut Session, number: u64, attests: bool) -> u8
         Ok(()) => DONE,
         Err(_) => OUT_OF_MEMORY,
     }
+}
+
+/// Records a verdict on each of the attestations of a list, in their order.
+pub fn record_verdicts(session: &mut Session, list: &[FlatAttestation], verdicts: &[bool]) -> u8
+    requires { AreTrue list.now verdicts.now }
+    ensures { RecordsVerdicts session.old result session.new list.now verdicts.now }
+{
+    if verdicts.len() != list.len() {
+        return MALFORMED;
+    }
+    for index in 0..list.len() {
+        if session
+            .record_verdict(list[index].number, verdicts[index])
+            .is_err()
+        {
+            return OUT_OF_MEMORY;
+        }
+    }
+    DONE
 }
 
 /// Records a verdict on attestations as a whole.

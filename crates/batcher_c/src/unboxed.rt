@@ -14,7 +14,7 @@ pub(crate) struct Unboxed<T, A: Allocator> {
 }
 
 impl<T, A: Allocator> Model for Unboxed<T, A> {
-    ghost use Rattle.batcher_c.specs.Owned.{block_owned};
+    ghost use Rattle.batcher_c.specs.Ownership.{block_owned};
 
     ghost also_owns = { λ u. block_owned T.row (A.dealloc_token u.alloc) u.at u.value };
 }

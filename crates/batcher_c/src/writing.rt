@@ -3,7 +3,7 @@
 ghost use Rattle.std.specs.Prelude.{◌≡◌, length, map, Some, IfOk};
 ghost use Rattle.batcher_types.specs.Keys.{participant};
 ghost use Rattle.batcher_c.specs.Flat.{attestation_in, cause_in, subject_in};
-ghost use Rattle.batcher_c.specs.Written.{IsWritten, WritesContent, WritesBatch};
+ghost use Rattle.batcher_c.specs.Output.{IsWritten, WritesContent, WritesBatch};
 
 use crate::caller::Caller;
 use crate::flat::{FlatAttestation, FlatStep, cause_code, flat_subject};

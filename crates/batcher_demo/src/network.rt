@@ -84,7 +84,7 @@ fn restart_of(seed: u64) -> Option<usize> {
 struct Delivery {
     to: u32,
     from: u32,
-    // Where it stands among all that were posted.
+    // Where it is among all that were posted.
     message: usize,
 }
 
@@ -124,7 +124,7 @@ pub(crate) struct Network {
     rng: Pcg32,
     pub(crate) validators: Vec<Validator>,
     posted: Vec<Posted>,
-    // Where the votes stand that one validator repeats.
+    // Where the votes are that one validator repeats.
     repeated: Vec<usize>,
     // What comes at each step.
     calendar: Vec<Vec<Delivery>>,
@@ -524,7 +524,7 @@ fn is_just(role: Role, validator: &Validator, witness: &Witness, peer: u32) -> b
     }
 }
 
-// Whether the node's blocks are those that its answers told of.
+// Whether the node's blocks are those that its answers reported.
 fn tells_all(validator: &Validator) -> bool {
     validator.blocks.len() == validator.station.blocked()
 }

@@ -1,4 +1,4 @@
-//! A node, with what its validator signs by. Each call stands in a function that promises little,
+//! A node, with what its validator signs by. Each call is in a function that promises little,
 //! since what a call promises is carried to its caller's end.
 
 ghost use Rattle.std.specs.Prelude.{◌≡◌};
@@ -80,7 +80,7 @@ impl Station {
         }))
     }
 
-    // Takes a new node, which was told nothing. Its window begins where that of the lost one did.
+    // Takes a new node. Its window begins where that of the lost one did.
     pub(crate) fn restart(&mut self, alloc: Global) -> Result<(), AllocError> {
         let window = self.node.window();
         let again = Rc::clone(&self.scheme)?;

@@ -35,7 +35,7 @@ pub(crate) fn leader_of(view: u64) -> u32 {
     (view % u64::from(VALIDATORS)) as u32
 }
 
-/// The proposal of a view's leader, told by its letter.
+/// The proposal of a view's leader, by its letter.
 pub(crate) fn proposed(view: u64, parent: u64, letter: u8) -> Proposal<Sha256Digest> {
     Proposal::new(
         numbered(view),
@@ -330,10 +330,10 @@ impl Validator {
         Ok(())
     }
 
-    /// Starts again with a node that was told nothing, but with all that it knows of the views.
+    /// Starts again with a new node, but with all that it knows of the views.
     ///
     /// What it has sent in views of the window it casts again as it was, before any other vote: so
-    /// its new node refuses what stands against that. Whom it had blocked is blocked again only for
+    /// its new node refuses what that excludes. Whom it had blocked is blocked again only for
     /// another cause.
     pub(crate) fn restart(&mut self, alloc: Global, now: usize) -> Result<()> {
         self.station.restart(alloc)?;
@@ -405,7 +405,7 @@ impl Validator {
                 break;
             }
         }
-        // A vote that the node knew was told to a view too, which is to rest.
+        // A vote that the node knew was passed to a view too, which is to rest.
         self.construct()?;
         self.counts.rounds = self.counts.rounds.max(self.station.rounds_kept());
         Ok(())
@@ -451,7 +451,7 @@ impl Validator {
         Ok(())
     }
 
-    // The network checks at its end that just those who were told so have blocked the one that
+    // The network checks at its end that just those who were answered so have blocked the one that
     // signs badly.
     fn note_named(&mut self, signers: &[Participant]) -> Result<(), AllocError> {
         for signer in signers {

@@ -1,4 +1,4 @@
-//! What a validator was told, noted beside it: what it ought to have done follows from that.
+//! What a validator received, noted beside it: what it ought to have done follows from that.
 
 use crate::network::Role;
 use crate::station::AnyCertificate;
@@ -81,7 +81,7 @@ impl Voters {
     }
 }
 
-/// What a validator was told since it started, and what was found of it.
+/// What a validator received since it started, and what was found of it.
 #[derive(Drop)]
 pub(crate) struct Witness {
     // Which of the two proposals of the one that equivocates it heard, while votes were kept as
@@ -193,8 +193,8 @@ impl Witness {
         }
     }
 
-    /// Looks whether the validator, which is at rest, has a certificate of each quorum that it was
-    /// told of. A skipped view makes none.
+    /// Looks whether the validator, which is at rest, has a certificate of each quorum that
+    /// reached it. A skipped view makes none.
     pub(crate) fn look(&mut self, validator: &Validator) {
         let mut left = false;
         for (view, voters) in self.voters.iter().enumerate() {

@@ -16,7 +16,7 @@ use Rattle.batcher.specs.messages.Attestation.{Attestation}
 use Rattle.batcher.specs.messages.Subject.{Subject}
 use Rattle.batcher.specs.messages.Certificate.{Certificate}
 use Rattle.batcher_evidence.specs.declared.certificates.Culprit.{Culprit}
-use Rattle.batcher_evidence.specs.Shown.{ShowsQuorum, has_signed}
+use Rattle.batcher_evidence.specs.SignedQuorums.{ShowsQuorum, has_signed}
 use Rattle.batcher_evidence.specs.Culprits.{AreCulprits, attests_both, beside, index_of_culprit, signed_both}
 use Rattle.batcher_evidence.proofs.Counting.{below_both, below_more, distinct_below, few_have, has_number}
 

@@ -5,11 +5,11 @@ use Rattle.std.proofs.lemmas.Bool.{and_parts, eqb-true}
 use Rattle.std.proofs.lemmas.Option.{same_Some}
 use Rattle.batcher.specs.Meaning.{Meaning}
 use Rattle.batcher.specs.Votes.{signer_of, subject_of, attestation_of}
-use Rattle.batcher.specs.Reported.{subjects_contradict, evidence_in}
+use Rattle.batcher.specs.Reports.{subjects_contradict, evidence_in}
 use Rattle.batcher.specs.positions.Participant.{Participant}
 use Rattle.batcher.specs.messages.Vote.{Vote}
 use Rattle.batcher.specs.messages.Activity.{Activity}
-use Rattle.batcher_evidence.specs.Convicted.{both_attest, convicts, convicted_by, IsProof}
+use Rattle.batcher_evidence.specs.Convictions.{both_attest, convicts, convicted_by, IsProof}
 
 module _ {D K G C : Type 0} (m : Meaning D K G C) (same : D → D → Bool) where
   proof_of :

@@ -11,13 +11,13 @@ use Rattle.batcher.proofs.CountLemmas.{any_within, count-append, count-filter, c
 use Rattle.batcher.specs.Quorum.{quorum_of}
 use Rattle.batcher.specs.Lists.{count, EachOnce, ElementsWithin}
 use Rattle.batcher.specs.Meaning.{Meaning}
-use Rattle.batcher.specs.Setting.{Setting, participants_in, quorum_in}
+use Rattle.batcher.specs.Config.{Config, participants_in, quorum_in}
 use Rattle.batcher.specs.Votes.{signer_of, subject_of, subject_certified, same_subject}
 use Rattle.batcher.specs.History.{Event, History, batch_given, certificate_given, cast_votes}
 use Rattle.batcher.specs.FirstVotes.{first_votes, is_free}
 use Rattle.batcher.specs.Promises.{AtEachEvent, votes_cast}
-use Rattle.batcher.specs.Reported.{subjects_contradict}
-use Rattle.batcher.specs.Backed.{GivesBacked, IsBacked, IsGiven, votes_behind}
+use Rattle.batcher.specs.Reports.{subjects_contradict}
+use Rattle.batcher.specs.Backing.{GivesBacked, IsBacked, IsGiven, votes_behind}
 use Rattle.batcher.specs.positions.Round.{Round}
 use Rattle.batcher.specs.messages.Subject.{Subject}
 use Rattle.batcher.specs.messages.Vote.{Vote}
@@ -78,8 +78,8 @@ module _ {G D : Type 0} where
       (λ u. list_any (λ w. (signer_of w == i) && subjects_contradict same u (subject_of w)) others)
       vs about second parts.0)
 
-module _ {D K G C : Type 0} (x : Setting D K G C) where
-  -- What stands behind a certificate: votes of a quorum of participants, which were cast.
+module _ {D K G C : Type 0} (x : Config D K G C) where
+  -- What is behind a certificate: votes of a quorum of participants, which were cast.
   pub record IsBehind (past : History D K G C) (c : Certificate C D) (votes : List (Vote G D)) :
       Type 0 where
     pub enough : quorum_in x ≤ length votes

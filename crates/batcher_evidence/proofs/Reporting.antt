@@ -4,9 +4,9 @@ use Rattle.std.specs.Prelude.{IfSome, is_some, option_and_then}
 use Rattle.std.proofs.lemmas.Bool.{and_from, eq-eqb}
 use Rattle.std.specs.declared.cmp.Ordering.{Ordering}
 use Rattle.batcher.specs.Meaning.{Meaning}
-use Rattle.batcher.specs.Setting.{Setting}
+use Rattle.batcher.specs.Config.{Config}
 use Rattle.batcher.specs.Votes.{signer_of, subject_of, attestation_of}
-use Rattle.batcher.specs.Reported.{subjects_contradict, evidence_in, AreContrary, ReportsContrary}
+use Rattle.batcher.specs.Reports.{subjects_contradict, evidence_in, AreContrary, ReportsContrary}
 use Rattle.batcher.specs.History.{History, names_sender}
 use Rattle.batcher.specs.Promises.{AtEachVote, votes_cast}
 use Rattle.batcher.specs.positions.Participant.{Participant}
@@ -15,7 +15,7 @@ use Rattle.batcher.specs.messages.Activity.{Activity}
 use Rattle.batcher.specs.answers.Admission.{Admission}
 use Rattle.batcher.specs.calls.Call.TheVariants.{Network as NetworkCall}
 use Rattle.batcher.specs.answers.Answer.TheVariants.{Network as NetworkAnswer}
-use Rattle.batcher_evidence.specs.Convicted.{both_attest, convicts, convicted_by}
+use Rattle.batcher_evidence.specs.Convictions.{both_attest, convicts, convicted_by}
 use Rattle.batcher_evidence.specs.Rounds.{ConvictsIfAttested, ReportsConvict, round_of}
 
 module _ {D K G C : Type 0} (holds more : History D K G C → K → Vote G D → Admission G D → Type 0)
@@ -41,7 +41,7 @@ if_found :
 if_found None P Q more h = tt
 if_found (Some v) P Q more h = more v refl h
 
-module _ {D K G C : Type 0} (x : Setting D K G C) where
+module _ {D K G C : Type 0} (x : Config D K G C) where
   convicts_now :
       (report : Activity G D) (pair : Vote G D × Vote G D) (vote : Vote G D)
       → evidence_in report ≡ Some pair → signer_of pair.0 ≡ signer_of pair.1

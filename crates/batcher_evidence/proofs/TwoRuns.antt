@@ -9,14 +9,14 @@ use Rattle.batcher.specs.Verifiers.{certifies_itself}
 use Rattle.batcher.specs.Runs.{certifies_answer}
 use Rattle.batcher.specs.History.{History, certificate_given}
 use Rattle.batcher.specs.Promises.{AtEachEvent}
-use Rattle.batcher.specs.Backed.{IsGiven}
+use Rattle.batcher.specs.Backing.{IsGiven}
 use Rattle.batcher.specs.messages.Attestation.{Attestation}
 use Rattle.batcher.specs.messages.Subject.{Subject}
 use Rattle.batcher.specs.messages.Certificate.{Certificate}
 use Rattle.batcher.specs.answers.Answer.{Answer}
 use Rattle.batcher.specs.answers.Answer.TheVariants.{OutOfMemory, Network as NetworkAnswer, Own as OwnAnswer, OwnRefused, Certificate as CertificateAnswer}
 use Rattle.batcher.specs.answers.Answer.TheVariants.{Leader as LeaderAnswer, Construct as ConstructAnswer, Forward as ForwardAnswer, Missing as MissingAnswer}
-use Rattle.batcher_evidence.specs.Shown.{ShowsQuorum}
+use Rattle.batcher_evidence.specs.SignedQuorums.{ShowsQuorum}
 use Rattle.batcher_evidence.specs.Culprits.{AreCulprits, certificates_contradict, culprits_of, signed_both}
 use Rattle.batcher_evidence.specs.Rounds.{AreAccountable}
 use Rattle.batcher_evidence.proofs.Both.{both_signed}

@@ -8,12 +8,12 @@ use Rattle.batcher.specs.Attestations.{index_of_signer}
 use Rattle.batcher.specs.Meaning.{Meaning}
 use Rattle.batcher.specs.Votes.{subject_certified, content_of}
 use Rattle.batcher.specs.Verifiers.{certifies_itself}
-use Rattle.batcher.specs.Reported.{subjects_contradict}
+use Rattle.batcher.specs.Reports.{subjects_contradict}
 use Rattle.batcher.specs.messages.Attestation.{Attestation}
 use Rattle.batcher.specs.messages.Subject.{Subject}
 use Rattle.batcher.specs.messages.Certificate.{Certificate}
 use Rattle.batcher_evidence.specs.declared.certificates.Culprit.{Culprit}
-use Rattle.batcher_evidence.specs.Shown.{has_signed}
+use Rattle.batcher_evidence.specs.SignedQuorums.{has_signed}
 
 -- whether nobody honest signs what both certify
 abbrev pub certificates_contradict :

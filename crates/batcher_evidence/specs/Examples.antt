@@ -13,11 +13,11 @@ use Rattle.batcher.specs.Ascending.{is_ascending}
 use Rattle.batcher.specs.Attestations.{index_of_signer}
 use Rattle.batcher.specs.Meaning.{Meaning}
 use Rattle.batcher.specs.Promises.{votes_cast}
-use Rattle.batcher.specs.Backed.{IsGiven}
+use Rattle.batcher.specs.Backing.{IsGiven}
 use Rattle.batcher.specs.Examples.Answers.{TinyCall, the_round, p, four, signed, notarize, notarization, net, lead, construct, played}
 use Rattle.batcher_evidence.specs.declared.certificates.Culprit.{Culprit}
 use Rattle.batcher_evidence.specs.Culprits.{certificates_contradict, culprits_of}
-use Rattle.batcher_evidence.specs.Convicted.{convicted_by}
+use Rattle.batcher_evidence.specs.Convictions.{convicted_by}
 use Rattle.batcher_evidence.specs.Rounds.{count_below, votes_contradict}
 
 abbrev pub TinyList : Type 0

@@ -1,6 +1,6 @@
-pub mod Shown
-pub mod Listed
+pub mod SignedQuorums
+pub mod SignerLists
 pub mod Culprits
-pub mod Convicted
+pub mod Convictions
 pub mod Rounds
 pub mod Examples

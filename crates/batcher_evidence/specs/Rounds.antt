@@ -11,15 +11,15 @@ use Rattle.batcher.specs.votes.Mode.{Mode}
 use Rattle.batcher.specs.answers.Admission.{Admission}
 use Rattle.batcher.specs.Quorum.{quorum_of}
 use Rattle.batcher.specs.Meaning.{Meaning}
-use Rattle.batcher.specs.Setting.{Setting, setting}
+use Rattle.batcher.specs.Config.{Config, config}
 use Rattle.batcher.specs.Votes.{signer_of, subject_of, attestation_of}
 use Rattle.batcher.specs.History.{History}
 use Rattle.batcher.specs.Promises.{AtEachVote, votes_cast}
-use Rattle.batcher.specs.Reported.{subjects_contradict, evidence_in}
-use Rattle.batcher.specs.Backed.{IsGiven}
-use Rattle.batcher.specs.Ran.{IsPromised}
+use Rattle.batcher.specs.Reports.{subjects_contradict, evidence_in}
+use Rattle.batcher.specs.Backing.{IsGiven}
+use Rattle.batcher.specs.RunContract.{IsPromised}
 use Rattle.batcher_evidence.specs.Culprits.{AreCulprits, certificates_contradict, culprits_of}
-use Rattle.batcher_evidence.specs.Convicted.{both_attest, convicted_by}
+use Rattle.batcher_evidence.specs.Convictions.{both_attest, convicted_by}
 
 -- how many numbers below n pass the test
 abbrev pub count_below : ℕ → (ℕ → Bool) → ℕ
@@ -40,7 +40,7 @@ module _ {G D : Type 0} (same : D → D → Bool) where
 module _ {D K G C : Type 0} (m : Meaning D K G C) where
   -- After both histories as many participants have cast votes in the two that contradict each other
   -- as two quorums are more than all, and so more than may be faulty.
-  pub record TakesContradicting (same : D → D → Bool) (x y : Setting D K G C)
+  pub record TakesContradicting (same : D → D → Bool) (x y : Config D K G C)
       (past other_past : History D K G C) : Type 0 where
     pub enough :
         quorum_of (length m.participants) + quorum_of (length m.participants)
@@ -64,8 +64,8 @@ module _ {D K G C : Type 0} (m : Meaning D K G C) where
       (compare_keys : K → K → Ordering) (same_signature : G → G → Bool) (same_digest : D → D → Bool)
     where
       -- a round of the scheme
-      abbrev pub round_of : Round → Mode → Setting D K G C
-      round_of number mode = setting m compare_keys same_signature same_digest number mode
+      abbrev pub round_of : Round → Mode → Config D K G C
+      round_of number mode = config m compare_keys same_signature same_digest number mode
 
       abbrev pub ReportsConvict : Type 0
       ReportsConvict =

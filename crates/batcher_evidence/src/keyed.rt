@@ -8,7 +8,7 @@ use batcher::scheme::{AttestationList, Keyed};
 
 impl<const BATCHABLE: bool> Accountable<Sha256Digest> for Keyed<BATCHABLE> {
     ghost use Rattle.std.specs.Prelude.{length};
-    ghost use Rattle.batcher_evidence.specs.Listed.{listed_shows};
+    ghost use Rattle.batcher_evidence.specs.SignerLists.{listed_shows};
 
     ghost shown = { λ c. c };
 

@@ -5,7 +5,7 @@
 ghost use Rattle.std.specs.Prelude.{◌≡◌, true, List};
 ghost use Rattle.batcher.specs.messages.Attestation.{Attestation as TheAttestation};
 ghost use Rattle.batcher.specs.messages.Subject.{Subject as TheSubject};
-ghost use Rattle.batcher_evidence.specs.Shown.{ShowsQuorum};
+ghost use Rattle.batcher_evidence.specs.SignedQuorums.{ShowsQuorum};
 
 mod certificates;
 mod keyed;

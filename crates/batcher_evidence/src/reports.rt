@@ -2,7 +2,7 @@
 
 ghost use Rattle.std.specs.Prelude.{◌≡◌, cond, true, IfOk, IfSome, OnOk, OnErr, Some, None};
 ghost use Rattle.batcher.specs.Votes.{subject_of, attestation_of};
-ghost use Rattle.batcher_evidence.specs.Convicted.{IsProof, convicts, convicted_by, may_convict, has_to_verify, left_by, left_by_both, left_by_convicting};
+ghost use Rattle.batcher_evidence.specs.Convictions.{IsProof, convicts, convicted_by, may_convict, has_to_verify, left_by, left_by_both, left_by_convicting};
 
 use crate::subjects::contradict;
 use batcher::messages::{Activity, Digest, Vote};

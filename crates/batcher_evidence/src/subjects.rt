@@ -2,7 +2,7 @@
 
 ghost use Rattle.std.specs.Prelude.{◌≡◌};
 ghost use Rattle.batcher.specs.Votes.{same_round};
-ghost use Rattle.batcher.specs.Reported.{subjects_contradict};
+ghost use Rattle.batcher.specs.Reports.{subjects_contradict};
 ghost use Rattle.batcher_evidence.specs.Culprits.{certificates_contradict};
 
 use batcher::messages::{Certificate, Digest, Subject};

@@ -7,12 +7,12 @@ ghost use Rattle.batcher_node.specs.declared.answers.Receipt.{Receipt as TheRece
 ghost use Rattle.batcher_node.specs.Events.{vote_came};
 ghost use Rattle.batcher_node.specs.Nodes.{SameNode, cause_at};
 ghost use Rattle.batcher_node.specs.Sending.{HearsWhatIsToSend};
-ghost use Rattle.batcher_node.specs.Stands.{Meets};
+ghost use Rattle.batcher_node.specs.Represents.{Meets};
 
 use batcher::messages::{Digest, Vote};
 use batcher::round::OwnFault;
 use batcher::scheme::Scheme;
-use batcher_node::{Cast, Node, NodeJudge, senders_of_votes_to_send_are_never_blocked};
+use batcher_node::{Cast, Node, NodeConfigs, senders_of_votes_to_send_are_never_blocked};
 
 /// Casts a vote at its signer's own node, and where it is to be sent hands it to another's node,
 /// under the key that it came with. It says whether it did.
@@ -26,17 +26,17 @@ pub fn cast_and_send<S: Scheme<D>, D: Digest>(
     vote: Vote<S::Signature, D>,
 ) -> Result<bool, OwnFault>
     requires { (S.meaning own.old.scheme).attests (subject_of vote) (attestation_of vote) ≡ true }
-    ensures keeps { HearsWhatIsToSend (⟦<S as NodeJudge<D>>⟧.of own.old)
-        (⟦<S as NodeJudge<D>>⟧.of other.old) own.old other.old (signer_of vote)
-        → HearsWhatIsToSend (⟦<S as NodeJudge<D>>⟧.of own.old)
-        (⟦<S as NodeJudge<D>>⟧.of other.old) own.new other.new (signer_of vote) }
+    ensures keeps { HearsWhatIsToSend (⟦<S as NodeConfigs<D>>⟧.of own.old)
+        (⟦<S as NodeConfigs<D>>⟧.of other.old) own.old other.old (signer_of vote)
+        → HearsWhatIsToSend (⟦<S as NodeConfigs<D>>⟧.of own.old)
+        (⟦<S as NodeConfigs<D>>⟧.of other.old) own.new other.new (signer_of vote) }
     ensures not_blocked { S.meaning other.old.scheme ≡ S.meaning own.old.scheme
         → signer_of vote < length (S.meaning own.old.scheme).participants
-        → HearsWhatIsToSend (⟦<S as NodeJudge<D>>⟧.of own.old)
-        (⟦<S as NodeJudge<D>>⟧.of other.old) own.old other.old (signer_of vote)
+        → HearsWhatIsToSend (⟦<S as NodeConfigs<D>>⟧.of own.old)
+        (⟦<S as NodeConfigs<D>>⟧.of other.old) own.old other.old (signer_of vote)
         → cause_at other.new.blocked (signer_of vote) ≡ None }
     ensures sent { result ≡ Ok true → (receipt : TheReceipt (TheAdmission S.Signature D))
-        × (Meets (⟦<S as NodeJudge<D>>⟧.of other.old) other.old
+        × (Meets (⟦<S as NodeConfigs<D>>⟧.of other.old) other.old
         (vote_came key vote receipt) other.new) }
     ensures not_sent { result ≡ Ok false → other.new ≡ other.old }
     ensures same { (SameNode own.old own.new) × (SameNode other.old other.new) }

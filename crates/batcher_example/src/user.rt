@@ -3,14 +3,14 @@
 ghost use Rattle.std.specs.Prelude.{◌≡◌, ◌∷◌, ◌↔◌, true, is_some, IfOk, IfSome, IfNone, OnErr};
 ghost use Rattle.batcher.specs.calls.Call.TheVariants.{Network as NetworkCall, Construct as ConstructCall};
 ghost use Rattle.batcher.specs.answers.Answer.TheVariants.{Network as NetworkAnswer, Construct as ConstructAnswer};
-ghost use Rattle.batcher.specs.Blocked.{GaveCause};
-ghost use Rattle.batcher.specs.Held.{SameRound};
-ghost use Rattle.batcher.specs.Judged.{WhereverItStands, FollowsAlways, FollowsOnOk};
+ghost use Rattle.batcher.specs.Blocks.{GaveCause};
+ghost use Rattle.batcher.specs.RoundState.{SameRound};
+ghost use Rattle.batcher.specs.RoundContracts.{ForEachHistory, SimulatesAlways, SimulatesOnOk};
 ghost use Rattle.batcher.specs.Verifiers.{certifies_itself};
 ghost use Rattle.batcher.specs.Votes.{subject_of, round_in};
 
 use batcher::messages::{Certificate, Digest, Vote};
-use batcher::round::{Admission, Judge, Round};
+use batcher::round::{Admission, Round, RoundConfigs};
 use batcher::run::possible_histories_are_promised;
 use batcher::scheme::Scheme;
 use batcher::verifier::Batch;
@@ -30,10 +30,11 @@ pub fn hear<S: Scheme<D>, D: Digest>(
         ↔ (round_in (subject_of vote) ≡ round.old.number)) }
     ensures left_out { IfOk result (λ heard. IfNone heard (round.new ≡ round.old)) }
     ensures meets { IfOk result (λ heard. IfSome heard (λ admission.
-        FollowsAlways ⟦<S as Judge<D>>⟧.of round.old
+        SimulatesAlways ⟦<S as RoundConfigs<D>>⟧.of round.old
         (NetworkCall sender vote, NetworkAnswer admission) round.new.holds)) }
     ensures cause { IfOk result (λ heard. IfSome heard (λ admission.
-        WhereverItStands ⟦<S as Judge<D>>⟧.of round.old (λ x past. is_some admission.block ≡ true
+        ForEachHistory ⟦<S as RoundConfigs<D>>⟧.of round.old
+        (λ x past. is_some admission.block ≡ true
         → GaveCause x ((NetworkCall sender vote, NetworkAnswer admission) ∷ past) sender))) }
     ensures refused { OnErr result (round.new ≡ round.old) }
     ensures same { SameRound round.old round.new }
@@ -60,7 +61,7 @@ pub fn construct<S: Scheme<D>, D: Digest, R: CryptoRng>(
 ) -> Result<Option<Batch<Certificate<S::Certificate, D>>>, AllocError>
     ensures certifies { IfOk result (λ given. IfSome given (λ batch. IfSome batch.certificate
         (λ certificate. certifies_itself (S.meaning round.old.scheme) certificate ≡ true))) }
-    ensures meets { FollowsOnOk ⟦<S as Judge<D>>⟧.of round.old
+    ensures meets { SimulatesOnOk ⟦<S as RoundConfigs<D>>⟧.of round.old
         ConstructCall ConstructAnswer result round.new.holds }
     ensures refused { OnErr result (round.new ≡ round.old) }
     ensures same { SameRound round.old round.new }

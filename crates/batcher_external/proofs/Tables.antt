@@ -1,7 +1,6 @@
 -- What is known by a list of verdicts in ascending order, and by others beside it.
 use Rattle.std.proofs.Common.{◌≡◌, ◌≢◌, ◌∙◌, ◌<◌, ◌++◌, ◌==◌, ℕ, Bool, true, false, cond, nat_eq, nat_cmp, is_eq, List, [], ◌∷◌}
-use Rattle.std.proofs.Common.{find, slice_get, if◌then◌else◌, zero, suc, Option, Some, None, is_some, Result, Ok, Err, ap, sym, subst, refl, arith}
-use Rattle.std.specs.Prelude.{OnOk}
+use Rattle.std.proofs.Common.{find, slice_get, if◌then◌else◌, zero, suc, Option, Some, None, is_some, ap, sym, subst, refl, arith}
 use Rattle.std.specs.Option.{option_map, option_or, option_and_then}
 use Rattle.std.specs.List.{All, AllByRecursion}
 use Rattle.std.specs.Map.{lookup}
@@ -14,7 +13,7 @@ use Rattle.batcher_types.specs.Ordered.{rec_from_all, is_ascending-true}
 use Rattle.batcher_types.proofs.AscendingLemmas.{last_absent, ascending_from_test}
 use Rattle.batcher_external.specs.declared.truth.Truth.{Ghosts}
 use Rattle.batcher_external.specs.declared.truth.Verdict.{Verdict}
-use Rattle.batcher_external.specs.Known.{known_in, known_in_run, numbered}
+use Rattle.batcher_external.specs.KnownAttestations.{known_in, known_in_run, numbered}
 
 -- an element above all others goes to the end
 below_last : {X : Type 0} (key : X → ℕ) (k : ℕ) (xs : List X) (x : X) → k < key x
@@ -172,7 +171,3 @@ module _ {T : Type 0} {truth : Ghosts T} where
           no,
           option_or-None (item_of (λ x. x.number) run other),
         ) (sym (known-append run others other))
-
-pub on_ok : {A E P Q : Type 0} (result : Result A E) → (P → Q) → OnOk result P → OnOk result Q
-on_ok (Ok a) f p = f p
-on_ok (Err e) f p = tt

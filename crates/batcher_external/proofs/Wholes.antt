@@ -1,14 +1,14 @@
 -- When two lists of attestations are the same.
-use Rattle.std.proofs.Common.{◌≡◌, ◌∙◌, ◌<◌, ◌++◌, arith, ap, sym, ◌==◌, ℕ, Bool, true, false, List, length, take, drop, refl}
+use Rattle.std.proofs.Common.{◌≡◌, ◌∙◌, ◌++◌, ap, sym, ◌==◌, ℕ, Bool, true, false, List, length, take, drop, refl}
 use Rattle.std.specs.Bool.{Decides}
 use Rattle.std.specs.List.{IsSplitAt}
 use Rattle.std.specs.Cmp.Lexicographic.{pointwise}
 use Rattle.std.proofs.lemmas.Bool.Decides.{Decides-and, Decides-eqb, same_from_decides}
-use Rattle.std.proofs.lemmas.List.{length-append, take-append-drop}
+use Rattle.std.proofs.lemmas.List.{take-append-drop}
 use Rattle.std.proofs.Math.Seq.{take-append_seam, drop-append_seam}
 use Rattle.std.proofs.lemmas.Slice.Eq.{slice_eq-Decides}
 use Rattle.batcher_types.specs.declared.messages.Attestation.{Attestation}
-use Rattle.batcher_external.specs.Known.{same_attestation}
+use Rattle.batcher_external.specs.KnownAttestations.{same_attestation}
 
 pub same_decides : (a b : Attestation ℕ) → Decides (same_attestation a b) (a ≡ b)
 same_decides a b =

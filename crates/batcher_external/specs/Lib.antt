@@ -1,4 +1,4 @@
-pub mod Known
+pub mod KnownAttestations
 pub mod Tables
 pub mod External
 pub mod Lawful

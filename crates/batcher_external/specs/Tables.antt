@@ -3,7 +3,7 @@ use Rattle.std.specs.Prelude.{ℕ, List, ◌++◌}
 use Rattle.batcher_external.specs.declared.truth.Truth.{Ghosts}
 use Rattle.batcher_external.specs.declared.truth.Verdict.{Verdict}
 use Rattle.batcher_external.specs.declared.table.Table.{Table}
-use Rattle.batcher_external.specs.Known.{numbered}
+use Rattle.batcher_external.specs.KnownAttestations.{numbered}
 
 -- the verdicts by number, of which the first of a number counts
 abbrev pub entries_of : {T : Type 0} {truth : Ghosts T} → Table T truth

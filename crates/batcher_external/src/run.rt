@@ -4,7 +4,7 @@
 ghost use Rattle.std.specs.Prelude.{◌≡◌, ◌<◌, ◌++◌, [], ◌∷◌, IsTrue, IfSome, OnOk, OnErr, Some, true};
 ghost use Rattle.std.specs.List.{All};
 ghost use Rattle.batcher_types.specs.Ascending.{is_ascending};
-ghost use Rattle.batcher_external.specs.Known.{known_in_run};
+ghost use Rattle.batcher_external.specs.KnownAttestations.{known_in_run};
 
 use crate::truth::{Truth, Verdict};
 use std::alloc::{AllocError, Global};

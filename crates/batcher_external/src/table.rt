@@ -1,7 +1,7 @@
 //! Verdicts by number.
 
 ghost use Rattle.std.specs.Prelude.{◌≡◌, ◌≢◌, [], ℕ, Some, IfSome, OnOk, OnErr};
-ghost use Rattle.batcher_external.specs.Known.{known_in};
+ghost use Rattle.batcher_external.specs.KnownAttestations.{known_in};
 ghost use Rattle.batcher_external.specs.Tables.{entries_of};
 
 use crate::run::Run;

@@ -1,8 +1,8 @@
 //! What is known of attestations and certificates, by their numbers.
 
-ghost use Rattle.std.specs.Prelude.{◌≡◌, ◌≢◌, ◌++◌, ℕ, None, Some, IfOk, IfSome, OnOk, OnErr};
+ghost use Rattle.std.specs.Prelude.{◌≡◌, ◌≢◌, ◌++◌, ◌∷◌, [], ℕ, None, Some, IfOk, IfSome, OnOk, OnErr};
 ghost use Rattle.std.specs.Bool.{Decides};
-ghost use Rattle.batcher_external.specs.Known.{known_in, known_of_whole, is_unknown_in, unknown_among};
+ghost use Rattle.batcher_external.specs.KnownAttestations.{known_in, known_of_whole, is_unknown_in, unknown_among};
 ghost use Rattle.batcher_external.specs.Tables.{entries_of};
 
 use crate::table::Table;
@@ -91,7 +91,7 @@ impl<T: Truth> Verdicts<T> {
         let mut place = 0usize;
         for attestation in attestations {
             if self.is_unknown(&mut place, attestation) {
-                unknown.push(*attestation)?;
+                add(&mut unknown, *attestation, attestations.len())?;
             }
         }
         Ok(unknown)
@@ -116,6 +116,22 @@ impl<T: Truth> Verdicts<T> {
         }
         Some(whole.passes)
     }
+}
+
+// Adds one. The first makes room for as many as there may be, which takes less than to make room
+// again and again, and none is made where there is nothing to add.
+fn add(
+    list: &mut Vec<Attestation<u64>>,
+    attestation: Attestation<u64>,
+    most: usize,
+) -> Result<(), AllocError>
+    ensures added { OnOk result (list.new.items ≡ list.old.items ++ attestation ∷ []) }
+{
+    if list.is_empty() {
+        list.reserve(most)?;
+    }
+    list.push(attestation)?;
+    Ok(())
 }
 
 // Whether they are the first ones and then the rest.

@@ -1,5 +1,5 @@
 pub mod History
-pub mod Shown
-pub mod Right
-pub mod Follow
+pub mod KnownLemmas
+pub mod Correctness
+pub mod Simulation
 pub mod Memory

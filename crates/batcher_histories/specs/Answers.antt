@@ -16,9 +16,9 @@ use Rattle.batcher_histories.specs.declared.calls.Call.TheVariants.{Network as N
 use Rattle.batcher_histories.specs.declared.answers.Answer.{Answer}
 use Rattle.batcher_histories.specs.declared.answers.Answer.TheVariants.{OutOfMemory, Network as NetworkAnswer, Own as OwnAnswer, OwnRefused, Certificate as CertificateAnswer, Leader as LeaderAnswer, Construct as ConstructAnswer}
 use Rattle.batcher_histories.specs.declared.answers.Answer.TheVariants.{Forward as ForwardAnswer, Missing as MissingAnswer}
-use Rattle.batcher_histories.specs.Setting.{Setting, participants_in}
+use Rattle.batcher_histories.specs.Config.{Config, participants_in}
 use Rattle.batcher_types.specs.Votes.{kind_of, signer_of}
-use Rattle.batcher_votes.specs.Selected.{replaces}
+use Rattle.batcher_votes.specs.ProposalStates.{replaces}
 use Rattle.batcher_histories.specs.Steps.{is_added, leader_set_answer, report_by}
 use Rattle.batcher_histories.specs.Runs.{MayCall}
 use Rattle.batcher_types.specs.Lists.{is_empty, is_some_and}
@@ -27,10 +27,10 @@ use Rattle.batcher_histories.specs.FirstVotes.{first_vote}
 use Rattle.batcher_histories.specs.Selection.{leader_of, selection, selected_proposal, is_released, votes_restored_by}
 use Rattle.batcher_histories.specs.Comparison.{known_after}
 use Rattle.batcher_histories.specs.Known.{network_by, own_by, forward_by, missing_by}
-use Rattle.batcher_histories.specs.Standing.{ready_kind}
-use Rattle.batcher_histories.specs.Trying.{AttemptAfter}
+use Rattle.batcher_histories.specs.Eligible.{ready_kind}
+use Rattle.batcher_histories.specs.Attempts.{AttemptAfter}
 
-module _ {D K G C : Type 0} (x : Setting D K G C) where
+module _ {D K G C : Type 0} (x : Config D K G C) where
   -- what a network vote is answered after a history: whether it is added, whether its sender is
   -- blocked, and what is reported
   abbrev pub network_answer : History D K G C → K → Vote G D → Admission G D

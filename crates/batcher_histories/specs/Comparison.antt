@@ -5,9 +5,9 @@ use Rattle.std.specs.List.{list_any}
 use Rattle.batcher_types.specs.declared.messages.Proposal.{Proposal}
 use Rattle.batcher_types.specs.declared.messages.Vote.{Vote}
 use Rattle.batcher_types.specs.declared.messages.Kind.{Kind}
-use Rattle.batcher_votes.specs.Held.{Facts}
-use Rattle.batcher_votes.specs.Tracking.{Observed, unseen, conflicts_with}
-use Rattle.batcher_histories.specs.Setting.{Setting}
+use Rattle.batcher_votes.specs.RoundState.{Facts}
+use Rattle.batcher_votes.specs.TrackerSteps.{Observed, unseen, conflicts_with}
+use Rattle.batcher_histories.specs.Config.{Config}
 use Rattle.batcher_histories.specs.Known.{Known, known_by, has_block_by}
 use Rattle.batcher_types.specs.Lists.{is_empty, is_some_and}
 use Rattle.batcher_types.specs.Votes.{kind_of, signer_of, is_vote_of, has_proposals, is_for}
@@ -15,10 +15,10 @@ use Rattle.batcher_histories.specs.History.{Event, History, cast_votes}
 use Rattle.batcher_histories.specs.FirstVotes.{first_votes, first_vote, opposite_vote}
 use Rattle.batcher_histories.specs.Selection.{leader_of, was_forwarded, selection, selected_proposal, is_released}
 
-module _ {D K G C : Type 0} (x : Setting D K G C) where
+module _ {D K G C : Type 0} (x : Config D K G C) where
   -- A vote that a call casts is compared where its kind is released and a proposal is selected, by
   -- the evidence of the call
-  -- at the latest. It need not be added, but its signer's opposite vote must not stand against it.
+  -- at the latest. It need not be added, but its signer's opposite vote must not exclude it.
   abbrev pub is_compared : History D K G C → Event D K G C → Vote G D → Bool
   is_compared past event vote =
       (has_proposals (kind_of vote) && is_released x past (kind_of vote))

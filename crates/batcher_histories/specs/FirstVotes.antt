@@ -3,7 +3,7 @@ use Rattle.std.specs.Prelude.{ℕ, Bool, not, ◌&&◌, List, [], ◌∷◌, ◌
 use Rattle.std.specs.List.{list_any}
 use Rattle.batcher_types.specs.declared.messages.Vote.{Vote}
 use Rattle.batcher_types.specs.declared.messages.Kind.{Kind}
-use Rattle.batcher_histories.specs.Setting.{Setting}
+use Rattle.batcher_histories.specs.Config.{Config}
 use Rattle.batcher_types.specs.Votes.{kind_of, signer_of, is_vote_of, excludes, opposes}
 use Rattle.batcher_histories.specs.Admissions.{same_vote}
 use Rattle.batcher_histories.specs.History.{History, own_votes, cast_votes}
@@ -12,7 +12,7 @@ use Rattle.batcher_histories.specs.History.{History, own_votes, cast_votes}
 abbrev pub is_free : {G D : Type 0} → List (Vote G D) → Vote G D → Bool
 is_free votes vote = not (list_any (λ v. excludes v vote) votes)
 
-module _ {D K G C : Type 0} (x : Setting D K G C) where
+module _ {D K G C : Type 0} (x : Config D K G C) where
   -- Two votes of one signer contradict each other where they exclude each other and aren't equal.
   abbrev pub contradicts : Vote G D → Vote G D → Bool
   contradicts a b = excludes a b && not (same_vote x.same_digest x.same_signature a b)
@@ -37,6 +37,6 @@ module _ {D K G C : Type 0} (x : Setting D K G C) where
   abbrev pub first_like : History D K G C → Vote G D → Option (Vote G D)
   first_like past vote = first_vote past (kind_of vote) (signer_of vote)
 
-  -- the nullify that stands against a finalize, or the finalize against a nullify
+  -- the nullify that excludes a finalize, or the finalize that excludes a nullify
   abbrev pub opposite_vote : History D K G C → Vote G D → Option (Vote G D)
   opposite_vote past vote = find (λ v. opposes v vote) (first_votes past)

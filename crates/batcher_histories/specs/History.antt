@@ -7,7 +7,7 @@ use Rattle.batcher_histories.specs.declared.calls.Call.TheVariants.{Network as N
 use Rattle.batcher_histories.specs.declared.answers.Answer.{Answer}
 use Rattle.batcher_histories.specs.declared.answers.Answer.TheVariants.{OwnRefused, Leader as LeaderAnswer, Construct as ConstructAnswer, OutOfMemory}
 use Rattle.batcher_votes.specs.declared.verifier.Batch.{Batch}
-use Rattle.batcher_histories.specs.Setting.{Setting, sender_in}
+use Rattle.batcher_histories.specs.Config.{Config, sender_in}
 use Rattle.batcher_types.specs.Lists.{is_some_and}
 use Rattle.batcher_types.specs.Votes.{signer_of}
 
@@ -36,7 +36,7 @@ module _ {D K G C : Type 0} where
   history_from past (call ∷ calls) (answer ∷ answers) =
       history_from (history_after past call answer) calls answers
 
-  -- the history of these calls and answers, which stand the oldest first
+  -- the history of these calls and answers, the oldest first
   abbrev pub history : List (Call K G C D) → List (Answer G C D) → History D K G C
   history calls answers = history_from [] calls answers
 
@@ -59,7 +59,7 @@ module _ {G C D : Type 0} where
   certificate_given (ConstructAnswer (Some batch)) = batch.certificate
   certificate_given answer = None
 
-module _ {D K G C : Type 0} (x : Setting D K G C) where
+module _ {D K G C : Type 0} (x : Config D K G C) where
   -- A network vote names its sender where its signer is the index of the sender's key.
   abbrev pub names_sender : K → Vote G D → Bool
   names_sender sender vote = is_some_and (sender_in x sender) (λ i. i.0 == signer_of vote)

@@ -17,10 +17,10 @@ use Rattle.batcher_histories.specs.declared.answers.OwnFault.TheVariants.{Duplic
 use Rattle.batcher_types.specs.Keys.{participant}
 use Rattle.batcher_types.specs.Lists.{is_some_and}
 use Rattle.batcher_types.specs.Votes.{kind_of, signer_of}
-use Rattle.batcher_votes.specs.Selected.{proposal_of}
-use Rattle.batcher_votes.specs.Held.{of_kind, Facts, Held}
-use Rattle.batcher_votes.specs.Tracking.{Observed, unseen, in_full, as_facts, observed, observed_opposite, is_seen_for, conflicts_with, outcome_by}
-use Rattle.batcher_histories.specs.Setting.{Setting, sender_in}
+use Rattle.batcher_votes.specs.ProposalStates.{proposal_of}
+use Rattle.batcher_votes.specs.RoundState.{of_kind, Facts, RoundState}
+use Rattle.batcher_votes.specs.TrackerSteps.{Observed, unseen, in_full, as_facts, observed, observed_opposite, is_seen_for, conflicts_with, outcome_by}
+use Rattle.batcher_histories.specs.Config.{Config, sender_in}
 use Rattle.batcher_histories.specs.Admissions.{addition, refusal, block_for, mismatch_reason, conflict_reason, admission_after, admission_after_facts, admission_beside}
 
 pub record Known (G D : Type 0) : Type 0 where
@@ -40,7 +40,7 @@ known_by released facts None = unseen
 known_by released facts (Some first) = cond released (as_facts facts) (in_full first)
 
 -- by what a round holds
-abbrev pub known_in : {G D : Type 0} → Held G D → Known G D
+abbrev pub known_in : {G D : Type 0} → RoundState G D → Known G D
 known_in held =
     record {
       leader = held.buffered.leader;
@@ -109,7 +109,7 @@ own_by same known vote =
     (known.observed (kind_of vote) (signer_of vote)) vote)
 
 -- NETWORK
-module _ {D K G C : Type 0} (x : Setting D K G C) where
+module _ {D K G C : Type 0} (x : Config D K G C) where
   -- What a vote that names its sender is answered where none opposes it: by what is known of the
   -- first one of its kind and signer.
   abbrev pub admission_by : Option (Proposal D) → Observed G D → Vote G D → Admission G D

@@ -1,4 +1,4 @@
-pub mod Setting
+pub mod Config
 pub mod Reasons
 pub mod Admissions
 pub mod Known
@@ -8,8 +8,8 @@ pub mod History
 pub mod FirstVotes
 pub mod Selection
 pub mod Comparison
-pub mod Standing
-pub mod Trying
+pub mod Eligible
+pub mod Attempts
 pub mod Answers
-pub mod Stands
-pub mod Judged
+pub mod Represents
+pub mod RoundContracts

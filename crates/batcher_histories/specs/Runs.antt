@@ -15,32 +15,35 @@ use Rattle.batcher_histories.specs.declared.answers.Answer.TheVariants.{Network 
 use Rattle.batcher_histories.specs.declared.answers.Answer.TheVariants.{Forward as ForwardAnswer}
 use Rattle.batcher_histories.specs.declared.answers.Answer.TheVariants.{Missing as MissingAnswer, OutOfMemory}
 use Rattle.batcher_types.specs.Meaning.{Meaning}
-use Rattle.batcher_histories.specs.Setting.{Setting, participants_in}
-use Rattle.batcher_votes.specs.Held.{Held}
+use Rattle.batcher_histories.specs.Config.{Config, participants_in}
+use Rattle.batcher_votes.specs.RoundState.{RoundState}
 use Rattle.batcher_types.specs.Votes.{subject_of, attestation_of, subject_certified, round_in}
 use Rattle.batcher_votes.specs.Verifiers.{certifies_itself}
 use Rattle.batcher_histories.specs.Steps.{leader_set_answer, forward_answer, missing_in, own_result, AfterLeader, AfterNetwork, AfterOwn, AfterCertificate, AfterConstruct}
 
-module _ {D K G C : Type 0} (x : Setting D K G C) where
+module _ {D K G C : Type 0} (x : Config D K G C) where
   -- nothing changed
-  abbrev pub Stays : Held G D → Stream → Held G D → Stream → Type 0
+  abbrev pub Stays : RoundState G D → Stream → RoundState G D → Stream → Type 0
   Stays old before new after = (new ≡ old) × (after ≡ before)
 
-  abbrev pub AfterLeaderSet : Held G D → Participant → Result (Unit {0}) LeaderFault → Held G D
+  abbrev pub AfterLeaderSet : RoundState G D → Participant → Result (Unit {0}) LeaderFault
+      → RoundState G D
       → Type 0
   AfterLeaderSet old leader (Ok done) new = AfterLeader x old leader new
   AfterLeaderSet old leader (Err fault) new = new ≡ old
 
   -- What each call changes, by its answer. It never has the answer of another call, and one that is
   -- refused for memory leaves the round as it was.
-  abbrev pub StepsNetwork : Held G D → Stream → K → Vote G D → Answer G C D → Held G D → Stream
+  abbrev pub StepsNetwork : RoundState G D → Stream → K → Vote G D → Answer G C D → RoundState G D
+      → Stream
       → Type 0
   StepsNetwork old before sender vote (NetworkAnswer answer) new after =
       AfterNetwork x old sender vote answer new × (after ≡ before)
   StepsNetwork old before sender vote OutOfMemory new after = Stays old before new after
   StepsNetwork old before sender vote answer new after = ⊥
 
-  abbrev pub StepsOwn : Held G D → Stream → Vote G D → Answer G C D → Held G D → Stream → Type 0
+  abbrev pub StepsOwn : RoundState G D → Stream → Vote G D → Answer G C D → RoundState G D → Stream
+      → Type 0
   StepsOwn old before vote (OwnAnswer outcome report) new after =
       AfterOwn x old vote outcome report new × (after ≡ before)
   StepsOwn old before vote (OwnRefused fault) new after =
@@ -49,14 +52,16 @@ module _ {D K G C : Type 0} (x : Setting D K G C) where
       is_ok (own_result x old vote) ≡ true × Stays old before new after
   StepsOwn old before vote answer new after = ⊥
 
-  abbrev pub StepsCertificate : Held G D → Stream → Certificate C D → Answer G C D → Held G D
+  abbrev pub StepsCertificate : RoundState G D → Stream → Certificate C D → Answer G C D
+      → RoundState G D
       → Stream → Type 0
   StepsCertificate old before certificate (CertificateAnswer answer) new after =
       AfterCertificate x old certificate answer new × (after ≡ before)
   StepsCertificate old before certificate OutOfMemory new after = Stays old before new after
   StepsCertificate old before certificate answer new after = ⊥
 
-  abbrev pub StepsLeader : Held G D → Stream → Participant → Answer G C D → Held G D → Stream
+  abbrev pub StepsLeader : RoundState G D → Stream → Participant → Answer G C D → RoundState G D
+      → Stream
       → Type 0
   StepsLeader old before leader (LeaderAnswer answer) new after =
       (answer ≡ leader_set_answer old.buffered.leader leader)
@@ -64,20 +69,23 @@ module _ {D K G C : Type 0} (x : Setting D K G C) where
   StepsLeader old before leader answer new after = ⊥
 
   -- Only here may the generator move, also where memory is refused.
-  abbrev pub StepsConstruct : Held G D → Stream → Answer G C D → Held G D → Stream → Type 0
+  abbrev pub StepsConstruct : RoundState G D → Stream → Answer G C D → RoundState G D → Stream
+      → Type 0
   StepsConstruct old before (ConstructAnswer answer) new after =
       AfterConstruct x old before answer new after
   StepsConstruct old before OutOfMemory new after = new ≡ old
   StepsConstruct old before answer new after = ⊥
 
-  abbrev pub StepsForward : Held G D → Stream → Participant → Answer G C D → Held G D → Stream
+  abbrev pub StepsForward : RoundState G D → Stream → Participant → Answer G C D → RoundState G D
+      → Stream
       → Type 0
   StepsForward old before me (ForwardAnswer answer) new after =
       (answer ≡ forward_answer old me) ×
       ((new ≡ record old { forwarded = is_some answer || old.forwarded }) × (after ≡ before))
   StepsForward old before me answer new after = ⊥
 
-  abbrev pub StepsMissing : Held G D → Stream → Proposal D → Answer G C D → Held G D → Stream
+  abbrev pub StepsMissing : RoundState G D → Stream → Proposal D → Answer G C D → RoundState G D
+      → Stream
       → Type 0
   StepsMissing old before proposal (MissingAnswer answer) new after =
       (answer ≡ missing_in x.same_digest old proposal (participants_in x))
@@ -86,7 +94,8 @@ module _ {D K G C : Type 0} (x : Setting D K G C) where
   StepsMissing old before proposal answer new after = ⊥
 
   -- one call, with its answer
-  abbrev pub Steps : Held G D → Stream → Call K G C D → Answer G C D → Held G D → Stream → Type 0
+  abbrev pub Steps : RoundState G D → Stream → Call K G C D → Answer G C D → RoundState G D → Stream
+      → Type 0
   Steps old before (NetworkCall sender vote) answer new after =
       StepsNetwork old before sender vote answer new after
   Steps old before (OwnCall vote) answer new after = StepsOwn old before vote answer new after
@@ -100,11 +109,12 @@ module _ {D K G C : Type 0} (x : Setting D K G C) where
       StepsMissing old before proposal answer new after
 
   -- Each call in order has one answer, by its step from what the calls before left.
-  abbrev pub Runs : Held G D → Stream → List (Call K G C D) → List (Answer G C D) → Held G D
+  abbrev pub Runs : RoundState G D → Stream → List (Call K G C D) → List (Answer G C D)
+      → RoundState G D
       → Stream → Type 0
   Runs old before [] [] new after = Stays old before new after
   Runs old before (call ∷ calls) (answer ∷ answers) new after =
-      (middle : Held G D) × ((stream : Stream)
+      (middle : RoundState G D) × ((stream : Stream)
       × (Steps old before call answer middle stream
       × Runs middle stream calls answers new after))
   Runs old before calls answers new after = ⊥

@@ -15,11 +15,11 @@ use Rattle.batcher_histories.specs.declared.calls.Call.{Call}
 use Rattle.batcher_histories.specs.declared.calls.Call.TheVariants.{Own as OwnCall, Leader as LeaderCall}
 use Rattle.batcher_histories.specs.declared.answers.Answer.{Answer}
 use Rattle.batcher_histories.specs.declared.answers.Answer.TheVariants.{Forward as ForwardAnswer}
-use Rattle.batcher_histories.specs.Setting.{Setting}
+use Rattle.batcher_histories.specs.Config.{Config}
 use Rattle.batcher_types.specs.Lists.{is_some_and}
 use Rattle.batcher_types.specs.Votes.{is_kind, kind_of, subject_of, proposal_in, kind_certified, subject_certified, is_for}
-use Rattle.batcher_votes.specs.Selected.{proposal_of, replaces}
-use Rattle.batcher_votes.specs.Tracking.{is_skipped, is_released_in}
+use Rattle.batcher_votes.specs.ProposalStates.{proposal_of, replaces}
+use Rattle.batcher_votes.specs.TrackerSteps.{is_skipped, is_released_in}
 use Rattle.batcher_histories.specs.History.{Event, History, recorded_certificate, certificate_given}
 use Rattle.batcher_histories.specs.FirstVotes.{first_votes, first_vote}
 
@@ -73,7 +73,7 @@ module _ {D K G C : Type 0} where
   abbrev pub was_forwarded : History D K G C → Bool
   was_forwarded past = list_any (λ event. forwards event.1) past
 
-module _ {D K G C : Type 0} (x : Setting D K G C) where
+module _ {D K G C : Type 0} (x : Config D K G C) where
   -- the proposal of the leader's first notarize, of which a skipped round takes no notice
   abbrev pub leaders_proposal : History D K G C → Option (Proposal D)
   leaders_proposal past =

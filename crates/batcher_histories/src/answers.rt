@@ -96,12 +96,28 @@ pub struct Admission<G, D> {
     pub report: Option<Activity<G, D>>,
 }
 
+impl<G, D: fmt::Display> fmt::Display for Admission<G, D> {
+    /// Whether the vote was added, the reason for a block and the report, each of them `none` where
+    /// there is none.
+    fn fmt<W: fmt::Write>(&self, f: &mut fmt::Formatter<W>) -> fmt::Result {
+        f.write_str(if self.added { "added" } else { "refused" })?;
+        match &self.block {
+            Some(reason) => write!(f, ", block {reason}")?,
+            None => write!(f, ", block none")?,
+        }
+        match &self.report {
+            Some(report) => write!(f, ", report {report}"),
+            None => write!(f, ", report none"),
+        }
+    }
+}
+
 /// The answer to a call, with certificates `C`.
 #[derive(Clone, Debug, Drop, PartialEq, Eq)]
 pub enum Answer<G, C, D> {
     Network(Admission<G, D>),
     Own(Outcome, Option<Activity<G, D>>),
-    /// An own vote is refused, not for want of memory.
+    /// An own vote is refused, though there is memory.
     OwnRefused(OwnFault),
     Certificate(bool),
     Leader(Result<(), LeaderFault>),

@@ -1,4 +1,4 @@
--- Each sort of event, told to the round of its view.
+-- Each sort of event, as a call of its view's round.
 use Rattle.std.proofs.Common.{◌≡◌, ◌≢◌, ◌≤◌, ◌<◌, ℕ, Bool, true, false, not, cond, ◌&&◌, ◌==◌, List, [], ◌∷◌, Option, Some, None, Ok, refl, sym, ap, ◌∙◌, subst, arith, eqb, is_some, inl, length}
 use Rattle.std.specs.Prelude.{MatchOption, IfSome}
 use Rattle.std.specs.List.{list_any}
@@ -13,7 +13,7 @@ use Rattle.batcher.specs.messages.Kind.TheVariants.{Notarization, Nullification,
 use Rattle.batcher.specs.votes.Outcome.TheVariants.{Added}
 use Rattle.batcher.specs.answers.OwnFault.TheVariants.{OutOfMemory as OutOfMemoryFault}
 use Rattle.batcher.specs.Answers.{own_answer}
-use Rattle.batcher.specs.Judged.{WhereverItStands}
+use Rattle.batcher.specs.RoundContracts.{ForEachHistory}
 use Rattle.std.specs.declared.cmp.Ordering.{Ordering}
 use Rattle.std.proofs.lemmas.Bool.{eq-eqb, false≢true}
 use Rattle.batcher.specs.messages.Vote.{Vote}
@@ -24,16 +24,16 @@ use Rattle.batcher.specs.answers.Answer.TheVariants.{Network as NetworkAnswer, C
 use Rattle.batcher.specs.positions.Round.{Round}
 use Rattle.batcher.specs.Meaning.{Meaning}
 use Rattle.batcher.specs.Votes.{subject_of, subject_certified, round_in, kind_of}
-use Rattle.batcher.specs.Stands.{Stands}
-use Rattle.batcher.specs.Held.{RoundView}
+use Rattle.batcher.specs.Represents.{Represents}
+use Rattle.batcher.specs.RoundState.{RoundView}
 use Rattle.batcher.specs.History.{Event}
 use Rattle.batcher.specs.messages.Activity.{Activity}
 use Rattle.batcher.specs.messages.Proposal.{Proposal}
 use Rattle.batcher.specs.votes.Outcome.{Outcome}
 use Rattle.batcher.specs.verifier.Batch.{Batch}
 use Rattle.batcher.specs.positions.Participant.{Participant}
-use Rattle.batcher.specs.Judged.{judge}
-use Rattle.batcher_node.specs.declared.answers.Receipt.TheVariants.{Answered, Outside, Dropped, Unknown}
+use Rattle.batcher.specs.RoundContracts.{round_config}
+use Rattle.batcher_node.specs.declared.answers.Receipt.TheVariants.{Answered, Outside, Dropped}
 use Rattle.batcher_node.specs.declared.answers.Cause.{Cause}
 use Rattle.batcher_node.specs.declared.answers.Cause.TheVariants.{Vote as ForVote, Certificate as ForCertificate, Signature as ForSignature}
 use Rattle.batcher_node.specs.declared.answers.Verdict.TheVariants.{Recorded, Forged, Known}
@@ -45,11 +45,11 @@ use Rattle.batcher_node.specs.Windows.{contains, numbered, is_of, entered, final
 use Rattle.batcher_node.specs.declared.slot.Slot.{Slot}
 use Rattle.batcher.specs.positions.Epoch.{Epoch}
 use Rattle.batcher_node.specs.Events.{NodeEvent, vote_came, certificate_came, vote_cast, view_entered, view_finalized, constructed, proposal_forwarded}
-use Rattle.batcher_node.specs.Events.{NodeHistory, told, at_view, told_by, window_after, peer_in, is_peer, cause_by, invalid_in}
-use Rattle.batcher_node.specs.Nodes.{NodeView, NodeSetting, judge_node, cause_at, slot_at, fresh_round, Tells, TellsThere, IsTended, HasChanged}
-use Rattle.batcher_node.specs.Stands.{NodeStands, receipt, receipt_from, is_within, setting_of, is_due, ViewStands, IsNamed, Meets, MeetsCast, MeetsForward, cast_by}
-use Rattle.batcher_node.proofs.Telling.{NamesFault}
-use Rattle.batcher_node.proofs.Standing.{told_one, told_none, judged}
+use Rattle.batcher_node.specs.Events.{NodeHistory, view_history, at_view, peer_in, is_peer, cause_by, invalid_in}
+use Rattle.batcher_node.specs.Nodes.{NodeView, NodeConfig, node_config, cause_at, slot_at, fresh_round, MakesCall, MakesCallThere, IsTended, HasChanged}
+use Rattle.batcher_node.specs.Represents.{NodeRepresents, receipt, receipt_from, is_within, config_of, is_due, ViewRepresents, Meets, SimulatesCast, SimulatesForward, cast_by}
+use Rattle.batcher_node.proofs.Calling.{NamesFault}
+use Rattle.batcher_node.proofs.Representation.{told_one, told_none, config_by}
 
 -- a test that fails
 not_eqb : (a b : ℕ) → a ≢ b → eqb a b ≡ false
@@ -120,8 +120,8 @@ or_none (Some a) = refl
 module _ {S D K G C : Type 0} (meaning : S → Meaning D K G C) (compare_keys : K → K → Ordering)
     (same_signature : G → G → Bool) (same_digest : D → D → Bool)
     (past : NodeHistory D K G C) (old new : NodeView S G D) where
-  abbrev x : NodeSetting D K G C
-  x = judge_node meaning compare_keys same_signature same_digest old
+  abbrev x : NodeConfig D K G C
+  x = node_config meaning compare_keys same_signature same_digest old
 
   -- Nobody more is blocked.
   none_more : (event : NodeEvent D K G C) → ((i : ℕ) → cause_by x event i ≡ None)
@@ -138,7 +138,8 @@ module _ {S D K G C : Type 0} (meaning : S → Meaning D K G C) (compare_keys : 
       ap (λ s. cond (is_some_and s (λ p. p.0 == i)) why None) (sym sender)
 
   -- a message that isn't dropped, and is of the window, is answered
-  routed : (h : NodeStands x past old) (peer : K) (p : Participant) (number : Round) {A : Type 0}
+  routed : (h : NodeRepresents x past old) (peer : K) (p : Participant)
+      (number : Round) {A : Type 0}
       (answer : A) → peer_in x peer ≡ Some p → p.0 < length x.meaning.participants
       → is_some (cause_at old.blocked p.0) ≡ false → is_of old.epoch old.window number ≡ true
       → Answered answer ≡ receipt x past peer number answer
@@ -156,7 +157,7 @@ module _ {S D K G C : Type 0} (meaning : S → Meaning D K G C) (compare_keys : 
       IsTended participants old.scheme old.epoch old.window old.rounds
       → peer_in x peer ≡ Some p → p.0 < length x.meaning.participants
       → is_some (cause_at old.blocked p.0) ≡ false → is_of old.epoch old.window number ≡ true
-      → Tells (judge meaning compare_keys same_signature same_digest)
+      → MakesCall (round_config meaning compare_keys same_signature same_digest)
       (slot_at old.rounds) (slot_at new.rounds) view
       (fresh_round old.scheme old.epoch old.retains old.window view)
       (NetworkCall peer vote) (NetworkAnswer admission)
@@ -164,15 +165,16 @@ module _ {S D K G C : Type 0} (meaning : S → Meaning D K G C) (compare_keys : 
       → ((i : ℕ) → i < length x.meaning.participants → cause_at new.blocked i
       ≡ option_or (cause_at old.blocked i)
       (cond (p.0 == i) (option_map ForVote admission.block) None))
-      → NodeStands x past old → NodeStands x (vote_came peer vote (Answered admission) ∷ past) new
-  vote_told peer vote admission participants p tended sender in_range free within tells window blocked h =
+      → NodeRepresents x past old → NodeRepresents x
+      (vote_came peer vote (Answered admission) ∷ past) new
+  vote_told peer vote admission participants p tended sender in_range free within makes_call window blocked h =
       let number = round_in (subject_of vote) in
       let view = number.view.0 in
       let event : Event D K G C = (NetworkCall peer vote, NetworkAnswer admission) in
       told_one meaning compare_keys same_signature same_digest past
       (vote_came peer vote (Answered admission)) view event.0 event.1 old new
       (at_here view event) (λ other apart. at_other other view event apart)
-      tells (own_round participants old.scheme old.epoch old.window old.rounds tended view)
+      makes_call (own_round participants old.scheme old.epoch old.window old.rounds tended view)
       (above_finalized old.epoch old.window number within) window (ap (λ w. w.finalized) window)
       (λ i ranged. blocked i ranged ∙ ap (option_or (cause_at old.blocked i))
       (peer_blocked peer p (option_map ForVote admission.block) sender i))
@@ -185,9 +187,9 @@ module _ {S D K G C : Type 0} (meaning : S → Meaning D K G C) (compare_keys : 
       → IsTended participants old.scheme old.epoch old.window old.rounds
       → contains old.window view ≡ true
       → MatchOption (slot_at old.rounds view) (there ≡ false) (λ slot.
-      WhereverItStands (judge meaning compare_keys same_signature same_digest) slot.round
+      ForEachHistory (round_config meaning compare_keys same_signature same_digest) slot.round
       (λ _ past. there ≡ is_certified past kind))
-      → NodeStands x past old → there ≡ is_certified (told view past) kind
+      → NodeRepresents x past old → there ≡ is_certified (view_history view past) kind
   certified_there view kind there participants tended within is h =
       by_slot (slot_at old.rounds view)
       (own_round participants old.scheme old.epoch old.window old.rounds tended view)
@@ -196,16 +198,16 @@ module _ {S D K G C : Type 0} (meaning : S → Meaning D K G C) (compare_keys : 
             → IfSome o (λ slot. (slot.round.scheme ≡ old.scheme)
             × (slot.round.number ≡ numbered old.epoch view))
             → MatchOption o (there ≡ false) (λ slot.
-            WhereverItStands (judge meaning compare_keys same_signature same_digest) slot.round
+            ForEachHistory (round_config meaning compare_keys same_signature same_digest) slot.round
             (λ _ past. there ≡ is_certified past kind))
-            → MatchOption o (told view past ≡ []) (ViewStands x past view)
-            → there ≡ is_certified (told view past) kind
+            → MatchOption o (view_history view past ≡ []) (ViewRepresents x past view)
+            → there ≡ is_certified (view_history view past) kind
         by_slot None own is none = is ∙ sym (ap (λ t. is_certified t kind) none)
-        by_slot (Some slot) own is stands =
-            is (told view past)
-            (subst (λ y. Stands y (told view past) slot.round.holds)
-            (sym (judged meaning compare_keys same_signature same_digest past old view slot.round
-            own.0 own.1 stands.mode_is)) stands.stands)
+        by_slot (Some slot) own is represents =
+            is (view_history view past)
+            (subst (λ y. Represents y (view_history view past) slot.round.holds)
+            (sym (config_by meaning compare_keys same_signature same_digest past old view slot.round
+            own.0 own.1 represents.mode_is)) represents.represents)
 
   pub certificate_told : (peer : K) (certificate : Certificate C D) (changed : Bool)
       (participants : ℕ) (p : Participant)
@@ -213,16 +215,18 @@ module _ {S D K G C : Type 0} (meaning : S → Meaning D K G C) (compare_keys : 
       IsTended participants old.scheme old.epoch old.window old.rounds
       → peer_in x peer ≡ Some p → p.0 < length x.meaning.participants
       → is_some (cause_at old.blocked p.0) ≡ false → is_of old.epoch old.window number ≡ true
-      → (NodeStands x past old → false ≡ is_certified (told view past) (kind_certified certificate))
+      → (NodeRepresents x past old → false ≡ is_certified (view_history view past)
+      (kind_certified certificate))
       → certifies_itself (meaning old.scheme) certificate ≡ true
-      → Tells (judge meaning compare_keys same_signature same_digest)
+      → MakesCall (round_config meaning compare_keys same_signature same_digest)
       (slot_at old.rounds) (slot_at new.rounds) view
       (fresh_round old.scheme old.epoch old.retains old.window view)
       (CertificateCall certificate) (CertificateAnswer changed)
       → new.window ≡ old.window → new.blocked ≡ old.blocked
-      → NodeStands x past old
-      → NodeStands x (certificate_came peer certificate (Answered (Recorded changed)) ∷ past) new
-  certificate_told peer certificate changed participants p tended sender in_range free within absent good tells window blocked h =
+      → NodeRepresents x past old
+      → NodeRepresents x (certificate_came peer certificate (Answered (Recorded changed)) ∷ past)
+      new
+  certificate_told peer certificate changed participants p tended sender in_range free within absent good makes_call window blocked h =
       let number = round_in (subject_certified certificate) in
       let view = number.view.0 in
       let event : Event D K G C = (CertificateCall certificate, CertificateAnswer changed) in
@@ -230,27 +234,28 @@ module _ {S D K G C : Type 0} (meaning : S → Meaning D K G C) (compare_keys : 
       told_one meaning compare_keys same_signature same_digest past
       name view event.0 event.1
       old new (at_here view event) (λ other apart. at_other other view event apart)
-      tells (own_round participants old.scheme old.epoch old.window old.rounds tended view)
+      makes_call (own_round participants old.scheme old.epoch old.window old.rounds tended view)
       (above_finalized old.epoch old.window number within) window (ap (λ w. w.finalized) window)
       (none_more name (λ i. refl) blocked)
       (λ h may. routed h peer p number (Recorded changed) sender in_range free within
       ∙ ap (λ a. receipt x past peer number a) (ap Recorded may
-      ∙ sym (ap (λ b. cond b (Recorded (certificate_answer (setting_of x past view) (told view past) certificate)) Forged) good)
+      ∙ sym (ap (λ b. cond b (Recorded (certificate_answer (config_of x past view) (view_history view past) certificate)) Forged) good)
       ∙ ap (λ b. cond b Known (cond (certifies_itself (meaning old.scheme) certificate)
-      (Recorded (certificate_answer (setting_of x past view) (told view past) certificate)) Forged)) (absent h)))
+      (Recorded (certificate_answer (config_of x past view) (view_history view past) certificate)) Forged)) (absent h)))
       h
 
   pub certificate_forged : (peer : K) (certificate : Certificate C D) (p : Participant)
       → let number = round_in (subject_certified certificate) in let view = number.view.0 in
       peer_in x peer ≡ Some p → p.0 < length x.meaning.participants
       → is_some (cause_at old.blocked p.0) ≡ false → is_of old.epoch old.window number ≡ true
-      → (NodeStands x past old → false ≡ is_certified (told view past) (kind_certified certificate))
+      → (NodeRepresents x past old → false ≡ is_certified (view_history view past)
+      (kind_certified certificate))
       → certifies_itself (meaning old.scheme) certificate ≡ false
       → new.window ≡ old.window → new.rounds ≡ old.rounds
       → ((i : ℕ) → i < length x.meaning.participants → cause_at new.blocked i
       ≡ option_or (cause_at old.blocked i) (cond (p.0 == i) (Some ForCertificate) None))
-      → NodeStands x past old
-      → NodeStands x (certificate_came peer certificate (Answered Forged) ∷ past) new
+      → NodeRepresents x past old
+      → NodeRepresents x (certificate_came peer certificate (Answered Forged) ∷ past) new
   certificate_forged peer certificate p sender in_range free within absent bad window rounds blocked h =
       let number = round_in (subject_certified certificate) in
       let view = number.view.0 in
@@ -261,9 +266,9 @@ module _ {S D K G C : Type 0} (meaning : S → Meaning D K G C) (compare_keys : 
       (λ view within. ap (λ r. slot_at r view) rounds)
       (routed h peer p number Forged sender in_range free within
       ∙ ap (λ a. receipt x past peer number a)
-      (sym (ap (λ b. cond b (Recorded (certificate_answer (setting_of x past view) (told view past) certificate)) Forged) bad)
+      (sym (ap (λ b. cond b (Recorded (certificate_answer (config_of x past view) (view_history view past) certificate)) Forged) bad)
       ∙ ap (λ b. cond b Known (cond (certifies_itself (meaning old.scheme) certificate)
-      (Recorded (certificate_answer (setting_of x past view) (told view past) certificate)) Forged)) (absent h)))
+      (Recorded (certificate_answer (config_of x past view) (view_history view past) certificate)) Forged)) (absent h)))
       h
 
   pub own_told : (vote : Vote G D) (outcome : Outcome) (report : Option (Activity G D))
@@ -271,20 +276,20 @@ module _ {S D K G C : Type 0} (meaning : S → Meaning D K G C) (compare_keys : 
       → let number = round_in (subject_of vote) in let view = number.view.0 in
       IsTended participants old.scheme old.epoch old.window old.rounds
       → is_of old.epoch old.window number ≡ true
-      → Tells (judge meaning compare_keys same_signature same_digest)
+      → MakesCall (round_config meaning compare_keys same_signature same_digest)
       (slot_at old.rounds) (slot_at new.rounds) view
       (fresh_round old.scheme old.epoch old.retains old.window view)
       (OwnCall vote) (OwnAnswer outcome report)
       → new.window ≡ old.window → new.blocked ≡ old.blocked
-      → NodeStands x past old → NodeStands x (vote_cast vote outcome report ∷ past) new
-  own_told vote outcome report participants tended within tells window blocked h =
+      → NodeRepresents x past old → NodeRepresents x (vote_cast vote outcome report ∷ past) new
+  own_told vote outcome report participants tended within makes_call window blocked h =
       let number = round_in (subject_of vote) in
       let view = number.view.0 in
       let event : Event D K G C = (OwnCall vote, OwnAnswer outcome report) in
       told_one meaning compare_keys same_signature same_digest past
       (vote_cast vote outcome report) view event.0 event.1 old new
       (at_here view event) (λ other apart. at_other other view event apart)
-      tells (own_round participants old.scheme old.epoch old.window old.rounds tended view)
+      makes_call (own_round participants old.scheme old.epoch old.window old.rounds tended view)
       (above_finalized old.epoch old.window number within) window (ap (λ w. w.finalized) window)
       (none_more (vote_cast vote outcome report) (λ i. refl) blocked)
       (λ h may. (ap (λ w. is_of old.epoch w number) (sym h.window_is) ∙ within, (may.0, may.1)))
@@ -295,10 +300,10 @@ module _ {S D K G C : Type 0} (meaning : S → Meaning D K G C) (compare_keys : 
       → let number = round_in (subject_of vote) in let view = number.view.0 in
       IsTended participants old.scheme old.epoch old.window old.rounds
       → is_of old.epoch old.window number ≡ true
-      → NamesFault (judge meaning compare_keys same_signature same_digest)
+      → NamesFault (round_config meaning compare_keys same_signature same_digest)
       (slot_at old.rounds view) vote fault
-      → NodeStands x past old
-      → fault ≡ fault_or_memory (own_answer (setting_of x past view) (told view past) vote)
+      → NodeRepresents x past old
+      → fault ≡ fault_or_memory (own_answer (config_of x past view) (view_history view past) vote)
   own_named vote fault participants tended within named h =
       let number = round_in (subject_of vote) in
       let view = number.view.0 in
@@ -314,80 +319,80 @@ module _ {S D K G C : Type 0} (meaning : S → Meaning D K G C) (compare_keys : 
         by_slot : (o : Option (Slot (RoundView S G D)))
             → IfSome o (λ slot. (slot.round.scheme ≡ old.scheme)
             × (slot.round.number ≡ numbered old.epoch (round_in (subject_of vote)).view.0))
-            → NamesFault (judge meaning compare_keys same_signature same_digest) o vote fault
-            → MatchOption o (told (round_in (subject_of vote)).view.0 past ≡ [])
-            (ViewStands x past (round_in (subject_of vote)).view.0)
+            → NamesFault (round_config meaning compare_keys same_signature same_digest) o vote fault
+            → MatchOption o (view_history (round_in (subject_of vote)).view.0 past ≡ [])
+            (ViewRepresents x past (round_in (subject_of vote)).view.0)
             → fault ≡ fault_or_memory (own_answer
-            (setting_of x past (round_in (subject_of vote)).view.0)
-            (told (round_in (subject_of vote)).view.0 past) vote)
+            (config_of x past (round_in (subject_of vote)).view.0)
+            (view_history (round_in (subject_of vote)).view.0 past) vote)
         by_slot None own is none =
-            is ∙ first (kind_of vote) (not (is_released (setting_of x past (round_in (subject_of vote)).view.0) [] (kind_of vote)))
-            ∙ sym (ap (λ t. fault_or_memory (own_answer (setting_of x past (round_in (subject_of vote)).view.0) t vote)) none)
-        by_slot (Some slot) own is stands =
-            let same = judged meaning compare_keys same_signature same_digest past old (round_in (subject_of vote)).view.0 slot.round
-            own.0 own.1 stands.mode_is in
-            is (told (round_in (subject_of vote)).view.0 past)
-            (subst (λ y. Stands y (told (round_in (subject_of vote)).view.0 past) slot.round.holds) (sym same) stands.stands)
-            ∙ ap (λ y. fault_or_memory (own_answer y (told (round_in (subject_of vote)).view.0 past) vote)) same
+            is ∙ first (kind_of vote) (not (is_released (config_of x past (round_in (subject_of vote)).view.0) [] (kind_of vote)))
+            ∙ sym (ap (λ t. fault_or_memory (own_answer (config_of x past (round_in (subject_of vote)).view.0) t vote)) none)
+        by_slot (Some slot) own is represents =
+            let same = config_by meaning compare_keys same_signature same_digest past old (round_in (subject_of vote)).view.0 slot.round
+            own.0 own.1 represents.mode_is in
+            is (view_history (round_in (subject_of vote)).view.0 past)
+            (subst (λ y. Represents y (view_history (round_in (subject_of vote)).view.0 past) slot.round.holds) (sym same) represents.represents)
+            ∙ ap (λ y. fault_or_memory (own_answer y (view_history (round_in (subject_of vote)).view.0 past) vote)) same
 
   pub entered_told : (view : ℕ) (leader : Participant) (participants : ℕ)
       → IsTended participants old.scheme old.epoch old.window old.rounds
       → old.window.finalized ≤ view
-      → Tells (judge meaning compare_keys same_signature same_digest)
+      → MakesCall (round_config meaning compare_keys same_signature same_digest)
       (slot_at old.rounds) (slot_at new.rounds) view
       (fresh_round old.scheme old.epoch old.retains old.window view)
       (LeaderCall leader) (LeaderAnswer (Ok tt))
       → new.window ≡ entered old.window view → new.blocked ≡ old.blocked
-      → NodeStands x past old → NodeStands x (view_entered view leader ∷ past) new
-  entered_told view leader participants tended within tells window blocked h =
+      → NodeRepresents x past old → NodeRepresents x (view_entered view leader ∷ past) new
+  entered_told view leader participants tended within makes_call window blocked h =
       let event : Event D K G C = (LeaderCall leader, LeaderAnswer (Ok tt)) in
       told_one meaning compare_keys same_signature same_digest past
       (view_entered view leader) view event.0 event.1 old new
       (at_here view event) (λ other apart. at_other other view event apart)
-      tells (own_round participants old.scheme old.epoch old.window old.rounds tended view)
+      makes_call (own_round participants old.scheme old.epoch old.window old.rounds tended view)
       within window (ap (λ w. w.finalized) window)
       (none_more (view_entered view leader) (λ i. refl) blocked)
       (λ h may. (subst (λ w. w.finalized ≤ view) h.window_is within, sym may)) h
 
   -- the round of a view that has changed is due
-  due_if_changed : (h : NodeStands x past old) (view : ℕ) → old.window.finalized ≤ view
-      → (t : HasChanged (slot_at old.rounds view)) → is_due (told view past) ≡ true
+  due_if_changed : (h : NodeRepresents x past old) (view : ℕ) → old.window.finalized ≤ view
+      → (t : HasChanged (slot_at old.rounds view)) → is_due (view_history view past) ≡ true
   due_if_changed h view within t =
-      sym (subst (λ o. MatchOption o (told view past ≡ []) (ViewStands x past view)) t.there
+      sym (subst (λ o. MatchOption o (view_history view past ≡ []) (ViewRepresents x past view)) t.there
       (h.views view within)).changed_is ∙ t.changed
 
   -- one that hasn't isn't
-  pub rests_if_unchanged : (h : NodeStands x past old) (view : ℕ) → old.window.finalized ≤ view
+  pub rests_if_unchanged : (h : NodeRepresents x past old) (view : ℕ) → old.window.finalized ≤ view
       → IfSome (slot_at old.rounds view) (λ slot. slot.changed ≡ false)
-      → is_due (told view past) ≡ false
+      → is_due (view_history view past) ≡ false
   rests_if_unchanged h view within unchanged =
       by_slot (slot_at old.rounds view) unchanged (h.views view within) where
         by_slot : (o : Option (Slot (RoundView S G D))) → IfSome o (λ slot. slot.changed ≡ false)
-            → MatchOption o (told view past ≡ []) (ViewStands x past view)
-            → is_due (told view past) ≡ false
+            → MatchOption o (view_history view past ≡ []) (ViewRepresents x past view)
+            → is_due (view_history view past) ≡ false
         by_slot None unchanged none = ap is_due none
-        by_slot (Some slot) unchanged stands = sym stands.changed_is ∙ unchanged
+        by_slot (Some slot) unchanged represents = sym represents.changed_is ∙ unchanged
 
   pub construction_told : (view : ℕ) (given : Option (Batch (Certificate C D))) (participants : ℕ)
       → IsTended participants old.scheme old.epoch old.window old.rounds
       → (t : HasChanged (slot_at old.rounds view))
       → ((lower : ℕ) → lower < view
       → IfSome (slot_at old.rounds lower) (λ slot. slot.changed ≡ false))
-      → TellsThere (judge meaning compare_keys same_signature same_digest)
+      → MakesCallThere (round_config meaning compare_keys same_signature same_digest)
       (slot_at old.rounds) (slot_at new.rounds) view
       ConstructCall (ConstructAnswer given)
       → new.window ≡ old.window
       → ((i : ℕ) → i < length x.meaning.participants → cause_at new.blocked i
       ≡ option_or (cause_at old.blocked i)
       (cond (list_any (λ p. p.0 == i) (invalid_in given)) (Some ForSignature) None))
-      → NodeStands x past old → NodeStands x (constructed view given ∷ past) new
-  construction_told view given participants tended t lowest tells window blocked h =
+      → NodeRepresents x past old → NodeRepresents x (constructed view given ∷ past) new
+  construction_told view given participants tended t lowest makes_call window blocked h =
       let event : Event D K G C = (ConstructCall, ConstructAnswer given) in
       let within = in_window participants old.scheme old.epoch old.window old.rounds tended view t in
       told_one meaning compare_keys same_signature same_digest past
       (constructed view given) view event.0 event.1 old new
       (at_here view event) (λ other apart. at_other other view event apart)
-      (inl tells) (own_round participants old.scheme old.epoch old.window old.rounds tended view)
+      (inl makes_call) (own_round participants old.scheme old.epoch old.window old.rounds tended view)
       within window (ap (λ w. w.finalized) window) blocked
       (λ h may. (
         due_if_changed h view within t,
@@ -407,78 +412,78 @@ module _ {S D K G C : Type 0} (meaning : S → Meaning D K G C) (compare_keys : 
       not_before old.window view own.1.1
 
   -- something was said in a view with a round
-  begun_there : (h : NodeStands x past old) (view : ℕ) (slot : Slot (RoundView S G D))
+  begun_there : (h : NodeRepresents x past old) (view : ℕ) (slot : Slot (RoundView S G D))
       → slot_at old.rounds view ≡ Some slot → old.window.finalized ≤ view
-      → is_empty (told view past) ≡ false
+      → is_empty (view_history view past) ≡ false
   begun_there h view slot there within =
-      (subst (λ o. MatchOption o (told view past ≡ []) (ViewStands x past view)) there
+      (subst (λ o. MatchOption o (view_history view past ≡ []) (ViewRepresents x past view)) there
       (h.views view within)).begun
 
   pub forwarded_told : (view : ℕ) (me : Participant) (given : Option (Proposal D))
       (participants : ℕ) → IsTended participants old.scheme old.epoch old.window old.rounds
-      → TellsThere (judge meaning compare_keys same_signature same_digest)
+      → MakesCallThere (round_config meaning compare_keys same_signature same_digest)
       (slot_at old.rounds) (slot_at new.rounds) view (ForwardCall me) (ForwardAnswer given)
       → new.window ≡ old.window → new.blocked ≡ old.blocked
-      → NodeStands x past old → NodeStands x (proposal_forwarded view me given ∷ past) new
-  forwarded_told view me given participants tended tells window blocked h =
+      → NodeRepresents x past old → NodeRepresents x (proposal_forwarded view me given ∷ past) new
+  forwarded_told view me given participants tended makes_call window blocked h =
       let event : Event D K G C = (ForwardCall me, ForwardAnswer given) in
-      let within = slot_within view participants tended tells.slot tells.there in
+      let within = slot_within view participants tended makes_call.slot makes_call.there in
       told_one meaning compare_keys same_signature same_digest past
       (proposal_forwarded view me given) view event.0 event.1 old new
       (at_here view event) (λ other apart. at_other other view event apart)
-      (inl tells) (own_round participants old.scheme old.epoch old.window old.rounds tended view)
+      (inl makes_call) (own_round participants old.scheme old.epoch old.window old.rounds tended view)
       within window (ap (λ w. w.finalized) window)
       (none_more (proposal_forwarded view me given) (λ i. refl) blocked)
-      (λ h may. begun_there h view tells.slot tells.there within) h
+      (λ h may. begun_there h view makes_call.slot makes_call.there within) h
 
   pub finalized_told : (view : ℕ)
       → new.window ≡ finalized old.window view → new.blocked ≡ old.blocked
       → ((other : ℕ) → new.window.finalized ≤ other
       → slot_at new.rounds other ≡ slot_at old.rounds other)
-      → NodeStands x past old → NodeStands x (view_finalized view ∷ past) new
+      → NodeRepresents x past old → NodeRepresents x (view_finalized view ∷ past) new
   finalized_told view window blocked rounds h =
       told_none x past (view_finalized view) old new (λ view. refl) window
       (finalized_later old.window new.window view window)
       (none_more (view_finalized view) (λ i. refl) blocked) rounds tt h
 
-module _ {S D K G C : Type 0} (x : NodeSetting D K G C) (old new : NodeView S G D) where
+module _ {S D K G C : Type 0} (x : NodeConfig D K G C) (old new : NodeView S G D) where
   -- an own vote is to be sent exactly where it is reported
   pub cast_told : (vote : Vote G D) (outcome : Outcome) (report : Option (Activity G D))
       (cast : Cast G D) → cast ≡ cast_by report
-      → ((past : NodeHistory D K G C) → NodeStands x past old
-      → NodeStands x (vote_cast vote outcome report ∷ past) new)
-      → MeetsCast x old vote cast new
+      → ((past : NodeHistory D K G C) → NodeRepresents x past old
+      → NodeRepresents x (vote_cast vote outcome report ∷ past) new)
+      → SimulatesCast x old vote cast new
   cast_told vote outcome None cast is meets =
-      subst (λ c. MeetsCast x old vote c new) (sym is) (outcome, meets)
+      subst (λ c. SimulatesCast x old vote c new) (sym is) (outcome, meets)
   cast_told vote outcome (Some report) cast is meets =
-      subst (λ c. MeetsCast x old vote c new) (sym is) (outcome, meets)
+      subst (λ c. SimulatesCast x old vote c new) (sym is) (outcome, meets)
 
 module _ {S D K G C : Type 0} (meaning : S → Meaning D K G C) (compare_keys : K → K → Ordering)
     (same_signature : G → G → Bool) (same_digest : D → D → Bool)
     (old : NodeView S G D) (view : ℕ) (me : Participant) where
-  abbrev y : NodeSetting D K G C
-  y = judge_node meaning compare_keys same_signature same_digest old
+  abbrev y : NodeConfig D K G C
+  y = node_config meaning compare_keys same_signature same_digest old
 
   -- what a view's round hands on
   pub forwards_there : (given answer : Option (Proposal D)) → given ≡ answer
       → (new : NodeView S G D) (participants : ℕ)
       → IsTended participants old.scheme old.epoch old.window old.rounds
-      → TellsThere (judge meaning compare_keys same_signature same_digest)
+      → MakesCallThere (round_config meaning compare_keys same_signature same_digest)
       (slot_at old.rounds) (slot_at new.rounds) view (ForwardCall me) (ForwardAnswer answer)
       → new.window ≡ old.window → new.blocked ≡ old.blocked
-      → MeetsForward y old view me given new
-  forwards_there given answer is new participants tended tells window blocked =
-      subst (λ g. MeetsForward y old view me g new) (sym is)
+      → SimulatesForward y old view me given new
+  forwards_there given answer is new participants tended makes_call window blocked =
+      subst (λ g. SimulatesForward y old view me g new) (sym is)
       (subst (λ o. MatchOption o ((answer ≡ None) × (new ≡ old))
-      (λ slot. Meets y old (proposal_forwarded view me answer) new)) (sym tells.there)
+      (λ slot. Meets y old (proposal_forwarded view me answer) new)) (sym makes_call.there)
       (λ past. forwarded_told meaning compare_keys same_signature same_digest past old new view me
-      answer participants tended tells window blocked))
+      answer participants tended makes_call window blocked))
 
   -- a view without a round hands on nothing
   pub forwards_nothing : (given : Option (Proposal D)) → given ≡ None
       → slot_at old.rounds view ≡ None → (new : NodeView S G D)
       → (rounds : List (ℕ × Slot (RoundView S G D))) → new ≡ record old { rounds = rounds }
-      → rounds ≡ old.rounds → MeetsForward y old view me given new
+      → rounds ≡ old.rounds → SimulatesForward y old view me given new
   forwards_nothing given is absent new rounds left same =
       subst (λ o. MatchOption o ((given ≡ None) × (new ≡ old))
       (λ slot. Meets y old (proposal_forwarded view me given) new))

@@ -1,9 +1,9 @@
--- What whoever is blocked did, and what each node has for it: a history after which it stands.
+-- What whoever is blocked did, and what each node has for it: a history that it represents.
 use Rattle.std.proofs.Common.{◌≡◌, ◌<◌, ◌==◌, ◌||◌, ℕ, zero, suc, Bool, true, false, cond, List, [], ◌∷◌, Option, Some, None, refl, sym, ap, ◌∙◌, subst, length, is_some, arith}
 use Rattle.std.specs.Prelude.{IfSome}
 use Rattle.std.specs.List.{list_any, AllPass}
 use Rattle.std.specs.Option.{option_map, option_or}
-use Rattle.std.proofs.lemmas.Bool.{false≢true}
+use Rattle.std.proofs.lemmas.Bool.{false≢true, eqb-true}
 use Rattle.std.proofs.lemmas.List.Elements.{All-head, All-tail}
 use Rattle.batcher.specs.positions.Participant.{Participant}
 use Rattle.batcher.specs.messages.Vote.{Vote}
@@ -14,16 +14,16 @@ use Rattle.batcher.specs.answers.BlockReason.{BlockReason}
 use Rattle.batcher.specs.Lists.{is_some_and}
 use Rattle.batcher.specs.Honest.{sent_bad_vote}
 use Rattle.batcher.specs.Promises.{gave_cause}
-use Rattle.batcher.specs.Standing.{ready_kind}
+use Rattle.batcher.specs.Eligible.{ready_kind}
 use Rattle.batcher.specs.Votes.{subject_of, round_in}
 use Rattle.batcher_node.specs.declared.answers.Receipt.TheVariants.{Answered, Outside, Dropped, Unknown}
 use Rattle.batcher_node.specs.declared.answers.Verdict.TheVariants.{Recorded, Forged, Known}
 use Rattle.batcher_node.specs.declared.answers.Cause.{Cause}
 use Rattle.batcher_node.specs.declared.answers.Cause.TheVariants.{Vote as ForVote, Certificate as ForCertificate, Signature as ForSignature}
-use Rattle.batcher_node.specs.Events.{NodeEvent, started, vote_came, certificate_came, vote_cast, view_entered, view_finalized, constructed, proposal_forwarded, NodeHistory, told, peer_in, is_peer, cause_by, cause_in}
-use Rattle.batcher_node.specs.Nodes.{NodeView, NodeSetting, cause_at}
-use Rattle.batcher_node.specs.Stands.{NodeStands, HasHistory, setting_of}
-use Rattle.batcher_node.specs.Promised.{IsForCause, AreForCause, GaveCauseFor, HadGivenCause}
+use Rattle.batcher_node.specs.Events.{NodeEvent, started, vote_came, certificate_came, vote_cast, view_entered, view_finalized, constructed, proposal_forwarded, NodeHistory, view_history, peer_in, is_peer, cause_by, cause_in}
+use Rattle.batcher_node.specs.Nodes.{NodeView, NodeConfig, cause_at}
+use Rattle.batcher_node.specs.Represents.{NodeRepresents, HasHistory, config_of}
+use Rattle.batcher_node.specs.NodePromises.{IsForCause, AreForCause, GaveCauseFor, HadGivenCause}
 use Rattle.batcher_node.proofs.Finding.{some_is, some_same}
 
 -- what passes a test is there
@@ -31,9 +31,6 @@ passes : {X : Type 0} (test : X → Bool) (o : Option X) → is_some_and o test 
     → (a : X) × ((o ≡ Some a) × (test a ≡ true))
 passes test None is = absurd (false≢true is)
 passes test (Some a) is = (a, (refl, is))
-
-same_index : (a b : ℕ) → (a == b) ≡ true → a ≡ b
-same_index a b same = grind (arith, same)
 
 -- where something is given by a test, the test holds
 is_given : (b : Bool) (given c : Cause) → cond b (Some given) None ≡ Some c
@@ -62,7 +59,7 @@ passes_too test (p ∷ ps) i is all =
           → (p : Participant) × ((p.0 ≡ i) × (test p ≡ true)))
           → (p : Participant) × ((p.0 ≡ i) × (test p ≡ true))
       by_first true same is rest =
-          (p, (same_index p.0 i same, All-head (λ p. test p ≡ true) p ps all))
+          (p, (eqb-true p.0 i same, All-head (λ p. test p ≡ true) p ps all))
       by_first false same is rest = rest is
 
 -- who has a cause has a place
@@ -73,7 +70,7 @@ has_place (o ∷ blocked) zero c is = grind arith
 has_place (o ∷ blocked) (suc i) c is =
     let below = has_place blocked i c is in grind (arith, below)
 
-module _ {D K G C : Type 0} (x : NodeSetting D K G C) where
+module _ {D K G C : Type 0} (x : NodeConfig D K G C) where
   -- WHAT WHOEVER IS BLOCKED DID
   by_vote : (past : NodeHistory D K G C) (peer : K) (vote : Vote G D) (admission : Admission G D)
       → IsForCause x past (vote_came peer vote (Answered admission)) → (i : ℕ) (c : Cause)
@@ -88,8 +85,8 @@ module _ {D K G C : Type 0} (x : NodeSetting D K G C) where
       (record {
         view = view;
         gave =
-            subst (λ j. gave_cause (setting_of x (event ∷ past) view) (told view (event ∷ past)) j
-            ≡ true) (same_index sender.0.0 i sender.1.1)
+            subst (λ j. gave_cause (config_of x (event ∷ past) view) (view_history view (event ∷ past)) j
+            ≡ true) (eqb-true sender.0.0 i sender.1.1)
             (good given.1.0 sender.0 sender.1.0);
       })
 
@@ -115,20 +112,20 @@ module _ {D K G C : Type 0} (x : NodeSetting D K G C) where
       → cond (list_any (λ p. p.0 == i) batch.invalid) (Some ForSignature) None ≡ Some c
       → GaveCauseFor x c past i
   by_batch past view batch good i c is =
-      let y = setting_of x past view in
+      let y = config_of x past view in
       let given = is_given (list_any (λ p. p.0 == i) batch.invalid) ForSignature c is in
       let named =
-      passes_too (λ p. is_some_and (ready_kind y (told view past))
-      (λ kind. sent_bad_vote y (told view past) kind p.0)) batch.invalid i given.0 good in
+      passes_too (λ p. is_some_and (ready_kind y (view_history view past))
+      (λ kind. sent_bad_vote y (view_history view past) kind p.0)) batch.invalid i given.0 good in
       let ready =
-      passes (λ kind. sent_bad_vote y (told view past) kind named.0.0)
-      (ready_kind y (told view past)) named.1.1 in
+      passes (λ kind. sent_bad_vote y (view_history view past) kind named.0.0)
+      (ready_kind y (view_history view past)) named.1.1 in
       subst (λ c. GaveCauseFor x c past i) given.1
       (record {
         view = view;
         kind = ready.0;
         sent =
-            subst (λ j. sent_bad_vote y (told view past) ready.0 j ≡ true) named.1.0 ready.1.1;
+            subst (λ j. sent_bad_vote y (view_history view past) ready.0 j ≡ true) named.1.0 ready.1.1;
       })
 
   -- it did so with this event, or before it
@@ -196,7 +193,7 @@ module _ {D K G C : Type 0} (x : NodeSetting D K G C) where
 
   module _ {S : Type 0} (past : NodeHistory D K G C) (node : NodeView S G D) where
     pub each_gave_cause : length node.blocked ≡ length x.meaning.participants
-        → NodeStands x past node → AreForCause x past → (i : ℕ)
+        → NodeRepresents x past node → AreForCause x past → (i : ℕ)
         → IfSome (cause_at node.blocked i) (HadGivenCause x past i)
     each_gave_cause each h good i = by_cause (cause_at node.blocked i) refl where
       by_cause : (o : Option Cause) → cause_at node.blocked i ≡ o
@@ -207,13 +204,13 @@ module _ {D K G C : Type 0} (x : NodeSetting D K G C) where
           had_given_cause past good i c (sym (h.blocked_are i place) ∙ is)
 
   -- THE HISTORY OF EACH NODE
-  -- a node that was told nothing
+  -- a new node
   pub starts : {S : Type 0} (node : NodeView S G D) → node.rounds ≡ []
       → ((i : ℕ) → cause_at node.blocked i ≡ None) → HasHistory x node
   starts node none free =
       record {
         past = started node.window ∷ [];
-        stands =
+        represents =
             record {
               window_is = refl;
               blocked_are = λ i within. free i;

@@ -4,7 +4,7 @@ use Rattle.std.specs.Prelude.{nat_le, filter}
 use Rattle.std.specs.Ordering.{nat_cmp}
 use Rattle.std.specs.BTreeMap.{is_at}
 use Rattle.batcher_node.specs.Nodes.{slot_at}
-use Rattle.batcher_node.proofs.Telling.{not_at}
+use Rattle.batcher_node.proofs.Calling.{not_at}
 
 -- an entry that is dropped is at no view from there on
 not_there : (from view key : ℕ) → from ≤ view → nat_le from key ≡ false

@@ -13,7 +13,7 @@ use Rattle.std.proofs.lemmas.Bool.{true≢false}
 use Rattle.std.proofs.lemmas.Map.Keys.{sorted_head, sorted_tail}
 use Rattle.batcher_node.specs.Nodes.{HasChanged, slot_at}
 use Rattle.batcher_node.specs.declared.slot.Slot.{Slot}
-use Rattle.batcher_node.proofs.Telling.{not_at}
+use Rattle.batcher_node.proofs.Calling.{not_at}
 
 pub some_is : {X : Type 0} {x : X} → Some x ≢ None
 some_is h = true≢false (ap is_some h)

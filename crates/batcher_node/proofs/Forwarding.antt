@@ -7,14 +7,14 @@ use Rattle.batcher.specs.messages.Proposal.{Proposal}
 use Rattle.batcher.specs.calls.Call.TheVariants.{Forward as ForwardCall}
 use Rattle.batcher.specs.answers.Answer.TheVariants.{Forward as ForwardAnswer}
 use Rattle.batcher.specs.Meaning.{Meaning}
-use Rattle.batcher.specs.Held.{RoundView}
-use Rattle.batcher.specs.Judged.{judge}
+use Rattle.batcher.specs.RoundState.{RoundView}
+use Rattle.batcher.specs.RoundContracts.{round_config}
 use Rattle.batcher_node.specs.declared.slot.Slot.{Slot}
 use Rattle.batcher_node.specs.Windows.{contains, numbered}
 use Rattle.batcher_node.specs.Events.{proposal_forwarded}
-use Rattle.batcher_node.specs.Nodes.{NodeView, TellsThere, slot_at}
-use Rattle.batcher_node.specs.Stands.{IsNode}
-use Rattle.batcher_node.proofs.Telling.{if_some}
+use Rattle.batcher_node.specs.Nodes.{NodeView, MakesCallThere, slot_at}
+use Rattle.batcher_node.specs.Represents.{IsNode}
+use Rattle.batcher_node.proofs.Calling.{if_some}
 use Rattle.batcher_node.proofs.Tending.{still_tended}
 use Rattle.batcher_node.proofs.Answering.{forwarded_told}
 
@@ -23,32 +23,33 @@ module _ {S D K G C : Type 0} (meaning : S → Meaning D K G C) (compare_keys : 
     (old : NodeView S G D) (rounds : List (ℕ × Slot (RoundView S G D)))
     (view : ℕ) (me : Participant) where
   pub still_node : (o : Option (Option (Proposal D)))
-      → IfSome o (λ answer. TellsThere (judge meaning compare_keys same_signature same_digest)
+      → IfSome o (λ answer. MakesCallThere (round_config meaning compare_keys same_signature
+      same_digest)
       (slot_at old.rounds) (slot_at rounds) view (ForwardCall me) (ForwardAnswer answer))
       → IfNone o (rounds ≡ old.rounds)
       → IsNode meaning compare_keys same_signature same_digest old
       → IsNode meaning compare_keys same_signature same_digest (record old { rounds = rounds })
-  still_node None tells untold node =
+  still_node None makes_call uncalled node =
       subst (λ r. IsNode meaning compare_keys same_signature same_digest (record old { rounds = r }))
-      (sym untold) node
-  still_node (Some answer) tells untold node =
+      (sym uncalled) node
+  still_node (Some answer) makes_call uncalled node =
       let own = if_some (λ slot. (slot.round.scheme ≡ old.scheme)
       × ((slot.round.number ≡ numbered old.epoch view) × (contains old.window view ≡ true)))
-      (slot_at old.rounds view) tells.slot tells.there (node.tended.own view) in
+      (slot_at old.rounds view) makes_call.slot makes_call.there (node.tended.own view) in
       record {
         tended =
-            still_tended (judge meaning compare_keys same_signature same_digest)
+            still_tended (round_config meaning compare_keys same_signature same_digest)
             (length (meaning old.scheme).participants) old.scheme old.epoch old.window old.rounds
             rounds node.tended (ForwardCall me) (ForwardAnswer answer) old.retains view own.1.1
-            (inl tells);
+            (inl makes_call);
         each = node.each;
         history =
             record {
               past = proposal_forwarded view me answer ∷ node.history.past;
-              stands =
+              represents =
                   forwarded_told meaning compare_keys same_signature same_digest node.history.past
                   old (record old { rounds = rounds }) view me answer
-                  (length (meaning old.scheme).participants) node.tended tells refl refl
-                  node.history.stands;
+                  (length (meaning old.scheme).participants) node.tended makes_call refl refl
+                  node.history.represents;
             };
       }

@@ -1,8 +1,9 @@
-pub mod Telling
+pub mod Calling
 pub mod Finding
+mod Listing
 pub mod Dropping
 pub mod Counting
-pub mod Standing
+pub mod Representation
 pub mod Answering
 pub mod Forwarding
 pub mod Promising

@@ -11,7 +11,7 @@ use Rattle.std.specs.List.Sorted.{IsStrictlySortedBy}
 use Rattle.std.proofs.lemmas.Map.Keys.{sorted_head, sorted_tail}
 use Rattle.batcher_node.specs.Nodes.{slot_at}
 use Rattle.batcher_node.specs.declared.slot.Slot.{Slot}
-use Rattle.batcher_node.proofs.Telling.{not_at}
+use Rattle.batcher_node.proofs.Calling.{not_at}
 use Rattle.batcher_node.proofs.Finding.{changed_at, some_is, some_same, found_more, here}
 use Rattle.batcher_node.proofs.Counting.{less_is}
 

@@ -1,9 +1,9 @@
--- From a node that stands to what is promised of it.
-use Rattle.std.proofs.Common.{◌≡◌, ◌≤◌, ◌==◌, ℕ, Bool, true, false, cond, [], ◌∷◌, ◌++◌, refl, sym, ap, ◌∙◌, subst, length, arith}
+-- From a node that represents a history to what is promised of it.
+use Rattle.std.proofs.Common.{◌≡◌, ◌≤◌, ◌==◌, ℕ, Bool, true, false, cond, [], ◌∷◌, ◌++◌, refl, sym, ap, ◌∙◌, subst, length}
 use Rattle.std.specs.Prelude.{is_some, Option, Some, None}
-use Rattle.std.proofs.lemmas.Bool.{false≢true}
+use Rattle.std.proofs.lemmas.Bool.{false≢true, eqb-true}
 use Rattle.batcher.specs.messages.Kind.{Kind}
-use Rattle.batcher.specs.Prompt.{is_due as is_kind_due}
+use Rattle.batcher.specs.CertificateTiming.{is_due as is_kind_due}
 use Rattle.batcher.specs.calls.Call.{Call}
 use Rattle.batcher.specs.answers.Answer.{Answer}
 use Rattle.batcher.specs.calls.Call.TheVariants.{Network as NetworkCall, Construct as ConstructCall}
@@ -11,33 +11,30 @@ use Rattle.batcher.specs.answers.Answer.TheVariants.{Network as NetworkAnswer, C
 use Rattle.batcher.specs.positions.Round.{Round}
 use Rattle.std.specs.List.{AllPass}
 use Rattle.batcher.specs.Lists.{is_some_and}
-use Rattle.batcher.specs.Standing.{ready_kind}
+use Rattle.batcher.specs.Eligible.{ready_kind}
 use Rattle.batcher.specs.Honest.{sent_bad_vote, NamesForOwnVotes}
 use Rattle.batcher.specs.positions.Participant.{Participant}
-use Rattle.batcher.specs.Setting.{Setting}
+use Rattle.batcher.specs.Config.{Config}
 use Rattle.batcher.specs.Lists.{is_empty}
 use Rattle.batcher.specs.Votes.{subject_of, round_in}
 use Rattle.batcher.specs.History.{Event, History}
 use Rattle.batcher.specs.Answers.{IsPossible}
 use Rattle.batcher.specs.Promises.{AtEachVote, AtEachEvent, IsBlockedForCause, gave_cause, ends_in_constructions}
-use Rattle.batcher.specs.Ran.{IsPromised}
+use Rattle.batcher.specs.RunContract.{IsPromised}
 use Rattle.batcher_node.specs.declared.answers.Receipt.{Receipt}
 use Rattle.batcher_node.specs.declared.answers.Receipt.TheVariants.{Answered, Outside, Dropped, Unknown}
 use Rattle.batcher_node.specs.declared.answers.Verdict.{Verdict}
 use Rattle.batcher_node.specs.declared.answers.Verdict.TheVariants.{Recorded, Forged, Known}
-use Rattle.batcher_node.specs.Events.{NodeEvent, started, vote_came, certificate_came, vote_cast, view_entered, view_finalized, constructed, proposal_forwarded, NodeHistory, at_view, told, told_by, peer_in, cause_in}
-use Rattle.batcher_node.specs.Nodes.{NodeSetting}
-use Rattle.batcher_node.specs.Stands.{setting_of, is_due, receipt_from, is_within, IsNamed, AreNamed}
-use Rattle.batcher_node.specs.Promised.{IsForCause, AreForCause, IsNodePromised}
+use Rattle.batcher_node.specs.Events.{NodeEvent, started, vote_came, certificate_came, vote_cast, view_entered, view_finalized, constructed, proposal_forwarded, NodeHistory, at_view, view_history, view_history_by, peer_in, cause_in}
+use Rattle.batcher_node.specs.Nodes.{NodeConfig}
+use Rattle.batcher_node.specs.Represents.{config_of, is_due, receipt_from, is_within, IsNamed, AreNamed}
+use Rattle.batcher_node.specs.NodePromises.{IsForCause, AreForCause, IsNodePromised}
 use Rattle.batcher_node.proofs.Rested.{rested, few_before}
-use Rattle.batcher_node.proofs.Standing.{setting_stays}
+use Rattle.batcher_node.proofs.Representation.{config_stays}
 use Rattle.batcher_node.proofs.Answering.{at_here}
 
-same_number : (a b : ℕ) → (a == b) ≡ true → a ≡ b
-same_number a b same = grind (arith, same)
-
 -- what was possible before
-possible_rest : {D K G C : Type 0} (y : Setting D K G C) (more past : History D K G C)
+possible_rest : {D K G C : Type 0} (y : Config D K G C) (more past : History D K G C)
     → IsPossible y (more ++ past) → IsPossible y past
 possible_rest y [] past h = h
 possible_rest y (e ∷ more) past h = possible_rest y more past h.1.1.1
@@ -50,21 +47,21 @@ is_forged (Answered Known) = false
 is_forged Dropped = false
 is_forged Unknown = false
 
-module _ {D K G C : Type 0} (x : NodeSetting D K G C)
+module _ {D K G C : Type 0} (x : NodeConfig D K G C)
     (promised : (past : NodeHistory D K G C) (view : ℕ)
-    → IsPossible (setting_of x past view) (told view past)
-    → IsPromised (setting_of x past view) (told view past)) where
+    → IsPossible (config_of x past view) (view_history view past)
+    → IsPromised (config_of x past view) (view_history view past)) where
   possible_by : (past : NodeHistory D K G C) (event : NodeEvent D K G C) (view : ℕ)
-      → (t : History D K G C) → told view past ≡ t
-      → IsPossible (setting_of x (event ∷ past) view) (told view (event ∷ past))
-      → IsPossible (setting_of x past view) (told view past)
-  possible_by past event view [] is h = subst (IsPossible (setting_of x past view)) (sym is) tt
+      → (t : History D K G C) → view_history view past ≡ t
+      → IsPossible (config_of x (event ∷ past) view) (view_history view (event ∷ past))
+      → IsPossible (config_of x past view) (view_history view past)
+  possible_by past event view [] is h = subst (IsPossible (config_of x past view)) (sym is) tt
   possible_by past event view (e ∷ t) is h =
-      subst (λ y. IsPossible y (told view past))
-      (setting_stays x past event view (still_begun (told_by view event) (ap is_empty is)))
-      (possible_rest (setting_of x (event ∷ past) view) (told_by view event) (told view past) h) where
-        still_begun : (more : History D K G C) → is_empty (told view past) ≡ false
-            → is_empty (more ++ told view past) ≡ false
+      subst (λ y. IsPossible y (view_history view past))
+      (config_stays x past event view (still_begun (view_history_by view event) (ap is_empty is)))
+      (possible_rest (config_of x (event ∷ past) view) (view_history_by view event) (view_history view past) h) where
+        still_begun : (more : History D K G C) → is_empty (view_history view past) ≡ false
+            → is_empty (more ++ view_history view past) ≡ false
         still_begun [] some = some
         still_begun (e ∷ more) some = refl
 
@@ -89,14 +86,15 @@ module _ {D K G C : Type 0} (x : NodeSetting D K G C)
         routed false false is = absurd (false≢true (sym is))
 
   for_cause : (past : NodeHistory D K G C) (event : NodeEvent D K G C) → IsNamed x past event
-      → ((view : ℕ) → IsPossible (setting_of x (event ∷ past) view) (told view (event ∷ past)))
+      → ((view : ℕ) → IsPossible (config_of x (event ∷ past) view)
+      (view_history view (event ∷ past)))
       → IsForCause x past event
   for_cause past (vote_came peer vote (Answered admission)) named possible =
       let view = (round_in (subject_of vote)).view.0 in
       let event : NodeEvent D K G C = vote_came peer vote (Answered admission) in
       let one : Event D K G C = (NetworkCall peer vote, NetworkAnswer admission) in
-      let y = setting_of x (event ∷ past) view in
-      let more = ap (λ t. t ++ told view past) (at_here view one) in
+      let y = config_of x (event ∷ past) view in
+      let more = ap (λ t. t ++ view_history view past) (at_here view one) in
       let each = subst (AtEachVote (IsBlockedForCause y)) more
       (promised (event ∷ past) view (possible view)).promises.honest_are_never_blocked in
       λ block i sender. ap (λ t. gave_cause y t i.0) more ∙ each.0 block i sender
@@ -119,28 +117,30 @@ module _ {D K G C : Type 0} (x : NodeSetting D K G C)
   for_cause past (constructed view (Some batch)) named possible =
       let event : NodeEvent D K G C = constructed view (Some batch) in
       let one : Event D K G C = (ConstructCall, ConstructAnswer (Some batch)) in
-      let y = setting_of x (event ∷ past) view in
-      let more = ap (λ t. t ++ told view past) (at_here view one) in
+      let y = config_of x (event ∷ past) view in
+      let more = ap (λ t. t ++ view_history view past) (at_here view one) in
       let each = subst (AtEachEvent (NamesForOwnVotes y)) more
       (promised (event ∷ past) view (possible view)).takes_in_honest.named_for_its_own_vote in
-      subst (λ y. AllPass (λ i. is_some_and (ready_kind y (told view past))
-      (λ kind. sent_bad_vote y (told view past) kind i.0)) batch.invalid)
-      (setting_stays x past event view (ap is_empty more)) each.0
+      subst (λ y. AllPass (λ i. is_some_and (ready_kind y (view_history view past))
+      (λ kind. sent_bad_vote y (view_history view past) kind i.0)) batch.invalid)
+      (config_stays x past event view (ap is_empty more)) each.0
 
   each_for_cause : (past : NodeHistory D K G C) → AreNamed x past
-      → ((view : ℕ) → IsPossible (setting_of x past view) (told view past)) → AreForCause x past
+      → ((view : ℕ) → IsPossible (config_of x past view) (view_history view past))
+      → AreForCause x past
   each_for_cause [] named possible = tt
   each_for_cause (event ∷ past) named possible = (
     for_cause past event named.0 possible,
-    each_for_cause past named.1 (λ view. possible_by past event view (told view past) refl (possible view)),
+    each_for_cause past named.1 (λ view. possible_by past event view (view_history view past) refl (possible view)),
   )
 
   -- the promises of the views before the last event
   promised_before : (past : NodeHistory D K G C) (event : NodeEvent D K G C)
-      → ((view : ℕ) → IsPossible (setting_of x (event ∷ past) view) (told view (event ∷ past)))
-      → (view : ℕ) → IsPossible (setting_of x past view) (told view past)
+      → ((view : ℕ) → IsPossible (config_of x (event ∷ past) view)
+      (view_history view (event ∷ past)))
+      → (view : ℕ) → IsPossible (config_of x past view) (view_history view past)
   promised_before past event possible view =
-      possible_by past event view (told view past) refl (possible view)
+      possible_by past event view (view_history view past) refl (possible view)
 
   few_at : (number view : ℕ) (call : Call K G C D) (answer : Answer G C D) (past : History D K G C)
       → ends_in_constructions 5 past ≡ false
@@ -153,24 +153,24 @@ module _ {D K G C : Type 0} (x : NodeSetting D K G C)
     by_same false same = before
 
   few_after : (past : NodeHistory D K G C) (event : NodeEvent D K G C) → IsNamed x past event
-      → ((view : ℕ) → IsPossible (setting_of x past view) (told view past)) → (view : ℕ)
-      → ends_in_constructions 5 (told view past) ≡ false
-      → ends_in_constructions 5 (told view (event ∷ past)) ≡ false
+      → ((view : ℕ) → IsPossible (config_of x past view) (view_history view past)) → (view : ℕ)
+      → ends_in_constructions 5 (view_history view past) ≡ false
+      → ends_in_constructions 5 (view_history view (event ∷ past)) ≡ false
   few_after past (vote_came peer vote (Answered admission)) named possible view before =
-      few_at _ view _ _ (told view past) before (λ same. refl)
+      few_at _ view _ _ (view_history view past) before (λ same. refl)
   few_after past (certificate_came peer certificate (Answered (Recorded changed))) named possible view before =
-      few_at _ view _ _ (told view past) before (λ same. refl)
+      few_at _ view _ _ (view_history view past) before (λ same. refl)
   few_after past (vote_cast vote outcome report) named possible view before =
-      few_at _ view _ _ (told view past) before (λ same. refl)
+      few_at _ view _ _ (view_history view past) before (λ same. refl)
   few_after past (view_entered number leader) named possible view before =
-      few_at number view _ _ (told view past) before (λ same. refl)
+      few_at number view _ _ (view_history view past) before (λ same. refl)
   few_after past (proposal_forwarded number me given) named possible view before =
-      few_at number view _ _ (told view past) before (λ same. refl)
+      few_at number view _ _ (view_history view past) before (λ same. refl)
   few_after past (constructed number given) named possible view before =
-      few_at number view _ _ (told view past) before
-      (λ same. few_before (told view past)
+      few_at number view _ _ (view_history view past) before
+      (λ same. few_before (view_history view past)
       (promised past view (possible view)).promises.constructions_rest
-      (ap (λ v. is_due (told v past)) (sym (same_number number view same)) ∙ named.0))
+      (ap (λ v. is_due (view_history v past)) (sym (eqb-true number view same)) ∙ named.0))
   few_after past (started window) named possible view before = before
   few_after past (view_finalized number) named possible view before = before
   few_after past (vote_came peer vote Outside) named possible view before = before
@@ -183,8 +183,8 @@ module _ {D K G C : Type 0} (x : NodeSetting D K G C)
   few_after past (certificate_came peer certificate Unknown) named possible view before = before
 
   few_rows : (past : NodeHistory D K G C) → AreNamed x past
-      → ((view : ℕ) → IsPossible (setting_of x past view) (told view past)) → (view : ℕ)
-      → ends_in_constructions 5 (told view past) ≡ false
+      → ((view : ℕ) → IsPossible (config_of x past view) (view_history view past)) → (view : ℕ)
+      → ends_in_constructions 5 (view_history view past) ≡ false
   few_rows [] named possible view = refl
   few_rows (event ∷ past) named possible view =
       let before = promised_before past event possible in
@@ -192,16 +192,17 @@ module _ {D K G C : Type 0} (x : NodeSetting D K G C)
 
   -- a view at rest is complete
   rested_there : 1 ≤ length x.meaning.participants → (past : NodeHistory D K G C) (view : ℕ)
-      → IsPossible (setting_of x past view) (told view past) → is_due (told view past) ≡ false
-      → (kind : Kind) → is_kind_due (setting_of x past view) (told view past) kind ≡ false
+      → IsPossible (config_of x past view) (view_history view past)
+      → is_due (view_history view past) ≡ false
+      → (kind : Kind) → is_kind_due (config_of x past view) (view_history view past) kind ≡ false
   rested_there some past view possible rests kind =
       let p = promised past view possible in
-      rested (setting_of x past view) (told view past) kind some possible
+      rested (config_of x past view) (view_history view past) kind some possible
       p.promises.acceptance_is_exact p.gives_promptly.none_left_due rests
 
   pub node_promised : 1 ≤ length x.meaning.participants → (past : NodeHistory D K G C)
       → AreNamed x past
-      → ((view : ℕ) → IsPossible (setting_of x past view) (told view past))
+      → ((view : ℕ) → IsPossible (config_of x past view) (view_history view past))
       → IsNodePromised x past
   node_promised some past named possible =
       record {

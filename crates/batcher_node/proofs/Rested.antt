@@ -1,8 +1,8 @@
 -- A view at rest has lost no quorum.
-use Rattle.std.proofs.Common.{◌≡◌, ◌≤◌, ◌-◌, ◌/◌, ℕ, Bool, true, false, not, cond, ◌&&◌, ◌||◌, List, [], ◌∷◌, ◌++◌, Option, Some, None, refl, sym, ap, ◌∙◌, arith, length}
+use Rattle.std.proofs.Common.{◌≡◌, ◌≤◌, ◌-◌, ◌/◌, ℕ, Bool, true, false, not, cond, ◌&&◌, List, [], ◌∷◌, ◌++◌, Option, Some, None, refl, sym, ap, ◌∙◌, arith, length}
 use Rattle.std.specs.Prelude.{nat_le, filter, find, option_and_then}
 use Rattle.std.specs.Option.{option_or}
-use Rattle.std.proofs.lemmas.Bool.{true≢false, false≢true}
+use Rattle.std.proofs.lemmas.Bool.{true≢false, false≢true, or_parts}
 use Rattle.batcher.specs.positions.Participant.{Participant}
 use Rattle.batcher.specs.messages.Proposal.{Proposal}
 use Rattle.batcher.specs.messages.Vote.{Vote}
@@ -13,20 +13,20 @@ use Rattle.batcher.specs.calls.Call.TheVariants.{Network as NetworkCall, Own as 
 use Rattle.batcher.specs.answers.Answer.{Answer}
 use Rattle.batcher.specs.answers.Answer.TheVariants.{Network as NetworkAnswer, Own as OwnAnswer, OwnRefused, Certificate as CertificateAnswer, Leader as LeaderAnswer}
 use Rattle.batcher.specs.answers.Answer.TheVariants.{Construct as ConstructAnswer, Forward as ForwardAnswer, Missing as MissingAnswer, OutOfMemory}
-use Rattle.batcher.specs.Setting.{Setting, quorum_in, participants_in}
-use Rattle.batcher.specs.Selected.{proposal_of}
-use Rattle.batcher.specs.Tracking.{is_skipped}
+use Rattle.batcher.specs.Config.{Config, quorum_in, participants_in}
+use Rattle.batcher.specs.ProposalStates.{proposal_of}
+use Rattle.batcher.specs.TrackerSteps.{is_skipped}
 use Rattle.batcher.specs.Votes.{is_of_kind, is_vote_of, subject_of, proposal_in}
 use Rattle.batcher.specs.History.{Event, History, names_sender, cast_votes}
 use Rattle.batcher.specs.FirstVotes.{first_votes, is_free}
 use Rattle.batcher.specs.Selection.{selection_by, is_certified, fixed_proposal, fixing_evidence, leader_of, leader_named}
-use Rattle.batcher.specs.Standing.{is_valid, is_counted}
+use Rattle.batcher.specs.Eligible.{is_valid, is_counted}
 use Rattle.batcher.specs.Answers.{IsPossible}
 use Rattle.batcher.specs.Promises.{AtEachVote, AtEachEvent, IsAcceptedExactly, Rests, ends_in_constructions}
-use Rattle.batcher.specs.Prompt.{LeavesNoneDue}
-use Rattle.batcher.specs.Prompt as prompt
+use Rattle.batcher.specs.CertificateTiming.{LeavesNoneDue}
+use Rattle.batcher.specs.CertificateTiming as prompt
 use Rattle.batcher_node.specs.Nodes.{due_after}
-use Rattle.batcher_node.specs.Stands.{is_due}
+use Rattle.batcher_node.specs.Represents.{is_due}
 use Rattle.batcher_node.proofs.Answering.{or_none}
 
 some_quorum : (n : ℕ) → 1 ≤ n → nat_le (n - (n - 1) / 3) 0 ≡ false
@@ -37,15 +37,7 @@ none_of : {X : Type 0} (test other : X → Bool) (b : Bool)
 none_of test other true = refl
 none_of test other false = refl
 
-or_right : (a b : Bool) → (a || b) ≡ false → b ≡ false
-or_right true b h = absurd (true≢false h)
-or_right false b h = h
-
-or_left : (a b : Bool) → (a || b) ≡ false → a ≡ false
-or_left true b h = absurd (true≢false h)
-or_left false b h = refl
-
-module _ {D K G C : Type 0} (y : Setting D K G C) where
+module _ {D K G C : Type 0} (y : Config D K G C) where
   -- whether a kind is due, by what it depends on
   abbrev due_by : Bool → Option (Proposal D) → Option Participant → List (Vote G D) → Kind → Bool
   due_by certified fixed leader votes kind =
@@ -93,8 +85,8 @@ module _ {D K G C : Type 0} (y : Setting D K G C) where
   rested_after (NetworkCall sender vote, NetworkAnswer admission) past kind possible exact none before rests =
       unmoved (NetworkCall sender vote, NetworkAnswer admission) past kind refl refl refl
       (none_added past sender vote (names_sender y sender vote)
-      (sym exact.0 ∙ or_left admission.added (is_due past) rests))
-      ∙ before (or_right admission.added (is_due past) rests)
+      (sym exact.0 ∙ (or_parts admission.added (is_due past) rests).0))
+      ∙ before (or_parts admission.added (is_due past) rests).1
   rested_after (ConstructCall, ConstructAnswer None) past kind possible exact none before rests =
       unmoved (ConstructCall, ConstructAnswer None) past kind refl refl refl refl ∙ none.0 kind
   rested_after (ForwardCall me, ForwardAnswer given) past kind possible exact none before rests =

@@ -13,21 +13,21 @@ use Rattle.batcher.specs.answers.BlockReason.{BlockReason}
 use Rattle.batcher.specs.votes.Mode.{Mode}
 use Rattle.batcher.specs.Lists.{is_some_and}
 use Rattle.batcher.specs.Votes.{signer_of, subject_of, attestation_of, round_in}
-use Rattle.batcher.specs.Standing.{ready_kind}
+use Rattle.batcher.specs.Eligible.{ready_kind}
 use Rattle.batcher.specs.Answers.{IsPossible}
 use Rattle.batcher.specs.Promises.{gave_cause}
 use Rattle.batcher.specs.Honest.{own_votes_added, sent_bad_vote}
-use Rattle.batcher.specs.Ran.{IsPromised}
-use Rattle.batcher.specs.Sent.{SendersOfAddedGiveNoCause}
+use Rattle.batcher.specs.RunContract.{IsPromised}
+use Rattle.batcher.specs.SentVotes.{SendersOfAddedGiveNoCause}
 use Rattle.batcher_node.specs.declared.answers.Receipt.TheVariants.{Answered}
 use Rattle.batcher_node.specs.declared.answers.Verdict.TheVariants.{Forged}
 use Rattle.batcher_node.specs.declared.answers.Cause.{Cause}
 use Rattle.batcher_node.specs.declared.answers.Cause.TheVariants.{Vote as ForVote, Certificate as ForCertificate, Signature as ForSignature}
 use Rattle.batcher_node.specs.Windows.{numbered}
-use Rattle.batcher_node.specs.Events.{NodeEvent, vote_came, certificate_came, constructed, NodeHistory, told, peer_in, is_peer, cause_by, cause_in}
-use Rattle.batcher_node.specs.Nodes.{NodeSetting}
-use Rattle.batcher_node.specs.Stands.{AreNamed, mode_of, setting_of}
-use Rattle.batcher_node.specs.Promised.{IsForCause, AreForCause}
+use Rattle.batcher_node.specs.Events.{NodeEvent, vote_came, certificate_came, constructed, NodeHistory, view_history, peer_in, is_peer, cause_by, cause_in}
+use Rattle.batcher_node.specs.Nodes.{NodeConfig}
+use Rattle.batcher_node.specs.Represents.{AreNamed, mode_of, config_of}
+use Rattle.batcher_node.specs.NodePromises.{IsForCause, AreForCause}
 use Rattle.batcher_node.specs.Sending.{votes_to_send, HearsOnly}
 use Rattle.batcher_node.proofs.SendingViews.{none_of, own_attest, sent_none_bad, round_of, sends_added}
 
@@ -56,10 +56,10 @@ some_kind : (o : Option Kind) (test : Kind → Bool) → ((kind : Kind) → test
 some_kind None test none = refl
 some_kind (Some kind) test none = none kind
 
-module _ {D K G C : Type 0} (x y : NodeSetting D K G C) (same : y.meaning ≡ x.meaning)
+module _ {D K G C : Type 0} (x y : NodeConfig D K G C) (same : y.meaning ≡ x.meaning)
     (sent : NodeHistory D K G C) (named : AreNamed x sent)
-    (possible : (view : ℕ) → IsPossible (setting_of x sent view) (told view sent))
-    (promised : (view : ℕ) → IsPromised (setting_of x sent view) (told view sent))
+    (possible : (view : ℕ) → IsPossible (config_of x sent view) (view_history view sent))
+    (promised : (view : ℕ) → IsPromised (config_of x sent view) (view_history view sent))
     (no_cause : (number : Round) (mode : Mode)
     → SendersOfAddedGiveNoCause (round_of y number mode)) (i : ℕ)
     (signed : AllPass (λ v. signer_of v == i) (votes_to_send sent)) where
@@ -69,27 +69,27 @@ module _ {D K G C : Type 0} (x y : NodeSetting D K G C) (same : y.meaning ≡ x.
   -- what the participant's own round of a view added attests
   good_in : (view : ℕ)
       → list_any (λ v. not (y.meaning.attests (subject_of v) (attestation_of v)))
-      (own_votes_added (told view sent))
+      (own_votes_added (view_history view sent))
       ≡ false
   good_in view =
       subst (λ m. list_any (λ v. not (m.attests (subject_of v) (attestation_of v)))
-      (own_votes_added (told view sent)) ≡ false)
-      (sym same) (own_attest (setting_of x sent view) (told view sent) (possible view))
+      (own_votes_added (view_history view sent)) ≡ false)
+      (sym same) (own_attest (config_of x sent view) (view_history view sent) (possible view))
 
   none_bad : (past : NodeHistory D K G C) → All Hears past → (view : ℕ) (kind : Kind) (j : ℕ)
-      → j ≡ i → sent_bad_vote (setting_of y past view) (told view past) kind j ≡ false
+      → j ≡ i → sent_bad_vote (config_of y past view) (view_history view past) kind j ≡ false
   none_bad past hears view kind j is =
-      subst (λ k. sent_bad_vote (setting_of y past view) (told view past) kind k ≡ false) (sym is)
-      (sent_none_bad (setting_of y past view) (told view sent) i (told view past)
+      subst (λ k. sent_bad_vote (config_of y past view) (view_history view past) kind k ≡ false) (sym is)
+      (sent_none_bad (config_of y past view) (view_history view sent) i (view_history view past)
       (sends_added x y sent named i signed view (numbered y.epoch view) (mode_of y past view) past hears)
       (good_in view) kind)
 
   gave_none : (past : NodeHistory D K G C) → All Hears past → (view : ℕ)
-      → gave_cause (setting_of y past view) (told view past) i ≡ false
+      → gave_cause (config_of y past view) (view_history view past) i ≡ false
   gave_none past hears view =
       let number = numbered y.epoch view in
       let mode = mode_of y past view in
-      no_cause number mode (setting_of x sent view) (told view sent) (told view past) i
+      no_cause number mode (config_of x sent view) (view_history view sent) (view_history view past) i
       (promised view) (sends_added x y sent named i signed view number mode past hears)
 
   none_by : (past : NodeHistory D K G C) (event : NodeEvent D K G C) → All Hears (event ∷ past)
@@ -101,14 +101,14 @@ module _ {D K G C : Type 0} (x y : NodeSetting D K G C) (same : y.meaning ≡ x.
       let j = who i (peer_in y peer) is in
       true≢false
       (sym (for_cause blocked j.0 j.1.0)
-      ∙ ap (λ k. gave_cause (setting_of y now view) (told view now) k) j.1.1
+      ∙ ap (λ k. gave_cause (config_of y now view) (view_history view now) k) j.1.1
       ∙ gave_none now hears view))
   none_by past (certificate_came peer certificate (Answered Forged)) hears forged =
       none_unless ForCertificate (is_peer y peer i)
       (λ is. true≢false (sym (All-head Hears _ past hears is) ∙ forged))
   none_by past (constructed view (Some batch)) hears for_cause =
-      let y' = setting_of y past view in
-      let t = told view past in
+      let y' = config_of y past view in
+      let t = view_history view past in
       none_if ForSignature (list_any (λ p. p.0 == i) batch.invalid)
       (none_of
       (λ p. is_some_and (ready_kind y' t) (λ kind. sent_bad_vote y' t kind p.0))

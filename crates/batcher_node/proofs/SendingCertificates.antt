@@ -8,16 +8,16 @@ use Rattle.batcher.specs.positions.Participant.{Participant}
 use Rattle.batcher.specs.positions.Round.{Round}
 use Rattle.batcher.specs.calls.Call.TheVariants.{Construct as ConstructCall}
 use Rattle.batcher.specs.answers.Answer.TheVariants.{Construct as ConstructAnswer}
-use Rattle.batcher.specs.Setting.{Setting}
+use Rattle.batcher.specs.Config.{Config}
 use Rattle.batcher.specs.History.{Event, History}
 use Rattle.batcher.specs.Promises.{AtEachEvent, GivesVerified}
 use Rattle.batcher_node.specs.declared.answers.Receipt.{Receipt}
 use Rattle.batcher_node.specs.declared.answers.Receipt.TheVariants.{Answered, Outside, Dropped}
 use Rattle.batcher_node.specs.declared.answers.Verdict.{Verdict}
 use Rattle.batcher_node.specs.declared.answers.Verdict.TheVariants.{Recorded, Forged, Known}
-use Rattle.batcher_node.specs.Events.{NodeEvent, certificate_came, constructed, NodeHistory, told, told_by, peer_in, cause_in}
-use Rattle.batcher_node.specs.Nodes.{NodeSetting}
-use Rattle.batcher_node.specs.Stands.{setting_of, receipt_from, is_within, IsNamed, AreNamed}
+use Rattle.batcher_node.specs.Events.{NodeEvent, certificate_came, constructed, NodeHistory, view_history, view_history_by, peer_in, cause_in}
+use Rattle.batcher_node.specs.Nodes.{NodeConfig}
+use Rattle.batcher_node.specs.Represents.{config_of, receipt_from, is_within, IsNamed, AreNamed}
 use Rattle.batcher_node.specs.Sending.{HoldsCertified}
 use Rattle.batcher_node.proofs.Answering.{at_here}
 
@@ -25,7 +25,7 @@ abbrev is_recorded : Receipt Verdict → Bool
 is_recorded (Answered (Recorded changed)) = true
 is_recorded receipt = false
 
-module _ {D K G C : Type 0} (x : NodeSetting D K G C) where
+module _ {D K G C : Type 0} (x : NodeConfig D K G C) where
   -- A certificate that is answered as recorded certifies.
   recorded_is : (changed known c : Bool)
       → is_recorded (Answered (cond known Known (cond c (Recorded changed) Forged))) ≡ true
@@ -48,7 +48,7 @@ module _ {D K G C : Type 0} (x : NodeSetting D K G C) where
         routed false true is = sym is
         routed false false is = absurd (false≢true (sym is))
 
-  verified_before : (y : Setting D K G C) (more past : History D K G C)
+  verified_before : (y : Config D K G C) (more past : History D K G C)
       → AtEachEvent (GivesVerified y) (more ++ past) → AtEachEvent (GivesVerified y) past
   verified_before y [] past h = h
   verified_before y (event ∷ more) past h = verified_before y more past h.1
@@ -56,7 +56,7 @@ module _ {D K G C : Type 0} (x : NodeSetting D K G C) where
   module _ (all : NodeHistory D K G C) where
     abbrev Verified : NodeHistory D K G C → Type 0
     Verified past =
-        (view : ℕ) → AtEachEvent (GivesVerified (setting_of x all view)) (told view past)
+        (view : ℕ) → AtEachEvent (GivesVerified (config_of x all view)) (view_history view past)
 
     held_by : (past : NodeHistory D K G C) (event : NodeEvent D K G C) → IsNamed x past event
         → Verified (event ∷ past) → HoldsCertified x event
@@ -64,8 +64,8 @@ module _ {D K G C : Type 0} (x : NodeSetting D K G C) where
         recorded_is _ _ _ (recorded_from past (peer_in x peer) _ changed _ named)
     held_by past (constructed view (Some batch)) named verified =
         let one : Event D K G C = (ConstructCall, ConstructAnswer (Some batch)) in
-        let more = ap (λ t. t ++ told view past) (at_here view one) in
-        let each = subst (AtEachEvent (GivesVerified (setting_of x all view))) more (verified view) in
+        let more = ap (λ t. t ++ view_history view past) (at_here view one) in
+        let each = subst (AtEachEvent (GivesVerified (config_of x all view))) more (verified view) in
         each.0
     held_by past event named verified = tt
 
@@ -75,7 +75,7 @@ module _ {D K G C : Type 0} (x : NodeSetting D K G C) where
     each_held (event ∷ past) named verified = (
       held_by past event named.0 verified,
       each_held past named.1
-          (λ view. verified_before (setting_of x all view) (told_by view event) (told view past) (verified view)),
+          (λ view. verified_before (config_of x all view) (view_history_by view event) (view_history view past) (verified view)),
     )
 
     pub held_certify : (past : NodeHistory D K G C) → AreNamed x past → Verified past

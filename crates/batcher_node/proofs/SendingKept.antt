@@ -2,7 +2,7 @@
 use Rattle.std.proofs.Common.{◌≡◌, ◌==◌, ◌<◌, ℕ, Bool, true, ◌||◌, List, [], ◌∷◌, Some, None, refl, sym, ap, ◌∙◌, subst, length}
 use Rattle.std.specs.Prelude.{All}
 use Rattle.std.specs.List.{list_any}
-use Rattle.std.proofs.lemmas.Bool.{eq-eqb}
+use Rattle.std.proofs.lemmas.Bool.{eq-eqb, or_right}
 use Rattle.std.proofs.lemmas.List.Elements.{All-cons, All-head, All-tail, All-nil}
 use Rattle.batcher.specs.messages.Vote.{Vote}
 use Rattle.batcher.specs.messages.Activity.{Activity}
@@ -11,16 +11,15 @@ use Rattle.batcher.specs.votes.Outcome.{Outcome}
 use Rattle.std.specs.declared.cmp.Ordering.{Ordering}
 use Rattle.batcher.specs.Meaning.{Meaning}
 use Rattle.batcher.specs.Votes.{signer_of}
-use Rattle.batcher.specs.Reported.{IsAmong}
+use Rattle.batcher.specs.Reports.{IsAmong}
 use Rattle.batcher_node.specs.declared.answers.Receipt.{Receipt}
 use Rattle.batcher_node.specs.Events.{NodeEvent, vote_came, certificate_came, vote_cast, NodeHistory}
 use Rattle.batcher_node.specs.declared.answers.Cast.TheVariants.{ToSend, Known}
-use Rattle.batcher_node.specs.Nodes.{NodeView, NodeSetting, SameNode, judge_node, cause_at}
-use Rattle.batcher_node.specs.Stands.{NodeStands, Meets, MeetsCast}
+use Rattle.batcher_node.specs.Nodes.{NodeView, NodeConfig, SameNode, node_config, cause_at}
+use Rattle.batcher_node.specs.Represents.{NodeRepresents, Meets, SimulatesCast}
 use Rattle.batcher_node.specs.Sending.{votes_to_send, HearsOnly, SendsWhatIsToSend, HearsWhatIsToSend}
-use Rattle.batcher_node.proofs.SendingViews.{or_right}
 
-module _ {D K G C : Type 0} (y : NodeSetting D K G C) (i : ℕ) where
+module _ {D K G C : Type 0} (y : NodeConfig D K G C) (i : ℕ) where
   among_more : (vote more : Vote G D) (votes : List (Vote G D)) → IsAmong vote votes
       → IsAmong vote (more ∷ votes)
   among_more vote more votes among test passes = or_right (test more) _ (among test passes)
@@ -68,16 +67,16 @@ module _ {D K G C : Type 0} (y : NodeSetting D K G C) (i : ℕ) where
             sends.heard_only;
       }
 
-module _ {S D K G C : Type 0} (x y : NodeSetting D K G C) (own new other newer : NodeView S G D) where
+module _ {S D K G C : Type 0} (x y : NodeConfig D K G C) (own new other newer : NodeView S G D) where
   -- An own vote that isn't to be sent changes nothing of it,
-  pub keeps_known : (vote : Vote G D) → MeetsCast x own vote Known new → (i : ℕ)
+  pub keeps_known : (vote : Vote G D) → SimulatesCast x own vote Known new → (i : ℕ)
       → HearsWhatIsToSend x y own other i → HearsWhatIsToSend x y new other i
   keeps_known vote meets i h =
       record {
         sent = vote_cast vote meets.0 None ∷ h.sent;
         heard = h.heard;
-        own_stands = meets.1 h.sent h.own_stands;
-        other_stands = h.other_stands;
+        own_represents = meets.1 h.sent h.own_represents;
+        other_represents = h.other_represents;
         sends =
             record {
               own_are_signed = h.sends.own_are_signed;
@@ -87,21 +86,21 @@ module _ {S D K G C : Type 0} (x y : NodeSetting D K G C) (own new other newer :
 
   -- nor does one that is,
   pub keeps_unheard : (vote : Vote G D) (report : Activity G D)
-      → MeetsCast x own vote (ToSend report) new
+      → SimulatesCast x own vote (ToSend report) new
       → HearsWhatIsToSend x y own other (signer_of vote)
       → HearsWhatIsToSend x y new other (signer_of vote)
   keeps_unheard vote report meets h =
       record {
         sent = vote_cast vote meets.0 (Some report) ∷ h.sent;
         heard = h.heard;
-        own_stands = meets.1 h.sent h.own_stands;
-        other_stands = h.other_stands;
+        own_represents = meets.1 h.sent h.own_represents;
+        other_represents = h.other_represents;
         sends = more_to_send y (signer_of vote) h.sent h.heard vote meets.0 report refl h.sends;
       }
 
   -- also where the other node hears it.
   pub keeps_heard : (vote : Vote G D) (report : Activity G D) (peer : K)
-      (receipt : Receipt (Admission G D)) → MeetsCast x own vote (ToSend report) new
+      (receipt : Receipt (Admission G D)) → SimulatesCast x own vote (ToSend report) new
       → Meets y other (vote_came peer vote receipt) newer
       → HearsWhatIsToSend x y own other (signer_of vote)
       → HearsWhatIsToSend x y new newer (signer_of vote)
@@ -110,8 +109,8 @@ module _ {S D K G C : Type 0} (x y : NodeSetting D K G C) (own new other newer :
       record {
         sent = vote_cast vote meets.0 (Some report) ∷ h.sent;
         heard = vote_came peer vote receipt ∷ h.heard;
-        own_stands = meets.1 h.sent h.own_stands;
-        other_stands = other_meets h.heard h.other_stands;
+        own_represents = meets.1 h.sent h.own_represents;
+        other_represents = other_meets h.heard h.other_represents;
         sends =
             hears_it y i h.sent h.heard vote meets.0 report peer receipt
             (more_to_send y i h.sent h.heard vote meets.0 report refl h.sends);
@@ -119,32 +118,33 @@ module _ {S D K G C : Type 0} (x y : NodeSetting D K G C) (own new other newer :
 
 module _ {S D K G C : Type 0} (meaning : S → Meaning D K G C) (compare_keys : K → K → Ordering)
     (same_signature : G → G → Bool) (same_digest : D → D → Bool) where
-  abbrev judged : NodeView S G D → NodeSetting D K G C
-  judged node = judge_node meaning compare_keys same_signature same_digest node
+  abbrev config_by : NodeView S G D → NodeConfig D K G C
+  config_by node = node_config meaning compare_keys same_signature same_digest node
 
-  judged_alike : (old new : NodeView S G D) → SameNode old new → judged old ≡ judged new
+  judged_alike : (old new : NodeView S G D) → SameNode old new → config_by old ≡ config_by new
   judged_alike old new same =
-      ap (λ s. judged (record old { scheme = s })) (sym same.0)
-      ∙ ap (λ e. judged (record old { scheme = new.scheme; epoch = e })) (sym same.1)
-      ∙ ap (λ r. judged (record old { scheme = new.scheme; epoch = new.epoch; retains = r })) (sym same.2)
+      ap (λ s. config_by (record old { scheme = s })) (sym same.0)
+      ∙ ap (λ e. config_by (record old { scheme = new.scheme; epoch = e })) (sym same.1)
+      ∙ ap (λ r. config_by (record old { scheme = new.scheme; epoch = new.epoch; retains = r })) (sym same.2)
 
-  -- What isn't blocked where nodes are judged as they are isn't where they are judged as they were.
+  -- What isn't blocked in the configurations that nodes have isn't in those that they had.
   pub still_unblocked :
       ((own other : NodeView S G D) → meaning other.scheme ≡ meaning own.scheme
-      → (sent heard : NodeHistory D K G C) → NodeStands (judged own) sent own
-      → NodeStands (judged other) heard other → (i : ℕ)
+      → (sent heard : NodeHistory D K G C) → NodeRepresents (config_by own) sent own
+      → NodeRepresents (config_by other) heard other → (i : ℕ)
       → i < length (meaning own.scheme).participants
-      → SendsWhatIsToSend (judged other) sent heard i → cause_at other.blocked i ≡ None)
+      → SendsWhatIsToSend (config_by other) sent heard i → cause_at other.blocked i ≡ None)
       → (own new other newer : NodeView S G D) → SameNode own new → SameNode other newer
       → meaning other.scheme ≡ meaning own.scheme → (i : ℕ)
       → i < length (meaning own.scheme).participants
-      → HearsWhatIsToSend (judged own) (judged other) new newer i → cause_at newer.blocked i ≡ None
+      → HearsWhatIsToSend (config_by own) (config_by other) new newer i → cause_at newer.blocked i
+      ≡ None
   still_unblocked rule own new other newer same other_same alike i within h =
       rule new newer
       (ap meaning other_same.0 ∙ alike ∙ ap meaning (sym same.0))
       h.sent h.heard
-      (subst (λ x. NodeStands x h.sent new) (judged_alike own new same) h.own_stands)
-      (subst (λ y. NodeStands y h.heard newer) (judged_alike other newer other_same) h.other_stands)
+      (subst (λ x. NodeRepresents x h.sent new) (judged_alike own new same) h.own_represents)
+      (subst (λ y. NodeRepresents y h.heard newer) (judged_alike other newer other_same) h.other_represents)
       i
       (subst (λ s. i < length (meaning s).participants) (sym same.0) within)
       (subst (λ y. SendsWhatIsToSend y h.sent h.heard i) (judged_alike other newer other_same) h.sends)

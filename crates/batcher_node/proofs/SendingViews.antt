@@ -1,9 +1,9 @@
--- What each view of a node is told by a participant that sends just what its own node answered as
+-- What each view of a node is given by a participant that sends just what its own node answered as
 -- to be sent.
 use Rattle.std.proofs.Common.{◌≡◌, ◌==◌, ℕ, Bool, true, false, not, cond, ◌&&◌, ◌||◌, List, [], ◌∷◌, ◌++◌, Option, Some, Ok, is_some, refl, sym, ap, ◌∙◌, subst, ⊎_elim}
 use Rattle.std.specs.List.{list_any, list_all, AllPass}
 use Rattle.std.specs.Prelude.{All}
-use Rattle.std.proofs.lemmas.Bool.{and_parts, and_from, or_cases, false_from_ne_true, true≢false, false≢true, eqb-true, cases_Bool}
+use Rattle.std.proofs.lemmas.Bool.{and_parts, and_from, or_cases, false_from_ne_true, true≢false, false≢true, eqb-true, cases_Bool, or_right}
 use Rattle.std.proofs.lemmas.List.Folds.{list_any-append}
 use Rattle.std.proofs.lemmas.List.Elements.{All-head, All-tail}
 use Rattle.std.proofs.lemmas.List.Sums.{list_all-from_AllPass}
@@ -19,28 +19,25 @@ use Rattle.batcher.specs.calls.Call.TheVariants.{Network as NetworkCall, Own as 
 use Rattle.batcher.specs.answers.Answer.TheVariants.{Network as NetworkAnswer, Own as OwnAnswer, Certificate as CertificateAnswer, Leader as LeaderAnswer, Construct as ConstructAnswer, Forward as ForwardAnswer}
 use Rattle.batcher.specs.Lists.{is_some_and}
 use Rattle.batcher.specs.Votes.{signer_of, subject_of, round_in, is_kind, kind_of, is_vote_of}
-use Rattle.batcher.specs.Setting.{Setting, setting, sender_in}
+use Rattle.batcher.specs.Config.{Config, config, sender_in}
 use Rattle.batcher.specs.Steps.{report_by, is_added}
-use Rattle.batcher.specs.Standing.{is_valid}
+use Rattle.batcher.specs.Eligible.{is_valid}
 use Rattle.batcher.specs.History.{Event, History, sent_votes}
 use Rattle.batcher.specs.Answers.{IsPossible}
 use Rattle.batcher.specs.Runs.{MayCall}
 use Rattle.batcher.specs.Promises.{AtEachEvent}
-use Rattle.batcher.specs.Reported.{IsAmong}
+use Rattle.batcher.specs.Reports.{IsAmong}
 use Rattle.batcher.specs.Honest.{own_added_by, own_votes_added, votes_sent, sent_bad_vote}
-use Rattle.batcher.specs.Sent.{SendsAdded}
+use Rattle.batcher.specs.SentVotes.{SendsAdded}
+use Rattle.batcher.proofs.ListLemmas.{any_more}
 use Rattle.batcher_node.specs.declared.answers.Receipt.TheVariants.{Answered}
 use Rattle.batcher_node.specs.declared.answers.Verdict.TheVariants.{Recorded}
-use Rattle.batcher_node.specs.Events.{NodeEvent, vote_came, certificate_came, vote_cast, view_entered, constructed, proposal_forwarded, NodeHistory, at_view, told, told_by}
-use Rattle.batcher_node.specs.Nodes.{NodeSetting}
-use Rattle.batcher_node.specs.Stands.{IsNamed, AreNamed}
+use Rattle.batcher_node.specs.Events.{NodeEvent, vote_came, certificate_came, vote_cast, view_entered, constructed, proposal_forwarded, NodeHistory, at_view, view_history, view_history_by}
+use Rattle.batcher_node.specs.Nodes.{NodeConfig}
+use Rattle.batcher_node.specs.Represents.{IsNamed, AreNamed}
 use Rattle.batcher_node.specs.Sending.{to_send_by, votes_to_send, HearsOnly}
 
 -- LISTS
-pub or_right : (a b : Bool) → b ≡ true → (a || b) ≡ true
-or_right true b h = refl
-or_right false b h = h
-
 module _ {X : Type 0} where
   any_behind : (test : X → Bool) (xs ys : List X) → list_any test ys ≡ true
       → list_any test (xs ++ ys) ≡ true
@@ -49,15 +46,6 @@ module _ {X : Type 0} where
 
   any_of_one : (test : X → Bool) (x : X) → list_any test (x ∷ []) ≡ true → test x ≡ true
   any_of_one test x h = ⊎_elim (λ is. is) (λ none. absurd (false≢true none)) (or_cases (test x) false h)
-
-  any_weaker : (test other : X → Bool) → ((x : X) → test x ≡ true → other x ≡ true) → (xs : List X)
-      → list_any test xs ≡ true → list_any other xs ≡ true
-  any_weaker test other so [] h = absurd (false≢true h)
-  any_weaker test other so (x ∷ xs) h =
-      ⊎_elim
-      (λ here. ap (λ b. b || list_any other xs) (so x here))
-      (λ later. or_right (other x) _ (any_weaker test other so xs later))
-      (or_cases (test x) _ h)
 
   none_fails : (test : X → Bool) (xs : List X) → list_all test xs ≡ true
       → list_any (λ x. not (test x)) xs ≡ false
@@ -112,31 +100,32 @@ module _ {D K G C : Type 0} where
       ap (λ b. list_any test (cond b (vote ∷ []) [] ++ own_votes_added past)) added
       ∙ ap (λ b. b || list_any test (own_votes_added past)) passes
 
-  module _ (x : NodeSetting D K G C) (view : ℕ) (test : Vote G D → Bool) where
+  module _ (x : NodeConfig D K G C) (view : ℕ) (test : Vote G D → Bool) where
     added_now : (past : NodeHistory D K G C) (event : NodeEvent D K G C) → IsNamed x past event
         → list_any (in_view view test) (to_send_by event) ≡ true
-        → list_any test (own_votes_added (told_by view event ++ told view past)) ≡ true
+        → list_any test (own_votes_added (view_history_by view event ++ view_history view past))
+        ≡ true
     added_now past (vote_cast vote outcome (Some report)) named h =
         let parts = and_parts (view_of vote == view) (test vote) (any_of_one (in_view view test) vote h) in
-        added_at test vote outcome (Some report) (told view past) (view_of vote == view) parts.0
+        added_at test vote outcome (Some report) (view_history view past) (view_of vote == view) parts.0
         (reported_is_added vote report outcome named.1.1) parts.1
     added_now past event named h = absurd (false≢true h)
 
     -- A vote of the view that is to be sent was added there.
     added_there : (sent : NodeHistory D K G C) → AreNamed x sent
         → list_any (in_view view test) (votes_to_send sent) ≡ true
-        → list_any test (own_votes_added (told view sent)) ≡ true
+        → list_any test (own_votes_added (view_history view sent)) ≡ true
     added_there [] named h = absurd (false≢true h)
     added_there (event ∷ past) named h =
         ⊎_elim
         (added_now past event named.0)
-        (λ before. added_before test (told_by view event) (told view past)
+        (λ before. added_before test (view_history_by view event) (view_history view past)
         (added_there past named.1 before))
         (or_cases _ _
         (sym (list_any-append (in_view view test) (to_send_by event) (votes_to_send past)) ∙ h))
 
 -- OWN VOTES ATTEST
-module _ {D K G C : Type 0} (y : Setting D K G C) where
+module _ {D K G C : Type 0} (y : Config D K G C) where
   abbrev is_bad : Vote G D → Bool
   is_bad vote = not (is_valid y vote)
 
@@ -157,14 +146,9 @@ module _ {D K G C : Type 0} (y : Setting D K G C) where
       ∙ own_attest past possible.1.1.1
 
 -- NONE THAT IT SENT IS BAD
-module _ {D K G C : Type 0} (y : Setting D K G C) (mine : History D K G C) (i : ℕ) where
+module _ {D K G C : Type 0} (y : Config D K G C) (mine : History D K G C) (i : ℕ) where
   abbrev of_it : (Vote G D → Bool) → Vote G D → Bool
   of_it test vote = (signer_of vote == i) && test vote
-
-  is_of : (o : Option Participant) (signer : ℕ) → signer ≡ i
-      → is_some_and o (λ p. p.0 == signer) ≡ true
-      → is_some_and o (λ p. p.0 == i) ≡ true
-  is_of o signer same h = subst (λ j. is_some_and o (λ p. p.0 == j) ≡ true) same h
 
   in_own_name : (test : Vote G D → Bool) (vote : Vote G D) (o : Option Participant) (named : Bool)
       → is_some_and o (λ p. p.0 == signer_of vote) ≡ named
@@ -175,7 +159,7 @@ module _ {D K G C : Type 0} (y : Setting D K G C) (mine : History D K G C) (i : 
   in_own_name test vote o false is sends h = absurd (false≢true h)
   in_own_name test vote o true is sends h =
       let parts = and_parts (signer_of vote == i) (test vote) (any_of_one (of_it test) vote h) in
-      (sends (is_of o (signer_of vote) (eqb-true (signer_of vote) i parts.0) is)).1 test parts.1
+      (sends (subst (λ j. is_some_and o (λ p. p.0 == j) ≡ true) (eqb-true (signer_of vote) i parts.0) is)).1 test parts.1
 
   sent_is_added : (test : Vote G D → Bool) (past : History D K G C) (event : Event D K G C)
       → SendsAdded y mine i past event → list_any (of_it test) (sent_votes y event.0) ≡ true
@@ -200,7 +184,7 @@ module _ {D K G C : Type 0} (y : Setting D K G C) (mine : History D K G C) (i : 
       → sent_bad_vote y past kind i ≡ false
   sent_none_bad past sends good kind =
       false_from_ne_true _ (λ bad.
-      true≢false (sym (each_is_added (is_bad y) past sends (any_weaker _ _ weaker _ bad)) ∙ good))
+      true≢false (sym (each_is_added (is_bad y) past sends (any_more _ _ weaker _ bad)) ∙ good))
     where
       weaker : (v : Vote G D) → (is_vote_of kind i v && is_bad y v) ≡ true
           → of_it (is_bad y) v ≡ true
@@ -210,12 +194,12 @@ module _ {D K G C : Type 0} (y : Setting D K G C) (mine : History D K G C) (i : 
 
 -- WHAT EACH VIEW IS TOLD
 
--- what a round of a node is judged by
-abbrev pub round_of : {D K G C : Type 0} → NodeSetting D K G C → Round → Mode → Setting D K G C
+-- the configuration of a round of a node
+abbrev pub round_of : {D K G C : Type 0} → NodeConfig D K G C → Round → Mode → Config D K G C
 round_of y number mode =
-    setting y.meaning y.compare_keys y.same_signature y.same_digest number mode
+    config y.meaning y.compare_keys y.same_signature y.same_digest number mode
 
-module _ {D K G C : Type 0} (x y : NodeSetting D K G C) (sent : NodeHistory D K G C)
+module _ {D K G C : Type 0} (x y : NodeConfig D K G C) (sent : NodeHistory D K G C)
     (named : AreNamed x sent) (i : ℕ)
     (signed : AllPass (λ v. signer_of v == i) (votes_to_send sent)) where
   own_signer : (vote : Vote G D) → IsAmong vote (votes_to_send sent) → signer_of vote ≡ i
@@ -230,11 +214,11 @@ module _ {D K G C : Type 0} (x y : NodeSetting D K G C) (sent : NodeHistory D K 
 
   module _ (view : ℕ) (number : Round) (mode : Mode) where
     abbrev Sends : History D K G C → Event D K G C → Type 0
-    Sends = SendsAdded (round_of y number mode) (told view sent) i
+    Sends = SendsAdded (round_of y number mode) (view_history view sent) i
 
     added_in_view : (vote : Vote G D) → IsAmong vote (votes_to_send sent)
         → (view_of vote == view) ≡ true
-        → (signer_of vote ≡ i) × IsAmong vote (own_votes_added (told view sent))
+        → (signer_of vote ≡ i) × IsAmong vote (own_votes_added (view_history view sent))
     added_in_view vote among here = (
       own_signer vote among,
       λ test passes. added_there x view test sent named (among (in_view view test) (and_from _ _ here passes)),
@@ -251,7 +235,7 @@ module _ {D K G C : Type 0} (x y : NodeSetting D K G C) (sent : NodeHistory D K 
 
     told_by_it : (event : NodeEvent D K G C) (past : History D K G C)
         → HearsOnly y (votes_to_send sent) i event → AtEachEvent Sends past
-        → AtEachEvent Sends (told_by view event ++ past)
+        → AtEachEvent Sends (view_history_by view event ++ past)
     told_by_it (vote_came peer vote (Answered admission)) past hears before =
         told_more (view_of vote) (NetworkCall peer vote, NetworkAnswer admission) past
         (λ here is. added_in_view vote (hears is) here) before
@@ -267,11 +251,11 @@ module _ {D K G C : Type 0} (x y : NodeSetting D K G C) (sent : NodeHistory D K 
         told_more at (ForwardCall me, ForwardAnswer given) past (λ here. tt) before
     told_by_it event past hears before = before
 
-    -- Each view is told by the participant just what its own round of the view added.
+    -- Each view is given by the participant just what its own round of the view added.
     pub sends_added : (heard : NodeHistory D K G C) → All (HearsOnly y (votes_to_send sent) i) heard
-        → AtEachEvent Sends (told view heard)
+        → AtEachEvent Sends (view_history view heard)
     sends_added [] hears = tt
     sends_added (event ∷ past) hears =
-        told_by_it event (told view past)
+        told_by_it event (view_history view past)
         (All-head (HearsOnly y (votes_to_send sent) i) event past hears)
         (sends_added past (All-tail (HearsOnly y (votes_to_send sent) i) event past hears))

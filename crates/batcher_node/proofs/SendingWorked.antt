@@ -2,13 +2,11 @@
 use Rattle.std.proofs.Common.{◌≡◌, ◌==◌, Bool, true, false, ◌||◌, refl, arith, ap}
 use Rattle.std.proofs.lemmas.List.Elements.{All-from_recursion}
 use Rattle.std.proofs.lemmas.List.Sums.{AllPass-from_list_all}
+use Rattle.std.proofs.lemmas.Bool.{or_left}
 use Rattle.batcher.specs.Keys.{index_of}
 use Rattle.batcher.specs.Votes.{signer_of}
 use Rattle.batcher_node.specs.Sending.{votes_to_send, HearsOnly}
 use Rattle.batcher_node.specs.SendingExamples.{of_four, sent, heard, SendingExamples}
-
-first_of : (a b : Bool) → a ≡ true → (a || b) ≡ true
-first_of a b h = ap (λ c. c || b) h
 
 second_of : (a b c : Bool) → b ≡ true → (a || (b || c)) ≡ true
 second_of true b c h = refl
@@ -29,7 +27,7 @@ computed =
           (λ is. refl),
           (
             (λ is test passes. second_of _ _ _ passes),
-            ((λ is test passes. first_of _ _ passes), (refl, (tt, (tt, tt)))),
+            ((λ is test passes. or_left _ _ passes), (refl, (tt, (tt, tt)))),
           ),
         );
       };

@@ -1,19 +1,19 @@
--- Rounds stay tended where one of them was told a call.
+-- Rounds stay tended where one of them was called.
 use Rattle.std.proofs.Common.{◌≡◌, ◌≢◌, ◌⊎◌, inl, inr, ⊎_elim, ℕ, Bool, true, List, sym, ◌∙◌, subst}
 use Rattle.std.specs.Prelude.{IfSome}
 use Rattle.std.proofs.lemmas.Bool.{cases_eq}
 use Rattle.batcher.specs.calls.Call.{Call}
 use Rattle.batcher.specs.answers.Answer.{Answer}
 use Rattle.batcher.specs.positions.Epoch.{Epoch}
-use Rattle.batcher.specs.Setting.{Setting}
-use Rattle.batcher.specs.Held.{RoundView}
+use Rattle.batcher.specs.Config.{Config}
+use Rattle.batcher.specs.RoundState.{RoundView}
 use Rattle.batcher_node.specs.declared.slot.Slot.{Slot}
 use Rattle.batcher_node.specs.declared.window.Window.{Window}
 use Rattle.batcher_node.specs.Windows.{contains, numbered}
-use Rattle.batcher_node.specs.Nodes.{IsTended, slot_at, fresh_round, Tells, TellsThere, TellsFresh}
-use Rattle.batcher_node.proofs.Telling.{if_some}
+use Rattle.batcher_node.specs.Nodes.{IsTended, slot_at, fresh_round, MakesCall, MakesCallThere, MakesCallFresh}
+use Rattle.batcher_node.proofs.Calling.{if_some}
 
-module _ {S D K G C : Type 0} (judge : RoundView S G D → Setting D K G C) (participants : ℕ)
+module _ {S D K G C : Type 0} (round_config : RoundView S G D → Config D K G C) (participants : ℕ)
     (scheme : S) (epoch : Epoch) (window : Window) (old new : List (ℕ × Slot (RoundView S G D)))
     (tended : IsTended participants scheme epoch window old) where
   -- what is so of the round of a view
@@ -24,27 +24,27 @@ module _ {S D K G C : Type 0} (judge : RoundView S G D → Setting D K G C) (par
 
   module _ (call : Call K G C D) (answer : Answer G C D) (retains : Bool) (view : ℕ)
       (within : contains window view ≡ true) where
-    own_there : TellsThere judge (slot_at old) (slot_at new) view call answer
+    own_there : MakesCallThere round_config (slot_at old) (slot_at new) view call answer
         → IfSome (slot_at new view) (Own view)
     own_there t =
         let own = if_some (Own view) (slot_at old view) t.slot t.there (tended.own view) in
         subst (λ o. IfSome o (Own view)) (sym t.goes_on.here)
         (t.goes_on.same.0 ∙ own.0, (t.goes_on.same.1 ∙ own.1.0, within))
 
-    own_fresh : TellsFresh judge (slot_at old) (slot_at new) view
+    own_fresh : MakesCallFresh round_config (slot_at old) (slot_at new) view
         (fresh_round scheme epoch retains window view) call answer
         → IfSome (slot_at new view) (Own view)
     own_fresh t =
         subst (λ o. IfSome o (Own view)) (sym t.goes_on.here)
         (t.goes_on.same.0, (t.goes_on.same.1, within))
 
-    others : Tells judge (slot_at old) (slot_at new) view
+    others : MakesCall round_config (slot_at old) (slot_at new) view
         (fresh_round scheme epoch retains window view) call answer → (other : ℕ) → other ≢ view
         → slot_at new other ≡ slot_at old other
     others (inl t) other apart = t.goes_on.others other apart
     others (inr t) other apart = t.goes_on.others other apart
 
-    own_at : Tells judge (slot_at old) (slot_at new) view
+    own_at : MakesCall round_config (slot_at old) (slot_at new) view
         (fresh_round scheme epoch retains window view) call answer → (other : ℕ)
         → (other ≡ view) ⊎ (other ≢ view) → IfSome (slot_at new other) (Own other)
     own_at t other (inl is) =
@@ -52,7 +52,7 @@ module _ {S D K G C : Type 0} (judge : RoundView S G D → Setting D K G C) (par
     own_at t other (inr apart) =
         subst (λ o. IfSome o (Own other)) (sym (others t other apart)) (tended.own other)
 
-    pub still_tended : Tells judge (slot_at old) (slot_at new) view
+    pub still_tended : MakesCall round_config (slot_at old) (slot_at new) view
         (fresh_round scheme epoch retains window view) call answer
         → IsTended participants scheme epoch window new
     still_tended t =

@@ -23,7 +23,7 @@ use Rattle.batcher_node.specs.declared.answers.Verdict.{Verdict}
 use Rattle.batcher_node.specs.declared.answers.Verdict.TheVariants.{Recorded, Forged}
 use Rattle.batcher_node.specs.declared.answers.Cause.{Cause}
 use Rattle.batcher_node.specs.declared.answers.Cause.TheVariants.{Vote as ForVote, Certificate as ForCertificate, Signature as ForSignature}
-use Rattle.batcher_node.specs.Nodes.{NodeSetting}
+use Rattle.batcher_node.specs.Nodes.{NodeConfig}
 use Rattle.batcher_node.specs.Windows as windows
 
 -- A call with its answer. One that was refused isn't among them, since it changes nothing.
@@ -51,28 +51,28 @@ module _ {D K G C : Type 0} where
   abbrev pub at_view : ℕ → ℕ → Event D K G C → History D K G C
   at_view view number event = cond (number == view) (event ∷ []) []
 
-  -- what an event told the round of a view
-  abbrev pub told_by : ℕ → NodeEvent D K G C → History D K G C
-  told_by view (vote_came peer vote (Answered admission)) =
+  -- the calls of a view's round that an event is
+  abbrev pub view_history_by : ℕ → NodeEvent D K G C → History D K G C
+  view_history_by view (vote_came peer vote (Answered admission)) =
       at_view view (round_in (subject_of vote)).view.0
       (NetworkCall peer vote, NetworkAnswer admission)
-  told_by view (certificate_came peer certificate (Answered (Recorded changed))) =
+  view_history_by view (certificate_came peer certificate (Answered (Recorded changed))) =
       at_view view (round_in (subject_certified certificate)).view.0
       (CertificateCall certificate, CertificateAnswer changed)
-  told_by view (vote_cast vote outcome report) =
+  view_history_by view (vote_cast vote outcome report) =
       at_view view (round_in (subject_of vote)).view.0 (OwnCall vote, OwnAnswer outcome report)
-  told_by view (view_entered number leader) =
+  view_history_by view (view_entered number leader) =
       at_view view number (LeaderCall leader, LeaderAnswer (Ok tt))
-  told_by view (constructed number given) =
+  view_history_by view (constructed number given) =
       at_view view number (ConstructCall, ConstructAnswer given)
-  told_by view (proposal_forwarded number me given) =
+  view_history_by view (proposal_forwarded number me given) =
       at_view view number (ForwardCall me, ForwardAnswer given)
-  told_by view event = []
+  view_history_by view event = []
 
-  -- All that the round of a view was told: its history.
-  abbrev pub told : ℕ → NodeHistory D K G C → History D K G C
-  told view [] = []
-  told view (event ∷ past) = told_by view event ++ told view past
+  -- All calls of a view's round: its history.
+  abbrev pub view_history : ℕ → NodeHistory D K G C → History D K G C
+  view_history view [] = []
+  view_history view (event ∷ past) = view_history_by view event ++ view_history view past
 
   abbrev pub window_after : Window → NodeEvent D K G C → Window
   window_after window (started first) = first
@@ -89,7 +89,7 @@ module _ {D K G C : Type 0} where
 abbrev pub invalid_in : {C : Type 0} → Option (Batch C) → List Participant
 invalid_in given = option_map_or (λ batch. batch.invalid) given []
 
-module _ {D K G C : Type 0} (x : NodeSetting D K G C) where
+module _ {D K G C : Type 0} (x : NodeConfig D K G C) where
   -- the participant with the key
   abbrev pub peer_in : K → Option Participant
   peer_in key = index_of x.compare_keys x.meaning.participants key

@@ -1,7 +1,8 @@
 pub mod Windows
+pub mod Texts
 pub mod Events
 pub mod Nodes
-pub mod Stands
-pub mod Promised
+pub mod Represents
+pub mod NodePromises
 pub mod Sending
 pub mod SendingExamples

@@ -1,4 +1,4 @@
--- A node, as contracts see it, what it is judged by, and what one call of a view's round changes.
+-- A node, as contracts see it, its configuration, and what one call of a view's round changes.
 use Rattle.std.specs.Prelude.{◌≡◌, ◌≢◌, ◌≤◌, ◌<◌, ◌⊎◌, ◌||◌, ℕ, Bool, true, false, List, [], Option, Some, None, Err, IfSome, MatchOption, option_and_then}
 use Rattle.std.specs.List.{slice_get}
 use Rattle.std.specs.Ordering.{nat_cmp}
@@ -16,19 +16,19 @@ use Rattle.batcher.specs.answers.Answer.TheVariants.{Network as NetworkAnswer, C
 use Rattle.batcher.specs.messages.Certificate.{Certificate}
 use Rattle.batcher.specs.verifier.Batch.{Batch}
 use Rattle.batcher.specs.Meaning.{Meaning}
-use Rattle.batcher.specs.Setting.{Setting}
-use Rattle.batcher.specs.Held.{RoundView, SameRound}
+use Rattle.batcher.specs.Config.{Config}
+use Rattle.batcher.specs.RoundState.{RoundView, SameRound}
 use Rattle.batcher.specs.Steps.{nothing_held, leader_set_answer, AfterConstruct}
 use Rattle.batcher.specs.History.{Event}
-use Rattle.batcher.specs.Judged.{FollowsAlways}
-use Rattle.batcher.specs.Stands.{Stands}
+use Rattle.batcher.specs.RoundContracts.{SimulatesAlways}
+use Rattle.batcher.specs.Represents.{Represents}
 use Rattle.batcher_node.specs.declared.window.Window.{Window}
 use Rattle.batcher_node.specs.declared.answers.Cause.{Cause}
 use Rattle.batcher_node.specs.declared.slot.Slot.{Slot}
 use Rattle.batcher_node.specs.Windows.{contains, mode_now, numbered}
 
--- With scheme S, signatures G and digests D. The rounds stand by their views' numbers, ascending,
--- each with whether it changed since it was found to rest.
+-- With scheme S, signatures G and digests D. The rounds are kept by their views' numbers,
+-- ascending, each with whether it changed since it was found to rest.
 pub record NodeView (S G D : Type 0) : Type 0 where
   pub scheme : S
   pub epoch : Epoch
@@ -38,9 +38,9 @@ pub record NodeView (S G D : Type 0) : Type 0 where
   -- why each participant is blocked, if it is, by its index
   pub blocked : List (Option Cause)
 
--- What a node is judged by: its scheme, which keys, signatures and digests are the same, its epoch,
--- and whether its rounds retain their votes.
-pub record NodeSetting (D K G C : Type 0) : Type 0 where
+-- The configuration of a node: its scheme, which keys, signatures and digests are the same, its
+-- epoch, and whether its rounds retain their votes.
+pub record NodeConfig (D K G C : Type 0) : Type 0 where
   pub meaning : Meaning D K G C
   pub compare_keys : K → K → Ordering
   pub same_signature : G → G → Bool
@@ -48,10 +48,10 @@ pub record NodeSetting (D K G C : Type 0) : Type 0 where
   pub epoch : Epoch
   pub retains : Bool
 
--- what a node is judged by, as `judge` of a round
-abbrev pub judge_node : {S D K G C : Type 0} → (S → Meaning D K G C) → (K → K → Ordering)
-    → (G → G → Bool) → (D → D → Bool) → NodeView S G D → NodeSetting D K G C
-judge_node meaning compare_keys same_signature same_digest node =
+-- the configuration of a node, as `round_config` is that of a round
+abbrev pub node_config : {S D K G C : Type 0} → (S → Meaning D K G C) → (K → K → Ordering)
+    → (G → G → Bool) → (D → D → Bool) → NodeView S G D → NodeConfig D K G C
+node_config meaning compare_keys same_signature same_digest node =
     record {
       meaning = meaning node.scheme;
       compare_keys = compare_keys;
@@ -74,7 +74,7 @@ due_after (NetworkCall sender vote, NetworkAnswer admission) due = admission.add
 due_after (ForwardCall me, answer) due = due
 due_after event due = true
 
--- what stands at a view
+-- what is at a view
 abbrev pub slot_at : {X : Type 0} → List (ℕ × X) → ℕ → Option X
 slot_at rounds view = lookup (is_at (nat_cmp view)) rounds
 
@@ -130,40 +130,40 @@ pub record IsLedByAnother {S G D : Type 0} (at : Option (Slot (RoundView S G D))
 
 -- Why the round of a view refuses a call, where `why` says that of a round: it is the one that is
 -- there, or a fresh one.
-abbrev pub Refuses : {S D K G C F : Type 0} → (RoundView S G D → Setting D K G C)
+abbrev pub Refuses : {S D K G C F : Type 0} → (RoundView S G D → Config D K G C)
     → Option (Slot (RoundView S G D)) → RoundView S G D → (RoundView S G D → F → Type 0) → F
     → Type 0
-Refuses judge at fresh why fault =
-    MatchOption at (Stands (judge fresh) [] fresh.holds × why fresh fault)
+Refuses round_config at fresh why fault =
+    MatchOption at (Represents (round_config fresh) [] fresh.holds × why fresh fault)
     (λ slot. why slot.round fault)
 
-module _ {S D K G C : Type 0} (judge : RoundView S G D → Setting D K G C)
+module _ {S D K G C : Type 0} (round_config : RoundView S G D → Config D K G C)
     (old new : ℕ → Option (Slot (RoundView S G D))) (view : ℕ) where
-  -- A round was told a call: it goes on as its history says, and no other view has changed.
+  -- A round was called: it goes on as its history says, and no other view has changed.
   pub record GoesOn (before : Slot (RoundView S G D)) (call : Call K G C D) (answer : Answer G C D)
       : Type 0 where
     pub after : RoundView S G D
     pub same : SameRound before.round after
-    pub follows : FollowsAlways judge before.round (call, answer) after.holds
+    pub simulates : SimulatesAlways round_config before.round (call, answer) after.holds
     pub here : new view
         ≡ Some (record { round = after; changed = due_after (call, answer) before.changed })
     pub others : (other : ℕ) → other ≢ view → new other ≡ old other
 
-  -- The round of the view was told a call. It is one that was there,
-  pub record TellsThere (call : Call K G C D) (answer : Answer G C D) : Type 0 where
+  -- The round of the view was called. It is one that was there,
+  pub record MakesCallThere (call : Call K G C D) (answer : Answer G C D) : Type 0 where
     pub slot : Slot (RoundView S G D)
     pub there : old view ≡ Some slot
     pub goes_on : GoesOn slot call answer
 
   -- or there was none, and it is a fresh one.
-  pub record TellsFresh (fresh : RoundView S G D) (call : Call K G C D) (answer : Answer G C D)
+  pub record MakesCallFresh (fresh : RoundView S G D) (call : Call K G C D) (answer : Answer G C D)
       : Type 0 where
     pub absent : old view ≡ None
-    pub fresh_stands : Stands (judge fresh) [] fresh.holds
+    pub fresh_represents : Represents (round_config fresh) [] fresh.holds
     pub goes_on : GoesOn (record { round = fresh; changed = false }) call answer
 
-  abbrev pub Tells : RoundView S G D → Call K G C D → Answer G C D → Type 0
-  Tells fresh call answer = TellsThere call answer ⊎ TellsFresh fresh call answer
+  abbrev pub MakesCall : RoundView S G D → Call K G C D → Answer G C D → Type 0
+  MakesCall fresh call answer = MakesCallThere call answer ⊎ MakesCallFresh fresh call answer
 
   -- The round of the view made a construction, by the step of a round: what is drawn from the
   -- generator, and what it gives for that, is up to the round.
@@ -174,4 +174,5 @@ module _ {S D K G C : Type 0} (judge : RoundView S G D → Setting D K G C)
     pub left : Slot (RoundView S G D)
     pub here : new view ≡ Some left
     pub step :
-        AfterConstruct (judge slot.round) slot.round.holds before given left.round.holds after
+        AfterConstruct (round_config slot.round) slot.round.holds before given left.round.holds
+        after

@@ -4,12 +4,12 @@ use Rattle.std.specs.List.{AllPass}
 use Rattle.batcher.specs.messages.Vote.{Vote}
 use Rattle.batcher.specs.Votes.{signer_of}
 use Rattle.batcher.specs.Verifiers.{certifies_itself, BatchCertifies}
-use Rattle.batcher.specs.Reported.{IsAmong}
+use Rattle.batcher.specs.Reports.{IsAmong}
 use Rattle.batcher_node.specs.declared.answers.Receipt.TheVariants.{Answered}
 use Rattle.batcher_node.specs.declared.answers.Verdict.TheVariants.{Recorded}
 use Rattle.batcher_node.specs.Events.{NodeEvent, vote_came, certificate_came, vote_cast, constructed, NodeHistory, is_peer}
-use Rattle.batcher_node.specs.Nodes.{NodeView, NodeSetting}
-use Rattle.batcher_node.specs.Stands.{NodeStands}
+use Rattle.batcher_node.specs.Nodes.{NodeView, NodeConfig}
+use Rattle.batcher_node.specs.Represents.{NodeRepresents}
 
 module _ {D K G C : Type 0} where
   -- the vote that the node cast and was answered as to be sent, if the event is that
@@ -22,7 +22,7 @@ module _ {D K G C : Type 0} where
   votes_to_send [] = []
   votes_to_send (event ∷ past) = to_send_by event ++ votes_to_send past
 
-module _ {D K G C : Type 0} (x : NodeSetting D K G C) where
+module _ {D K G C : Type 0} (x : NodeConfig D K G C) where
   -- What a node hears under a participant's key: of votes just these, and of certificates such as
   -- certify what they name. And the node itself casts no vote of that participant.
   abbrev pub HearsOnly : List (Vote G D) → ℕ → NodeEvent D K G C → Type 0
@@ -46,11 +46,11 @@ module _ {D K G C : Type 0} (x : NodeSetting D K G C) where
   HoldsCertified event = ⊤
 
 -- Two nodes of which the other hears of a participant just what its own answers as to be sent: each
--- stands after a history of its calls, of which that is so.
-pub record HearsWhatIsToSend {S D K G C : Type 0} (x y : NodeSetting D K G C)
+-- represents a history of its calls, of which that is so.
+pub record HearsWhatIsToSend {S D K G C : Type 0} (x y : NodeConfig D K G C)
     (own other : NodeView S G D) (i : ℕ) : Type 0 where
   pub sent : NodeHistory D K G C
   pub heard : NodeHistory D K G C
-  pub own_stands : NodeStands x sent own
-  pub other_stands : NodeStands y heard other
+  pub own_represents : NodeRepresents x sent own
+  pub other_represents : NodeRepresents y heard other
   pub sends : SendsWhatIsToSend y sent heard i

@@ -11,15 +11,15 @@ use Rattle.batcher.specs.Steps.{report_by}
 use Rattle.batcher.specs.Answers.{network_answer, own_answer}
 use Rattle.batcher.specs.Examples.Answers.{TinyVote, listing, compare, the_round, notarize, nullify, finalize, nullification}
 use Rattle.batcher_node.specs.declared.answers.Cause.TheVariants.{Vote as ForVote, Certificate as ForCertificate}
-use Rattle.batcher_node.specs.Events.{NodeHistory, started, vote_came, certificate_came, vote_cast, view_entered, told, cause_in}
-use Rattle.batcher_node.specs.Nodes.{NodeSetting}
-use Rattle.batcher_node.specs.Stands.{setting_of, receipt, verdict, AreNamed}
+use Rattle.batcher_node.specs.Events.{NodeHistory, started, vote_came, certificate_came, vote_cast, view_entered, view_history, cause_in}
+use Rattle.batcher_node.specs.Nodes.{NodeConfig}
+use Rattle.batcher_node.specs.Represents.{config_of, receipt, verdict, AreNamed}
 use Rattle.batcher_node.specs.Sending.{votes_to_send, SendsWhatIsToSend}
 
 abbrev pub TinyNodeHistory : Type 0
 TinyNodeHistory = NodeHistory ℕ ℕ ℕ ℕ
 
-abbrev pub of_four : NodeSetting ℕ ℕ ℕ ℕ
+abbrev pub of_four : NodeConfig ℕ ℕ ℕ ℕ
 of_four =
     record {
       meaning = listing 4;
@@ -42,14 +42,15 @@ answered past vote (Ok outcome) = vote_cast vote outcome (report_by outcome vote
 answered past vote (Err fault) = past
 
 abbrev pub cast : TinyNodeHistory → TinyVote → TinyNodeHistory
-cast past vote = answered past vote (own_answer (setting_of of_four past 1) (told 1 past) vote)
+cast past vote = answered past vote (own_answer (config_of of_four past 1)
+    (view_history 1 past) vote)
 
 -- what is answered where a vote, or a nullification, came from a peer
 abbrev pub hear : TinyNodeHistory → ℕ → TinyVote → TinyNodeHistory
 hear past peer vote =
     vote_came peer vote
     (receipt of_four past peer the_round
-    (network_answer (setting_of of_four past 1) (told 1 past) peer vote))
+    (network_answer (config_of of_four past 1) (view_history 1 past) peer vote))
     ∷ past
 
 abbrev pub hear_certificate : TinyNodeHistory → ℕ → Certificate ℕ ℕ → TinyNodeHistory

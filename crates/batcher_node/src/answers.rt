@@ -1,12 +1,14 @@
 //! What a node answers.
 
-ghost use Rattle.std.specs.Prelude.{◌≡◌};
+ghost use Rattle.std.specs.Prelude.{◌≡◌, Some};
 ghost use Rattle.batcher_node.specs.declared.answers.EnterFault.TheVariants.{OutOfMemory as OutOfMemoryFault, LeaderChanged as LeaderChangedFault};
+ghost use Rattle.batcher_node.specs.Texts.{cause_text, verdict_text};
 
 use batcher::messages::Activity;
 use batcher::round::BlockReason;
 use batcher::verifier::LeaderFault;
 use std::alloc::AllocError;
+use std::fmt;
 use thiserror::Error;
 
 /// What became of a peer's message, where `A` is what it is answered.
@@ -22,6 +24,18 @@ pub enum Receipt<A> {
     Unknown,
 }
 
+impl<A: fmt::Display> fmt::Display for Receipt<A> {
+    /// What the message is answered, or why there is no answer.
+    fn fmt<W: fmt::Write>(&self, f: &mut fmt::Formatter<W>) -> fmt::Result {
+        match self {
+            Receipt::Answered(answer) => write!(f, "{answer}"),
+            Receipt::Outside => f.write_str("outside"),
+            Receipt::Dropped => f.write_str("dropped"),
+            Receipt::Unknown => f.write_str("unknown"),
+        }
+    }
+}
+
 /// What became of a peer's certificate.
 #[derive(Clone, Copy, Debug, PartialEq, Eq)]
 pub enum Verdict {
@@ -32,6 +46,19 @@ pub enum Verdict {
     Forged,
     /// Its view has one of its kind, so it wasn't verified.
     Known,
+}
+
+impl fmt::Display for Verdict {
+    ghost output = { λ verdict. Some (verdict_text verdict) };
+
+    fn fmt<W: fmt::Write>(&self, f: &mut fmt::Formatter<W>) -> fmt::Result {
+        f.write_str(match self {
+            Verdict::Recorded(true) => "recorded, another proposal selected",
+            Verdict::Recorded(false) => "recorded",
+            Verdict::Forged => "forged",
+            Verdict::Known => "known",
+        })
+    }
 }
 
 /// What became of a vote of the node's own.
@@ -46,6 +73,17 @@ pub enum Cast<G, D> {
     Outside,
 }
 
+impl<G, D: fmt::Display> fmt::Display for Cast<G, D> {
+    /// Whether the vote is to be sent, with what is reported of it.
+    fn fmt<W: fmt::Write>(&self, f: &mut fmt::Formatter<W>) -> fmt::Result {
+        match self {
+            Cast::ToSend(report) => write!(f, "to send {report}"),
+            Cast::Known => f.write_str("known"),
+            Cast::Outside => f.write_str("outside"),
+        }
+    }
+}
+
 /// Why a peer is blocked.
 #[derive(Clone, Copy, Debug, PartialEq, Eq)]
 pub enum Cause {
@@ -54,6 +92,18 @@ pub enum Cause {
     Certificate,
     /// A construction found that a vote that it sent doesn't attest.
     Signature,
+}
+
+impl fmt::Display for Cause {
+    ghost output = { λ cause. Some (cause_text cause) };
+
+    fn fmt<W: fmt::Write>(&self, f: &mut fmt::Formatter<W>) -> fmt::Result {
+        match self {
+            Cause::Vote(reason) => write!(f, "{reason}"),
+            Cause::Certificate => write!(f, "a certificate that doesn't certify"),
+            Cause::Signature => write!(f, "a vote that doesn't attest"),
+        }
+    }
 }
 
 /// Why a view isn't entered. Nothing changes then.

@@ -3,6 +3,8 @@
 ghost use Rattle.std.specs.Prelude.{◌≡◌, ◌≤◌, ◌<◌, ◌∷◌, [], true, false, cond, ◌==◌, ℕ, length, IfOk, IfErr, OnOk, OnErr, IfSome, IfNone, Some, None, Ok, Err, is_some};
 ghost use Rattle.std.specs.List.{list_any, range_with_len};
 ghost use Rattle.std.specs.Option.{option_map, option_copied, option_or};
+ghost use Rattle.std.specs.List.Sorted.{IsStrictlySortedBy};
+ghost use Rattle.std.specs.Ordering.{nat_cmp};
 ghost use Rattle.batcher.specs.Votes.{subject_of, subject_certified, attestation_of, round_in};
 ghost use Rattle.batcher.specs.Verifiers.{certifies_itself};
 ghost use Rattle.batcher.specs.Answers.{own_answer};
@@ -10,40 +12,42 @@ ghost use Rattle.batcher.specs.Steps.{fault_or_memory};
 ghost use Rattle.batcher_node.specs.declared.answers.Cause.TheVariants.{Vote as ForVote, Signature as ForSignature};
 ghost use Rattle.batcher_node.specs.declared.answers.EnterFault.TheVariants.{Passed as PassedFault, LeaderChanged as LeaderChangedFault, OutOfMemory as OutOfMemoryFault};
 ghost use Rattle.batcher_node.specs.Windows.{is_of, width, contains, numbered};
-ghost use Rattle.batcher_node.specs.Events.{peer_in, invalid_in, started, vote_came, certificate_came, view_entered, view_finalized, constructed, told};
+ghost use Rattle.batcher_node.specs.Events.{peer_in, invalid_in, started, vote_came, certificate_came, view_entered, view_finalized, constructed, view_history};
 ghost use Rattle.batcher_node.specs.Nodes.{SameNode, IsAtRest, HasChanged, IsNext, Draws, IsLedByAnother, cause_at, slot_at};
-ghost use Rattle.batcher_node.specs.Stands.{cast_by, Meets, MeetsCast, MeetsForward, NodeStands, WhereverNodeStands, IsHeard, setting_of, HasHistory};
-ghost use Rattle.batcher_node.specs.Promised.{HadGivenCause, IsComplete, KeepsPromises};
+ghost use Rattle.batcher_node.specs.Represents.{cast_by, Meets, SimulatesCast, SimulatesForward, NodeRepresents, ForEachNodeHistory, IsHeard, config_of, HasHistory};
+ghost use Rattle.batcher_node.specs.NodePromises.{HadGivenCause, IsComplete, KeepsPromises};
 
 use crate::answers::{Cast, Cause, EnterFault, Receipt, Verdict};
 use crate::rounds::Rounds;
 use crate::step::{self, Heard, Led, Verified};
+use crate::views::Views;
 use crate::window::Window;
 use batcher::messages::{Activity, Certificate, Digest, Proposal, Vote};
 use batcher::positions::{Epoch, Participant, View};
-use batcher::round::{Admission, BlockReason, Judge, OwnFault, Round};
+use batcher::round::{Admission, BlockReason, OwnFault, Round, RoundConfigs};
 use batcher::scheme::Scheme;
 use batcher::verifier::Batch;
 use batcher::votes::Outcome;
 use rand_core::CryptoRng;
 use std::alloc::{AllocError, Global};
 use std::collections::BTreeMap;
+use std::fmt;
 use std::marker::Model;
 use std::rc::Rc;
 
-/// What nodes over a scheme are judged by. Every scheme has it, and it says nothing of its own:
-/// contracts name by it the scheme and the epoch of a node, and whether its rounds retain votes.
-pub trait NodeJudge<D: Digest>: Scheme<D> {
-    ghost use Rattle.batcher_node.specs.Nodes.{NodeView, NodeSetting};
+/// The configurations of nodes over a scheme. Every scheme has them, and they add nothing:
+/// contracts name by them the scheme and the epoch of a node, and whether its rounds retain votes.
+pub trait NodeConfigs<D: Digest>: Scheme<D> {
+    ghost use Rattle.batcher_node.specs.Nodes.{NodeView, NodeConfig};
 
     ghost of: { NodeView Self Self.Signature D
-        → NodeSetting D Self.PublicKey Self.Signature Self.Certificate };
+        → NodeConfig D Self.PublicKey Self.Signature Self.Certificate };
 }
 
-impl<D: Digest, S: Scheme<D>> NodeJudge<D> for S {
-    ghost use Rattle.batcher_node.specs.Nodes.{judge_node};
+impl<D: Digest, S: Scheme<D>> NodeConfigs<D> for S {
+    ghost use Rattle.batcher_node.specs.Nodes.{node_config};
 
-    ghost of = { judge_node S.meaning S.PublicKey.cmp S.Signature.eq D.eq };
+    ghost of = { node_config S.meaning S.PublicKey.cmp S.Signature.eq D.eq };
 }
 
 /// A validator's rounds, over the views of its window.
@@ -56,7 +60,7 @@ pub struct Node<S: Scheme<D>, D: Digest> {
 
 impl<S: Scheme<D>, D: Digest> Model for Node<S, D> {
     ghost use Rattle.batcher_node.specs.Nodes.{NodeView};
-    ghost use Rattle.batcher_node.specs.Stands.{IsNode};
+    ghost use Rattle.batcher_node.specs.Represents.{IsNode};
 
     ghost Value = { NodeView S S.Signature D };
 
@@ -87,7 +91,7 @@ pub struct Construction<C, D> {
 }
 
 impl<S: Scheme<D>, D: Digest> Node<S, D> {
-    /// A node that was told nothing, with `finalized` as its current view. It takes memory for why
+    /// A new node, with `finalized` as its current view. It takes memory for why
     /// each participant is blocked.
     ///
     /// The window goes from the finalized view to so many beyond the current one.
@@ -108,7 +112,7 @@ impl<S: Scheme<D>, D: Digest> Node<S, D> {
           current = finalized.0;
           ahead = ahead;
         }) }
-        ensures stands { IfOk result (λ node. NodeStands (⟦<S as NodeJudge<D>>⟧.of node)
+        ensures represents { IfOk result (λ node. NodeRepresents (⟦<S as NodeConfigs<D>>⟧.of node)
             (started node.window ∷ []) node) }
     {
         let blocked = none_blocked(alloc, scheme.participants().len())?;
@@ -138,12 +142,12 @@ impl<S: Scheme<D>, D: Digest> Node<S, D> {
         peer: S::PublicKey,
         vote: Vote<S::Signature, D>,
     ) -> Result<Receipt<Admission<S::Signature, D>>, AllocError>
-        ensures meets { IfOk result (λ receipt. Meets (⟦<S as NodeJudge<D>>⟧.of self.old) self.old
+        ensures meets { IfOk result (λ receipt. Meets (⟦<S as NodeConfigs<D>>⟧.of self.old) self.old
             (vote_came peer vote receipt) self.new) }
         ensures outside_stays { result ≡ Ok Receipt.Outside → self.new ≡ self.old }
         ensures dropped_stays { result ≡ Ok Receipt.Dropped → self.new ≡ self.old }
         ensures unknown_stays { result ≡ Ok Receipt.Unknown → self.new ≡ self.old }
-        ensures needed { OnErr result (IsHeard (⟦<S as NodeJudge<D>>⟧.of self.old) self.old peer
+        ensures needed { OnErr result (IsHeard (⟦<S as NodeConfigs<D>>⟧.of self.old) self.old peer
             (round_in (subject_of vote))) }
         ensures refused { OnErr result (self.new ≡ self.old) }
         ensures same { SameNode self.old self.new }
@@ -158,7 +162,7 @@ impl<S: Scheme<D>, D: Digest> Node<S, D> {
         if !self.rounds.contains(number) {
             return Ok(Receipt::Outside);
         }
-        let admission = self.rounds.tell(number.view.0, Heard { peer, vote })??;
+        let admission = self.rounds.call(number.view.0, Heard { peer, vote })??;
         block_for_vote(&mut self.blocked, sender, admission.block);
         Ok(Receipt::Answered(admission))
     }
@@ -173,13 +177,13 @@ impl<S: Scheme<D>, D: Digest> Node<S, D> {
         peer: S::PublicKey,
         certificate: &Certificate<S::Certificate, D>,
     ) -> Result<Receipt<Verdict>, AllocError>
-        ensures meets { IfOk result (λ receipt. Meets (⟦<S as NodeJudge<D>>⟧.of self.old) self.old
+        ensures meets { IfOk result (λ receipt. Meets (⟦<S as NodeConfigs<D>>⟧.of self.old) self.old
             (certificate_came peer certificate.now receipt) self.new) }
         ensures outside_stays { result ≡ Ok Receipt.Outside → self.new ≡ self.old }
         ensures dropped_stays { result ≡ Ok Receipt.Dropped → self.new ≡ self.old }
         ensures unknown_stays { result ≡ Ok Receipt.Unknown → self.new ≡ self.old }
         ensures known_stays { result ≡ Ok (Receipt.Answered Verdict.Known) → self.new ≡ self.old }
-        ensures needed { OnErr result ((IsHeard (⟦<S as NodeJudge<D>>⟧.of self.old) self.old peer
+        ensures needed { OnErr result ((IsHeard (⟦<S as NodeConfigs<D>>⟧.of self.old) self.old peer
             (round_in (subject_certified certificate.now)))
             × (certifies_itself (S.meaning self.old.scheme) certificate.now ≡ true)) }
         ensures refused { OnErr result (self.new ≡ self.old) }
@@ -203,7 +207,7 @@ impl<S: Scheme<D>, D: Digest> Node<S, D> {
             block(&mut self.blocked, sender, Cause::Certificate);
             return Ok(Receipt::Answered(Verdict::Forged));
         }
-        let changed = self.rounds.tell(view, Verified { certificate })??;
+        let changed = self.rounds.call(view, Verified { certificate })??;
         Ok(Receipt::Answered(Verdict::Recorded(changed)))
     }
 
@@ -215,13 +219,14 @@ impl<S: Scheme<D>, D: Digest> Node<S, D> {
     ) -> Result<Cast<S::Signature, D>, OwnFault>
         requires { (S.meaning self.old.scheme).attests (subject_of vote) (attestation_of vote)
             ≡ true }
-        ensures meets { IfOk result (λ cast. MeetsCast (⟦<S as NodeJudge<D>>⟧.of self.old) self.old
+        ensures meets { IfOk result (λ cast. SimulatesCast
+            (⟦<S as NodeConfigs<D>>⟧.of self.old) self.old
             vote cast self.new) }
-        ensures named { IfErr result (λ fault. WhereverNodeStands
-            (⟦<S as NodeJudge<D>>⟧.of self.old) self.old (λ past.
+        ensures named { IfErr result (λ fault. ForEachNodeHistory
+            (⟦<S as NodeConfigs<D>>⟧.of self.old) self.old (λ past.
             let view = (round_in (subject_of vote)).view.0 in
-            fault ≡ fault_or_memory (own_answer (setting_of (⟦<S as NodeJudge<D>>⟧.of self.old)
-            past view) (told view past) vote))) }
+            fault ≡ fault_or_memory (own_answer (config_of (⟦<S as NodeConfigs<D>>⟧.of self.old)
+            past view) (view_history view past) vote))) }
         ensures needed { OnErr result
             (is_of self.old.epoch self.old.window (round_in (subject_of vote)) ≡ true) }
         ensures refused { OnErr result (self.new ≡ self.old) }
@@ -231,14 +236,14 @@ impl<S: Scheme<D>, D: Digest> Node<S, D> {
         if !self.rounds.contains(number) {
             return Ok(Cast::Outside);
         }
-        let answer = self.rounds.tell(number.view.0, step::Cast { vote })??;
+        let answer = self.rounds.call(number.view.0, step::Cast { vote })??;
         Ok(cast_by(answer.1))
     }
 
     /// Enters a view with its leader. Views that are passed over by it, and in which nothing was
     /// said, get skipped rounds where something is. A refusal leaves the node as it was.
     pub fn enter(&mut self, view: View, leader: Participant) -> Result<(), EnterFault>
-        ensures meets { OnOk result (Meets (⟦<S as NodeJudge<D>>⟧.of self.old) self.old
+        ensures meets { OnOk result (Meets (⟦<S as NodeConfigs<D>>⟧.of self.old) self.old
             (view_entered view.0 leader) self.new) }
         ensures passed { view.0 < self.old.window.finalized → result ≡ Err EnterFault.Passed }
         ensures not_passed { result ≡ Err EnterFault.Passed → view.0 < self.old.window.finalized }
@@ -252,7 +257,7 @@ impl<S: Scheme<D>, D: Digest> Node<S, D> {
         if view.0 < self.rounds.window.finalized {
             return Err(EnterFault::Passed);
         }
-        self.rounds.tell(view.0, Led { leader })??;
+        self.rounds.call(view.0, Led { leader })??;
         self.rounds.window.enter(view.0);
         Ok(())
     }
@@ -260,7 +265,7 @@ impl<S: Scheme<D>, D: Digest> Node<S, D> {
     /// A view was finalized: the rounds before it are dropped, and the window begins with it. It
     /// takes no memory.
     pub fn finalize(&mut self, view: View)
-        ensures meets { Meets (⟦<S as NodeJudge<D>>⟧.of self.old) self.old
+        ensures meets { Meets (⟦<S as NodeConfigs<D>>⟧.of self.old) self.old
             (view_finalized view.0) self.new }
         ensures dropped { (other : ℕ) → other < view.0 → slot_at self.new.rounds other ≡ None }
         ensures same { SameNode self.old self.new }
@@ -279,15 +284,15 @@ impl<S: Scheme<D>, D: Digest> Node<S, D> {
         rng: &mut R,
     ) -> Result<Option<Construction<S::Certificate, D>>, AllocError>
         ensures meets { IfOk result (λ made. IfSome made (λ one.
-            Meets (⟦<S as NodeJudge<D>>⟧.of self.old) self.old
+            Meets (⟦<S as NodeConfigs<D>>⟧.of self.old) self.old
             (constructed one.view.0 one.batch) self.new)) }
         ensures next { IfOk result (λ made. IfSome made (λ one.
             IsNext self.old.rounds one.view.0)) }
         ensures rests { result ≡ Ok None → (self.new ≡ self.old) × (IsAtRest self.old) }
         ensures complete { result ≡ Ok None
-            → (h : HasHistory (⟦<S as NodeJudge<D>>⟧.of self.new) self.new)
-            × (IsComplete (⟦<S as NodeJudge<D>>⟧.of self.new) h.past self.new) }
-        ensures draws { IfOk result (λ made. IfSome made (λ one. Draws ⟦<S as Judge<D>>⟧.of
+            → (h : HasHistory (⟦<S as NodeConfigs<D>>⟧.of self.new) self.new)
+            × (IsComplete (⟦<S as NodeConfigs<D>>⟧.of self.new) h.past self.new) }
+        ensures draws { IfOk result (λ made. IfSome made (λ one. Draws ⟦<S as RoundConfigs<D>>⟧.of
             (slot_at self.old.rounds) (slot_at self.new.rounds) one.view.0
             (R.stream rng.old) one.batch (R.stream rng.new))) }
         ensures draws_nothing { result ≡ Ok None → R.stream rng.new ≡ R.stream rng.old }
@@ -310,7 +315,8 @@ impl<S: Scheme<D>, D: Digest> Node<S, D> {
     /// The selected proposal of a view, to be handed on by participant `me`: once at most, and not
     /// where the leader of the view that was named is `me`. It takes no memory.
     pub fn try_forward_proposal(&mut self, view: View, me: Participant) -> Option<Proposal<D>>
-        ensures meets { MeetsForward (⟦<S as NodeJudge<D>>⟧.of self.old) self.old view.0 me result
+        ensures meets { SimulatesForward (⟦<S as NodeConfigs<D>>⟧.of self.old) self.old view.0 me
+            result
             self.new }
         ensures same { SameNode self.old self.new }
     {
@@ -355,33 +361,43 @@ impl<S: Scheme<D>, D: Digest> Node<S, D> {
         self.rounds.slots.len()
     }
 
-    /// Why each participant is blocked, if it is, by its index: for what it did in a history after
-    /// which the node stands.
+    /// The views that it keeps a round of, in ascending order.
+    pub fn views(&self) -> Views<'_, Round<S, D>>
+        ensures each { (view : ℕ) → list_any (λ v. v == view) result
+            ≡ is_some (slot_at self.now.rounds view) }
+        ensures ascending { IsStrictlySortedBy nat_cmp result }
+    {
+        let keys = self.rounds.slots.keys();
+        Views { keys }
+    }
+
+    /// Why each participant is blocked, if it is, by its index: for what it did in a history that
+    /// the node represents.
     pub fn blocked(&self) -> &[Option<Cause>]
         ensures list { result.now ≡ self.now.blocked }
-        ensures cause { (h : HasHistory (⟦<S as NodeJudge<D>>⟧.of self.now) self.now)
+        ensures cause { (h : HasHistory (⟦<S as NodeConfigs<D>>⟧.of self.now) self.now)
             × ((i : ℕ) → IfSome (cause_at result.now i)
-            (HadGivenCause (⟦<S as NodeJudge<D>>⟧.of self.now) h.past i)) }
+            (HadGivenCause (⟦<S as NodeConfigs<D>>⟧.of self.now) h.past i)) }
     {
         self.promises();
         self.blocked.as_slice()
     }
 
-    /// Does nothing. Its contract says that there is a history after which the node stands, and
+    /// Does nothing. Its contract says that there is a history that the node represents, and
     /// that all that is promised holds of it. So a caller has this by one call, and carries no
     /// history.
     ///
     /// Which history it is stays open, and so it needn't be that of the calls which were made. How
     /// one goes on with a call is said by that call's `meets`.
     pub fn promises(&self)
-        ensures { KeepsPromises (⟦<S as NodeJudge<D>>⟧.of self.now) self.now }
+        ensures { KeepsPromises (⟦<S as NodeConfigs<D>>⟧.of self.now) self.now }
     {
         self.rounds.promises();
     }
 
     // The participant with the key.
     fn sender(&self, peer: &S::PublicKey) -> Option<Participant>
-        ensures peer { result ≡ peer_in (⟦<S as NodeJudge<D>>⟧.of self.now) peer.now }
+        ensures peer { result ≡ peer_in (⟦<S as NodeConfigs<D>>⟧.of self.now) peer.now }
         ensures in_range { IfSome result (λ p. p.0 < length self.now.blocked) }
     {
         self.rounds.scheme.participants().index(peer)
@@ -399,6 +415,18 @@ impl<S: Scheme<D>, D: Digest> Node<S, D> {
             Some(slot) => Some(&slot.round),
             None => None,
         }
+    }
+}
+
+impl<S: Scheme<D>, D: Digest + fmt::Debug> fmt::Debug for Node<S, D> {
+    /// Its epoch and window, the rounds of its views, and why each participant is blocked.
+    fn fmt<W: fmt::Write>(&self, f: &mut fmt::Formatter<W>) -> fmt::Result {
+        f.debug_struct("Node")
+            .field("epoch", &self.rounds.epoch)
+            .field("window", &self.rounds.window)
+            .field("rounds", &self.rounds.slots)
+            .field("blocked", &self.blocked)
+            .finish_non_exhaustive()
     }
 }
 

@@ -1,4 +1,4 @@
-//! The rounds of a node's views, each told what is said in its view.
+//! The rounds of a node's views, each of which takes what is said in its view.
 
 ghost use Rattle.std.specs.Prelude.{◌≡◌, ◌≢◌, ◌≤◌, ◌<◌, ℕ, false, length, [], None, find, MatchOption, IfOk, IfErr, OnOk, OnErr, IfSome, IfNone};
 ghost use Rattle.std.specs.Option.{option_map};
@@ -9,22 +9,22 @@ ghost use Rattle.std.specs.BTreeMap.{get};
 ghost use Rattle.batcher.specs.calls.Call.TheVariants.{Construct as ConstructCall, Forward as ForwardCall};
 ghost use Rattle.batcher.specs.answers.Answer.TheVariants.{Construct as ConstructAnswer, Forward as ForwardAnswer};
 ghost use Rattle.batcher.specs.Runs.{MayCall};
-ghost use Rattle.batcher.specs.Stands.{Stands};
-ghost use Rattle.batcher.specs.Judged.{WhereverItStands};
+ghost use Rattle.batcher.specs.Represents.{Represents};
+ghost use Rattle.batcher.specs.RoundContracts.{ForEachHistory};
 ghost use Rattle.batcher.specs.Selection.{is_certified};
 ghost use Rattle.batcher.specs.Verifiers.{certifies_itself};
 ghost use Rattle.batcher_node.specs.Windows.{is_of, entered, finalized, numbered};
-ghost use Rattle.batcher_node.specs.Nodes.{fresh_round, IsTended, Tells, TellsThere, Refuses, Draws, HasChanged, IsAtRest, slot_at};
-ghost use Rattle.batcher_node.specs.Promised.{HoldsOfAll, IsNodePromised, IsComplete};
+ghost use Rattle.batcher_node.specs.Nodes.{fresh_round, IsTended, MakesCall, MakesCallThere, Refuses, Draws, HasChanged, IsAtRest, slot_at};
+ghost use Rattle.batcher_node.specs.NodePromises.{HoldsOfAll, IsNodePromised, IsComplete};
 
-use crate::node::NodeJudge;
+use crate::node::NodeConfigs;
 use crate::slot::Slot;
 use crate::step::Step;
 use crate::theorems::nodes_keep_their_promises;
 use crate::window::Window;
 use batcher::messages::{Certificate, Digest, Kind, Proposal};
 use batcher::positions::{self, Epoch, Participant, View};
-use batcher::round::{Judge, Round};
+use batcher::round::{Round, RoundConfigs};
 use batcher::scheme::Scheme;
 use batcher::verifier::Batch;
 use rand_core::CryptoRng;
@@ -64,7 +64,7 @@ impl<S: Scheme<D>, D: Digest> Rounds<S, D> {
     /// Whether the view has a certificate of the kind.
     pub(crate) fn has_certificate(&self, view: u64, kind: Kind) -> bool
         ensures { MatchOption (get nat_cmp self.now.slots view) (result ≡ false) (λ slot.
-            WhereverItStands ⟦<S as Judge<D>>⟧.of slot.round
+            ForEachHistory ⟦<S as RoundConfigs<D>>⟧.of slot.round
             (λ _ past. result ≡ is_certified past kind)) }
     {
         match self.slots.get(&view) {
@@ -81,8 +81,8 @@ impl<S: Scheme<D>, D: Digest> Rounds<S, D> {
               view;
           changed = false;
         }) }
-        ensures stands { IfOk result (λ slot.
-            Stands (⟦<S as Judge<D>>⟧.of slot.round) [] slot.round.holds) }
+        ensures represents { IfOk result (λ slot.
+            Represents (⟦<S as RoundConfigs<D>>⟧.of slot.round) [] slot.round.holds) }
     {
         let number = positions::Round::new(self.epoch, View::new(view));
         let mode = self.window.mode(view, self.retains);
@@ -98,7 +98,7 @@ impl<S: Scheme<D>, D: Digest> Rounds<S, D> {
     ///
     /// The error is that there is no memory for a round that is made; what the round itself
     /// refuses is in the answer.
-    pub(crate) fn tell<T: Step<S, D>>(
+    pub(crate) fn call<T: Step<S, D>>(
         &mut self,
         view: u64,
         step: T,
@@ -107,17 +107,18 @@ impl<S: Scheme<D>, D: Digest> Rounds<S, D> {
             self.old.scheme.value self.old.epoch self.old.window self.old.slots.entries }
         requires may { MayCall (S.meaning self.old.scheme.value) (numbered self.old.epoch view)
             (T.call step) }
-        ensures tells { IfOk result (λ told. IfOk told (λ answer. Tells ⟦<S as Judge<D>>⟧.of
+        ensures makes_call { IfOk result (λ made.
+            IfOk made (λ answer. MakesCall ⟦<S as RoundConfigs<D>>⟧.of
             (get nat_cmp self.old.slots) (get nat_cmp self.new.slots) view
             (fresh_round self.old.scheme.value self.old.epoch self.old.retains self.old.window view)
             (T.call step) (T.answered answer))) }
-        ensures named { IfOk result (λ told. IfErr told (Refuses ⟦<S as Judge<D>>⟧.of
+        ensures named { IfOk result (λ made. IfErr made (Refuses ⟦<S as RoundConfigs<D>>⟧.of
             (get nat_cmp self.old.slots view)
             (fresh_round self.old.scheme.value self.old.epoch self.old.retains self.old.window view)
             (T.refuses step))) }
         ensures needed { OnErr result (get nat_cmp self.old.slots view ≡ None) }
-        ensures declined { IfOk result (λ told.
-            OnErr told (self.new.slots.entries ≡ self.old.slots.entries)) }
+        ensures declined { IfOk result (λ made.
+            OnErr made (self.new.slots.entries ≡ self.old.slots.entries)) }
         ensures refused { OnErr result (self.new.slots.entries ≡ self.old.slots.entries) }
         ensures same { self.new ≡ record self.old { slots = self.new.slots } }
     {
@@ -141,22 +142,24 @@ impl<S: Scheme<D>, D: Digest> Rounds<S, D> {
         }
     }
 
-    /// Lets the round of a view construct. Where it gives no batch, it rests until it is told
-    /// something.
+    /// Lets the round of a view construct. Where it gives no batch, it rests until it is
+    /// called again.
     pub(crate) fn try_construct<R: CryptoRng>(
         &mut self,
         view: u64,
         rng: &mut R,
     ) -> Result<Option<Option<Batch<Certificate<S::Certificate, D>>>>, AllocError>
-        ensures tells { IfOk result (λ told. IfSome told (λ answer. TellsThere ⟦<S as Judge<D>>⟧.of
+        ensures makes_call { IfOk result (λ made.
+            IfSome made (λ answer. MakesCallThere ⟦<S as RoundConfigs<D>>⟧.of
             (get nat_cmp self.old.slots) (get nat_cmp self.new.slots) view
             ConstructCall (ConstructAnswer answer))) }
-        ensures draws { IfOk result (λ told. IfSome told (λ answer. Draws ⟦<S as Judge<D>>⟧.of
+        ensures draws { IfOk result (λ made. IfSome made
+            (λ answer. Draws ⟦<S as RoundConfigs<D>>⟧.of
             (get nat_cmp self.old.slots) (get nat_cmp self.new.slots) view
             (R.stream rng.old) answer (R.stream rng.new))) }
-        ensures absent { IfOk result (λ told. IfNone told
+        ensures absent { IfOk result (λ made. IfNone made
             (get nat_cmp self.old.slots view ≡ None)) }
-        ensures untold { IfOk result (λ told. IfNone told
+        ensures uncalled { IfOk result (λ made. IfNone made
             (self.new.slots.entries ≡ self.old.slots.entries)) }
         ensures refused { OnErr result (self.new.slots.entries ≡ self.old.slots.entries) }
         ensures same { self.new ≡ record self.old { slots = self.new.slots } }
@@ -177,11 +180,11 @@ impl<S: Scheme<D>, D: Digest> Rounds<S, D> {
         view: u64,
         me: Participant,
     ) -> Option<Option<Proposal<D>>>
-        ensures tells { IfSome result (λ answer. TellsThere ⟦<S as Judge<D>>⟧.of
+        ensures makes_call { IfSome result (λ answer. MakesCallThere ⟦<S as RoundConfigs<D>>⟧.of
             (get nat_cmp self.old.slots) (get nat_cmp self.new.slots) view
             (ForwardCall me) (ForwardAnswer answer)) }
         ensures absent { IfNone result (get nat_cmp self.old.slots view ≡ None) }
-        ensures untold { IfNone result (self.new.slots.entries ≡ self.old.slots.entries) }
+        ensures uncalled { IfNone result (self.new.slots.entries ≡ self.old.slots.entries) }
         ensures same { self.new ≡ record self.old { slots = self.new.slots } }
     {
         match self.slots.get_mut(&view) {
@@ -220,11 +223,11 @@ impl<S: Scheme<D>, D: Digest> Rounds<S, D> {
     /// Does nothing. Its contract is what `nodes_keep_their_promises` says of all nodes over the
     /// scheme.
     pub(crate) fn promises(&self)
-        ensures promised { HoldsOfAll ⟦<S as NodeJudge<D>>⟧.of (λ s. (S.meaning s).participants)
-            (λ past node. IsNodePromised (⟦<S as NodeJudge<D>>⟧.of node) past) }
-        ensures complete { HoldsOfAll ⟦<S as NodeJudge<D>>⟧.of (λ s. (S.meaning s).participants)
+        ensures promised { HoldsOfAll ⟦<S as NodeConfigs<D>>⟧.of (λ s. (S.meaning s).participants)
+            (λ past node. IsNodePromised (⟦<S as NodeConfigs<D>>⟧.of node) past) }
+        ensures complete { HoldsOfAll ⟦<S as NodeConfigs<D>>⟧.of (λ s. (S.meaning s).participants)
             (λ past node. IsAtRest node
-            → IsComplete (⟦<S as NodeJudge<D>>⟧.of node) past node) }
+            → IsComplete (⟦<S as NodeConfigs<D>>⟧.of node) past node) }
     {
         nodes_keep_their_promises::<S, D>();
     }

@@ -3,7 +3,7 @@
 use crate::slot::Slot;
 use batcher::messages::{Activity, Certificate, Digest, Vote};
 use batcher::positions::Participant;
-use batcher::round::{Admission, Judge, OwnFault, Round};
+use batcher::round::{Admission, OwnFault, Round, RoundConfigs};
 use batcher::scheme::Scheme;
 use batcher::verifier::LeaderFault;
 use batcher::votes::Outcome;
@@ -14,9 +14,9 @@ pub(crate) trait Step<S: Scheme<D>, D: Digest>: Drop {
     ghost use Rattle.std.specs.Prelude.{◌≡◌, ⊤, IfOk, IfErr, OnErr};
     ghost use Rattle.batcher.specs.calls.Call.{Call as TheCall};
     ghost use Rattle.batcher.specs.answers.Answer.{Answer as TheAnswer};
-    ghost use Rattle.batcher.specs.Held.{RoundView, SameRound};
+    ghost use Rattle.batcher.specs.RoundState.{RoundView, SameRound};
     ghost use Rattle.batcher.specs.Runs.{MayCall};
-    ghost use Rattle.batcher.specs.Judged.{FollowsOnOk};
+    ghost use Rattle.batcher.specs.RoundContracts.{SimulatesOnOk};
     ghost use Rattle.batcher_node.specs.Nodes.{due_after};
 
     type Answer: Drop;
@@ -33,7 +33,8 @@ pub(crate) trait Step<S: Scheme<D>, D: Digest>: Drop {
     /// Makes the call, and notes whether the round has to be looked at after it.
     fn make(self, slot: &mut Slot<Round<S, D>>) -> Result<Self::Answer, Self::Fault>
         requires { MayCall (S.meaning slot.old.round.scheme) slot.old.round.number (call self) }
-        ensures meets { FollowsOnOk ⟦<S as Judge<D>>⟧.of slot.old.round (call self) answered result
+        ensures meets { SimulatesOnOk ⟦<S as RoundConfigs<D>>⟧.of slot.old.round
+            (call self) answered result
             slot.new.round.holds }
         ensures due { IfOk result (λ answer. slot.new.changed
             ≡ due_after (call self, answered answer) slot.old.changed) }
@@ -79,7 +80,7 @@ impl<S: Scheme<D>, D: Digest> Step<S, D> for Cast<S, D> {
     ghost use Rattle.std.specs.Prelude.{◌≡◌};
     ghost use Rattle.batcher.specs.calls.Call.TheVariants.{Own as OwnCall};
     ghost use Rattle.batcher.specs.answers.Answer.TheVariants.{Own as OwnAnswer};
-    ghost use Rattle.batcher.specs.Judged.{WhereverItStands};
+    ghost use Rattle.batcher.specs.RoundContracts.{ForEachHistory};
     ghost use Rattle.batcher.specs.Steps.{fault_or_memory};
     ghost use Rattle.batcher.specs.Answers.{own_answer};
 
@@ -91,7 +92,7 @@ impl<S: Scheme<D>, D: Digest> Step<S, D> for Cast<S, D> {
 
     ghost answered = { λ answer. OwnAnswer answer.0 answer.1 };
 
-    ghost refuses = { λ step round fault. WhereverItStands ⟦<S as Judge<D>>⟧.of round
+    ghost refuses = { λ step round fault. ForEachHistory ⟦<S as RoundConfigs<D>>⟧.of round
         (λ x past. fault ≡ fault_or_memory (own_answer x past step.vote)) };
 
     fn make(

@@ -1,5 +1,5 @@
 pub mod Over
-pub mod Standing
+pub mod Representation
 pub mod Viewing
 pub mod Next
 pub mod Results

@@ -1,4 +1,4 @@
--- What stands at the views of a node, by what is seen of its scheme.
+-- What is at the views of a node, by what is seen of its scheme.
 use Rattle.std.proofs.Common.{◌≡◌, ◌∙◌, ℕ, false, List, Option, Some, None, sym, ap, subst}
 use Rattle.std.specs.Prelude.{IfSome, map}
 use Rattle.std.specs.Option.{option_map}
@@ -6,10 +6,10 @@ use Rattle.std.specs.Ordering.{nat_cmp}
 use Rattle.std.specs.BTreeMap.{is_at}
 use Rattle.std.proofs.lemmas.Map.Made.{lookup-map_values}
 use Rattle.batcher.specs.positions.Participant.{Participant}
-use Rattle.batcher.specs.Held.{RoundView}
+use Rattle.batcher.specs.RoundState.{RoundView}
 use Rattle.batcher_node.specs.declared.slot.Slot.{Slot}
 use Rattle.batcher_node.specs.Nodes.{HasChanged, IsNext, IsLedByAnother, slot_at}
-use Rattle.batcher_node_session.specs.Seen.{slot_over, entry_over}
+use Rattle.batcher_node_session.specs.Views.{slot_over, entry_over}
 
 module _ {S R G D : Type 0} (see : S → R) where
   pub slot_at-over : (es : List (ℕ × Slot (RoundView S G D))) (view : ℕ)

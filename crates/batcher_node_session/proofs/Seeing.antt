@@ -9,13 +9,13 @@ use Rattle.batcher_external.specs.declared.scheme.Content.{Content}
 use Rattle.batcher_external.specs.declared.scheme.External.{External}
 use Rattle.batcher_external.specs.declared.truth.Truth.{Ghosts}
 use Rattle.batcher_node.specs.Events.{NodeEvent, NodeHistory}
-use Rattle.batcher_node.specs.Nodes.{NodeSetting, NodeView, IsAtRest, IsLedByAnother, IsNext, slot_at}
-use Rattle.batcher_node.specs.Promised.{KeepsPromises}
-use Rattle.batcher_node.specs.Stands.{NodeStands, Meets, MeetsCast, MeetsForward, WhereverNodeStands}
+use Rattle.batcher_node.specs.Nodes.{NodeConfig, NodeView, IsAtRest, IsLedByAnother, IsNext, slot_at}
+use Rattle.batcher_node.specs.NodePromises.{KeepsPromises}
+use Rattle.batcher_node.specs.Represents.{NodeRepresents, Meets, SimulatesCast, SimulatesForward, ForEachNodeHistory}
 use Rattle.batcher_node.specs.declared.answers.Cast.{Cast}
 use Rattle.batcher_node_session.proofs.Over.{led_over, next_over, none_over}
-use Rattle.batcher_node_session.proofs.Standing.{stands_over, wherever_over, meets_over, cast_over, forward_over, rests_over, keeps_over}
-use Rattle.batcher_node_session.specs.Seen.{seen}
+use Rattle.batcher_node_session.proofs.Representation.{represents_over, wherever_over, meets_over, cast_over, forward_over, rests_over, keeps_over}
+use Rattle.batcher_node_session.specs.Views.{seen}
 use Rattle.batcher_session.specs.Schemes.{scheme_seen}
 
 module _ {T : Type 0} {truth : Ghosts T} {b : ℕ} (batchable : Bool) where
@@ -35,14 +35,14 @@ module _ {T : Type 0} {truth : Ghosts T} {b : ℕ} (batchable : Bool) where
       pub next_seen : IsNext node.rounds view → IsNext (seen batchable node).rounds view
       next_seen h = next_over (scheme_seen batchable) node.rounds view h
 
-  module _ (x : NodeSetting Sha256Digest Name ℕ (Content T truth)) where
+  module _ (x : NodeConfig Sha256Digest Name ℕ (Content T truth)) where
     module _ (node : NodeView (External T b truth) ℕ Sha256Digest) where
-      pub stands_seen : (past : NodeHistory Sha256Digest Name ℕ (Content T truth))
-          → NodeStands x past node → NodeStands x past (seen batchable node)
-      stands_seen past h = stands_over x (scheme_seen batchable) past node h
+      pub represents_seen : (past : NodeHistory Sha256Digest Name ℕ (Content T truth))
+          → NodeRepresents x past node → NodeRepresents x past (seen batchable node)
+      represents_seen past h = represents_over x (scheme_seen batchable) past node h
 
       pub wherever_seen : (P : NodeHistory Sha256Digest Name ℕ (Content T truth) → Type 0)
-          → WhereverNodeStands x node P → WhereverNodeStands x (seen batchable node) P
+          → ForEachNodeHistory x node P → ForEachNodeHistory x (seen batchable node) P
       wherever_seen P h = wherever_over x (scheme_seen batchable) node P h
 
       pub keeps_seen : KeepsPromises x node → KeepsPromises x (seen batchable node)
@@ -54,12 +54,12 @@ module _ {T : Type 0} {truth : Ghosts T} {b : ℕ} (batchable : Bool) where
       meets_seen event h = meets_over x (scheme_seen batchable) old new event h
 
       pub cast_seen : (vote : Vote ℕ Sha256Digest) (cast : Cast ℕ Sha256Digest)
-          → MeetsCast x old vote cast new
-          → MeetsCast x (seen batchable old) vote cast (seen batchable new)
+          → SimulatesCast x old vote cast new
+          → SimulatesCast x (seen batchable old) vote cast (seen batchable new)
       cast_seen vote cast h = cast_over x (scheme_seen batchable) old new vote cast h
 
       pub forward_seen : (view : ℕ) (me : Participant) (given : Option (Proposal Sha256Digest))
-          → MeetsForward x old view me given new
-          → MeetsForward x (seen batchable old) view me given (seen batchable new)
+          → SimulatesForward x old view me given new
+          → SimulatesForward x (seen batchable old) view me given (seen batchable new)
       forward_seen view me given h =
           forward_over x (scheme_seen batchable) old new view me given h

@@ -1,3 +1,3 @@
-pub mod Seen
+pub mod Views
 pub mod Sorts
 pub mod Steps

@@ -6,7 +6,7 @@ use Rattle.batcher_node.specs.Nodes.{NodeView}
 use Rattle.batcher_node_session.specs.declared.node.Sort.{Sort}
 use Rattle.batcher_node_session.specs.declared.node.Sort.TheVariants.{Batchable, OneByOne}
 use Rattle.batcher_session.specs.Schemes.{SchemeView}
-use Rattle.batcher_node_session.specs.Seen.{seen}
+use Rattle.batcher_node_session.specs.Views.{seen}
 
 module _ {T : Type 0} {truth : Ghosts T} where
   abbrev pub view_of : Sort T truth → NodeView SchemeView ℕ Sha256Digest

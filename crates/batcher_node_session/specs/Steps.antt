@@ -2,7 +2,7 @@
 use Rattle.std.specs.Prelude.{◌≡◌, ⊤, ℕ, true, false, Option, Some, None, IfSome}
 use Rattle.batcher.specs.messages.Sha256Digest.{Sha256Digest}
 use Rattle.batcher.specs.messages.Subject.{Subject}
-use Rattle.batcher.specs.Held.{RoundView}
+use Rattle.batcher.specs.RoundState.{RoundView}
 use Rattle.batcher_round.specs.Next.{subject_next}
 use Rattle.batcher_external.specs.declared.truth.Truth.{Ghosts}
 use Rattle.batcher_external.specs.declared.scheme.Content.{Content}
@@ -10,7 +10,7 @@ use Rattle.batcher_node.specs.declared.node.Construction.{Construction}
 use Rattle.batcher_node.specs.declared.slot.Slot.{Slot}
 use Rattle.batcher_node.specs.Nodes.{NodeView, IsNext, slot_at}
 use Rattle.batcher_session.specs.Ledgers.{LedgerView}
-use Rattle.batcher_session.specs.Sessions.{judged}
+use Rattle.batcher_session.specs.Sessions.{config_by}
 use Rattle.batcher_session.specs.Steps.{asked_in}
 use Rattle.batcher_session.specs.Wants.{Asked, asked_next}
 use Rattle.batcher_node_session.specs.declared.step.NodeStep.{NodeStep}
@@ -53,7 +53,7 @@ pub record AsksNext {T : Type 0} (truth : Ghosts T) (node : NodeView SchemeView 
   pub next : IsNext node.rounds view
   pub slot : Slot (RoundView SchemeView ℕ Sha256Digest)
   pub there : slot_at node.rounds view ≡ Some slot
-  pub asks : asked ≡ asked_next ledger (judged truth slot.round) slot.round.holds
+  pub asks : asked ≡ asked_next ledger (config_by truth slot.round) slot.round.holds
   pub about :
       IfSome subject (λ s.
-      subject_next (judged truth slot.round) slot.round.holds ≡ Some s)
+      subject_next (config_by truth slot.round) slot.round.holds ≡ Some s)

@@ -6,12 +6,12 @@ ghost use Rattle.batcher.specs.Steps.{fault_or_memory};
 ghost use Rattle.batcher.specs.Verifiers.{certifies_itself};
 ghost use Rattle.batcher.specs.Votes.{subject_of, subject_certified, attestation_of, round_in};
 ghost use Rattle.batcher_external.specs.External.{attests};
-ghost use Rattle.batcher_node.specs.Events.{started, vote_came, certificate_came, view_entered, view_finalized, told};
+ghost use Rattle.batcher_node.specs.Events.{started, vote_came, certificate_came, view_entered, view_finalized, view_history};
 ghost use Rattle.batcher_node.specs.Nodes.{SameNode, IsAtRest, IsNext, IsLedByAnother, slot_at};
-ghost use Rattle.batcher_node.specs.Promised.{KeepsPromises};
-ghost use Rattle.batcher_node.specs.Stands.{Meets, MeetsCast, MeetsForward, NodeStands, WhereverNodeStands, IsHeard, setting_of};
+ghost use Rattle.batcher_node.specs.NodePromises.{KeepsPromises};
+ghost use Rattle.batcher_node.specs.Represents.{Meets, SimulatesCast, SimulatesForward, NodeRepresents, ForEachNodeHistory, IsHeard, config_of};
 ghost use Rattle.batcher_node.specs.Windows.{is_of};
-ghost use Rattle.batcher_node_session.specs.Seen.{seen, judged};
+ghost use Rattle.batcher_node_session.specs.Views.{seen, config_by};
 
 use batcher::messages::{Certificate, Proposal, Sha256Digest, Vote};
 use batcher::positions::{Epoch, Participant, View};
@@ -46,7 +46,8 @@ pub(crate) fn over<T: Truth, const BATCHABLE: bool>(
       current = finalized.0;
       ahead = ahead;
     }) }
-    ensures stands { IfOk result (λ node. NodeStands (judged T.Truth (seen BATCHABLE node))
+    ensures represents { IfOk result (λ node.
+        NodeRepresents (config_by T.Truth (seen BATCHABLE node))
         (started (seen BATCHABLE node).window ∷ []) (seen BATCHABLE node)) }
 {
     let scheme = ledger.scheme()?;
@@ -66,13 +67,13 @@ pub(crate) fn receive_vote<T: Truth, const BATCHABLE: bool>(
     peer: u64,
     vote: Vote<u64, Sha256Digest>,
 ) -> Result<Receipt<Admission<u64, Sha256Digest>>, AllocError>
-    ensures meets { IfOk result (λ receipt. Meets (judged T.Truth (seen BATCHABLE node.old))
+    ensures meets { IfOk result (λ receipt. Meets (config_by T.Truth (seen BATCHABLE node.old))
         (seen BATCHABLE node.old) (vote_came (record { 0 = peer }) vote receipt)
         (seen BATCHABLE node.new)) }
     ensures outside_stays { result ≡ Ok Receipt.Outside → node.new ≡ node.old }
     ensures dropped_stays { result ≡ Ok Receipt.Dropped → node.new ≡ node.old }
     ensures unknown_stays { result ≡ Ok Receipt.Unknown → node.new ≡ node.old }
-    ensures needed { OnErr result (IsHeard (judged T.Truth (seen BATCHABLE node.old))
+    ensures needed { OnErr result (IsHeard (config_by T.Truth (seen BATCHABLE node.old))
         (seen BATCHABLE node.old) (record { 0 = peer }) (round_in (subject_of vote))) }
     ensures refused { OnErr result (node.new ≡ node.old) }
     ensures same { SameNode node.old node.new }
@@ -86,17 +87,17 @@ pub(crate) fn receive_certificate<T: Truth, const BATCHABLE: bool>(
     peer: u64,
     certificate: &Certificate<Content<T>, Sha256Digest>,
 ) -> Result<Receipt<Verdict>, AllocError>
-    ensures meets { IfOk result (λ receipt. Meets (judged T.Truth (seen BATCHABLE node.old))
+    ensures meets { IfOk result (λ receipt. Meets (config_by T.Truth (seen BATCHABLE node.old))
         (seen BATCHABLE node.old) (certificate_came (record { 0 = peer }) certificate.now receipt)
         (seen BATCHABLE node.new)) }
     ensures outside_stays { result ≡ Ok Receipt.Outside → node.new ≡ node.old }
     ensures dropped_stays { result ≡ Ok Receipt.Dropped → node.new ≡ node.old }
     ensures unknown_stays { result ≡ Ok Receipt.Unknown → node.new ≡ node.old }
     ensures known_stays { result ≡ Ok (Receipt.Answered Verdict.Known) → node.new ≡ node.old }
-    ensures needed { OnErr result ((IsHeard (judged T.Truth (seen BATCHABLE node.old))
+    ensures needed { OnErr result ((IsHeard (config_by T.Truth (seen BATCHABLE node.old))
         (seen BATCHABLE node.old) (record { 0 = peer })
         (round_in (subject_certified certificate.now)))
-        × (certifies_itself (judged T.Truth (seen BATCHABLE node.old)).meaning certificate.now
+        × (certifies_itself (config_by T.Truth (seen BATCHABLE node.old)).meaning certificate.now
         ≡ true)) }
     ensures refused { OnErr result (node.new ≡ node.old) }
     ensures same { SameNode node.old node.new }
@@ -111,13 +112,13 @@ pub(crate) fn cast_vote<T: Truth, const BATCHABLE: bool>(
 ) -> Result<Cast<u64, Sha256Digest>, OwnFault>
     requires { attests T.Truth (length (seen BATCHABLE node.old).scheme.participants)
         (attestation_of vote) ≡ true }
-    ensures meets { IfOk result (λ cast. MeetsCast (judged T.Truth (seen BATCHABLE node.old))
+    ensures meets { IfOk result (λ cast. SimulatesCast (config_by T.Truth (seen BATCHABLE node.old))
         (seen BATCHABLE node.old) vote cast (seen BATCHABLE node.new)) }
-    ensures named { IfErr result (λ fault. WhereverNodeStands
-        (judged T.Truth (seen BATCHABLE node.old)) (seen BATCHABLE node.old) (λ past.
+    ensures named { IfErr result (λ fault. ForEachNodeHistory
+        (config_by T.Truth (seen BATCHABLE node.old)) (seen BATCHABLE node.old) (λ past.
         let view = (round_in (subject_of vote)).view.0 in
-        fault ≡ fault_or_memory (own_answer (setting_of
-        (judged T.Truth (seen BATCHABLE node.old)) past view) (told view past) vote))) }
+        fault ≡ fault_or_memory (own_answer (config_of
+        (config_by T.Truth (seen BATCHABLE node.old)) past view) (view_history view past) vote))) }
     ensures needed { OnErr result
         (is_of node.old.epoch node.old.window (round_in (subject_of vote)) ≡ true) }
     ensures refused { OnErr result (node.new ≡ node.old) }
@@ -132,7 +133,7 @@ pub(crate) fn enter<T: Truth, const BATCHABLE: bool>(
     view: View,
     leader: Participant,
 ) -> Result<(), EnterFault>
-    ensures meets { OnOk result (Meets (judged T.Truth (seen BATCHABLE node.old))
+    ensures meets { OnOk result (Meets (config_by T.Truth (seen BATCHABLE node.old))
         (seen BATCHABLE node.old) (view_entered view.0 leader) (seen BATCHABLE node.new)) }
     ensures passed { view.0 < node.old.window.finalized → result ≡ Err EnterFault.Passed }
     ensures not_passed { result ≡ Err EnterFault.Passed → view.0 < node.old.window.finalized }
@@ -151,7 +152,7 @@ pub(crate) fn finalize<T: Truth, const BATCHABLE: bool>(
     node: &mut Node<External<T, BATCHABLE>, Sha256Digest>,
     view: View,
 )
-    ensures meets { Meets (judged T.Truth (seen BATCHABLE node.old)) (seen BATCHABLE node.old)
+    ensures meets { Meets (config_by T.Truth (seen BATCHABLE node.old)) (seen BATCHABLE node.old)
         (view_finalized view.0) (seen BATCHABLE node.new) }
     ensures dropped { (other : ℕ) → other < view.0
         → slot_at (seen BATCHABLE node.new).rounds other ≡ None }
@@ -166,7 +167,7 @@ pub(crate) fn try_forward_proposal<T: Truth, const BATCHABLE: bool>(
     view: View,
     me: Participant,
 ) -> Option<Proposal<Sha256Digest>>
-    ensures meets { MeetsForward (judged T.Truth (seen BATCHABLE node.old))
+    ensures meets { SimulatesForward (config_by T.Truth (seen BATCHABLE node.old))
         (seen BATCHABLE node.old) view.0 me result (seen BATCHABLE node.new) }
     ensures same { SameNode node.old node.new }
 {
@@ -177,7 +178,8 @@ pub(crate) fn try_forward_proposal<T: Truth, const BATCHABLE: bool>(
 pub(crate) fn promises<T: Truth, const BATCHABLE: bool>(
     node: &Node<External<T, BATCHABLE>, Sha256Digest>,
 )
-    ensures { KeepsPromises (judged T.Truth (seen BATCHABLE node.now)) (seen BATCHABLE node.now) }
+    ensures { KeepsPromises (config_by T.Truth (seen BATCHABLE node.now))
+        (seen BATCHABLE node.now) }
 {
     node.promises();
 }

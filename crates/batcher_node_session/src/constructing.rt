@@ -4,9 +4,9 @@ ghost use Rattle.std.specs.Prelude.{◌≡◌, ℕ, true, length, IfOk, IfSome, 
 ghost use Rattle.batcher_session.specs.Ledgers.{SameScheme, known_in};
 ghost use Rattle.batcher_node.specs.Events.{constructed};
 ghost use Rattle.batcher_node.specs.Nodes.{SameNode, IsAtRest, IsNext};
-ghost use Rattle.batcher_node.specs.Promised.{IsComplete};
-ghost use Rattle.batcher_node.specs.Stands.{Meets, HasHistory};
-ghost use Rattle.batcher_node_session.specs.Seen.{seen, judged};
+ghost use Rattle.batcher_node.specs.NodePromises.{IsComplete};
+ghost use Rattle.batcher_node.specs.Represents.{Meets, HasHistory};
+ghost use Rattle.batcher_node_session.specs.Views.{seen, config_by};
 ghost use Rattle.batcher_node_session.specs.Steps.{AsksNext, IfMade, view_in, asked_by, subject_asked};
 
 use crate::step::NodeStep;
@@ -33,11 +33,11 @@ pub(crate) fn step<T: Truth, const BATCHABLE: bool>(
     ensures rests { result ≡ Ok NodeStep.Rests → (node.new ≡ node.old)
         × ((ledger.new ≡ ledger.old) × (IsAtRest (seen BATCHABLE node.old))) }
     ensures complete { result ≡ Ok NodeStep.Rests
-        → (h : HasHistory (judged T.Truth (seen BATCHABLE node.new)) (seen BATCHABLE node.new))
-        × (IsComplete (judged T.Truth (seen BATCHABLE node.new)) h.past
+        → (h : HasHistory (config_by T.Truth (seen BATCHABLE node.new)) (seen BATCHABLE node.new))
+        × (IsComplete (config_by T.Truth (seen BATCHABLE node.new)) h.past
         (seen BATCHABLE node.new)) }
     ensures meets { IfOk result (λ step. IfMade step (λ one. Meets
-        (judged T.Truth (seen BATCHABLE node.old)) (seen BATCHABLE node.old)
+        (config_by T.Truth (seen BATCHABLE node.old)) (seen BATCHABLE node.old)
         (constructed one.view.0 one.batch) (seen BATCHABLE node.new))) }
     ensures forgets { IfOk result (λ step. IfMade step (λ _. (number : ℕ)
         → known_in ledger.new.singles number ≡ None)) }
@@ -95,7 +95,7 @@ fn construct<T: Truth, const BATCHABLE: bool>(
     draws: &mut Counter,
 ) -> Result<Option<Construction<Content<T>, Sha256Digest>>, AllocError>
     ensures meets { IfOk result (λ made. IfSome made (λ one. Meets
-        (judged T.Truth (seen BATCHABLE node.old)) (seen BATCHABLE node.old)
+        (config_by T.Truth (seen BATCHABLE node.old)) (seen BATCHABLE node.old)
         (constructed one.view.0 one.batch) (seen BATCHABLE node.new))) }
     ensures next { IfOk result (λ made. IfSome made (λ one.
         IsNext (seen BATCHABLE node.old).rounds one.view.0)) }

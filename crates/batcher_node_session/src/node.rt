@@ -8,12 +8,12 @@ ghost use Rattle.batcher.specs.Steps.{fault_or_memory};
 ghost use Rattle.batcher.specs.Verifiers.{certifies_itself};
 ghost use Rattle.batcher.specs.Votes.{attestation_of, subject_of, subject_certified, round_in};
 ghost use Rattle.batcher_session.specs.Ledgers.{SameScheme, known_in, known_together, is_known_to_attest};
-ghost use Rattle.batcher_node.specs.Events.{started, vote_came, certificate_came, view_entered, view_finalized, constructed, told};
+ghost use Rattle.batcher_node.specs.Events.{started, vote_came, certificate_came, view_entered, view_finalized, constructed, view_history};
 ghost use Rattle.batcher_node.specs.Nodes.{SameNode, IsAtRest, IsNext, IsLedByAnother, slot_at};
-ghost use Rattle.batcher_node.specs.Promised.{KeepsPromises, IsComplete};
-ghost use Rattle.batcher_node.specs.Stands.{Meets, MeetsCast, MeetsForward, NodeStands, WhereverNodeStands, IsHeard, HasHistory, setting_of};
+ghost use Rattle.batcher_node.specs.NodePromises.{KeepsPromises, IsComplete};
+ghost use Rattle.batcher_node.specs.Represents.{Meets, SimulatesCast, SimulatesForward, NodeRepresents, ForEachNodeHistory, IsHeard, HasHistory, config_of};
 ghost use Rattle.batcher_node.specs.Windows.{is_of, width};
-ghost use Rattle.batcher_node_session.specs.Seen.{judged, InView};
+ghost use Rattle.batcher_node_session.specs.Views.{config_by, InView};
 ghost use Rattle.batcher_node_session.specs.Steps.{AsksNext, IfMade, view_in, asked_by, subject_asked};
 
 use crate::constructing::step;
@@ -56,7 +56,7 @@ pub struct NodeSession<T: Truth> {
 
 impl<T: Truth> Model for NodeSession<T> {
     ghost use Rattle.std.specs.Prelude.{◌≡◌, length};
-    ghost use Rattle.batcher_node_session.specs.Seen.{NodeSessionView};
+    ghost use Rattle.batcher_node_session.specs.Views.{NodeSessionView};
 
     ghost Value = { NodeSessionView };
 
@@ -69,7 +69,7 @@ impl<T: Truth> Model for NodeSession<T> {
 }
 
 impl<T: Truth> NodeSession<T> {
-    /// A node that was told nothing, with `finalized` as its current view, of so many participants,
+    /// A new node, with `finalized` as its current view, of so many participants,
     /// whose keys are 0, 1, .. in this order. None where there is no participant.
     ///
     /// The window goes from the finalized view to so many beyond the current one. A batchable
@@ -101,8 +101,8 @@ impl<T: Truth> NodeSession<T> {
           current = finalized.0;
           ahead = ahead;
         })) }
-        ensures stands { IfOk result (λ made. IfSome made (λ s. NodeStands
-            (judged T.Truth s.node) (started s.node.window ∷ []) s.node)) }
+        ensures represents { IfOk result (λ made. IfSome made (λ s. NodeRepresents
+            (config_by T.Truth s.node) (started s.node.window ∷ []) s.node)) }
         ensures unknown { IfOk result (λ made. IfSome made (λ s. (number : ℕ)
             → known_in s.ledger.singles number ≡ None)) }
     {
@@ -170,12 +170,13 @@ impl<T: Truth> NodeSession<T> {
         peer: u64,
         vote: Vote<u64, Sha256Digest>,
     ) -> Result<Receipt<Admission<u64, Sha256Digest>>, AllocError>
-        ensures meets { IfOk result (λ receipt. Meets (judged T.Truth self.old.node) self.old.node
+        ensures meets { IfOk result (λ receipt.
+            Meets (config_by T.Truth self.old.node) self.old.node
             (vote_came (record { 0 = peer }) vote receipt) self.new.node) }
         ensures outside_stays { result ≡ Ok Receipt.Outside → self.new ≡ self.old }
         ensures dropped_stays { result ≡ Ok Receipt.Dropped → self.new ≡ self.old }
         ensures unknown_stays { result ≡ Ok Receipt.Unknown → self.new ≡ self.old }
-        ensures needed { OnErr result (IsHeard (judged T.Truth self.old.node) self.old.node
+        ensures needed { OnErr result (IsHeard (config_by T.Truth self.old.node) self.old.node
             (record { 0 = peer }) (round_in (subject_of vote))) }
         ensures refused { OnErr result (self.new ≡ self.old) }
         ensures verdicts { self.new.ledger ≡ self.old.ledger }
@@ -195,15 +196,16 @@ impl<T: Truth> NodeSession<T> {
         peer: u64,
         certificate: &Certificate<Content<T>, Sha256Digest>,
     ) -> Result<Receipt<Verdict>, AllocError>
-        ensures meets { IfOk result (λ receipt. Meets (judged T.Truth self.old.node) self.old.node
+        ensures meets { IfOk result (λ receipt.
+            Meets (config_by T.Truth self.old.node) self.old.node
             (certificate_came (record { 0 = peer }) certificate.now receipt) self.new.node) }
         ensures outside_stays { result ≡ Ok Receipt.Outside → self.new ≡ self.old }
         ensures dropped_stays { result ≡ Ok Receipt.Dropped → self.new ≡ self.old }
         ensures unknown_stays { result ≡ Ok Receipt.Unknown → self.new ≡ self.old }
         ensures known_stays { result ≡ Ok (Receipt.Answered Verdict.Known) → self.new ≡ self.old }
-        ensures needed { OnErr result ((IsHeard (judged T.Truth self.old.node) self.old.node
+        ensures needed { OnErr result ((IsHeard (config_by T.Truth self.old.node) self.old.node
             (record { 0 = peer }) (round_in (subject_certified certificate.now)))
-            × (certifies_itself (judged T.Truth self.old.node).meaning certificate.now ≡ true)) }
+            × (certifies_itself (config_by T.Truth self.old.node).meaning certificate.now ≡ true)) }
         ensures refused { OnErr result (self.new ≡ self.old) }
         ensures verdicts { self.new.ledger ≡ self.old.ledger }
         ensures same { SameNode self.old.node self.new.node }
@@ -220,17 +222,18 @@ impl<T: Truth> NodeSession<T> {
         &mut self,
         vote: Vote<u64, Sha256Digest>,
     ) -> Result<Cast<u64, Sha256Digest>, CastRefusal>
-        ensures meets { IfOk result (λ cast. MeetsCast (judged T.Truth self.old.node) self.old.node
+        ensures meets { IfOk result (λ cast. SimulatesCast
+            (config_by T.Truth self.old.node) self.old.node
             vote cast self.new.node) }
         ensures verified { IfOk result (λ _.
             is_known_to_attest self.old.ledger (attestation_of vote) ≡ true) }
         ensures not_verified { result ≡ Err CastRefusal.NotVerified
             → is_known_to_attest self.old.ledger (attestation_of vote) ≡ false }
         ensures named { (fault : OwnFault) → result ≡ Err (CastRefusal.Fault fault)
-            → WhereverNodeStands (judged T.Truth self.old.node) self.old.node (λ past.
+            → ForEachNodeHistory (config_by T.Truth self.old.node) self.old.node (λ past.
             let view = (round_in (subject_of vote)).view.0 in
-            fault ≡ fault_or_memory (own_answer (setting_of (judged T.Truth self.old.node)
-            past view) (told view past) vote)) }
+            fault ≡ fault_or_memory (own_answer (config_of (config_by T.Truth self.old.node)
+            past view) (view_history view past) vote)) }
         ensures needed { (fault : OwnFault) → result ≡ Err (CastRefusal.Fault fault)
             → is_of self.old.node.epoch self.old.node.window (round_in (subject_of vote))
             ≡ true }
@@ -254,7 +257,7 @@ impl<T: Truth> NodeSession<T> {
     /// Enters a view with its leader. Views that are passed over by it, and in which nothing was
     /// said, get skipped rounds where something is. A refusal changes nothing.
     pub fn enter(&mut self, view: View, leader: Participant) -> Result<(), EnterFault>
-        ensures meets { OnOk result (Meets (judged T.Truth self.old.node) self.old.node
+        ensures meets { OnOk result (Meets (config_by T.Truth self.old.node) self.old.node
             (view_entered view.0 leader) self.new.node) }
         ensures passed { view.0 < self.old.node.window.finalized
             → result ≡ Err EnterFault.Passed }
@@ -277,7 +280,7 @@ impl<T: Truth> NodeSession<T> {
     /// A view was finalized: the rounds before it are dropped, and the window begins with it. It
     /// takes no memory.
     pub fn finalize(&mut self, view: View)
-        ensures meets { Meets (judged T.Truth self.old.node) self.old.node
+        ensures meets { Meets (config_by T.Truth self.old.node) self.old.node
             (view_finalized view.0) self.new.node }
         ensures dropped { (other : ℕ) → other < view.0
             → slot_at self.new.node.rounds other ≡ None }
@@ -297,7 +300,8 @@ impl<T: Truth> NodeSession<T> {
         view: View,
         me: Participant,
     ) -> Option<Proposal<Sha256Digest>>
-        ensures meets { MeetsForward (judged T.Truth self.old.node) self.old.node view.0 me result
+        ensures meets { SimulatesForward (config_by T.Truth self.old.node) self.old.node view.0 me
+            result
             self.new.node }
         ensures verdicts { self.new.ledger ≡ self.old.ledger }
         ensures same { SameNode self.old.node self.new.node }
@@ -340,10 +344,10 @@ impl<T: Truth> NodeSession<T> {
         }
     }
 
-    /// Does nothing. Its contract says that there is a history after which the node stands, and
+    /// Does nothing. Its contract says that there is a history that the node represents, and
     /// that all that is promised holds of it. Which history it is stays open.
     pub fn promises(&self)
-        ensures { KeepsPromises (judged T.Truth self.now.node) self.now.node }
+        ensures { KeepsPromises (config_by T.Truth self.now.node) self.now.node }
     {
         match &self.sort {
             Sort::Batchable(node) => calls::promises(node),
@@ -353,7 +357,7 @@ impl<T: Truth> NodeSession<T> {
 
     /// The leader of a view, once it was named.
     pub fn leader(&self, view: View) -> Option<Participant>
-        ensures { InView (judged T.Truth self.now.node) self.now.node view.0
+        ensures { InView (config_by T.Truth self.now.node) self.now.node view.0
             (λ _ past. result ≡ leader_of past) }
     {
         match &self.sort {
@@ -364,7 +368,7 @@ impl<T: Truth> NodeSession<T> {
 
     /// The selected proposal of a view: the leader's, or one that evidence fixed.
     pub fn proposal(&self, view: View) -> Option<Proposal<Sha256Digest>>
-        ensures { InView (judged T.Truth self.now.node) self.now.node view.0
+        ensures { InView (config_by T.Truth self.now.node) self.now.node view.0
             (λ x past. result ≡ selected_proposal x past) }
     {
         match &self.sort {
@@ -375,7 +379,7 @@ impl<T: Truth> NodeSession<T> {
 
     /// Whether a view has a certificate of the kind.
     pub fn has_certificate(&self, view: View, kind: Kind) -> bool
-        ensures { InView (judged T.Truth self.now.node) self.now.node view.0
+        ensures { InView (config_by T.Truth self.now.node) self.now.node view.0
             (λ _ past. result ≡ is_certified past kind) }
     {
         match &self.sort {
@@ -386,7 +390,7 @@ impl<T: Truth> NodeSession<T> {
 
     /// Whether a nullify of the signer is kept in full in a view.
     pub fn has_nullify(&self, view: View, signer: Participant) -> bool
-        ensures { InView (judged T.Truth self.now.node) self.now.node view.0
+        ensures { InView (config_by T.Truth self.now.node) self.now.node view.0
             (λ x past. result ≡ keeps_nullify x past signer.0) }
     {
         match &self.sort {
@@ -403,7 +407,7 @@ impl<T: Truth> NodeSession<T> {
         proposal: &Proposal<Sha256Digest>,
         participant: Participant,
     ) -> bool
-        ensures { InView (judged T.Truth self.now.node) self.now.node view.0
+        ensures { InView (config_by T.Truth self.now.node) self.now.node view.0
             (λ x past. result ≡ not (has_block x past participant.0 proposal.now)) }
     {
         match &self.sort {
@@ -420,7 +424,7 @@ impl<T: Truth> NodeSession<T> {
         proposal: &Proposal<Sha256Digest>,
     ) -> Result<Option<Participants>, AllocError>
         ensures missing { IfOk result (λ found. IfSome found (λ list.
-            InView (judged T.Truth self.now.node) self.now.node view.0
+            InView (config_by T.Truth self.now.node) self.now.node view.0
             (λ x past. list ≡ missing_after x past proposal.now))) }
         ensures none { result ≡ Ok None → slot_at self.now.node.rounds view.0 ≡ None }
     {
@@ -457,10 +461,10 @@ impl<T: Truth> NodeSession<T> {
         ensures rests { result ≡ Ok NodeStep.Rests
             → (self.new ≡ self.old) × (IsAtRest self.old.node) }
         ensures complete { result ≡ Ok NodeStep.Rests
-            → (h : HasHistory (judged T.Truth self.new.node) self.new.node)
-            × (IsComplete (judged T.Truth self.new.node) h.past self.new.node) }
+            → (h : HasHistory (config_by T.Truth self.new.node) self.new.node)
+            × (IsComplete (config_by T.Truth self.new.node) h.past self.new.node) }
         ensures meets { IfOk result (λ step. IfMade step (λ one. Meets
-            (judged T.Truth self.old.node) self.old.node (constructed one.view.0 one.batch)
+            (config_by T.Truth self.old.node) self.old.node (constructed one.view.0 one.batch)
             self.new.node)) }
         ensures forgets { IfOk result (λ step. IfMade step (λ _. (number : ℕ)
             → known_in self.new.ledger.singles number ≡ None)) }

@@ -5,7 +5,7 @@ ghost use Rattle.batcher.specs.Answers.{keeps_nullify, missing_after};
 ghost use Rattle.batcher.specs.Comparison.{has_block};
 ghost use Rattle.batcher.specs.Selection.{is_certified, leader_of, selected_proposal};
 ghost use Rattle.batcher_node.specs.Nodes.{slot_at};
-ghost use Rattle.batcher_node_session.specs.Seen.{seen, judged, InView};
+ghost use Rattle.batcher_node_session.specs.Views.{seen, config_by, InView};
 
 use batcher::messages::{Kind, Proposal, Sha256Digest};
 use batcher::positions::{Participant, Participants, View};
@@ -18,7 +18,7 @@ pub(crate) fn leader<T: Truth, const BATCHABLE: bool>(
     node: &Node<External<T, BATCHABLE>, Sha256Digest>,
     view: View,
 ) -> Option<Participant>
-    ensures { InView (judged T.Truth (seen BATCHABLE node.now)) (seen BATCHABLE node.now) view.0
+    ensures { InView (config_by T.Truth (seen BATCHABLE node.now)) (seen BATCHABLE node.now) view.0
         (λ _ past. result ≡ leader_of past) }
 {
     match node.round(view) {
@@ -32,7 +32,7 @@ pub(crate) fn proposal<T: Truth, const BATCHABLE: bool>(
     node: &Node<External<T, BATCHABLE>, Sha256Digest>,
     view: View,
 ) -> Option<Proposal<Sha256Digest>>
-    ensures { InView (judged T.Truth (seen BATCHABLE node.now)) (seen BATCHABLE node.now) view.0
+    ensures { InView (config_by T.Truth (seen BATCHABLE node.now)) (seen BATCHABLE node.now) view.0
         (λ x past. result ≡ selected_proposal x past) }
 {
     match node.round(view) {
@@ -47,7 +47,7 @@ pub(crate) fn has_certificate<T: Truth, const BATCHABLE: bool>(
     view: View,
     kind: Kind,
 ) -> bool
-    ensures { InView (judged T.Truth (seen BATCHABLE node.now)) (seen BATCHABLE node.now) view.0
+    ensures { InView (config_by T.Truth (seen BATCHABLE node.now)) (seen BATCHABLE node.now) view.0
         (λ _ past. result ≡ is_certified past kind) }
 {
     match node.round(view) {
@@ -62,7 +62,7 @@ pub(crate) fn has_nullify<T: Truth, const BATCHABLE: bool>(
     view: View,
     signer: Participant,
 ) -> bool
-    ensures { InView (judged T.Truth (seen BATCHABLE node.now)) (seen BATCHABLE node.now) view.0
+    ensures { InView (config_by T.Truth (seen BATCHABLE node.now)) (seen BATCHABLE node.now) view.0
         (λ x past. result ≡ keeps_nullify x past signer.0) }
 {
     match node.round(view) {
@@ -78,7 +78,7 @@ pub(crate) fn is_missing_voter<T: Truth, const BATCHABLE: bool>(
     proposal: &Proposal<Sha256Digest>,
     participant: Participant,
 ) -> bool
-    ensures { InView (judged T.Truth (seen BATCHABLE node.now)) (seen BATCHABLE node.now) view.0
+    ensures { InView (config_by T.Truth (seen BATCHABLE node.now)) (seen BATCHABLE node.now) view.0
         (λ x past. result ≡ not (has_block x past participant.0 proposal.now)) }
 {
     match node.round(view) {
@@ -94,7 +94,7 @@ pub(crate) fn missing_voters<T: Truth, const BATCHABLE: bool>(
     proposal: &Proposal<Sha256Digest>,
 ) -> Result<Option<Participants>, AllocError>
     ensures missing { IfOk result (λ found. IfSome found (λ list.
-        InView (judged T.Truth (seen BATCHABLE node.now)) (seen BATCHABLE node.now) view.0
+        InView (config_by T.Truth (seen BATCHABLE node.now)) (seen BATCHABLE node.now) view.0
         (λ x past. list ≡ missing_after x past proposal.now))) }
     ensures none { result ≡ Ok None → slot_at (seen BATCHABLE node.now).rounds view.0 ≡ None }
 {

@@ -1,7 +1,7 @@
 //! Tests of nodes, of what no clause says: that a call succeeds where memory is there, and again
 //! where it was refused once; and some histories, with what they come to by hand.
 //!
-//! The calls of a node stand in functions that promise nothing, and take it by `&mut`: wherever a
+//! The calls of a node are in functions that promise nothing, and take it by `&mut`: wherever a
 //! function that owns a node may end, its drop is proved once more.
 
 ghost use Rattle.std.specs.Prelude.{◌≡◌, ◌<◌, ℕ, true};
@@ -14,12 +14,11 @@ mod memory;
 use batcher::messages::{Attestation, Certificate, Kind, Proposal, Sha256Digest, Subject, Vote};
 use batcher::positions::{Epoch, Participant, Round, View};
 use batcher::round::{Admission, BlockReason, OwnFault};
-use batcher::scheme::{Counter, Name};
+use batcher::scheme::{Counter, Name, names};
 use batcher::verifier::Batch;
 use batcher::votes::Mode;
 use batcher_node::{Cast, Cause, Construction, EnterFault, Node, Receipt, Verdict, Window};
 use batcher_rows::plain::{Padded, Plain, Tally, sign};
-use batcher_rows::plan::names;
 use std::alloc::{AllocError, Global};
 use std::marker::Model;
 use std::process::Abort;

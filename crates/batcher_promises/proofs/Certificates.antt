@@ -1,5 +1,5 @@
--- What stands behind certificates, which agree, and how soon they come.
+-- What is behind certificates, which agree, and how soon they come.
 
-pub mod Backed
+pub mod Backing
 pub mod Agree
-pub mod Prompt
+pub mod Timing

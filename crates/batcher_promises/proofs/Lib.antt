@@ -1,6 +1,6 @@
 pub mod Runs
 pub mod Headline
-pub mod Throughout
+pub mod AnswerFacts
 pub mod Quorums
 pub mod Certificates
 pub mod Blocks

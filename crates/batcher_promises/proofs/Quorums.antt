@@ -2,7 +2,7 @@
 
 pub mod ValidQuorums
 pub mod ValidVotes
-pub mod Held
+pub mod Buffers
 pub mod Left
 pub mod Done
 pub mod Completed

@@ -6,7 +6,7 @@ use Rattle.batcher_types.specs.declared.messages.Vote.{Vote}
 use Rattle.batcher_types.specs.declared.messages.Kind.{Kind}
 use Rattle.batcher_types.specs.declared.messages.Kind.TheVariants.{Nullification, Finalization}
 use Rattle.batcher_votes.specs.declared.verifier.ProposalState.TheVariants.{Leader as LeadersProposal, Certificate as FixedProposal}
-use Rattle.batcher_histories.specs.Setting.{Setting}
+use Rattle.batcher_histories.specs.Config.{Config}
 use Rattle.batcher_types.specs.Lists.{EachOnce}
 use Rattle.batcher_types.specs.Votes.{kind_of, signer_of, has_proposals, is_vote_of, is_for}
 use Rattle.batcher_histories.specs.History.{Event, History}
@@ -14,9 +14,9 @@ use Rattle.batcher_histories.specs.FirstVotes.{first_vote}
 use Rattle.batcher_histories.specs.Selection.{selection, selected_proposal, replacement}
 use Rattle.batcher_histories.specs.Comparison.{conflicts}
 use Rattle.batcher_promises.specs.Promises.{AtEachEvent, AtEachTime, votes_cast}
-use Rattle.batcher_promises.specs.Composed.{usable_votes, carry_different}
+use Rattle.batcher_promises.specs.AnswerFacts.{usable_votes, carry_different}
 
-module _ {D K G C : Type 0} (x : Setting D K G C) where
+module _ {D K G C : Type 0} (x : Config D K G C) where
   -- A fixed proposal stays selected.
   abbrev pub KeepsFixed : History D K G C → Event D K G C → Type 0
   KeepsFixed past event =

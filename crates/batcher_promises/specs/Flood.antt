@@ -2,14 +2,14 @@
 use Rattle.std.specs.Prelude.{◌≡◌, ◌≤◌, ◌+◌, ◌*◌, ◌==◌, ℕ, Bool, true, false, not, [], ◌∷◌, length, None, is_some}
 use Rattle.batcher_histories.specs.declared.calls.Call.TheVariants.{Construct as ConstructCall}
 use Rattle.batcher_histories.specs.declared.answers.Answer.TheVariants.{Construct as ConstructAnswer}
-use Rattle.batcher_histories.specs.Setting.{Setting, participants_in}
+use Rattle.batcher_histories.specs.Config.{Config, participants_in}
 use Rattle.batcher_types.specs.Lists.{count}
 use Rattle.batcher_types.specs.Votes.{signer_of}
 use Rattle.batcher_histories.specs.History.{Event, History, batch_given}
 use Rattle.batcher_promises.specs.Work.{processed_total}
 use Rattle.batcher_promises.specs.Promises.{AtEachEvent}
-use Rattle.batcher_promises.specs.Composed.{votes_added}
-use Rattle.batcher_promises.specs.Converge.{is_construction}
+use Rattle.batcher_promises.specs.AnswerFacts.{votes_added}
+use Rattle.batcher_promises.specs.OrderIndependence.{is_construction}
 
 module _ {D K G C : Type 0} where
   -- how many batches were given
@@ -39,7 +39,7 @@ module _ {D K G C : Type 0} where
       AtEachEvent ConstructsUnlessAtRest past
       → constructions_made past ≤ length (votes_added past) + others_made past
 
-module _ {D K G C : Type 0} (x : Setting D K G C) where
+module _ {D K G C : Type 0} (x : Config D K G C) where
   -- What holds of every list of calls on a fresh round, over its history, whatever came how often.
   pub record IsFloodBounded (past : History D K G C) : Type 0 where
     -- Two votes of each participant are added at most.

@@ -9,16 +9,16 @@ use Rattle.batcher_histories.specs.declared.answers.Admission.{Admission}
 use Rattle.batcher_histories.specs.declared.calls.Call.TheVariants.{Network as NetworkCall, Own as OwnCall, Construct as ConstructCall}
 use Rattle.batcher_histories.specs.declared.answers.Answer.{Answer}
 use Rattle.batcher_histories.specs.declared.answers.Answer.TheVariants.{Network as NetworkAnswer, Own as OwnAnswer, Construct as ConstructAnswer}
-use Rattle.batcher_histories.specs.Setting.{Setting, participants_in, quorum_in}
+use Rattle.batcher_histories.specs.Config.{Config, participants_in, quorum_in}
 use Rattle.batcher_types.specs.Lists.{count, is_some_and}
 use Rattle.batcher_types.specs.Votes.{signer_of, is_vote_of, excludes}
-use Rattle.batcher_votes.specs.Tracking.{is_skipped}
+use Rattle.batcher_votes.specs.TrackerSteps.{is_skipped}
 use Rattle.batcher_histories.specs.Admissions.{same_vote}
 use Rattle.batcher_histories.specs.Steps.{is_added}
 use Rattle.batcher_histories.specs.History.{Event, History, batch_given, names_sender, sent_votes}
 use Rattle.batcher_histories.specs.Selection.{selected_proposal, is_certified}
-use Rattle.batcher_histories.specs.Standing.{is_valid, is_counted, ready_kind}
-use Rattle.batcher_histories.specs.Stands.{tries_kind}
+use Rattle.batcher_histories.specs.Eligible.{is_valid, is_counted, ready_kind}
+use Rattle.batcher_histories.specs.Represents.{tries_kind}
 use Rattle.batcher_promises.specs.Promises.{AtEachVote, AtEachEvent, AtEachTime, ends_in_constructions, votes_cast, gave_cause}
 
 -- whom the batch of an answer names invalid, if one was given
@@ -41,7 +41,7 @@ module _ {D K G C : Type 0} where
   abbrev pub OwnAddedAgree : History D K G C → Type 0
   OwnAddedAgree past = (v : Vote G D) → count (excludes v) (own_votes_added past) ≤ 1
 
-module _ {D K G C : Type 0} (x : Setting D K G C) where
+module _ {D K G C : Type 0} (x : Config D K G C) where
   -- A vote that names its sender is added, or equals one that its signer cast before, unless its
   -- signer gave cause to be blocked, with this vote at the latest.
   abbrev pub IsAddedWithoutCause : History D K G C → K → Vote G D → Admission G D → Type 0

@@ -13,15 +13,15 @@ use Rattle.batcher_histories.specs.declared.calls.Call.TheVariants.{Network as N
 use Rattle.batcher_histories.specs.declared.answers.Answer.{Answer}
 use Rattle.batcher_histories.specs.declared.answers.Answer.TheVariants.{OutOfMemory, Network as NetworkAnswer, Own as OwnAnswer, OwnRefused, Certificate as CertificateAnswer, Leader as LeaderAnswer, Construct as ConstructAnswer}
 use Rattle.batcher_histories.specs.declared.answers.Answer.TheVariants.{Forward as ForwardAnswer, Missing as MissingAnswer}
-use Rattle.batcher_histories.specs.Setting.{Setting, sender_in}
+use Rattle.batcher_histories.specs.Config.{Config, sender_in}
 use Rattle.batcher_types.specs.Lists.{is_some_and}
 use Rattle.batcher_types.specs.Votes.{kind_of, is_for, subject_of, proposal_in, same_proposal}
-use Rattle.batcher_votes.specs.Selected.{same_selected}
-use Rattle.batcher_votes.specs.Held.{Held}
+use Rattle.batcher_votes.specs.ProposalStates.{same_selected}
+use Rattle.batcher_votes.specs.RoundState.{RoundState}
 use Rattle.batcher_histories.specs.Steps.{is_added}
 use Rattle.batcher_histories.specs.Runs.{blocked_senders}
 use Rattle.batcher_histories.specs.History.{Event, History, history}
-use Rattle.batcher_promises.specs.Ran.{IsRun}
+use Rattle.batcher_promises.specs.RunContract.{IsRun}
 use Rattle.batcher_histories.specs.FirstVotes.{first_like}
 use Rattle.batcher_histories.specs.Selection.{selection, selected_proposal, is_certified, is_released}
 
@@ -54,8 +54,8 @@ module _ {G C D : Type 0} where
   blocks (NetworkAnswer admission) = is_some admission.block
   blocks answer = false
 
-module _ {D K G C : Type 0} (x : Setting D K G C) where
-  abbrev pub in_mode : Mode → Setting D K G C
+module _ {D K G C : Type 0} (x : Config D K G C) where
+  abbrev pub in_mode : Mode → Config D K G C
   in_mode mode = record x { mode = mode }
 
   -- whether a call is of the participant and blocks it
@@ -96,7 +96,7 @@ AtEachPlace holds (a ∷ retained) (b ∷ released) =
     holds a retained b released × AtEachPlace holds retained released
 AtEachPlace holds retained released = ⊥
 
-module _ {D K G C : Type 0} (x : Setting D K G C) where
+module _ {D K G C : Type 0} (x : Config D K G C) where
   -- Both select the same proposal by the same source, and have the same kinds certified.
   abbrev pub SelectsAlike : Event D K G C → History D K G C → Event D K G C → History D K G C
       → Type 0
@@ -113,7 +113,7 @@ module _ {D K G C : Type 0} (x : Setting D K G C) where
   IsBlockedByBoth a retained b released = ⊤
 
   -- Whom the retaining round blocks, and the releasing one neither then nor before, has sent a vote
-  -- of a kind that is released, and of which facts tell nothing.
+  -- of a kind that is released, and of which facts say nothing.
   abbrev pub IsBlockedByOne : Event D K G C → History D K G C → Event D K G C → History D K G C
       → Type 0
   IsBlockedByOne (NetworkCall sender vote, answer) retained b released =
@@ -163,7 +163,7 @@ abbrev pub made_by_both : {X : Type 0} → Option ℕ → List X → List X
 made_by_both None all = all
 made_by_both (Some place) all = take place all
 
-module _ {D K G C : Type 0} (x : Setting D K G C) where
+module _ {D K G C : Type 0} (x : Config D K G C) where
   -- a test that all keys of one participant pass, or none
   abbrev pub TellsNoKeysApart : (K → Bool) → Type 0
   TellsNoKeysApart test =
@@ -182,8 +182,8 @@ module _ {D K G C : Type 0} (x : Setting D K G C) where
   -- made; over those that both have made they are beside each other; and where none was refused
   -- they hold the same, but for kept votes and facts.
   pub record IsPairRun (before : Stream) (calls : List (Call K G C D)) (stopped : Option ℕ)
-      (retained : List (Answer G C D)) (retaining : Held G D) (after : Stream)
-      (released : List (Answer G C D)) (releasing : Held G D) (left : Stream) : Type 0 where
+      (retained : List (Answer G C D)) (retaining : RoundState G D) (after : Stream)
+      (released : List (Answer G C D)) (releasing : RoundState G D) (left : Stream) : Type 0 where
     pub retaining_run : IsRun (in_mode x Retaining) before (take (length retained) calls) retained
         retaining after
     pub releasing_run : IsRun (in_mode x Releasing) before (take (length released) calls) released

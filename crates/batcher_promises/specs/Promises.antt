@@ -9,13 +9,13 @@ use Rattle.batcher_votes.specs.declared.votes.Mode.TheVariants.{Retaining, Skipp
 use Rattle.batcher_histories.specs.declared.calls.Call.{Call}
 use Rattle.batcher_histories.specs.declared.calls.Call.TheVariants.{Network as NetworkCall, Construct as ConstructCall}
 use Rattle.batcher_histories.specs.declared.answers.Answer.TheVariants.{Network as NetworkAnswer, Construct as ConstructAnswer}
-use Rattle.batcher_histories.specs.Setting.{Setting, sender_in, quorum_in}
+use Rattle.batcher_histories.specs.Config.{Config, sender_in, quorum_in}
 use Rattle.batcher_types.specs.Lists.{is_some_and}
 use Rattle.batcher_types.specs.Votes.{signer_of}
 use Rattle.batcher_histories.specs.History.{Event, History, names_sender, cast_votes, batch_given}
 use Rattle.batcher_histories.specs.FirstVotes.{first_votes, is_free, contradicts}
 use Rattle.batcher_histories.specs.Selection.{is_certified}
-use Rattle.batcher_histories.specs.Standing.{valid_votes}
+use Rattle.batcher_histories.specs.Eligible.{valid_votes}
 use Rattle.batcher_histories.specs.Runs.{certifies_answer}
 use Rattle.batcher_promises.specs.Work.{IsWorkBounded}
 
@@ -49,7 +49,7 @@ module _ {D K G C : Type 0} where
   abbrev pub Rests : History D K G C → Event D K G C → Type 0
   Rests past event = ends_in_constructions 4 (event ∷ past) ≡ true → event.1 ≡ ConstructAnswer None
 
-module _ {D K G C : Type 0} (x : Setting D K G C) where
+module _ {D K G C : Type 0} (x : Config D K G C) where
   -- Acceptance is exact: a network vote is added exactly if it names its sender and no first vote
   -- excludes it.
   abbrev pub IsAcceptedExactly : History D K G C → K → Vote G D → Admission G D → Type 0

@@ -5,9 +5,9 @@ use Rattle.rand_core.specs.Stream.{Stream}
 use Rattle.batcher_histories.specs.declared.calls.Call.{Call}
 use Rattle.batcher_histories.specs.declared.answers.Answer.{Answer}
 use Rattle.batcher_histories.specs.declared.answers.Answer.TheVariants.{OutOfMemory}
-use Rattle.batcher_histories.specs.Setting.{Setting}
-use Rattle.batcher_votes.specs.Held.{Held}
-use Rattle.batcher_promises.specs.Ran.{IsRun}
+use Rattle.batcher_histories.specs.Config.{Config}
+use Rattle.batcher_votes.specs.RoundState.{RoundState}
+use Rattle.batcher_promises.specs.RunContract.{IsRun}
 
 module _ {G C D : Type 0} where
   -- whether a call was refused for memory
@@ -22,8 +22,10 @@ module _ {G C D : Type 0} where
 -- What two runs have in common, each with its calls, its answers, what is held after them, and the
 -- stream that is left.
 pub record GoAlike {D K G C : Type 0}
-    (calls : List (Call K G C D)) (answers : List (Answer G C D)) (held : Held G D) (after : Stream)
-    (others : List (Call K G C D)) (given : List (Answer G C D)) (left : Held G D) (then : Stream)
+    (calls : List (Call K G C D)) (answers : List (Answer G C D)) (held : RoundState G D)
+    (after : Stream)
+    (others : List (Call K G C D)) (given : List (Answer G C D)) (left : RoundState G D)
+    (then : Stream)
     : Type 0 where
   -- As far as their calls are the same, and memory is refused in neither, so are their answers.
   pub answered_alike :
@@ -38,11 +40,11 @@ pub record GoAlike {D K G C : Type 0}
       calls ≡ others → HadMemory answers → HadMemory given
       → (answers ≡ given) × ((held ≡ left) × (after ≡ then))
 
-module _ {D K G C : Type 0} (x : Setting D K G C) where
+module _ {D K G C : Type 0} (x : Config D K G C) where
   -- Any two runs on equal rounds go alike, where their generators have the same stream.
   abbrev pub EqualRunsGoAlike : Type 0
   EqualRunsGoAlike =
       (before : Stream) (calls others : List (Call K G C D)) (answers given : List (Answer G C D))
-      (held left : Held G D) (after then : Stream)
+      (held left : RoundState G D) (after then : Stream)
       → IsRun x before calls answers held after → IsRun x before others given left then
       → GoAlike calls answers held after others given left then

@@ -4,12 +4,12 @@ use Rattle.std.specs.Option.{option_map_or}
 use Rattle.batcher_types.specs.declared.messages.Vote.{Vote}
 use Rattle.batcher_types.specs.declared.messages.Kind.TheVariants.{Notarization}
 use Rattle.batcher_histories.specs.declared.answers.Answer.{Answer}
-use Rattle.batcher_histories.specs.Setting.{Setting}
+use Rattle.batcher_histories.specs.Config.{Config}
 use Rattle.batcher_types.specs.Votes.{kind_of, is_of_kind}
 use Rattle.batcher_histories.specs.History.{History, batch_given, sent_votes}
 use Rattle.batcher_histories.specs.FirstVotes.{first_votes, own_first_votes, is_free}
 use Rattle.batcher_histories.specs.Selection.{is_certified, restored_votes}
-use Rattle.batcher_histories.specs.Standing.{holds_vote}
+use Rattle.batcher_histories.specs.Eligible.{holds_vote}
 
 -- how many votes the batch of an answer processed, if one was given
 abbrev pub processed_by : {G C D : Type 0} → Answer G C D → ℕ
@@ -21,7 +21,7 @@ module _ {D K G C : Type 0} where
   processed_total [] = 0
   processed_total (event ∷ past) = processed_by event.1 + processed_total past
 
-module _ {D K G C : Type 0} (x : Setting D K G C) where
+module _ {D K G C : Type 0} (x : Config D K G C) where
   -- the network votes that were added while their kind wasn't certified, the newest first
   abbrev pub votes_accepted_open : History D K G C → List (Vote G D)
   votes_accepted_open [] = []

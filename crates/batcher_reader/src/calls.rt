@@ -1,6 +1,6 @@
 //! What a script stands for: the scheme of its round, and the calls of its commands.
 
-ghost use Rattle.std.specs.Prelude.{◌≡◌, ◌<◌, ◌≤◌, ◌&&◌, ℕ, List, All, IfOk, length, nat_lt, true, false};
+ghost use Rattle.std.specs.Prelude.{◌≡◌, ◌≤◌, ◌&&◌, ℕ, List, All, IfOk, length, nat_lt, true, false};
 ghost use Rattle.std.specs.List.{AllPass, AllZip};
 ghost use Rattle.batcher_types.specs.declared.messages.Attestation.{Attestation as TheAttestation};
 ghost use Rattle.batcher_types.specs.Attestations.{IsQuorum};
@@ -52,21 +52,6 @@ impl TestScheme for Sealed {
 
     fn sign(&self, signer: Participant, subject: Subject<Sha256Digest>) -> Attestation<[u8; 32]> {
         Sealed::sign(self, signer, subject)
-    }
-}
-
-/// The participants 0 to `count` - 1.
-pub fn names(alloc: Global, count: u32) -> Result<Set<Name>, AllocError>
-    ensures count { IfOk result (λ set. length set ≡ count) }
-    ensures below { IfOk result (All (λ name. name.0 < count)) }
-{
-    let mut names = Vec::new(alloc);
-    for number in 0..count {
-        names.push(Name(u64::from(number)))?;
-    }
-    match Set::new(names) {
-        Ok(set) => Ok(set),
-        Err(_) => unreachable!(),
     }
 }
 

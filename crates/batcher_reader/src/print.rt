@@ -8,7 +8,6 @@ use batcher_types::messages::{Activity, Certificate, Proposal, Sha256Digest};
 use batcher_types::positions::{Participant, Participants, quorum};
 use batcher_types::scheme::Name;
 use batcher_votes::verifier::Batch;
-use batcher_votes::votes::Outcome;
 use std::alloc::Global;
 use std::collections::BTreeSet;
 use std::fmt;
@@ -33,7 +32,7 @@ impl<W: Write> Output<W> {
         }
     }
 
-    /// Adds a line. Want of memory may leave a part of it.
+    /// Adds a line. Out of memory may leave a part of it.
     pub fn print<D: fmt::Display + Drop>(&mut self, line: D) -> Result<(), Stop> {
         writeln!(self.text, "{line}").map_err(|_| Stop::OutOfMemory)?;
         if self.text.len() < ENOUGH {
@@ -57,7 +56,7 @@ impl<W: Write> Output<W> {
     }
 }
 
-/// Prints the line of an answer. To an answer for want of memory there is none.
+/// Prints the line of an answer. To one that is out of memory there is none.
 pub fn print_answer<G: Drop, C: Drop, W: Write>(
     answer: &Answer<G, C, Sha256Digest>,
     output: &mut Output<W>,
@@ -65,7 +64,6 @@ pub fn print_answer<G: Drop, C: Drop, W: Write>(
     match answer {
         Answer::Network(admission) => output.print(format_args!("net: {}", AsText(admission))),
         Answer::Own(outcome, report) => {
-            let outcome = AsText(outcome);
             let report = AsText(report);
             output.print(format_args!("own: {outcome}, report {report}"))
         }
@@ -80,7 +78,8 @@ pub fn print_answer<G: Drop, C: Drop, W: Write>(
     }
 }
 
-/// A value that has a text in a play's output.
+/// A value that has a text in a play's output. Of a value with a digest it isn't the one that the
+/// library displays: a script names a payload by one byte, and so it is printed.
 pub trait Text: Drop {
     fn write<W: fmt::Write>(&self, f: &mut fmt::Formatter<W>) -> fmt::Result;
 }
@@ -132,20 +131,19 @@ impl<T: Text + Ord> Text for BTreeSet<T> {
 
 impl Text for Opening {
     fn write<W: fmt::Write>(&self, f: &mut fmt::Formatter<W>) -> fmt::Result {
-        let epoch = self.round.epoch.get();
-        let view = self.round.view.get();
+        let round = self.round;
         let participants = self.participants;
         let quorum = quorum(participants);
         write!(
             f,
-            "round {epoch} {view} participants {participants} quorum {quorum}"
+            "round {round} participants {participants} quorum {quorum}"
         )
     }
 }
 
 impl Text for Participant {
     fn write<W: fmt::Write>(&self, f: &mut fmt::Formatter<W>) -> fmt::Result {
-        write!(f, "{}", self.get())
+        write!(f, "{self}")
     }
 }
 
@@ -239,18 +237,6 @@ impl<G: Drop> Text for Admission<G, Sha256Digest> {
         let block = AsText(&self.block);
         let report = AsText(&self.report);
         write!(f, "{outcome}, block {block}, report {report}")
-    }
-}
-
-impl Text for Outcome {
-    fn write<W: fmt::Write>(&self, f: &mut fmt::Formatter<W>) -> fmt::Result {
-        f.write_str(match self {
-            Outcome::Added { retained: true } => "added retained",
-            Outcome::Added { retained: false } => "added compact",
-            Outcome::Duplicate { retained: true } => "duplicate retained",
-            Outcome::Duplicate { retained: false } => "duplicate compact",
-            Outcome::Conflicting => "conflicting",
-        })
     }
 }
 

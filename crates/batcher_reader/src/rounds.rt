@@ -4,14 +4,14 @@ ghost use Rattle.std.specs.Prelude.{◌≡◌, true, length, IfOk};
 ghost use Rattle.std.specs.List.{list_all, AllZip};
 ghost use Rattle.batcher_reader.specs.Calls.{IsCallOf};
 ghost use Rattle.batcher_reader.specs.Commands.{is_among};
-ghost use Rattle.batcher_reader.specs.Played.{IsPlayed};
+ghost use Rattle.batcher_reader.specs.ScriptRuns.{IsPlayed};
 
-use crate::calls::{TestScheme, calls_of, names};
+use crate::calls::{TestScheme, calls_of};
 use crate::script::{Command, Opening};
 use batcher_round::round::Round;
 use batcher_run::run::{Answer, Call, run};
 use batcher_types::messages::Sha256Digest;
-use batcher_types::scheme::{Counter, Name};
+use batcher_types::scheme::{Counter, Name, names};
 use std::alloc::{AllocError, Global};
 use std::rc::Rc;
 

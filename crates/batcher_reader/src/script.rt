@@ -33,7 +33,7 @@ pub struct Opening {
     ghost few: { participants ≤ 1000 },
 }
 
-/// A vote, but for its round and its signer, or a certificate's kind and proposal, which is told
+/// A vote, but for its round and its signer, or a certificate's kind and proposal, which is named
 /// by its payload's byte.
 #[derive(Clone, Copy, Debug, PartialEq, Eq)]
 pub enum Ballot {
@@ -75,7 +75,7 @@ pub enum Command {
 pub struct Lines {
     pub opening: Option<Opening>,
     pub commands: Vec<Command>,
-    /// Of each `blocked` line, how many commands stand before it.
+    /// Of each `blocked` line, how many commands are before it.
     pub questions: Vec<usize>,
     ghost among: { are_among (option_map (λ first. first.participants) opening) commands.items
         ≡ true },
@@ -103,7 +103,7 @@ impl From<AllocError> for Fault {
 }
 
 impl Script {
-    /// Reads a script up to its first malformed line. Want of memory is the only error.
+    /// Reads a script up to its first malformed line. Out of memory is the only error.
     pub fn parse(alloc: Global, bytes: &[u8]) -> Result<Script, AllocError> {
         let mut lines = Lines {
             opening: None,

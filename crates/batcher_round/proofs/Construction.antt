@@ -6,20 +6,20 @@ use Rattle.batcher_types.specs.declared.messages.Certificate.{Certificate}
 use Rattle.batcher_types.specs.declared.messages.Kind.{Kind}
 use Rattle.batcher_types.specs.declared.messages.Kind.TheVariants.{Notarization, Nullification, Finalization}
 use Rattle.batcher_votes.specs.declared.verifier.Batch.{Batch}
-use Rattle.batcher_votes.specs.Held.{Held, SameTracker, SameVerifier}
+use Rattle.batcher_votes.specs.RoundState.{RoundState, SameTracker, SameVerifier}
 use Rattle.batcher_votes.specs.Verifiers.{IfGiven}
-use Rattle.batcher_histories.specs.Setting.{Setting}
+use Rattle.batcher_histories.specs.Config.{Config}
 use Rattle.batcher_histories.specs.Steps.{AfterConstruct, TriesHeld, is_ready_in, kind_tried}
-use Rattle.batcher_round.specs.BallotsView.{BallotsView, SameHeld, round_with}
+use Rattle.batcher_round.specs.BallotsView.{BallotsView, SameRoundState, round_with}
 use Rattle.batcher_round.proofs.InRound.{tries_in_round}
 
 -- the votes of a round are those that they were
-pub same_round : {S G D : Type 0} (old new : BallotsView S G D) → SameHeld old new
+pub same_round : {S G D : Type 0} (old new : BallotsView S G D) → SameRoundState old new
     → (SameVerifier old.verifier new.verifier) × (SameTracker old.tracker new.tracker)
     → round_with new ≡ round_with old
 same_round old new held same = rw (held.0, held.1, same.0.0, same.0.1, same.1.0) refl
 
-module _ {D K G C : Type 0} (x : Setting D K G C) (held new : Held G D) (before after : Stream)
+module _ {D K G C : Type 0} (x : Config D K G C) (held new : RoundState G D) (before after : Stream)
     (forwarded : Bool) where
   abbrev pub Constructed : Option (Batch (Certificate C D)) → Type 0
   Constructed answer =
@@ -57,7 +57,7 @@ module _ {D K G C : Type 0} (x : Setting D K G C) (held new : Held G D) (before 
       let idle = none (sym ready) in
       record {
         none = rw (one, two, sym ready) refl;
-        held = ap (λ (h : Held G D). record h { forwarded = forwarded }) idle.0;
+        held = ap (λ (h : RoundState G D). record h { forwarded = forwarded }) idle.0;
         stream = idle.1;
       }
   finalization_tried (Err e) one two ready tries none = tt

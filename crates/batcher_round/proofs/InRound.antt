@@ -10,24 +10,19 @@ use Rattle.batcher_types.specs.declared.messages.Activity.{Activity}
 use Rattle.batcher_types.specs.declared.positions.Participant.{Participant}
 use Rattle.batcher_votes.specs.declared.verifier.Batch.{Batch}
 use Rattle.batcher_votes.specs.declared.votes.Outcome.{Outcome}
-use Rattle.batcher_votes.specs.Held.{Buffered, Held}
-use Rattle.batcher_histories.specs.Setting.{Setting}
+use Rattle.batcher_votes.specs.RoundState.{VerifierState, RoundState}
+use Rattle.batcher_histories.specs.Config.{Config}
 use Rattle.batcher_histories.specs.Steps.{AfterCertificate, AfterGiven, AfterLeader, AfterOwn, TriesHeld}
-
-pub if_ok : {A E : Type 0} (P Q : A → Type 0) (r : Result A E) → ((v : A) → P v → Q v) → IfOk r P
-    → IfOk r Q
-if_ok P Q (Ok v) then h = then v h
-if_ok P Q (Err e) then h = tt
 
 pub first_on_err : {A E : Type 0} (P Q : Type 0) (r : Result A E) → OnErr r (P × Q) → OnErr r P
 first_on_err P Q (Ok v) h = tt
 first_on_err P Q (Err e) h = h.0
 
-module _ {D K G C : Type 0} (x : Setting D K G C) (forwarded : Bool) (old new : Held G D) where
-  abbrev pub before : Held G D
+module _ {D K G C : Type 0} (x : Config D K G C) (forwarded : Bool) (old new : RoundState G D) where
+  abbrev pub before : RoundState G D
   before = record old { forwarded = forwarded }
 
-  abbrev pub after : Held G D
+  abbrev pub after : RoundState G D
   after = record new { forwarded = forwarded }
 
   pub certificate_in_round : {E : Type 0} (certificate : Certificate C D) (r : Result Bool E)
@@ -72,10 +67,10 @@ module _ {D K G C : Type 0} (x : Setting D K G C) (forwarded : Bool) (old new : 
   leader_tracks leader (Ok done) step refused = step.tracked
   leader_tracks leader (Err fault) step refused = refused.1
 
-  given_in_round : (left : Buffered G D) (kind : Kind) (o : Option (Certificate C D))
+  given_in_round : (left : VerifierState G D) (kind : Kind) (o : Option (Certificate C D))
       → AfterGiven x (record old { buffered = left }) kind o new
       → AfterGiven x (record before { buffered = left }) kind o after
-  given_in_round left kind None step = ap (λ (h : Held G D). record h { forwarded = forwarded }) step
+  given_in_round left kind None step = ap (λ (h : RoundState G D). record h { forwarded = forwarded }) step
   given_in_round left kind (Some certificate) step = record {
     buffered = step.buffered;
     tracked = step.tracked;

@@ -1,6 +1,6 @@
 -- A certificate of the round's own making never puts its proposal in the place of another: votes
 -- for others don't wait.
-use Rattle.std.proofs.Common.{◌≡◌, ◌∙◌, ◌&&◌, ℕ, Bool, true, false, not, cond, [], is_none, Option, Some, None, refl, sym, ap, subst, rules}
+use Rattle.std.proofs.Common.{◌≡◌, ◌∙◌, ◌&&◌, ℕ, Bool, true, false, not, cond, [], is_none, Option, Some, None, refl, sym, ap, subst}
 use Rattle.std.proofs.lemmas.Option.{none-some}
 use Rattle.std.specs.Option.{option_map}
 use Rattle.rand_core.specs.Stream.{Stream}
@@ -8,38 +8,25 @@ use Rattle.batcher_types.specs.Meaning.{Meaning}
 use Rattle.batcher_types.specs.declared.positions.Round.{Round}
 use Rattle.batcher_types.specs.declared.messages.Proposal.{Proposal}
 use Rattle.batcher_types.specs.declared.messages.Subject.{Subject}
-use Rattle.batcher_types.specs.declared.messages.Subject.TheVariants.{Notarize as NotarizeSubject, Nullify as NullifySubject, Finalize as FinalizeSubject}
 use Rattle.batcher_types.specs.declared.messages.Certificate.{Certificate}
 use Rattle.batcher_types.specs.declared.messages.Kind.{Kind}
 use Rattle.batcher_types.specs.declared.messages.Kind.TheVariants.{Notarization, Nullification, Finalization}
 use Rattle.batcher_types.specs.Votes.{has_proposals, proposal_in, same_proposal, subject_certified}
+use Rattle.batcher_types.proofs.VoteLemmas.{same_proposal-refl}
 use Rattle.batcher_votes.specs.declared.verifier.Batch.{Batch}
 use Rattle.batcher_votes.specs.declared.verifier.ProposalState.{ProposalState}
 use Rattle.batcher_votes.specs.declared.verifier.ProposalState.TheVariants.{Unknown, Leader as LeadersProposal, Certificate as FixedProposal}
-use Rattle.batcher_votes.specs.Held.{Buffered, Tracked, of_kind}
-use Rattle.batcher_votes.specs.Selected.{proposal_of, replaces}
-use Rattle.batcher_votes.specs.Buffering.{Buffers, MayFix, certificate_for, subject_from, subject_tried, TriesKind}
-use Rattle.batcher_histories.specs.Setting.{Setting}
+use Rattle.batcher_votes.specs.RoundState.{VerifierState, TrackerState, of_kind}
+use Rattle.batcher_votes.specs.ProposalStates.{proposal_of, replaces}
+use Rattle.batcher_votes.specs.VerifierSteps.{Buffers, MayFix, certificate_for, subject_from, subject_tried, TriesKind}
+use Rattle.batcher_votes.proofs.VerifierLemmas.Certificates.{made_about}
+use Rattle.batcher_histories.specs.Config.{Config}
 use Rattle.batcher_histories.specs.Steps.{Fixes}
 
 some_is : {X : Type 0} (a b : X) → ◌≡◌ {A = Option X} (Some a) (Some b) → a ≡ b
 some_is a b h = cc
 
 module _ {D : Type 0} where
-  -- what is certified of a subject is about it
-  about : {C : Type 0} (subject : Subject D) (content : C)
-      → subject_certified (certificate_for subject content) ≡ subject
-  about (NotarizeSubject p) content = refl
-  about (NullifySubject r) content = refl
-  about (FinalizeSubject p) content = refl
-
-  made_about : {C : Type 0} (subject : Subject D) (given : Option C) (certificate : Certificate C D)
-      → option_map (certificate_for subject) given ≡ Some certificate
-      → subject_certified certificate ≡ subject
-  made_about subject None certificate made = absurd (none-some certificate made)
-  made_about subject (Some content) certificate made =
-      ap subject_certified (sym (some_is _ _ made)) ∙ about subject content
-
   -- of a subject with a selected proposal that is its proposal
   selected_in_it : (kind : Kind) (number : Round) (selected p : Proposal D) (subject : Subject D)
       → subject_from kind number (Some selected) ≡ Some subject → proposal_in subject ≡ Some p
@@ -52,9 +39,6 @@ module _ {D : Type 0} where
       some_is _ _ (ap proposal_in (some_is _ _ is) ∙ has)
 
   module _ (same : D → D → Bool) (reflexive : (a : D) → same a a ≡ true) where
-    same_self : (p : Proposal D) → same_proposal same p p ≡ true
-    same_self p = let payload = reflexive p.payload in search rules
-
     never_by : (state : ProposalState D) (first : Option (Proposal D)) (kind : Kind)
         (number : Round) (subject : Subject D) (p : Proposal D)
         → subject_from kind number (cond (is_none (proposal_of state)) first (proposal_of state))
@@ -62,10 +46,10 @@ module _ {D : Type 0} where
     never_by Unknown first kind number subject p is has = refl
     never_by (LeadersProposal q) first kind number subject p is has =
         let own = selected_in_it kind number q p subject is has in
-        ap (λ r. not (same_proposal same q r)) (sym own) ∙ ap not (same_self q)
+        ap (λ r. not (same_proposal same q r)) (sym own) ∙ ap not (same_proposal-refl same reflexive q)
     never_by (FixedProposal q) first kind number subject p is has = refl
 
-    never_replaces : {G C : Type 0} (old : Buffered G D) (kind : Kind) (number : Round)
+    never_replaces : {G C : Type 0} (old : VerifierState G D) (kind : Kind) (number : Round)
         (subject : Subject D) (given : Option C) (certificate : Certificate C D) (p : Proposal D)
         → subject_tried old number kind ≡ Some subject
         → option_map (certificate_for subject) given ≡ Some certificate
@@ -77,7 +61,7 @@ module _ {D : Type 0} where
 
 -- An attempt gave a certificate, whose proposal is then fixed.
 module _ {D K G C : Type 0} (m : Meaning D K G C) (same : D → D → Bool)
-    (reflexive : (a : D) → same a a ≡ true) (number : Round) (q : ℕ) (old left : Buffered G D)
+    (reflexive : (a : D) → same a a ≡ true) (number : Round) (q : ℕ) (old left : VerifierState G D)
     (kind : Kind) (before after : Stream) (batch : Batch (Certificate C D))
     (tries : TriesKind m number q old kind before batch after left) (certificate : Certificate C D)
     (given : batch.certificate ≡ Some certificate) (proposal : Option (Proposal D))
@@ -94,8 +78,9 @@ module _ {D K G C : Type 0} (m : Meaning D K G C) (same : D → D → Bool)
       (sym proposal_is ∙ is)
 
   -- so nothing is restored
-  pub fixes_only : (x : Setting D K G C) → x.same_digest ≡ same → (tracked : Tracked G D)
-      (new : Buffered G D) → MayFix same left tracked.kept proposal new → Fixes x left proposal new
+  pub fixes_only : (x : Config D K G C) → x.same_digest ≡ same → (tracked : TrackerState G D)
+      (new : VerifierState G D) → MayFix same left tracked.kept proposal new
+      → Fixes x left proposal new
   fixes_only x e tracked new fixes = fixed_by proposal takes_none fixes where
     fixed_by : (o : Option (Proposal D))
         → ((p : Proposal D) → o ≡ Some p → replaces same left.selection p ≡ false)

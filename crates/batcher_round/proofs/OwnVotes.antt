@@ -7,26 +7,26 @@ use Rattle.batcher_types.specs.declared.messages.Vote.{Vote}
 use Rattle.batcher_types.specs.Votes.{kind_of, signer_of}
 use Rattle.batcher_types.specs.Meaning.{Meaning}
 use Rattle.batcher_votes.specs.declared.votes.Outcome.{Outcome}
-use Rattle.batcher_votes.specs.Held.{of_kind, Buffered, Held, Tracker, SameTracker}
-use Rattle.batcher_votes.specs.Selected.{proposal_of}
-use Rattle.batcher_votes.specs.Tracking.{observed, observed_opposite, is_released_in, is_seen, outcome_of, outcome_by, RecordsKind}
-use Rattle.batcher_votes.specs.Buffering.{AddsVote, MayFix}
-use Rattle.batcher_votes.specs.Sound.{WaitsWhereKept}
-use Rattle.batcher_histories.specs.Setting.{Setting}
+use Rattle.batcher_votes.specs.RoundState.{of_kind, VerifierState, RoundState, TrackerView, SameTracker}
+use Rattle.batcher_votes.specs.ProposalStates.{proposal_of}
+use Rattle.batcher_votes.specs.TrackerSteps.{observed, observed_opposite, is_released_in, is_seen, outcome_of, outcome_by, RecordsKind}
+use Rattle.batcher_votes.specs.VerifierSteps.{AddsVote, MayFix}
+use Rattle.batcher_votes.specs.Soundness.{BuffersOnlyKept}
+use Rattle.batcher_histories.specs.Config.{Config}
 use Rattle.batcher_histories.specs.Steps.{IsRight, AfterOwn, own_result, fixed_by, is_added, is_kept, report_by}
-use Rattle.batcher_histories.proofs.Right.Admission.{IsNew, added_new, right_recorded, right_waiting}
-use Rattle.batcher_histories.proofs.Right.Own.{in_range, kept_outcome, may_fix_selects, own_step, result_is, right_fixed, seen_before}
+use Rattle.batcher_histories.proofs.Correctness.Admission.{IsNew, added_new, right_recorded, right_eligible}
+use Rattle.batcher_histories.proofs.Correctness.Own.{in_range, kept_outcome, may_fix_selects, own_step, result_is, right_fixed, seen_before}
 
 -- a tracker with more room
-pub right_moved : {D K G C : Type 0} (m : Meaning D K G C) (tracker moved : Tracker G D)
-    (held : Buffered G D) (q : ℕ) → IsRight m tracker held q → moved.holds ≡ tracker.holds
+pub right_moved : {D K G C : Type 0} (m : Meaning D K G C) (tracker moved : TrackerView G D)
+    (held : VerifierState G D) (q : ℕ) → IsRight m tracker held q → moved.holds ≡ tracker.holds
     → SameTracker tracker moved → IsRight m moved held q
 right_moved m tracker moved held q right holds same =
     record {
       some = right.some;
       quorum_is = right.quorum_is;
       bound = same.1 ∙ right.bound;
-      within = subst (λ t. WaitsWhereKept t held) (sym holds) right.within;
+      within = subst (λ t. BuffersOnlyKept t held) (sym holds) right.within;
       compacted =
           λ kind. ap (λ t. of_kind t.compacted kind) holds ∙ right.compacted kind
           ∙ ap (λ w. is_released_in w (of_kind held.certified kind)) (sym same.0);
@@ -34,11 +34,11 @@ right_moved m tracker moved held q right holds same =
     }
 
 -- what is held of both, before a proposal is forwarded
-abbrev pub held_by : {G D : Type 0} → Tracker G D → Buffered G D → Held G D
+abbrev pub held_by : {G D : Type 0} → TrackerView G D → VerifierState G D → RoundState G D
 held_by tracker buffered =
     record { tracked = tracker.holds; buffered = buffered; forwarded = false }
 
-module _ {D K G C : Type 0} (x : Setting D K G C) (tracker : Tracker G D) (old : Buffered G D)
+module _ {D K G C : Type 0} (x : Config D K G C) (tracker : TrackerView G D) (old : VerifierState G D)
     (vote : Vote G D) (outcome : Outcome) where
   module _ (result : own_result x (held_by tracker old) vote ≡ Ok outcome) where
     recordable_by : {X E Room : Type 0} (r : Result X E) (b : Bool) → is_added outcome ≡ b
@@ -57,7 +57,7 @@ module _ {D K G C : Type 0} (x : Setting D K G C) (tracker : Tracker G D) (old :
         → IsOk r
     recordable r = recordable_by r (is_added outcome) refl
 
-    module _ (moved : Tracker G D) (fixed : Buffered G D) (selected : Option (Proposal D))
+    module _ (moved : TrackerView G D) (fixed : VerifierState G D) (selected : Option (Proposal D))
         (taken : Outcome) (holds : moved.holds ≡ tracker.holds)
         (fixes_it : MayFix x.same_digest old tracker.holds.kept (fixed_by vote) fixed)
         (below : nat_lt (signer_of vote) moved.participants ≡ true)
@@ -68,7 +68,7 @@ module _ {D K G C : Type 0} (x : Setting D K G C) (tracker : Tracker G D) (old :
       took_fixed =
           took ∙ ap (λ s. outcome_of x.same_digest moved.participants moved.holds s vote) selects
 
-      -- recording it tells what was told before
+      -- recording it answers what was answered before
       pub taken_is : taken ≡ outcome
       taken_is =
           took_fixed ∙ in_range x.same_digest moved.participants moved.holds (proposal_of fixed.selection) vote below
@@ -83,20 +83,20 @@ module _ {D K G C : Type 0} (x : Setting D K G C) (tracker : Tracker G D) (old :
       kept_new kept =
           added_new x.same_digest moved.holds selected vote moved.participants (sym took ∙ taken_is ∙ kept_outcome outcome kept)
 
-      module _ (recorded : Tracker G D)
+      module _ (recorded : TrackerView G D)
           (records : (kind : Kind) → RecordsKind x.same_digest moved.holds recorded.holds selected true vote kind) where
-        pub accepted : (new : Buffered G D)
+        pub accepted : (new : VerifierState G D)
             → MatchBool (is_kept outcome) (AddsVote x.same_digest fixed vote true new) (new ≡ fixed)
             → AfterOwn x (held_by tracker old) vote outcome (report_by outcome vote)
             (held_by recorded new)
-        accepted new waits =
+        accepted new is_eligible =
             own_step x (held_by tracker old) (held_by recorded new) vote outcome taken fixed moved.participants moved.holds _
             result refl refl fixes_it holds below took_fixed
             (λ kind. subst (λ s. RecordsKind x.same_digest moved.holds recorded.holds s true vote kind) selects (records kind))
-            (subst (λ o. MatchBool (is_kept o) (AddsVote x.same_digest fixed vote true new) (new ≡ fixed)) (sym taken_is) waits)
+            (subst (λ o. MatchBool (is_kept o) (AddsVote x.same_digest fixed vote true new) (new ≡ fixed)) (sym taken_is) is_eligible)
 
         module _ (q : ℕ) (right : IsRight x.meaning tracker old q)
-            (within : WaitsWhereKept tracker.holds fixed) (same : SameTracker tracker moved)
+            (within : BuffersOnlyKept tracker.holds fixed) (same : SameTracker tracker moved)
             (participants : recorded.participants ≡ moved.participants)
             (mode : recorded.mode ≡ moved.mode) where
           right_then : IsRight x.meaning moved fixed q
@@ -108,8 +108,8 @@ module _ {D K G C : Type 0} (x : Setting D K G C) (tracker : Tracker G D) (old :
           right_accepted =
               right_recorded x.meaning x.same_digest moved recorded fixed q right_then selected true vote participants mode records
 
-          pub right_kept : (new : Buffered G D) → is_kept outcome ≡ true
+          pub right_kept : (new : VerifierState G D) → is_kept outcome ≡ true
               → AddsVote x.same_digest fixed vote true new → IsRight x.meaning recorded new q
           right_kept new kept adds =
-              right_waiting x.meaning x.same_digest moved recorded fixed q right_then selected true vote participants mode records new true adds
+              right_eligible x.meaning x.same_digest moved recorded fixed q right_then selected true vote participants mode records new true adds
               (kept_new kept) refl

@@ -6,19 +6,19 @@ use Rattle.batcher_types.specs.Items.{place_of}
 use Rattle.batcher_types.specs.Meaning.{Meaning}
 use Rattle.batcher_types.specs.Votes.{kind_of, signer_of, subject_of, round_in}
 use Rattle.batcher_votes.specs.declared.votes.Outcome.{Outcome}
-use Rattle.batcher_votes.specs.Buffering.{MayAddVote, selected_in}
-use Rattle.batcher_votes.specs.Held.{Tracker, of_kind, Verifying, RoundView, SameVerifier, SameTracker, round_of}
-use Rattle.batcher_votes.specs.Sound.{KeepsAllRoom}
-use Rattle.batcher_votes.specs.Tracking.{RecordsKind}
+use Rattle.batcher_votes.specs.VerifierSteps.{MayAddVote, selected_in}
+use Rattle.batcher_votes.specs.RoundState.{TrackerView, of_kind, VerifierView, RoundView, SameVerifier, SameTracker, round_of}
+use Rattle.batcher_votes.specs.Soundness.{KeepsAllRoom}
+use Rattle.batcher_votes.specs.TrackerSteps.{RecordsKind}
 use Rattle.batcher_histories.specs.Admissions.{admission_of}
-use Rattle.batcher_histories.specs.Setting.{Setting}
+use Rattle.batcher_histories.specs.Config.{Config}
 use Rattle.batcher_histories.specs.Steps.{admission_by}
-use Rattle.batcher_round.specs.Seen.{observed_like}
+use Rattle.batcher_round.specs.Observations.{observed_like}
 
 -- what is known of each signer, and what waits for a certificate
 pub record BallotsView (S G D : Type 0) : Type 0 where
-  pub tracker : Tracker G D
-  pub verifier : Verifying S G D
+  pub tracker : TrackerView G D
+  pub verifier : VerifierView S G D
 
 module _ {S G D : Type 0} where
   -- what a round with these votes is, before it forwards a proposal
@@ -26,8 +26,8 @@ module _ {S G D : Type 0} where
   round_with ballots = round_of ballots.verifier ballots.tracker
 
   -- what is held doesn't change
-  abbrev pub SameHeld : BallotsView S G D → BallotsView S G D → Type 0
-  SameHeld old new =
+  abbrev pub SameRoundState : BallotsView S G D → BallotsView S G D → Type 0
+  SameRoundState old new =
       (new.verifier.holds ≡ old.verifier.holds) × (new.tracker.holds ≡ old.tracker.holds)
 
   -- A call changes nothing of them but what is held and the room for more, and the room alone where
@@ -36,10 +36,10 @@ module _ {S G D : Type 0} where
       → Type 0
   AllOrNothing result old new =
       (SameVerifier old.verifier new.verifier) × (SameTracker old.tracker new.tracker)
-      × OnErr result (SameHeld old new)
+      × OnErr result (SameRoundState old new)
 
   -- nothing of a verifier changes but its room, which stays
-  abbrev pub GrowsVerifier : Verifying S G D → Verifying S G D → Type 0
+  abbrev pub GrowsVerifier : VerifierView S G D → VerifierView S G D → Type 0
   GrowsVerifier old new =
       (SameVerifier old new) × (KeepsAllRoom old new) × (new.holds ≡ old.holds)
 
@@ -52,13 +52,13 @@ module _ {S G D : Type 0} where
       × (round_in (subject_of vote) ≡ ballots.verifier.number)
 
 -- nothing of a tracker changes but its room
-abbrev pub GrowsTracker : {G D : Type 0} → Tracker G D → Tracker G D → Type 0
+abbrev pub GrowsTracker : {G D : Type 0} → TrackerView G D → TrackerView G D → Type 0
 GrowsTracker old new =
     (SameTracker old new) × (new.signers ≡ old.signers) × (new.holds ≡ old.holds)
 
 -- A vote is recorded, which is answered by what came of it. One that is added and kept in full
 -- waits for its certificate.
-abbrev pub Admits : {D K G C S : Type 0} → Setting D K G C → BallotsView S G D → BallotsView S G D
+abbrev pub Admits : {D K G C S : Type 0} → Config D K G C → BallotsView S G D → BallotsView S G D
     → Vote G D → Outcome → Type 0
 Admits x old new vote outcome =
     (admission_of outcome vote

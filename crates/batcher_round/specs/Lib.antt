@@ -1,4 +1,4 @@
-pub mod Seen
+pub mod Observations
 pub mod Next
 pub mod BallotsView
 pub mod RoundWords

@@ -2,17 +2,11 @@
 
 ghost use Rattle.std.specs.Prelude.{◌≡◌, ◌≤◌, ◌<◌, ◌||◌, ◌↔◌, not, None, true, false, [], length, is_some, if◌then◌else◌, Ok, Err, IfOk, IfErr, IfSome, OnOk, OnErr, IsTrue, IsOk};
 ghost use Rattle.std.specs.Option.{option_map};
-ghost use Rattle.batcher_types.specs.declared.messages.Kind.TheVariants.{Nullification as NullifyKind};
-ghost use Rattle.batcher_types.specs.declared.messages.Kind.{Kind as TheKind};
-ghost use Rattle.batcher_round.specs.Next.{subject_next, pending_next, verified_next};
-ghost use Rattle.batcher_round.specs.RoundWords.{IfGiven, attestation_of, subject_of, round_in, subject_certified, of_kind, kept_vote, selected_in, nothing_held, missing_in, leader_set_answer, forward_answer, admission, kind_tried};
-ghost use Rattle.batcher_round.specs.RoundWords.{SameRound, restored_with, own_result, fault_or_memory, is_added, has_block_held, has_block, is_certified, leader_of, selected_proposal, keeps_nullify, own_answer, needs_memory};
-ghost use Rattle.batcher_round.specs.RoundWords.{BatchCertifies, AfterLeader, AfterNetwork, AfterConstruct, AfterOwn, AfterCertificate, MayCall, WhereverItStands, FollowsAlways, MeetsAlways, FollowsOnOk, IsRefusedForNeed, Stands};
-ghost use Rattle.batcher_histories.specs.declared.calls.Call.TheVariants.{Network as NetworkCall, Own as OwnCall, Construct as ConstructCall, Leader as LeaderCall, Forward as ForwardCall, Missing as MissingCall};
-ghost use Rattle.batcher_histories.specs.declared.calls.Call.TheVariants.{Certificate as CertificateCall};
-ghost use Rattle.batcher_histories.specs.declared.answers.Answer.TheVariants.{Network as NetworkAnswer, Own as OwnAnswer, Construct as ConstructAnswer, Leader as LeaderAnswer, Forward as ForwardAnswer, Missing as MissingAnswer};
-ghost use Rattle.batcher_histories.specs.declared.answers.Answer.TheVariants.{Certificate as CertificateAnswer};
-ghost use Rattle.batcher_histories.specs.declared.answers.OwnFault.TheVariants.{OutOfMemory as OutOfMemoryFault};
+ghost use Rattle.batcher_round.specs.RoundWords.{NullifyKind, TheKind, IfGiven, attestation_of, subject_of, round_in, subject_certified, of_kind, kept_vote, selected_in, nothing_held, missing_in, leader_set_answer, forward_answer};
+ghost use Rattle.batcher_round.specs.RoundWords.{admission, SameRound, kind_tried, restored_with, own_result, fault_or_memory, is_added, has_block_held, has_block, is_certified, leader_of, selected_proposal, keeps_nullify, own_answer};
+ghost use Rattle.batcher_round.specs.RoundWords.{needs_memory, BatchCertifies, AfterLeader, AfterNetwork, AfterConstruct, AfterOwn, AfterCertificate, MayCall, ForEachHistory, SimulatesAlways, MeetsAlways, SimulatesOnOk};
+ghost use Rattle.batcher_round.specs.RoundWords.{IsRefusedForNeed, Represents, NetworkCall, OwnCall, ConstructCall, LeaderCall, ForwardCall, MissingCall, CertificateCall, NetworkAnswer, OwnAnswer, ConstructAnswer, LeaderAnswer};
+ghost use Rattle.batcher_round.specs.RoundWords.{ForwardAnswer, MissingAnswer, CertificateAnswer, OutOfMemoryFault, subject_next, pending_next, verified_next, quorum_of, fresh_votes, proven_votes};
 
 mod answers;
 mod ballots;
@@ -27,23 +21,36 @@ use batcher_votes::verifier::{Batch, LeaderFault, NextAttempt};
 use batcher_votes::votes::{Mode, Outcome};
 use rand_core::CryptoRng;
 use std::alloc::{AllocError, Global};
+use std::fmt;
 use std::marker::Model;
 use std::rc::Rc;
 
-/// What rounds over a scheme are judged by. Every scheme has it, and it says nothing of its own:
-/// contracts name by it the scheme, the number and the mode of a round.
-pub trait Judge<D: Digest>: Scheme<D> {
-    ghost use Rattle.batcher_histories.specs.Setting.{Setting};
-    ghost use Rattle.batcher_votes.specs.Held.{RoundView};
+/// The configurations of rounds over a scheme. Every scheme has them, and they add nothing:
+/// contracts name by them the scheme, the number and the mode of a round.
+pub trait RoundConfigs<D: Digest>: Scheme<D> {
+    ghost use Rattle.batcher_histories.specs.Config.{Config};
+    ghost use Rattle.batcher_votes.specs.RoundState.{RoundView};
 
     ghost of: { RoundView Self Self.Signature D
-        → Setting D Self.PublicKey Self.Signature Self.Certificate };
+        → Config D Self.PublicKey Self.Signature Self.Certificate };
 }
 
-impl<D: Digest, S: Scheme<D>> Judge<D> for S {
-    ghost use Rattle.batcher_histories.specs.Judged.{judge};
+impl<D: Digest, S: Scheme<D>> RoundConfigs<D> for S {
+    ghost use Rattle.batcher_histories.specs.RoundContracts.{round_config};
 
-    ghost of = { judge S.meaning S.PublicKey.cmp S.Signature.eq D.eq };
+    ghost of = { round_config S.meaning S.PublicKey.cmp S.Signature.eq D.eq };
+}
+
+/// How far a kind is from its certificate.
+#[derive(Clone, Copy, Debug, PartialEq, Eq)]
+pub struct Progress {
+    /// How many votes wait that no construction has verified. Until a proposal is selected they may
+    /// be for several.
+    pub pending: usize,
+    /// How many votes that attest wait.
+    pub verified: usize,
+    /// How many votes make a certificate.
+    pub quorum: usize,
 }
 
 /// The votes of one round, and the certificates that they have made.
@@ -56,7 +63,7 @@ pub struct Round<S: Scheme<D>, D: Digest> {
 
 impl<S: Scheme<D>, D: Digest> Model for Round<S, D> {
     ghost use Rattle.std.specs.Prelude.{◌≤◌, length};
-    ghost use Rattle.batcher_votes.specs.Held.{RoundView};
+    ghost use Rattle.batcher_votes.specs.RoundState.{RoundView};
 
     ghost Value = { RoundView S S.Signature D };
 
@@ -92,7 +99,7 @@ impl<S: Scheme<D>, D: Digest> Round<S, D> {
         ensures mode { result.mode ≡ (if track_historical_votes then Mode.Retaining else
             Mode.Releasing) }
         ensures holds { result.holds ≡ nothing_held result.mode }
-        ensures stands { Stands (⟦<S as Judge<D>>⟧.of result) [] result.holds }
+        ensures represents { Represents (⟦<S as RoundConfigs<D>>⟧.of result) [] result.holds }
     {
         let mode = if track_historical_votes {
             Mode::Retaining
@@ -110,7 +117,7 @@ impl<S: Scheme<D>, D: Digest> Round<S, D> {
         ensures number { result.number ≡ round }
         ensures mode { result.mode ≡ Mode.Skipped }
         ensures holds { result.holds ≡ nothing_held result.mode }
-        ensures stands { Stands (⟦<S as Judge<D>>⟧.of result) [] result.holds }
+        ensures represents { Represents (⟦<S as RoundConfigs<D>>⟧.of result) [] result.holds }
     {
         Round::in_mode(alloc, round, scheme, Mode::Skipped)
     }
@@ -123,7 +130,7 @@ impl<S: Scheme<D>, D: Digest> Round<S, D> {
         ensures number { result.number ≡ round }
         ensures mode { result.mode ≡ mode }
         ensures holds { result.holds ≡ nothing_held result.mode }
-        ensures stands { Stands (⟦<S as Judge<D>>⟧.of result) [] result.holds }
+        ensures represents { Represents (⟦<S as RoundConfigs<D>>⟧.of result) [] result.holds }
     {
         Round {
             ballots: Ballots::new(alloc, round, scheme, mode),
@@ -149,7 +156,7 @@ impl<S: Scheme<D>, D: Digest> Round<S, D> {
     /// The leader, once it is set.
     pub fn leader(&self) -> Option<Participant>
         ensures held { result ≡ self.now.holds.buffered.leader }
-        ensures meets { WhereverItStands ⟦<S as Judge<D>>⟧.of self.now
+        ensures meets { ForEachHistory ⟦<S as RoundConfigs<D>>⟧.of self.now
             (λ _ past. result ≡ leader_of past) }
     {
         self.ballots.verifier().leader()
@@ -158,7 +165,7 @@ impl<S: Scheme<D>, D: Digest> Round<S, D> {
     /// The selected proposal: the leader's, or one that evidence fixed.
     pub fn proposal(&self) -> Option<Proposal<D>>
         ensures held { result ≡ selected_in self.now.holds.buffered }
-        ensures meets { WhereverItStands ⟦<S as Judge<D>>⟧.of self.now
+        ensures meets { ForEachHistory ⟦<S as RoundConfigs<D>>⟧.of self.now
             (λ x past. result ≡ selected_proposal x past) }
     {
         self.ballots.verifier().proposal().copied()
@@ -187,10 +194,30 @@ impl<S: Scheme<D>, D: Digest> Round<S, D> {
     /// Whether a certificate of the kind is there.
     pub fn has_certificate(&self, kind: Kind) -> bool
         ensures held { result ≡ of_kind self.now.holds.buffered.certified kind }
-        ensures meets { WhereverItStands ⟦<S as Judge<D>>⟧.of self.now
+        ensures meets { ForEachHistory ⟦<S as RoundConfigs<D>>⟧.of self.now
             (λ _ past. result ≡ is_certified past kind) }
     {
         self.ballots.verifier().has_certificate(kind)
+    }
+
+    /// How far the kind is from its certificate. Once that is there no vote of it waits.
+    pub fn progress(&self, kind: Kind) -> Progress
+        ensures pending { result.pending ≡ length (of_kind self.now.holds.buffered.pending kind) }
+        ensures verified { result.verified
+            ≡ length (of_kind self.now.holds.buffered.verified kind) }
+        ensures quorum { result.quorum
+            ≡ quorum_of (length (S.meaning self.now.scheme).participants) }
+        ensures meets { ForEachHistory ⟦<S as RoundConfigs<D>>⟧.of self.now
+            (λ x past. (result.pending ≡ length (fresh_votes x past kind))
+            × (result.verified ≡ length (proven_votes x past kind))) }
+    {
+        let verifier = self.ballots.verifier();
+        let (pending, verified) = verifier.lengths(kind);
+        Progress {
+            pending,
+            verified,
+            quorum: positions::quorum(verifier.participants().len() as u32) as usize,
+        }
     }
 
     /// Records a certificate that the caller has verified. It completes its kind, fixes its
@@ -198,7 +225,7 @@ impl<S: Scheme<D>, D: Digest> Round<S, D> {
     ///
     /// Where its proposal takes another's place, the kept votes for it are restored as pending. A
     /// notarization answers whether another proposal is selected than before, other certificates
-    /// answer false. True tells the caller to construct: finalizes that wait may be for the
+    /// answer false. True asks the caller to construct: finalizes that wait may be for the
     /// proposal that is selected now, and so be ready. A refusal for memory leaves the round as it
     /// was; where no vote is restored it takes none.
     pub fn record_certificate(
@@ -206,14 +233,16 @@ impl<S: Scheme<D>, D: Digest> Round<S, D> {
         certificate: &Certificate<S::Certificate, D>,
     ) -> Result<bool, AllocError>
         requires { round_in (subject_certified certificate.now) ≡ self.old.number }
-        ensures step { IfOk result (λ answer. AfterCertificate (⟦<S as Judge<D>>⟧.of self.old)
+        ensures step { IfOk result (λ answer.
+            AfterCertificate (⟦<S as RoundConfigs<D>>⟧.of self.old)
             self.old.holds certificate.now answer self.new.holds) }
-        ensures meets { FollowsOnOk ⟦<S as Judge<D>>⟧.of self.old
+        ensures meets { SimulatesOnOk ⟦<S as RoundConfigs<D>>⟧.of self.old
             (CertificateCall certificate.now) CertificateAnswer result self.new.holds }
-        ensures needed { IsRefusedForNeed ⟦<S as Judge<D>>⟧.of self.old
+        ensures needed { IsRefusedForNeed ⟦<S as RoundConfigs<D>>⟧.of self.old
             (CertificateCall certificate.now) result }
         ensures no_memory { ((kind : TheKind)
-            → restored_with (⟦<S as Judge<D>>⟧.of self.old) self.old.holds certificate.now kind
+            → restored_with (⟦<S as RoundConfigs<D>>⟧.of self.old) self.old.holds certificate.now
+            kind
             ≡ []) → IsOk result }
         ensures refused { OnErr result (self.new ≡ self.old) }
         ensures same { SameRound self.old self.new }
@@ -233,13 +262,13 @@ impl<S: Scheme<D>, D: Digest> Round<S, D> {
         vote: Vote<S::Signature, D>,
     ) -> Result<Admission<S::Signature, D>, AllocError>
         requires { round_in (subject_of vote) ≡ self.old.number }
-        ensures step { IfOk result (λ answer. AfterNetwork (⟦<S as Judge<D>>⟧.of self.old)
+        ensures step { IfOk result (λ answer. AfterNetwork (⟦<S as RoundConfigs<D>>⟧.of self.old)
             self.old.holds sender vote answer self.new.holds) }
-        ensures meets { FollowsOnOk ⟦<S as Judge<D>>⟧.of self.old
+        ensures meets { SimulatesOnOk ⟦<S as RoundConfigs<D>>⟧.of self.old
             (NetworkCall sender vote) NetworkAnswer result self.new.holds }
-        ensures no_memory { (admission (⟦<S as Judge<D>>⟧.of self.old) self.old.holds sender
+        ensures no_memory { (admission (⟦<S as RoundConfigs<D>>⟧.of self.old) self.old.holds sender
             vote).added ≡ false → IsOk result }
-        ensures needed { IsRefusedForNeed ⟦<S as Judge<D>>⟧.of self.old
+        ensures needed { IsRefusedForNeed ⟦<S as RoundConfigs<D>>⟧.of self.old
             (NetworkCall sender vote) result }
         ensures refused { OnErr result (self.new ≡ self.old) }
         ensures same { SameRound self.old self.new }
@@ -260,7 +289,7 @@ impl<S: Scheme<D>, D: Digest> Round<S, D> {
             self.ballots.admit(slot, &vote)?;
             return Ok(added(&vote));
         }
-        match self.ballots.objection(slot, &vote) {
+        match self.ballots.rejection(slot, &vote) {
             Some(answer) => Ok(answer),
             // Facts are left of an earlier vote: this one repeats it, or contradicts it.
             None => {
@@ -286,19 +315,20 @@ impl<S: Scheme<D>, D: Digest> Round<S, D> {
         requires belongs { round_in (subject_of vote) ≡ self.old.number }
         requires attests { (S.meaning self.old.scheme).attests (subject_of vote)
             (attestation_of vote) ≡ true }
-        ensures step { IfOk result (λ answer. AfterOwn (⟦<S as Judge<D>>⟧.of self.old)
+        ensures step { IfOk result (λ answer. AfterOwn (⟦<S as RoundConfigs<D>>⟧.of self.old)
             self.old.holds vote answer.0 answer.1 self.new.holds) }
-        ensures meets { FollowsOnOk ⟦<S as Judge<D>>⟧.of self.old
+        ensures meets { SimulatesOnOk ⟦<S as RoundConfigs<D>>⟧.of self.old
             (OwnCall vote) (λ answer. OwnAnswer answer.0 answer.1) result self.new.holds }
-        ensures named { WhereverItStands ⟦<S as Judge<D>>⟧.of self.old
+        ensures named { ForEachHistory ⟦<S as RoundConfigs<D>>⟧.of self.old
             (λ x past. IfErr result (λ fault. fault ≡ fault_or_memory (own_answer x past vote))) }
-        ensures needed { WhereverItStands ⟦<S as Judge<D>>⟧.of self.old
+        ensures needed { ForEachHistory ⟦<S as RoundConfigs<D>>⟧.of self.old
             (λ x past. result ≡ Err OutOfMemoryFault → needs_memory x past (OwnCall vote) ≡ true) }
         ensures no_memory { (outcome : Outcome)
-            → own_result (⟦<S as Judge<D>>⟧.of self.old) self.old.holds vote ≡ Ok outcome
+            → own_result (⟦<S as RoundConfigs<D>>⟧.of self.old) self.old.holds vote ≡ Ok outcome
             → is_added outcome ≡ false → IsOk result }
         ensures fault { IfErr result (λ fault. fault
-            ≡ fault_or_memory (own_result (⟦<S as Judge<D>>⟧.of self.old) self.old.holds vote)) }
+            ≡ fault_or_memory (own_result (⟦<S as RoundConfigs<D>>⟧.of self.old) self.old.holds
+            vote)) }
         ensures refused { OnErr result (self.new ≡ self.old) }
         ensures same { SameRound self.old self.new }
     {
@@ -312,11 +342,12 @@ impl<S: Scheme<D>, D: Digest> Round<S, D> {
     /// The same leader again changes nothing; another one is refused.
     pub fn set_leader(&mut self, leader: Participant) -> Result<(), LeaderFault>
         ensures answer { result ≡ leader_set_answer self.old.holds.buffered.leader leader }
-        ensures named { WhereverItStands ⟦<S as Judge<D>>⟧.of self.old
+        ensures named { ForEachHistory ⟦<S as RoundConfigs<D>>⟧.of self.old
             (λ _ past. result ≡ leader_set_answer (leader_of past) leader) }
-        ensures meets { MeetsAlways ⟦<S as Judge<D>>⟧.of self.old
+        ensures meets { MeetsAlways ⟦<S as RoundConfigs<D>>⟧.of self.old
             (LeaderCall leader, LeaderAnswer result) self.new.holds }
-        ensures step { OnOk result (AfterLeader (⟦<S as Judge<D>>⟧.of self.old) self.old.holds
+        ensures step { OnOk result (AfterLeader
+            (⟦<S as RoundConfigs<D>>⟧.of self.old) self.old.holds
             leader self.new.holds) }
         ensures refused { OnErr result (self.new ≡ self.old) }
         ensures same { SameRound self.old self.new }
@@ -328,7 +359,7 @@ impl<S: Scheme<D>, D: Digest> Round<S, D> {
     /// It takes no memory.
     pub fn try_forward_proposal(&mut self, me: Participant) -> Option<Proposal<D>>
         ensures answer { result ≡ forward_answer self.old.holds me }
-        ensures meets { FollowsAlways ⟦<S as Judge<D>>⟧.of self.old
+        ensures meets { SimulatesAlways ⟦<S as RoundConfigs<D>>⟧.of self.old
             (ForwardCall me, ForwardAnswer result) self.new.holds }
         ensures holds { self.new.holds ≡ record self.old.holds
             { forwarded = is_some result || self.old.holds.forwarded } }
@@ -346,13 +377,13 @@ impl<S: Scheme<D>, D: Digest> Round<S, D> {
     /// finalize the first that is.
     pub fn next_attempt(&self) -> Option<NextAttempt<'_, S::Signature, D>>
         ensures ready { is_some result
-            ≡ is_some (kind_tried (⟦<S as Judge<D>>⟧.of self.now) self.now.holds) }
+            ≡ is_some (kind_tried (⟦<S as RoundConfigs<D>>⟧.of self.now) self.now.holds) }
         ensures subject { option_map (λ a. a.subject) result
-            ≡ subject_next (⟦<S as Judge<D>>⟧.of self.now) self.now.holds }
+            ≡ subject_next (⟦<S as RoundConfigs<D>>⟧.of self.now) self.now.holds }
         ensures pending { IfSome result (λ a. a.pending.now
-            ≡ pending_next (⟦<S as Judge<D>>⟧.of self.now) self.now.holds) }
+            ≡ pending_next (⟦<S as RoundConfigs<D>>⟧.of self.now) self.now.holds) }
         ensures verified { IfSome result (λ a. a.verified.now
-            ≡ verified_next (⟦<S as Judge<D>>⟧.of self.now) self.now.holds) }
+            ≡ verified_next (⟦<S as RoundConfigs<D>>⟧.of self.now) self.now.holds) }
     {
         let verifier = self.ballots.verifier();
         if let Some(attempt) = verifier.next_attempt(Kind::Notarization) {
@@ -372,13 +403,13 @@ impl<S: Scheme<D>, D: Digest> Round<S, D> {
         &mut self,
         rng: &mut R,
     ) -> Result<Option<Batch<Certificate<S::Certificate, D>>>, AllocError>
-        ensures step { IfOk result (λ answer. AfterConstruct (⟦<S as Judge<D>>⟧.of self.old)
+        ensures step { IfOk result (λ answer. AfterConstruct (⟦<S as RoundConfigs<D>>⟧.of self.old)
             self.old.holds (R.stream rng.old) answer self.new.holds (R.stream rng.new)) }
-        ensures meets { FollowsOnOk ⟦<S as Judge<D>>⟧.of self.old
+        ensures meets { SimulatesOnOk ⟦<S as RoundConfigs<D>>⟧.of self.old
             (ConstructCall) ConstructAnswer result self.new.holds }
-        ensures no_memory { kind_tried (⟦<S as Judge<D>>⟧.of self.old) self.old.holds ≡ None
+        ensures no_memory { kind_tried (⟦<S as RoundConfigs<D>>⟧.of self.old) self.old.holds ≡ None
             → IsOk result }
-        ensures needed { IsRefusedForNeed ⟦<S as Judge<D>>⟧.of self.old
+        ensures needed { IsRefusedForNeed ⟦<S as RoundConfigs<D>>⟧.of self.old
             ConstructCall result }
         ensures certifies { IfGiven result (BatchCertifies (S.meaning self.old.scheme)) }
         ensures refused { OnErr result (self.new ≡ self.old) }
@@ -396,7 +427,7 @@ impl<S: Scheme<D>, D: Digest> Round<S, D> {
     /// Whether a nullify of the signer is kept in full.
     pub fn has_nullify(&self, signer: Participant) -> bool
         ensures held { result ≡ is_some (kept_vote self.now.holds.tracked NullifyKind signer.0) }
-        ensures meets { WhereverItStands ⟦<S as Judge<D>>⟧.of self.now
+        ensures meets { ForEachHistory ⟦<S as RoundConfigs<D>>⟧.of self.now
             (λ x past. result ≡ keeps_nullify x past signer.0) }
     {
         self.ballots.has_nullify(signer)
@@ -411,7 +442,7 @@ impl<S: Scheme<D>, D: Digest> Round<S, D> {
     pub fn is_missing_voter(&self, proposal: &Proposal<D>, participant: Participant) -> bool
         ensures held { result ≡ not (has_block_held D.eq self.now.holds participant.0
             proposal.now) }
-        ensures meets { WhereverItStands ⟦<S as Judge<D>>⟧.of self.now
+        ensures meets { ForEachHistory ⟦<S as RoundConfigs<D>>⟧.of self.now
             (λ x past. result ≡ not (has_block x past participant.0 proposal.now)) }
     {
         !self.ballots.has_block(proposal, participant)
@@ -422,10 +453,22 @@ impl<S: Scheme<D>, D: Digest> Round<S, D> {
         ensures held { IfOk result (λ list. list
             ≡ missing_in D.eq self.now.holds proposal.now
             (length (S.meaning self.now.scheme).participants)) }
-        ensures meets { FollowsOnOk ⟦<S as Judge<D>>⟧.of self.now
+        ensures meets { SimulatesOnOk ⟦<S as RoundConfigs<D>>⟧.of self.now
             (MissingCall proposal.now) MissingAnswer result self.now.holds }
     {
         let missing = self.ballots.missing(proposal)?;
         Ok(Participants::from(missing))
+    }
+}
+
+impl<S: Scheme<D>, D: Digest + fmt::Debug> fmt::Debug for Round<S, D> {
+    /// Its number, mode, leader and selected proposal, and no votes.
+    fn fmt<W: fmt::Write>(&self, f: &mut fmt::Formatter<W>) -> fmt::Result {
+        f.debug_struct("Round")
+            .field("number", &self.number())
+            .field("mode", &self.mode())
+            .field("leader", &self.leader())
+            .field("proposal", &self.proposal())
+            .finish_non_exhaustive()
     }
 }

@@ -9,7 +9,7 @@ ghost use Rattle.batcher_rows.specs.Steps.{IsOfRound};
 use crate::plain::{Padded, sign};
 use crate::rows::{Course, Order, Row};
 use batcher::messages::{Proposal, Sha256Digest, Subject, Vote};
-use batcher::positions::{Epoch, Participant, Round, Set, View, quorum};
+use batcher::positions::{Epoch, Participant, Round, View, quorum};
 use batcher::scheme::Name;
 use std::alloc::{AllocError, Global};
 
@@ -25,20 +25,6 @@ pub enum Step<P> {
     /// A vote that the participant with the key sends.
     Send(Name, Vote<Padded<P>, Sha256Digest>),
     Construct,
-}
-
-/// The participants 0 to `count` - 1.
-pub fn names(alloc: Global, count: u32) -> Result<Set<Name>, AllocError>
-    ensures { IfOk result (λ set. length set ≡ count) }
-{
-    let mut names = Vec::new(alloc);
-    for number in 0..count {
-        names.push(Name(u64::from(number)))?;
-    }
-    match Set::new(names) {
-        Ok(set) => Ok(set),
-        Err(_) => unreachable!(),
-    }
 }
 
 /// The steps of a row: notarizes with a construction, then finalizes with a construction. All

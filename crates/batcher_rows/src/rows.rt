@@ -92,7 +92,7 @@ impl fmt::Display for Row {
     }
 }
 
-/// The row that five words name, as they stand in its line.
+/// The row that five words name, as they are in its line.
 pub fn row_named(words: &[String]) -> Option<Row> {
     if words.len() != 5 {
         return None;

@@ -3,15 +3,15 @@
 ghost use Rattle.std.specs.Prelude.{◌≡◌, All, IfOk, OnErr, true};
 ghost use Rattle.std.specs.List.{list_any};
 ghost use Rattle.std.specs.List.Sorted.{IsStrictlySortedBy};
-ghost use Rattle.batcher_votes.specs.Held.{Held as TheHeld, SameRound};
-ghost use Rattle.batcher_histories.specs.Setting.{Setting as TheSetting};
+ghost use Rattle.batcher_votes.specs.RoundState.{RoundState as TheRoundState, SameRound};
+ghost use Rattle.batcher_histories.specs.Config.{Config as TheConfig};
 ghost use Rattle.batcher_histories.specs.History.{history};
-ghost use Rattle.batcher_histories.specs.Judged.{WhereverItStands};
+ghost use Rattle.batcher_histories.specs.RoundContracts.{ForEachHistory};
 ghost use Rattle.batcher_histories.specs.Steps.{nothing_held};
 ghost use Rattle.batcher_histories.specs.Answers.{IsAnswered};
-ghost use Rattle.batcher_histories.specs.Stands.{Meets};
-ghost use Rattle.batcher_promises.specs.Blocked.{GaveCause};
-ghost use Rattle.batcher_promises.specs.Ran.{IsRun};
+ghost use Rattle.batcher_histories.specs.Represents.{Meets};
+ghost use Rattle.batcher_promises.specs.Blocks.{GaveCause};
+ghost use Rattle.batcher_promises.specs.RunContract.{IsRun};
 ghost use Rattle.batcher_histories.specs.Runs.{MayCall, Steps, StepsNetwork, StepsOwn, StepsCertificate, StepsConstruct, StepsMissing, blocked_sender, blocked_senders};
 ghost use Rattle.batcher_histories.specs.declared.calls.Call.TheVariants.{Network as NetworkCall, Own as OwnCall, Certificate as CertificateCall, Construct as ConstructCall, Missing as MissingCall};
 ghost use Rattle.batcher_types.specs.Votes.{round_in, subject_of, attestation_of, subject_certified};
@@ -19,11 +19,12 @@ ghost use Rattle.rand_core.specs.Stream.{Stream};
 
 pub use batcher_histories::answers::Answer;
 pub use batcher_histories::calls::Call;
-use batcher_round::round::{Judge, OwnFault, Round};
+use batcher_round::round::{OwnFault, Round, RoundConfigs};
 use batcher_types::messages::{Certificate, Digest, Proposal, Vote};
 use batcher_types::scheme::Scheme;
 use rand_core::CryptoRng;
 use std::alloc::{AllocError, Global};
+use std::fmt;
 
 /// A round after its calls, with the answers in their order.
 #[derive(Drop)]
@@ -43,6 +44,19 @@ impl<S: Scheme<D>, D: Digest> Ran<S, D> {
     }
 }
 
+impl<S: Scheme<D>, D: Digest + fmt::Debug> fmt::Debug for Ran<S, D>
+where
+    S::Signature: fmt::Debug,
+    S::Certificate: fmt::Debug,
+{
+    fn fmt<W: fmt::Write>(&self, f: &mut fmt::Formatter<W>) -> fmt::Result {
+        f.debug_struct("Ran")
+            .field("round", &self.round)
+            .field("answers", &self.answers)
+            .finish()
+    }
+}
+
 /// Makes the calls in order on a fresh round, and answers each.
 ///
 /// Room for the answers is made first: that growth alone gives the error, and the round is then
@@ -55,7 +69,7 @@ pub fn run<S: Scheme<D>, D: Digest, R: CryptoRng>(
 ) -> Result<Ran<S, D>, AllocError>
     requires fresh { round.holds ≡ nothing_held round.mode }
     requires calls { All (MayCall (S.meaning round.scheme) round.number) calls.now }
-    ensures ran { IfOk result (λ ran. IsRun (⟦<S as Judge<D>>⟧.of round) (R.stream rng.old)
+    ensures ran { IfOk result (λ ran. IsRun (⟦<S as RoundConfigs<D>>⟧.of round) (R.stream rng.old)
         calls.now ran.answers.items ran.round.holds (R.stream rng.new)) }
     ensures drawn { OnErr result (R.stream rng.new ≡ R.stream rng.old) }
     ensures same { IfOk result (λ ran. SameRound round ran.round) }
@@ -84,9 +98,9 @@ pub fn step<S: Scheme<D>, D: Digest, R: CryptoRng>(
     call: &Call<S::PublicKey, S::Signature, S::Certificate, D>,
 ) -> Answer<S::Signature, S::Certificate, D>
     requires { MayCall (S.meaning round.old.scheme) round.old.number call.now }
-    ensures steps { Steps (⟦<S as Judge<D>>⟧.of round.old) round.old.holds (R.stream rng.old)
+    ensures steps { Steps (⟦<S as RoundConfigs<D>>⟧.of round.old) round.old.holds (R.stream rng.old)
         call.now result round.new.holds (R.stream rng.new) }
-    ensures meets { WhereverItStands ⟦<S as Judge<D>>⟧.of round.old
+    ensures meets { ForEachHistory ⟦<S as RoundConfigs<D>>⟧.of round.old
         (λ x past. (Meets x past round.old.holds (call.now, result) round.new.holds)
         × (IsAnswered x past call.now result)) }
     ensures same { SameRound round.old round.new }
@@ -112,9 +126,9 @@ fn answer_network<S: Scheme<D>, D: Digest>(
     vote: Vote<S::Signature, D>,
 ) -> Answer<S::Signature, S::Certificate, D>
     requires { round_in (subject_of vote) ≡ round.old.number }
-    ensures steps { (stream : Stream) → StepsNetwork (⟦<S as Judge<D>>⟧.of round.old)
+    ensures steps { (stream : Stream) → StepsNetwork (⟦<S as RoundConfigs<D>>⟧.of round.old)
         round.old.holds stream sender vote result round.new.holds stream }
-    ensures meets { WhereverItStands ⟦<S as Judge<D>>⟧.of round.old
+    ensures meets { ForEachHistory ⟦<S as RoundConfigs<D>>⟧.of round.old
         (λ x past. (Meets x past round.old.holds (NetworkCall sender vote, result) round.new.holds)
         × (IsAnswered x past (NetworkCall sender vote) result)) }
     ensures same { SameRound round.old round.new }
@@ -133,9 +147,9 @@ fn answer_own<S: Scheme<D>, D: Digest>(
     requires belongs { round_in (subject_of vote) ≡ round.old.number }
     requires attests { (S.meaning round.old.scheme).attests (subject_of vote) (attestation_of vote)
         ≡ true }
-    ensures steps { (stream : Stream) → StepsOwn (⟦<S as Judge<D>>⟧.of round.old)
+    ensures steps { (stream : Stream) → StepsOwn (⟦<S as RoundConfigs<D>>⟧.of round.old)
         round.old.holds stream vote result round.new.holds stream }
-    ensures meets { WhereverItStands ⟦<S as Judge<D>>⟧.of round.old
+    ensures meets { ForEachHistory ⟦<S as RoundConfigs<D>>⟧.of round.old
         (λ x past. (Meets x past round.old.holds (OwnCall vote, result) round.new.holds)
         × (IsAnswered x past (OwnCall vote) result)) }
     ensures same { SameRound round.old round.new }
@@ -153,9 +167,9 @@ fn answer_certificate<S: Scheme<D>, D: Digest>(
     certificate: &Certificate<S::Certificate, D>,
 ) -> Answer<S::Signature, S::Certificate, D>
     requires { round_in (subject_certified certificate.now) ≡ round.old.number }
-    ensures steps { (stream : Stream) → StepsCertificate (⟦<S as Judge<D>>⟧.of round.old)
+    ensures steps { (stream : Stream) → StepsCertificate (⟦<S as RoundConfigs<D>>⟧.of round.old)
         round.old.holds stream certificate.now result round.new.holds stream }
-    ensures meets { WhereverItStands ⟦<S as Judge<D>>⟧.of round.old
+    ensures meets { ForEachHistory ⟦<S as RoundConfigs<D>>⟧.of round.old
         (λ x past. (Meets x past round.old.holds (CertificateCall certificate.now, result)
         round.new.holds) × (IsAnswered x past (CertificateCall certificate.now) result)) }
     ensures same { SameRound round.old round.new }
@@ -171,9 +185,9 @@ fn answer_construct<S: Scheme<D>, D: Digest, R: CryptoRng>(
     round: &mut Round<S, D>,
     rng: &mut R,
 ) -> Answer<S::Signature, S::Certificate, D>
-    ensures steps { StepsConstruct (⟦<S as Judge<D>>⟧.of round.old) round.old.holds
+    ensures steps { StepsConstruct (⟦<S as RoundConfigs<D>>⟧.of round.old) round.old.holds
         (R.stream rng.old) result round.new.holds (R.stream rng.new) }
-    ensures meets { WhereverItStands ⟦<S as Judge<D>>⟧.of round.old
+    ensures meets { ForEachHistory ⟦<S as RoundConfigs<D>>⟧.of round.old
         (λ x past. (Meets x past round.old.holds (ConstructCall, result) round.new.holds)
         × (IsAnswered x past ConstructCall result)) }
     ensures same { SameRound round.old round.new }
@@ -189,9 +203,9 @@ fn answer_missing<S: Scheme<D>, D: Digest>(
     round: &Round<S, D>,
     proposal: &Proposal<D>,
 ) -> Answer<S::Signature, S::Certificate, D>
-    ensures steps { (stream : Stream) → StepsMissing (⟦<S as Judge<D>>⟧.of round.now)
+    ensures steps { (stream : Stream) → StepsMissing (⟦<S as RoundConfigs<D>>⟧.of round.now)
         round.now.holds stream proposal.now result round.now.holds stream }
-    ensures meets { WhereverItStands ⟦<S as Judge<D>>⟧.of round.now
+    ensures meets { ForEachHistory ⟦<S as RoundConfigs<D>>⟧.of round.now
         (λ x past. (Meets x past round.now.holds (MissingCall proposal.now, result) round.now.holds)
         × (IsAnswered x past (MissingCall proposal.now) result)) }
 {
@@ -214,8 +228,8 @@ pub fn blocked<P: Copy + Ord, G, C, D>(
     ensures ascending { IfOk result (λ keys. IsStrictlySortedBy P.cmp keys.items) }
     ensures senders { IfOk result (λ keys. (key : P) → list_any (P.eq key) keys.items
         ≡ list_any (P.eq key) (blocked_senders calls.now answers.now)) }
-    ensures cause { IfOk result (λ keys. (x : TheSetting D P G C) (before after : Stream)
-        (held : TheHeld G D) → IsRun x before calls.now answers.now held after
+    ensures cause { IfOk result (λ keys. (x : TheConfig D P G C) (before after : Stream)
+        (held : TheRoundState G D) → IsRun x before calls.now answers.now held after
         → All (GaveCause x (history calls.now answers.now)) keys.items) }
 {
     let mut senders = blocked_in_order(alloc, calls, answers)?;
@@ -247,6 +261,26 @@ fn blocked_by<P: Copy, G, C, D>(call: &Call<P, G, C, D>, answer: &Answer<G, C, D
         (Call::Network(sender, _), Answer::Network(admission)) if admission.block.is_some() => {
             Some(*sender)
         }
-        _ => None,
+        (
+            Call::Network(..),
+            Answer::Network(_)
+            | Answer::Own(..)
+            | Answer::OwnRefused(_)
+            | Answer::Certificate(_)
+            | Answer::Leader(_)
+            | Answer::Construct(_)
+            | Answer::Forward(_)
+            | Answer::Missing(_)
+            | Answer::OutOfMemory,
+        )
+        | (
+            Call::Own(_)
+            | Call::Certificate(_)
+            | Call::Leader(_)
+            | Call::Construct
+            | Call::Forward(_)
+            | Call::Missing(_),
+            _,
+        ) => None,
     }
 }

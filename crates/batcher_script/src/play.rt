@@ -69,9 +69,9 @@ fn print_script<W: Write>(
     }
 }
 
-/// Prints the answers up to the first for want of memory, and after so many of them as a question
-/// says who is blocked by then. Senders are gathered from question to question, so that many
-/// questions cost no more than their own lines.
+/// Prints the answers up to the first that is out of memory, and after so many of them as a
+/// question says who is blocked by then. Senders are gathered from question to question, so that
+/// many questions cost no more than their own lines.
 fn print_answers<S: TestScheme, W: Write>(
     alloc: Global,
     opening: &Opening,

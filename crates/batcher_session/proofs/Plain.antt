@@ -1,6 +1,5 @@
 -- Verdicts are known of the scheme's own and of their data alike.
-use Rattle.std.proofs.Common.{◌≡◌, ◌∙◌, ◌==◌, ◌&&◌, nat_lt, sym, ℕ, Bool, true, false, cond, List, [], ◌∷◌, length, filter, arith, Option, Some, None, is_none, ap, refl, Result, Ok, Err}
-use Rattle.std.specs.Prelude.{OnOk}
+use Rattle.std.proofs.Common.{◌≡◌, ◌∙◌, ◌==◌, ◌&&◌, nat_lt, sym, ℕ, Bool, true, false, cond, List, [], ◌∷◌, length, filter, arith, Option, Some, None, is_none, ap, refl}
 use Rattle.std.specs.Ordering.{nat_cmp}
 use Rattle.std.specs.Map.{lookup}
 use Rattle.std.specs.BTreeMap.{is_at}
@@ -10,10 +9,9 @@ use Rattle.std.proofs.lemmas.Map.Made.{lookup-map_values}
 use Rattle.batcher.specs.messages.Attestation.{Attestation}
 use Rattle.batcher_external.specs.declared.truth.Truth.{Ghosts}
 use Rattle.batcher_external.specs.declared.truth.Verdict.{Verdict}
-use Rattle.batcher_external.specs.declared.truth.Whole.{Whole}
-use Rattle.batcher_external.specs.Known.{known_of_whole}
-use Rattle.batcher_external.specs.Known as theirs
-use Rattle.batcher_session.specs.Ledgers.{Single, single_of, singles_of, together_of, known_in, known_together, unknown_among, or_false}
+use Rattle.batcher_external.specs.KnownAttestations.{known_of_whole}
+use Rattle.batcher_external.specs.KnownAttestations as theirs
+use Rattle.batcher_session.specs.Ledgers.{Single, single_of, singles_of, known_in, unknown_among, or_false}
 use Rattle.batcher_session.specs.Wants.{asked_singly}
 
 module _ {T : Type 0} {truth : Ghosts T} where
@@ -43,10 +41,6 @@ module _ {T : Type 0} {truth : Ghosts T} where
       ≡ theirs.unknown_among singles attestations
   same_unknown singles attestations =
       ap (λ p. filter p attestations) (λ i. λ a. is_none (same_known singles a.signature i))
-
-pub on_ok : {A E P Q : Type 0} (result : Result A E) → (P → Q) → OnOk result P → OnOk result Q
-on_ok (Ok a) f p = f p
-on_ok (Err e) f p = tt
 
 pub none_asked : (unknown : List (Attestation ℕ)) (n : ℕ) → length unknown ≡ n → (n == 0) ≡ true
     → None ≡ asked_singly unknown

@@ -9,7 +9,7 @@ use Rattle.batcher.specs.messages.Attestation.{Attestation}
 use Rattle.batcher_external.specs.declared.truth.Truth.{Ghosts}
 use Rattle.batcher_external.specs.declared.truth.Verdict.{Verdict}
 use Rattle.batcher_external.specs.declared.truth.Whole.{Whole}
-use Rattle.batcher_external.specs.Known.{same_attestation}
+use Rattle.batcher_external.specs.KnownAttestations.{same_attestation}
 
 -- a verdict on the attestation of a number
 pub record Single : Type 0 where

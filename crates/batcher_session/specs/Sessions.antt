@@ -4,11 +4,11 @@ use Rattle.std.specs.Ordering.{nat_cmp}
 use Rattle.std.specs.Cmp.Lexicographic.{pointwise}
 use Rattle.batcher.specs.messages.Sha256Digest.{Sha256Digest}
 use Rattle.batcher.specs.scheme.keyed.Name.{Name}
-use Rattle.batcher.specs.Held.{RoundView}
-use Rattle.batcher.specs.Judged.{judge}
-use Rattle.batcher.specs.Setting.{Setting}
+use Rattle.batcher.specs.RoundState.{RoundView}
+use Rattle.batcher.specs.RoundContracts.{round_config}
+use Rattle.batcher.specs.Config.{Config}
 use Rattle.batcher.specs.History.{History, Event}
-use Rattle.batcher.specs.Stands.{Stands, Follows}
+use Rattle.batcher.specs.Represents.{Represents, Simulates}
 use Rattle.batcher_external.specs.declared.truth.Truth.{Ghosts}
 use Rattle.batcher_external.specs.declared.scheme.Content.{Content}
 use Rattle.batcher_external.specs.declared.scheme.External.{External}
@@ -32,25 +32,25 @@ seen batchable round =
     }
 
 module _ {T : Type 0} (truth : Ghosts T) where
-  -- what a round is judged by: its scheme, and whether keys, signatures and digests are the same
-  abbrev pub judged : RoundView SchemeView ℕ Sha256Digest
-      → Setting Sha256Digest Name ℕ (Content T truth)
-  judged round =
-      judge (meaning_by truth) (λ a b. nat_cmp a.0 b.0) (λ a b. a == b)
+  -- the configuration of a round: its scheme, and whether keys, signatures and digests are the same
+  abbrev pub config_by : RoundView SchemeView ℕ Sha256Digest
+      → Config Sha256Digest Name ℕ (Content T truth)
+  config_by round =
+      round_config (meaning_by truth) (λ a b. nat_cmp a.0 b.0) (λ a b. a == b)
       (λ a b. pointwise (λ x y. x == y) a.0 b.0) round
 
-  -- It holds of every history after which the round stands.
-  abbrev pub AfterAnyHistory : RoundView SchemeView ℕ Sha256Digest
+  -- It holds of every history that the round represents.
+  abbrev pub ForEachHistory : RoundView SchemeView ℕ Sha256Digest
       → (History Sha256Digest Name ℕ (Content T truth) → Type 0) → Type 0
-  AfterAnyHistory round holds =
+  ForEachHistory round holds =
       (past : History Sha256Digest Name ℕ (Content T truth))
-      → Stands (judged round) past round.holds → holds past
+      → Represents (config_by round) past round.holds → holds past
 
-  -- The round goes on with a call and its answer, whichever history it stands after.
+  -- The round goes on with a call and its answer, whichever history it represents.
   abbrev pub GoesOn : RoundView SchemeView ℕ Sha256Digest
       → Event Sha256Digest Name ℕ (Content T truth) → RoundView SchemeView ℕ Sha256Digest → Type 0
   GoesOn old event new =
-      AfterAnyHistory old (λ past. Follows (judged old) past old.holds event new.holds)
+      ForEachHistory old (λ past. Simulates (config_by old) past old.holds event new.holds)
 
 -- A call changes nothing of a round but what it holds.
 pub record SameRound (old new : RoundView SchemeView ℕ Sha256Digest) : Type 0 where

@@ -1,7 +1,7 @@
 -- A round over either sort of scheme, as one.
 use Rattle.std.specs.Prelude.{ℕ, true, false}
 use Rattle.batcher.specs.messages.Sha256Digest.{Sha256Digest}
-use Rattle.batcher.specs.Held.{RoundView}
+use Rattle.batcher.specs.RoundState.{RoundView}
 use Rattle.batcher_external.specs.declared.truth.Truth.{Ghosts}
 use Rattle.batcher_session.specs.declared.session.Sort.{Sort}
 use Rattle.batcher_session.specs.declared.session.Sort.TheVariants.{Batchable, OneByOne}

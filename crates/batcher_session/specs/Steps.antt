@@ -1,5 +1,5 @@
 -- What a step says.
-use Rattle.std.specs.Prelude.{⊤, ℕ, Bool, true, false, Option, Some, None}
+use Rattle.std.specs.Prelude.{⊤, Bool, true, false, Option, Some, None}
 use Rattle.batcher.specs.messages.Sha256Digest.{Sha256Digest}
 use Rattle.batcher.specs.messages.Subject.{Subject}
 use Rattle.batcher.specs.messages.Certificate.{Certificate}

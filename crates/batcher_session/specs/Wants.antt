@@ -2,8 +2,8 @@
 use Rattle.std.specs.Prelude.{◌+◌, ◌&&◌, ℕ, Bool, true, false, nat_le, cond, List, ◌++◌, length, Option, Some, None}
 use Rattle.batcher.specs.Lists.{is_empty}
 use Rattle.batcher.specs.Quorum.{quorum_of}
-use Rattle.batcher.specs.Held.{Held}
-use Rattle.batcher.specs.Setting.{Setting}
+use Rattle.batcher.specs.RoundState.{RoundState}
+use Rattle.batcher.specs.Config.{Config}
 use Rattle.batcher.specs.messages.Attestation.{Attestation}
 use Rattle.batcher_round.specs.Next.{pending_next, verified_next}
 use Rattle.batcher_session.specs.Ledgers.{LedgerView, known_together, unknown_among}
@@ -49,5 +49,6 @@ module _ (l : LedgerView) (verified pending : List (Attestation ℕ)) where
   asked_of = cond (is_empty pending) None (asked_with known_first)
 
 -- what the next construction of a round asks, by the verdicts that are recorded
-abbrev pub asked_next : {D K C : Type 0} → LedgerView → Setting D K ℕ C → Held ℕ D → Option Asked
+abbrev pub asked_next : {D K C : Type 0} → LedgerView → Config D K ℕ C → RoundState ℕ D
+    → Option Asked
 asked_next l x held = asked_of l (verified_next x held) (pending_next x held)

@@ -4,13 +4,13 @@ ghost use Rattle.std.specs.Prelude.{◌≡◌, ◌≢◌, ◌≤◌, ◌↔◌, 
 ghost use Rattle.batcher.specs.Answers.{own_answer};
 ghost use Rattle.batcher.specs.Steps.{fault_or_memory};
 ghost use Rattle.batcher.specs.Votes.{attestation_of, subject_of, subject_certified, round_in};
-ghost use Rattle.batcher.specs.Ran.{IsPromised};
-ghost use Rattle.batcher.specs.Stands.{Stands};
+ghost use Rattle.batcher.specs.RunContract.{IsPromised};
+ghost use Rattle.batcher.specs.Represents.{Represents};
 ghost use Rattle.batcher.specs.calls.Call.TheVariants.{Network as NetworkCall, Own as OwnCall, Construct as ConstructCall, Certificate as CertificateCall};
 ghost use Rattle.batcher.specs.answers.Answer.TheVariants.{Network as NetworkAnswer, Own as OwnAnswer, Construct as ConstructAnswer, Certificate as CertificateAnswer};
 ghost use Rattle.batcher_session.specs.Ledgers.{is_known_to_attest};
 ghost use Rattle.batcher.specs.answers.OwnFault.{OwnFault as TheFault};
-ghost use Rattle.batcher_session.specs.Sessions.{seen, judged, AfterAnyHistory, GoesOn, SameRound};
+ghost use Rattle.batcher_session.specs.Sessions.{seen, config_by, ForEachHistory, GoesOn, SameRound};
 
 use crate::ledger::Ledger;
 use crate::step::OwnRefusal;
@@ -36,8 +36,8 @@ pub(crate) fn begin<T: Truth, const BATCHABLE: bool>(
     ensures mode { IfOk result (λ round. round.mode ≡ mode) }
     ensures participants { IfOk result (λ round.
         length round.scheme.participants ≡ ledger.now.participants) }
-    ensures stands { IfOk result (λ round.
-        Stands (judged T.Truth (seen BATCHABLE round)) [] round.holds) }
+    ensures represents { IfOk result (λ round.
+        Represents (config_by T.Truth (seen BATCHABLE round)) [] round.holds) }
 {
     let scheme = ledger.scheme()?;
     Ok(Round::in_mode(alloc, number, scheme, mode))
@@ -83,8 +83,8 @@ pub(crate) fn accept_vote<T: Truth, const BATCHABLE: bool>(
     ensures not_verified { result ≡ Err OwnRefusal.NotVerified
         → is_known_to_attest ledger.now (attestation_of vote) ≡ false }
     ensures named { (fault : TheFault) → result ≡ Err (OwnRefusal.Fault fault)
-        → AfterAnyHistory T.Truth (seen BATCHABLE round.old) (λ past. fault
-        ≡ fault_or_memory (own_answer (judged T.Truth (seen BATCHABLE round.old)) past vote)) }
+        → ForEachHistory T.Truth (seen BATCHABLE round.old) (λ past. fault
+        ≡ fault_or_memory (own_answer (config_by T.Truth (seen BATCHABLE round.old)) past vote)) }
     ensures outcome { IfOk result (λ answer. answer.0 ≢ Outcome.Conflicting) }
     ensures refused { OnErr result (round.new ≡ round.old) }
     ensures same { SameRound (seen BATCHABLE round.old) (seen BATCHABLE round.new) }
@@ -141,8 +141,8 @@ pub(crate) fn try_construct<T: Truth, const BATCHABLE: bool>(
 pub(crate) fn promises<T: Truth, const BATCHABLE: bool>(
     round: &Round<External<T, BATCHABLE>, Sha256Digest>,
 )
-    ensures { AfterAnyHistory T.Truth (seen BATCHABLE round.now) (λ past.
-        IsPromised (judged T.Truth (seen BATCHABLE round.now)) past) }
+    ensures { ForEachHistory T.Truth (seen BATCHABLE round.now) (λ past.
+        IsPromised (config_by T.Truth (seen BATCHABLE round.now)) past) }
 {
     let _ = round.number();
     possible_histories_are_promised::<External<T, BATCHABLE>, Sha256Digest>();

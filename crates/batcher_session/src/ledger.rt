@@ -7,11 +7,11 @@ ghost use Rattle.batcher_session.specs.Ledgers.{SameScheme, known_in, known_toge
 ghost use Rattle.batcher_session.specs.Wants.{asked_next, asked_singly, known_first};
 ghost use Rattle.batcher_session.specs.Steps.{asked_by, subject_asked};
 
-use crate::names::names;
 use crate::step::{Step, Wanted};
 use batcher::messages::{Attestation, Sha256Digest, Subject};
 use batcher::positions::quorum;
-use batcher::round::{Judge, Round};
+use batcher::round::{Round, RoundConfigs};
+use batcher::scheme::names;
 use batcher::verifier::NextAttempt;
 use batcher_external::{External, Truth, Verdicts};
 use std::alloc::{AllocError, Global};
@@ -151,14 +151,15 @@ impl<T: Truth> Ledger<T> {
         round: &Round<External<T, BATCHABLE>, Sha256Digest>,
     ) -> Result<Option<Step<T>>, AllocError>
         requires { self.now.participants ≡ length round.now.scheme.participants }
-        ensures asks { IfOk result (λ found. option_and_then asked_by found
-            ≡ asked_next self.now
-            (⟦<External<T, BATCHABLE> as Judge<Sha256Digest>>⟧.of round.now) round.now.holds) }
+        ensures asks { IfOk result (λ found. option_and_then asked_by found ≡ asked_next
+            self.now (⟦<External<T, BATCHABLE> as RoundConfigs<Sha256Digest>>⟧.of round.now)
+            round.now.holds) }
         ensures asked { IfOk result (λ found. IfSome found (λ step.
             is_some (asked_by step) ≡ true)) }
         ensures subject { IfOk result (λ found. IfSome found (λ step.
             subject_asked step ≡ subject_next
-            (⟦<External<T, BATCHABLE> as Judge<Sha256Digest>>⟧.of round.now) round.now.holds)) }
+            (⟦<External<T, BATCHABLE> as RoundConfigs<Sha256Digest>>⟧.of round.now)
+            round.now.holds)) }
     {
         let Some(attempt) = round.next_attempt() else {
             return Ok(None);

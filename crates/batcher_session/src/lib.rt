@@ -4,7 +4,6 @@
 
 mod calls;
 mod ledger;
-mod names;
 mod session;
 mod step;
 

@@ -7,14 +7,14 @@ ghost use Rattle.batcher.specs.Comparison.{has_block};
 ghost use Rattle.batcher.specs.answers.OwnFault.{OwnFault as TheFault};
 ghost use Rattle.batcher.specs.Answers.{keeps_nullify, own_answer};
 ghost use Rattle.batcher.specs.Steps.{fault_or_memory};
-ghost use Rattle.batcher.specs.Ran.{IsPromised};
-ghost use Rattle.batcher.specs.Stands.{Stands, Follows, Meets};
+ghost use Rattle.batcher.specs.RunContract.{IsPromised};
+ghost use Rattle.batcher.specs.Represents.{Represents, Simulates, Meets};
 ghost use Rattle.batcher.specs.calls.Call.TheVariants.{Network as NetworkCall, Own as OwnCall, Construct as ConstructCall, Leader as LeaderCall, Forward as ForwardCall, Certificate as CertificateCall, Missing as MissingCall};
 ghost use Rattle.batcher.specs.answers.Answer.TheVariants.{Network as NetworkAnswer, Own as OwnAnswer, Construct as ConstructAnswer, Leader as LeaderAnswer};
 ghost use Rattle.batcher.specs.answers.Answer.TheVariants.{Forward as ForwardAnswer, Certificate as CertificateAnswer, Missing as MissingAnswer};
 ghost use Rattle.batcher_round.specs.Next.{subject_next};
 ghost use Rattle.batcher_session.specs.Ledgers.{SameScheme, known_in, known_together, is_known_to_attest};
-ghost use Rattle.batcher_session.specs.Sessions.{judged, GoesOn, AfterAnyHistory, SameRound};
+ghost use Rattle.batcher_session.specs.Sessions.{config_by, GoesOn, ForEachHistory, SameRound};
 ghost use Rattle.batcher_session.specs.Sorts.{view_of};
 ghost use Rattle.batcher_session.specs.Steps.{asked_by, subject_asked, IfAnswered};
 ghost use Rattle.batcher_session.specs.Wants.{asked_next};
@@ -82,8 +82,8 @@ impl<T: Truth> Session<T> {
             s.round.scheme.batchable ≡ batchable)) }
         ensures aggregates { IfOk result (λ made. IfSome made (λ s.
             s.ledger.aggregates ≡ aggregates)) }
-        ensures stands { IfOk result (λ made. IfSome made (λ s.
-            Stands (judged T.Truth s.round) [] s.round.holds)) }
+        ensures represents { IfOk result (λ made. IfSome made (λ s.
+            Represents (config_by T.Truth s.round) [] s.round.holds)) }
     {
         if count == 0 {
             return Ok(None);
@@ -171,8 +171,8 @@ impl<T: Truth> Session<T> {
         ensures not_verified { result ≡ Err OwnRefusal.NotVerified
             → is_known_to_attest self.old.ledger (attestation_of vote) ≡ false }
         ensures named { (fault : TheFault) → result ≡ Err (OwnRefusal.Fault fault)
-            → AfterAnyHistory T.Truth self.old.round (λ past. fault
-            ≡ fault_or_memory (own_answer (judged T.Truth self.old.round) past vote)) }
+            → ForEachHistory T.Truth self.old.round (λ past. fault
+            ≡ fault_or_memory (own_answer (config_by T.Truth self.old.round) past vote)) }
         ensures outcome { IfOk result (λ answer. answer.0 ≢ Outcome.Conflicting) }
         ensures refused { OnErr result (self.new ≡ self.old) }
         ensures verdicts { self.new.ledger ≡ self.old.ledger }
@@ -219,8 +219,8 @@ impl<T: Truth> Session<T> {
 
     /// Sets the leader. The same one again changes nothing; another one is refused.
     pub fn set_leader(&mut self, leader: Participant) -> Result<(), LeaderFault>
-        ensures meets { AfterAnyHistory T.Truth self.old.round (λ past.
-            Meets (judged T.Truth self.old.round) past self.old.round.holds
+        ensures meets { ForEachHistory T.Truth self.old.round (λ past.
+            Meets (config_by T.Truth self.old.round) past self.old.round.holds
             (LeaderCall leader, LeaderAnswer result) self.new.round.holds) }
         ensures refused { OnErr result (self.new ≡ self.old) }
         ensures verdicts { self.new.ledger ≡ self.old.ledger }
@@ -247,7 +247,7 @@ impl<T: Truth> Session<T> {
 
     /// The leader, once it is set.
     pub fn leader(&self) -> Option<Participant>
-        ensures { AfterAnyHistory T.Truth self.now.round (λ past. result ≡ leader_of past) }
+        ensures { ForEachHistory T.Truth self.now.round (λ past. result ≡ leader_of past) }
     {
         match &self.sort {
             Sort::Batchable(round) => round.leader(),
@@ -257,8 +257,8 @@ impl<T: Truth> Session<T> {
 
     /// The selected proposal: the leader's, or one that evidence fixed.
     pub fn proposal(&self) -> Option<Proposal<Sha256Digest>>
-        ensures { AfterAnyHistory T.Truth self.now.round (λ past.
-            result ≡ selected_proposal (judged T.Truth self.now.round) past) }
+        ensures { ForEachHistory T.Truth self.now.round (λ past.
+            result ≡ selected_proposal (config_by T.Truth self.now.round) past) }
     {
         match &self.sort {
             Sort::Batchable(round) => round.proposal(),
@@ -268,7 +268,7 @@ impl<T: Truth> Session<T> {
 
     /// Whether a certificate of the kind is there.
     pub fn has_certificate(&self, kind: Kind) -> bool
-        ensures { AfterAnyHistory T.Truth self.now.round (λ past. result ≡ is_certified past kind) }
+        ensures { ForEachHistory T.Truth self.now.round (λ past. result ≡ is_certified past kind) }
     {
         match &self.sort {
             Sort::Batchable(round) => round.has_certificate(kind),
@@ -278,8 +278,8 @@ impl<T: Truth> Session<T> {
 
     /// Whether a nullify of the signer is kept in full.
     pub fn has_nullify(&self, signer: Participant) -> bool
-        ensures { AfterAnyHistory T.Truth self.now.round (λ past.
-            result ≡ keeps_nullify (judged T.Truth self.now.round) past signer.0) }
+        ensures { ForEachHistory T.Truth self.now.round (λ past.
+            result ≡ keeps_nullify (config_by T.Truth self.now.round) past signer.0) }
     {
         match &self.sort {
             Sort::Batchable(round) => round.has_nullify(signer),
@@ -293,8 +293,8 @@ impl<T: Truth> Session<T> {
         proposal: &Proposal<Sha256Digest>,
         participant: Participant,
     ) -> bool
-        ensures { AfterAnyHistory T.Truth self.now.round (λ past.
-            result ≡ not (has_block (judged T.Truth self.now.round) past participant.0
+        ensures { ForEachHistory T.Truth self.now.round (λ past.
+            result ≡ not (has_block (config_by T.Truth self.now.round) past participant.0
             proposal.now)) }
     {
         match &self.sort {
@@ -308,8 +308,8 @@ impl<T: Truth> Session<T> {
         &self,
         proposal: &Proposal<Sha256Digest>,
     ) -> Result<Participants, AllocError>
-        ensures { AfterAnyHistory T.Truth self.now.round (λ past. IfOk result (λ list.
-            Follows (judged T.Truth self.now.round) past self.now.round.holds
+        ensures { ForEachHistory T.Truth self.now.round (λ past. IfOk result (λ list.
+            Simulates (config_by T.Truth self.now.round) past self.now.round.holds
             (MissingCall proposal.now, MissingAnswer list) self.now.round.holds)) }
     {
         match &self.sort {
@@ -319,10 +319,10 @@ impl<T: Truth> Session<T> {
     }
 
     /// Does nothing. Its contract says that all that is promised of a round holds of every history
-    /// after which the session's round stands, whatever is true of the attestations.
+    /// that the session's round represents, whatever is true of the attestations.
     pub fn promises(&self)
-        ensures { AfterAnyHistory T.Truth self.now.round (λ past.
-            IsPromised (judged T.Truth self.now.round) past) }
+        ensures { ForEachHistory T.Truth self.now.round (λ past.
+            IsPromised (config_by T.Truth self.now.round) past) }
     {
         match &self.sort {
             Sort::Batchable(round) => promises(round),
@@ -336,9 +336,9 @@ impl<T: Truth> Session<T> {
     /// that is made forgets all of them. A refusal for memory leaves the round as it was.
     pub fn try_construct(&mut self) -> Result<Step<T>, AllocError>
         ensures asks { IfOk result (λ step. asked_by step ≡ asked_next self.old.ledger
-            (judged T.Truth self.old.round) self.old.round.holds) }
+            (config_by T.Truth self.old.round) self.old.round.holds) }
         ensures subject { IfOk result (λ step. IfSome (subject_asked step) (λ subject.
-            subject_next (judged T.Truth self.old.round) self.old.round.holds
+            subject_next (config_by T.Truth self.old.round) self.old.round.holds
             ≡ Some subject)) }
         ensures asked_stays { IfOk result (λ step. is_some (asked_by step) ≡ true
             → self.new ≡ self.old) }
@@ -360,11 +360,11 @@ impl<T: Truth> Session<T> {
     // On what the next construction wants verdicts first.
     fn wanted(&self) -> Result<Option<Step<T>>, AllocError>
         ensures asks { IfOk result (λ found. option_and_then asked_by found
-            ≡ asked_next self.now.ledger (judged T.Truth self.now.round) self.now.round.holds) }
+            ≡ asked_next self.now.ledger (config_by T.Truth self.now.round) self.now.round.holds) }
         ensures asked { IfOk result (λ found. IfSome found (λ step.
             is_some (asked_by step) ≡ true)) }
         ensures subject { IfOk result (λ found. IfSome found (λ step. subject_asked step
-            ≡ subject_next (judged T.Truth self.now.round) self.now.round.holds)) }
+            ≡ subject_next (config_by T.Truth self.now.round) self.now.round.holds)) }
     {
         match &self.sort {
             Sort::Batchable(round) => self.ledger.wanted(round),

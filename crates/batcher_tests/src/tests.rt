@@ -3,13 +3,14 @@
 //! scripts of `vectors/`.
 //!
 //! A test is proved safe before it runs, and what its calls promise is carried to its end. So the
-//! calls of a round stand in functions that promise nothing. They take it by `&mut`: wherever a
+//! calls of a round are in functions that promise nothing. They take it by `&mut`: wherever a
 //! function that owns a round may end, its drop is proved once more.
 
 mod memory;
 mod rows;
 mod schemes;
 mod scripts;
+mod texts;
 mod verifiers;
 
 use batcher::messages::{
@@ -18,9 +19,8 @@ use batcher::messages::{
 };
 use batcher::positions::{self, Epoch, Participant, Set, View};
 use batcher::round::Round;
-use batcher::scheme::{AttestationList, Counter, Keyed, Name, Scheme};
+use batcher::scheme::{AttestationList, Counter, Keyed, Name, Scheme, names};
 use batcher::verifier::Batch;
-use batcher_reader::calls::names;
 use std::alloc::{AllocError, Global};
 use std::process::Abort;
 use std::rc::Rc;

@@ -1,4 +1,4 @@
--- Where an item stands in an ascending list, or where it would.
+-- Where an item is in an ascending list, or where it would be.
 use Rattle.std.proofs.Common.{◌≡◌, ◌∙◌, ◌≤◌, ◌<◌, ◌+◌, ◌++◌, ℕ, suc, zero, Bool, true, false, cond, ◌||◌, nat_eq, nat_lt, nat_le, List, [], ◌∷◌, length, get_or, set, take, drop, map, find, Some, None, is_some, Result, Ok}
 use Rattle.std.proofs.Common.{Err, refl, ap}
 use Rattle.std.proofs.Common.{sym, arith}
@@ -61,7 +61,7 @@ module _ {X : Type 0} (key : X → ℕ) where
     either true e = refl
     either false e = e
 
-  -- as many are lower as stand before an element
+  -- as many are lower as are before an element
   count_at : (xs : List X) (i k : ℕ) (d : X) → IsAscending key xs → i < length xs
       → key (get_or xs i d) ≡ k → lower_count xs k ≡ i
   unfolding IsAscending
@@ -102,7 +102,7 @@ module _ {X : Type 0} (key : X → ℕ) where
       let at = count_at (y ∷ ys) i k y up below (found_key key (y ∷ ys) k (get_or (y ∷ ys) i y) (found y)) in
       rw (some, at)
 
-  -- an element with the number is the one that is found, and stands at its place
+  -- an element with the number is the one that is found, and is at its place
   pub item_place : (xs : List X) (k i : ℕ) → IsAscending key xs → i < length xs
       → ((d : X) → key (get_or xs i d) ≡ k) → Ok i ≡ place_of (map key xs) k
   item_place xs k i up below at =
@@ -172,7 +172,7 @@ module _ {X : Type 0} (key : X → ℕ) where
       let both = found_of _ _ i is in
       rw (← both.1) (at_count xs k up (sym (any_found xs k) ∙ both.0))
 
-  -- The element before which all lower ones stand has the number, if any has.
+  -- The element before which all lower ones are has the number, if any has.
   after_test : (xs : List X) (k : ℕ) → IsAscending key xs
       → is_some_and (slice_get xs (lower_count xs k)) (λ x. key x == k)
       ≡ list_any (λ s. s == k) (map key xs)
@@ -219,7 +219,7 @@ module _ {X : Type 0} (key : X → ℕ) where
         let no : nat_lt (key y) (k + 1) ≡ false = grind (arith, nat_tests) in
         rw no (omega (arith, rest))
 
-  -- so one look there tells the place, and how many are below the next number
+  -- so one look there gives the place, and how many are below the next number
   module _ (xs : List X) (k i : ℕ) (is_there : Bool) (up : IsAscending key xs)
       (at : i ≡ count (λ s. nat_lt s k) (map key xs))
       (test : is_there ≡ is_some_and (slice_get xs i) (λ x. key x == k)) where
@@ -258,7 +258,7 @@ module _ {X : Type 0} (key : X → ℕ) where
       ≡ Ok i → find (λ x. nat_eq (key x) k) xs ≡ Some (get_or xs i d)
   place_item xs k i d up is = sym (place_found xs k i up is) ∙ slice_get-get_or xs i d (place_below xs k i is)
 
-  -- a place where an element would stand tells that there is none
+  -- a place where an element would be shows that there is none
   pub place_absent : (xs : List X) (k i : ℕ) → place_of (map key xs) k ≡ Err i
       → find (λ x. nat_eq (key x) k) xs ≡ None
   unfolding place_of
@@ -297,7 +297,7 @@ module _ {X : Type 0} (key : X → ℕ) where
   unfolding place_of
   place_some xs k x h = let some = any_found xs k ∙ ap is_some h in rw some
 
-  -- as many elements stand before one as are lower
+  -- as many elements are before one as are lower
   pub rank_below : (xs : List X) (k : ℕ) (x : X) → find (λ y. nat_eq (key y) k) xs ≡ Some x
       → lower_count xs k < length xs
   rank_below xs k x h = place_below xs k (lower_count xs k) (place_some xs k x h)

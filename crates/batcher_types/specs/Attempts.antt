@@ -8,8 +8,8 @@ use Rattle.batcher_types.specs.declared.positions.Participant.{Participant}
 use Rattle.batcher_types.specs.declared.messages.Attestation.{Attestation}
 use Rattle.batcher_types.specs.declared.messages.Subject.{Subject}
 
--- What an attempt gives, and which attestations stand verified after it.
-pub record Tried (G C : Type 0) : Type 0 where
+-- What an attempt gives, and which attestations are verified after it.
+pub record AttemptResult (G C : Type 0) : Type 0 where
   pub processed : ℕ
   pub invalid : List Participant
   pub certificate : Option C
@@ -25,7 +25,7 @@ module _ {D K G C : Type 0} (m : Meaning D K G C) (subject : Subject D) (q : ℕ
     (verified : List (Attestation G)) where
   -- Each one was verified by itself: those that attest join the verified ones, which make a
   -- certificate where they reach the quorum.
-  abbrev pub one_by_one : List (Attestation G) → Tried G C
+  abbrev pub one_by_one : List (Attestation G) → AttemptResult G C
   one_by_one pending =
       if nat_le q (length verified + length (filter (m.attests subject) pending))
       then record {
@@ -47,7 +47,7 @@ module _ {D K G C : Type 0} (m : Meaning D K G C) (subject : Subject D) (q : ℕ
       }
 
   -- A certificate was given at once, or each one was verified.
-  abbrev pub at_once : List (Attestation G) → Option C → Tried G C
+  abbrev pub at_once : List (Attestation G) → Option C → AttemptResult G C
   at_once pending (Some c) =
       record {
         processed = length pending;
@@ -59,8 +59,8 @@ module _ {D K G C : Type 0} (m : Meaning D K G C) (subject : Subject D) (q : ℕ
   at_once pending None = one_by_one pending
 
   -- Where they could be a quorum a certificate is asked for at once, else each is verified.
-  abbrev pub tried_with : List (Attestation G) → Stream → Tried G C × Stream
-  tried_with pending stream =
+  abbrev pub attempt_with : List (Attestation G) → Stream → AttemptResult G C × Stream
+  attempt_with pending stream =
       if nat_le q (length verified + length pending)
       then (
         at_once pending (m.assembled_at_once subject pending verified stream).0,
@@ -80,5 +80,5 @@ module _ {D K G C : Type 0} (m : Meaning D K G C) (subject : Subject D) (q : ℕ
       )
 
   -- the attempt with these pending attestations, and the stream that it leaves
-  abbrev pub attempt_of : List (Attestation G) → Stream → Tried G C × Stream
-  attempt_of pending stream = tried_with (checked q verified pending) stream
+  abbrev pub attempt_of : List (Attestation G) → Stream → AttemptResult G C × Stream
+  attempt_of pending stream = attempt_with (checked q verified pending) stream

@@ -24,7 +24,7 @@ is_new signer m item =
 unfoldable pub replace_by : {T : Type 0} → (T → ℕ) → T → List T → List T
 replace_by signer item items = map (λ x. if nat_eq (signer x) (signer item) then item else x) items
 
--- Where a signer stands among ascending ones, or if it isn't there where it would: after as many as
+-- Where a signer is among ascending ones, or if it isn't there where it would be: after as many as
 -- are lower.
 unfoldable pub place_of : List ℕ → ℕ → Result ℕ ℕ
 place_of signers i =

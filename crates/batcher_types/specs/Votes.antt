@@ -116,6 +116,6 @@ module _ {G D : Type 0} (same : D → D → Bool) where
   is_for p (FinalizeVote vote) = same_proposal same p vote.proposal
 
   -- With no proposal selected votes for any wait for it, else nullifies and those for it.
-  abbrev pub waits : Option (Proposal D) → Vote G D → Bool
-  waits None vote = true
-  waits (Some p) vote = not (has_proposals (kind_of vote)) || is_for p vote
+  abbrev pub is_eligible : Option (Proposal D) → Vote G D → Bool
+  is_eligible None vote = true
+  is_eligible (Some p) vote = not (has_proposals (kind_of vote)) || is_for p vote

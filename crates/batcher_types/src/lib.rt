@@ -1,5 +1,5 @@
 //! What travels between validators and what they sign: round numbers and participants, proposals,
-//! votes and certificates, and the schemes that tell what attestations are worth.
+//! votes and certificates, and the schemes that verify attestations.
 #![tactic(auto)]
 
 pub mod messages;

@@ -9,7 +9,7 @@ use crate::positions::{Participant, Round, View};
 pub use map::{AttributableMap, MapIter, Place, make_room_below};
 use std::fmt;
 
-/// The digest of a payload: a value, of which `==` tells whether two are the same.
+/// The digest of a payload: a value, of which `==` says whether two are the same.
 pub trait Digest: Copy + Eq {
     ghost identical: { (a b : Self) → Self.eq a b ≡ true → a ≡ b };
 }
@@ -57,7 +57,14 @@ impl<D> Proposal<D> {
     }
 }
 
-/// A signature with the index of its signer. Only a scheme can tell what it is worth.
+impl<D: fmt::Display> fmt::Display for Proposal<D> {
+    /// Its payload.
+    fn fmt<W: fmt::Write>(&self, f: &mut fmt::Formatter<W>) -> fmt::Result {
+        write!(f, "{}", self.payload)
+    }
+}
+
+/// A signature with the index of its signer. Only a scheme can verify it.
 #[derive(Clone, Copy, Debug, PartialEq, Eq)]
 pub struct Attestation<G> {
     pub signer: Participant,
@@ -124,6 +131,43 @@ pub enum Vote<G, D> {
     Notarize(Notarize<G, D>),
     Nullify(Nullify<G>),
     Finalize(Finalize<G, D>),
+}
+
+impl<G, D: fmt::Display> fmt::Display for Notarize<G, D> {
+    fn fmt<W: fmt::Write>(&self, f: &mut fmt::Formatter<W>) -> fmt::Result {
+        write!(
+            f,
+            "notarize({}, {})",
+            self.attestation.signer, self.proposal
+        )
+    }
+}
+
+impl<G> fmt::Display for Nullify<G> {
+    fn fmt<W: fmt::Write>(&self, f: &mut fmt::Formatter<W>) -> fmt::Result {
+        write!(f, "nullify({})", self.attestation.signer)
+    }
+}
+
+impl<G, D: fmt::Display> fmt::Display for Finalize<G, D> {
+    fn fmt<W: fmt::Write>(&self, f: &mut fmt::Formatter<W>) -> fmt::Result {
+        write!(
+            f,
+            "finalize({}, {})",
+            self.attestation.signer, self.proposal
+        )
+    }
+}
+
+impl<G, D: fmt::Display> fmt::Display for Vote<G, D> {
+    /// Its kind, signer and payload.
+    fn fmt<W: fmt::Write>(&self, f: &mut fmt::Formatter<W>) -> fmt::Result {
+        match self {
+            Vote::Notarize(notarize) => write!(f, "{notarize}"),
+            Vote::Nullify(nullify) => write!(f, "{nullify}"),
+            Vote::Finalize(finalize) => write!(f, "{finalize}"),
+        }
+    }
 }
 
 impl<G, D> Vote<G, D> {
@@ -222,11 +266,11 @@ impl<G: Copy, D: Copy> Vote<G, D> {
 }
 
 impl<G, D: Digest> Vote<G, D> {
-    ghost use Rattle.batcher_types.specs.Votes.{waits};
+    ghost use Rattle.batcher_types.specs.Votes.{is_eligible};
 
     /// Whether the vote waits where the proposal is selected: a nullify, or a vote for it.
-    pub fn waits_with(&self, proposal: &Proposal<D>) -> bool
-        ensures { result ≡ waits D.eq (Some proposal.now) self.now }
+    pub fn eligible_with(&self, proposal: &Proposal<D>) -> bool
+        ensures { result ≡ is_eligible D.eq (Some proposal.now) self.now }
     {
         match self {
             Vote::Notarize(notarize) => *proposal == notarize.proposal,
@@ -280,6 +324,17 @@ impl fmt::Display for Kind {
             Kind::Nullification => "nullification",
             Kind::Finalization => "finalization",
         })
+    }
+}
+
+impl<C, D: fmt::Display> fmt::Display for Certificate<C, D> {
+    /// Its kind and payload.
+    fn fmt<W: fmt::Write>(&self, f: &mut fmt::Formatter<W>) -> fmt::Result {
+        match self {
+            Certificate::Notarization(made) => write!(f, "notarization({})", made.proposal),
+            Certificate::Nullification(_) => write!(f, "nullification"),
+            Certificate::Finalization(made) => write!(f, "finalization({})", made.proposal),
+        }
     }
 }
 
@@ -407,4 +462,32 @@ pub enum Activity<G, D> {
     ConflictingNotarize(Notarize<G, D>, Notarize<G, D>),
     ConflictingFinalize(Finalize<G, D>, Finalize<G, D>),
     NullifyFinalize(Nullify<G>, Finalize<G, D>),
+}
+
+impl<G, D: fmt::Display> fmt::Display for Activity<G, D> {
+    /// What it is, with the signer and the payload of each vote that has one.
+    fn fmt<W: fmt::Write>(&self, f: &mut fmt::Formatter<W>) -> fmt::Result {
+        match self {
+            Activity::Notarize(vote) => write!(f, "{vote}"),
+            Activity::Nullify(vote) => write!(f, "{vote}"),
+            Activity::Finalize(vote) => write!(f, "{vote}"),
+            Activity::ConflictingNotarize(first, second) => {
+                let signer = second.attestation.signer;
+                let kept = &first.proposal;
+                let later = &second.proposal;
+                write!(f, "conflicting-notarize({signer}, {kept}, {later})")
+            }
+            Activity::ConflictingFinalize(first, second) => {
+                let signer = second.attestation.signer;
+                let kept = &first.proposal;
+                let later = &second.proposal;
+                write!(f, "conflicting-finalize({signer}, {kept}, {later})")
+            }
+            Activity::NullifyFinalize(_, vote) => {
+                let signer = vote.attestation.signer;
+                let payload = &vote.proposal;
+                write!(f, "nullify-finalize({signer}, {payload})")
+            }
+        }
+    }
 }

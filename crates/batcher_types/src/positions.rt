@@ -125,7 +125,7 @@ impl fmt::Display for Participant {
 }
 
 impl Participant {
-    /// The participant at this place, the first being 0. Whether there is one a round tells.
+    /// The participant at this place, the first being 0. A round knows whether there is one.
     pub const fn new(index: u32) -> Self
         ensures { result.0 ≡ index }
     {

@@ -15,7 +15,7 @@ mod sealed;
 use crate::messages::{Attestation, Digest, Subject};
 use crate::positions::{Participant, Set};
 pub use counter::Counter;
-pub use keyed::{AttestationList, Keyed, Name};
+pub use keyed::{AttestationList, Keyed, Name, names};
 use rand_core::CryptoRng;
 pub use sealed::Sealed;
 use std::alloc::{AllocError, Global};
@@ -32,7 +32,7 @@ pub struct Verification<G> {
 ///
 /// `meaning` is all that callers know of it. It has the relations `attests` and `certifies`, and
 /// what each call answers as a function of what goes in, the generator's stream included: so
-/// equal inputs give equal answers, and leave equal streams. Want of memory is the only error.
+/// equal inputs give equal answers, and leave equal streams. Out of memory is the only error.
 pub trait Scheme<D: Digest>: Drop {
     type PublicKey: Copy + Ord;
 

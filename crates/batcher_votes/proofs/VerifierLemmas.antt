@@ -1,6 +1,7 @@
 -- The verifier: the votes that wait, the proposal that is selected, and what comes of an attempt.
 
 pub mod AttemptLaws
+pub mod Certificates
 pub mod Changes
 pub mod CheckedQuorum
 pub mod Construction
@@ -9,4 +10,4 @@ pub mod KindChanges
 pub mod RestoredVotes
 pub mod Runs
 pub mod Soundness
-pub mod WaitingVotes
+pub mod EligibleVotes

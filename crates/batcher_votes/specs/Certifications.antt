@@ -5,7 +5,7 @@ use Rattle.batcher_types.specs.declared.messages.Vote.{Vote}
 use Rattle.batcher_votes.specs.declared.verifier.ProposalState.{ProposalState}
 use Rattle.batcher_votes.specs.declared.verifier.certification.Certification.{Certification}
 use Rattle.batcher_votes.specs.declared.verifier.certification.Certification.TheVariants.{Open, Complete}
-use Rattle.batcher_votes.specs.Held.{PerKind, Buffered}
+use Rattle.batcher_votes.specs.RoundState.{PerKind, VerifierState}
 
 -- what each is mapped to
 abbrev pub map_kinds : {X Y : Type 0} → (X → Y) → PerKind X → PerKind Y
@@ -46,7 +46,7 @@ module _ {G D : Type 0} where
   room_for_run Complete = 2 ^ 64 - 1
 
   abbrev pub held_by : Option Participant → ProposalState D → PerKind (Certification G D)
-      → Buffered G D
+      → VerifierState G D
   held_by leader selection kinds =
       record {
         leader = leader;

@@ -20,9 +20,9 @@ use Rattle.batcher_types.specs.Ascending.{insert_by}
 use Rattle.batcher_types.specs.Items.{item_of, replace_by}
 use Rattle.batcher_types.specs.Lists.{count, is_some_and}
 use Rattle.batcher_types.specs.Votes.{is_vote_of, has_proposals, proposal_in, subject_of}
-use Rattle.batcher_votes.specs.Selected.{is_selected}
-use Rattle.batcher_votes.specs.Held.{PerKind, of_kind, Facts, Tracked}
-use Rattle.batcher_votes.specs.Tracking.{Observed, unseen, from_kept, from_facts, no_facts}
+use Rattle.batcher_votes.specs.ProposalStates.{is_selected}
+use Rattle.batcher_votes.specs.RoundState.{PerKind, of_kind, Facts, TrackerState}
+use Rattle.batcher_votes.specs.TrackerSteps.{Observed, unseen, from_kept, from_facts, no_facts}
 
 abbrev pub marks_of : Marks → PerKind Bool
 marks_of marks =
@@ -41,13 +41,13 @@ pub record Entry : Type 0 where
   pub nullify : Seen
   pub finalize : Seen
 
--- what a mark says, with the place of the vote that is kept
+-- what a mark says, with the index of the vote that is kept
 abbrev pub seen_by : Mark → ℕ → Seen
-seen_by NothingMark place = Nothing
-seen_by UncomparedMark place = Uncompared
-seen_by DiffersMark place = Differs
-seen_by MatchesMark place = Matches
-seen_by KeptMark place = Kept place
+seen_by NothingMark index = Nothing
+seen_by UncomparedMark index = Uncompared
+seen_by DiffersMark index = Differs
+seen_by MatchesMark index = Matches
+seen_by KeptMark index = Kept index
 
 -- what an entry says of a kind
 abbrev pub part : Kind → Entry → Seen
@@ -79,7 +79,7 @@ abbrev pub entry_or_new : Participant → Option Entry → Entry
 entry_or_new i None = nothing_seen i
 entry_or_new i (Some entry) = entry
 
--- the item in the place of its signer's, or where it would stand
+-- the item in the place of its signer's, or where it would be
 abbrev pub put_by : {T : Type 0} → (T → ℕ) → T → List T → List T
 put_by signer item items =
     if is_some (item_of signer items (signer item)) then replace_by signer item items else
@@ -96,15 +96,15 @@ is_any Nothing = false
 is_any Uncompared = true
 is_any Differs = true
 is_any Matches = true
-is_any (Kept place) = true
+is_any (Kept index) = true
 
--- Whether a first vote is kept, and stands at a place.
-abbrev pub has_place : Seen → Bool
-has_place Nothing = false
-has_place Uncompared = false
-has_place Differs = false
-has_place Matches = false
-has_place (Kept place) = true
+-- Whether a first vote is kept, and has an index.
+abbrev pub has_index : Seen → Bool
+has_index Nothing = false
+has_index Uncompared = false
+has_index Differs = false
+has_index Matches = false
+has_index (Kept index) = true
 
 -- with one more vote that isn't kept, of which it is known whether it is for the selected proposal
 abbrev pub compared : Option Bool → Seen → Seen
@@ -112,13 +112,13 @@ compared None Nothing = Uncompared
 compared None Uncompared = Uncompared
 compared None Differs = Differs
 compared None Matches = Matches
-compared None (Kept place) = Uncompared
+compared None (Kept index) = Uncompared
 compared (Some true) seen = Matches
 compared (Some false) Nothing = Differs
 compared (Some false) Uncompared = Differs
 compared (Some false) Differs = Differs
 compared (Some false) Matches = Matches
-compared (Some false) (Kept place) = Differs
+compared (Some false) (Kept index) = Differs
 
 -- whether such a vote is for another proposal than an earlier one
 abbrev pub differs_from : Option Bool → Seen → Bool
@@ -128,7 +128,7 @@ differs_from None Differs = false
 differs_from (Some is_selected) Differs = is_selected
 differs_from None Matches = false
 differs_from (Some is_selected) Matches = not is_selected
-differs_from is_selected (Kept place) = false
+differs_from is_selected (Kept index) = false
 
 -- what comes of recording one more vote, of a kind that is compacted or isn't
 abbrev pub seen_outcome : Bool → Option Bool → Seen → Outcome
@@ -138,7 +138,7 @@ seen_outcome compacted is_selected Differs =
     cond (differs_from is_selected Differs) Conflicting (Duplicate false)
 seen_outcome compacted is_selected Matches =
     cond (differs_from is_selected Matches) Conflicting (Duplicate false)
-seen_outcome compacted is_selected (Kept place) = Duplicate true
+seen_outcome compacted is_selected (Kept index) = Duplicate true
 
 -- the facts of a signer's votes that aren't kept
 abbrev pub facts_seen : ℕ → Seen → Option Facts
@@ -146,7 +146,7 @@ facts_seen i Nothing = None
 facts_seen i Uncompared = Some (no_facts i)
 facts_seen i Differs = Some (record { signer = i; has_compared = true; has_matched = false })
 facts_seen i Matches = Some (record { signer = i; has_compared = true; has_matched = true })
-facts_seen i (Kept place) = None
+facts_seen i (Kept index) = None
 
 abbrev pub facts_part : Kind → Entry → Option Facts
 facts_part kind entry = facts_seen entry.signer.0 (part kind entry)
@@ -193,13 +193,13 @@ module _ {G D : Type 0} where
   own_vote kind i None = None
   own_vote kind i (Some vote) = cond (is_vote_of kind i vote) (Some vote) None
 
-  -- the vote at a place, where there is one
+  -- the vote at an index, where there is one
   abbrev pub vote_at : List (Vote G D) → Seen → Option (Vote G D)
   vote_at votes Nothing = None
   vote_at votes Uncompared = None
   vote_at votes Differs = None
   vote_at votes Matches = None
-  vote_at votes (Kept place) = slice_get votes place
+  vote_at votes (Kept index) = slice_get votes index
 
   -- the proposal of a vote, where there is one
   abbrev pub proposal_at : Option (Vote G D) → Option (Proposal D)
@@ -216,7 +216,7 @@ module _ {G D : Type 0} where
   kept_among false votes kind entries = filter_map (kept_part votes kind) entries
 
   -- what is tracked, by the kinds that are compacted, the votes that are kept and the entries
-  abbrev pub tracked_by : PerKind Bool → PerKind (List (Vote G D)) → List Entry → Tracked G D
+  abbrev pub tracked_by : PerKind Bool → PerKind (List (Vote G D)) → List Entry → TrackerState G D
   tracked_by compacted votes entries = record {
     compacted = compacted;
     kept = record {
@@ -237,27 +237,27 @@ module _ {G D : Type 0} where
   observed_seen i votes Uncompared = from_facts (facts_seen i Uncompared)
   observed_seen i votes Differs = from_facts (facts_seen i Differs)
   observed_seen i votes Matches = from_facts (facts_seen i Matches)
-  observed_seen i votes (Kept place) = from_kept (slice_get votes place)
+  observed_seen i votes (Kept index) = from_kept (slice_get votes index)
 
-  -- Whether what is said of a signer's votes of a kind may stand. A kind that is compacted has
-  -- facts and no places, another has places and no facts, and at each is a vote of the kind and
+  -- Whether what is said of a signer's votes of a kind may be there. A kind that is compacted has
+  -- facts and no indices, another has indices and no facts, and at each is a vote of the kind and
   -- signer. Votes that carry no proposal are never compared.
   abbrev pub may_say : Bool → Kind → List (Vote G D) → ℕ → Seen → Bool
   may_say compacted kind votes i Nothing = true
   may_say compacted kind votes i Uncompared = compacted
   may_say compacted kind votes i Differs = compacted && has_proposals kind
   may_say compacted kind votes i Matches = compacted && has_proposals kind
-  may_say compacted kind votes i (Kept place) =
-      not compacted && is_some_and (slice_get votes place) (is_vote_of kind i)
+  may_say compacted kind votes i (Kept index) =
+      not compacted && is_some_and (slice_get votes index) (is_vote_of kind i)
 
-  -- The entries and the kept votes of a kind fit: each entry's place is that of its vote, and there
-  -- are no more votes than places.
+  -- The entries and the kept votes of a kind fit: each entry's index is that of its vote, and there
+  -- are no more votes than indices.
   pub record Fits (compacted : Bool) (kind : Kind) (votes : List (Vote G D))
       (entries : List Entry) : Type 0 where
     pub each : AllPass (λ e. may_say compacted kind votes (key_of e) (part kind e)) entries
-    pub counted : length votes ≡ count (λ e. has_place (part kind e)) entries
+    pub counted : length votes ≡ count (λ e. has_index (part kind e)) entries
 
-  -- what a tracker keeps true: a place fits into 32 bits, and of each kind entries and votes fit
+  -- what a tracker keeps true: an index fits into 32 bits, and of each kind entries and votes fit
   pub record IsTracked (participants : ℕ) (compacted : PerKind Bool)
       (votes : PerKind (List (Vote G D))) (entries : List Entry) : Type 0 where
     pub few : participants < 2 ^ 32
@@ -285,8 +285,8 @@ module _ {G D : Type 0} (same : D → D → Bool) where
   seen_released selected votes Uncompared = Uncompared
   seen_released selected votes Differs = Differs
   seen_released selected votes Matches = Matches
-  seen_released selected votes (Kept place) =
-      compared (tested_at selected (slice_get votes place)) Nothing
+  seen_released selected votes (Kept index) =
+      compared (tested_at selected (slice_get votes index)) Nothing
 
   abbrev pub entry_released : Option (Proposal D) → Kind → List (Vote G D) → Entry → Entry
   entry_released selected kind votes entry =

@@ -2,7 +2,7 @@
 use Rattle.std.specs.Borrow.{Lends, MutBor, Fml, RattleType}
 use Rattle.batcher_types.specs.declared.messages.Kind.{Kind}
 use Rattle.batcher_types.specs.declared.messages.Kind.TheVariants.{Notarization, Nullification, Finalization}
-use Rattle.batcher_votes.specs.Held.{PerKind}
+use Rattle.batcher_votes.specs.RoundState.{PerKind}
 use Rattle.batcher_votes.specs.contracts.per_kind.PerKind.{the_row}
 
 -- the same with another one of a kind

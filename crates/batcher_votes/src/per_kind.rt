@@ -2,7 +2,7 @@
 
 ghost use Rattle.std.specs.Prelude.{◌≡◌};
 ghost use Rattle.std.specs.Borrow.{sem};
-ghost use Rattle.batcher_votes.specs.Held.{of_kind};
+ghost use Rattle.batcher_votes.specs.RoundState.{of_kind};
 ghost use Rattle.batcher_votes.specs.Kinds.{LendsKind};
 
 use batcher_types::messages::Kind;
@@ -17,7 +17,7 @@ pub(crate) struct PerKind<T> {
 }
 
 impl<T> Model for PerKind<T> {
-    ghost use Rattle.batcher_votes.specs.Held.{PerKind as OfEachKind};
+    ghost use Rattle.batcher_votes.specs.RoundState.{PerKind as OfEachKind};
 
     ghost Value = { OfEachKind T };
 

@@ -9,14 +9,14 @@ ghost use Rattle.batcher_votes.specs.declared.verifier.ProposalState.TheVariants
 ghost use Rattle.batcher_types.specs.Quorum.{quorum_of};
 ghost use Rattle.std.specs.List.{AllPass};
 ghost use Rattle.batcher_types.specs.Lists.{EachOnce};
-ghost use Rattle.batcher_types.specs.Votes.{is_kind, kind_of, is_of_kind, has_proposals, signer_of, subject_of, attestation_of, waits};
-ghost use Rattle.batcher_votes.specs.Selected.{proposal_of, selects, updated, same_selected, replaces};
-ghost use Rattle.batcher_votes.specs.Held.{of_kind, SameVerifier};
+ghost use Rattle.batcher_types.specs.Votes.{is_kind, kind_of, is_of_kind, has_proposals, signer_of, subject_of, attestation_of, is_eligible};
+ghost use Rattle.batcher_votes.specs.ProposalStates.{proposal_of, selects, updated, same_selected, replaces};
+ghost use Rattle.batcher_votes.specs.RoundState.{of_kind, SameVerifier};
 ghost use Rattle.batcher_types.specs.Attempts.{attempt_of};
-ghost use Rattle.batcher_votes.specs.Buffering.{attestations_of, nothing_buffered, subject_from, is_buffered, is_dropped, leaders_vote, leader_answer, subject_tried, certificate_for};
-ghost use Rattle.batcher_votes.specs.Buffering.{AddsVote, SetsLeader, SetsProposal, CompletesKind};
-ghost use Rattle.batcher_votes.specs.Looked.{pending_tried, verified_tried};
-ghost use Rattle.batcher_votes.specs.Sound.{IsSound, KeepsAllRoom, KeepsOtherRoom, RestoresRoom};
+ghost use Rattle.batcher_votes.specs.VerifierSteps.{attestations_of, nothing_buffered, subject_from, is_buffered, is_dropped, leaders_vote, leader_answer, subject_tried, certificate_for};
+ghost use Rattle.batcher_votes.specs.VerifierSteps.{AddsVote, SetsLeader, SetsProposal, CompletesKind};
+ghost use Rattle.batcher_votes.specs.AttemptInputs.{pending_tried, verified_tried};
+ghost use Rattle.batcher_votes.specs.Soundness.{IsSound, KeepsAllRoom, KeepsOtherRoom, RestoresRoom};
 ghost use Rattle.batcher_votes.specs.Verifiers.{is_of_round, subject_ready, is_ready_in, Tries, IfGiven, BatchCertifies, NamesSomebody, IsLeftAlone};
 ghost use Rattle.batcher_votes.specs.Verifiers.{room_for, taken_by, HasRoomToRestore, RestoresAll};
 
@@ -109,12 +109,12 @@ pub struct Verifier<S: Scheme<D>, D: Digest> {
 }
 
 impl<S: Scheme<D>, D: Digest> Model for Verifier<S, D> {
-    ghost use Rattle.batcher_votes.specs.Held.{Verifying};
+    ghost use Rattle.batcher_votes.specs.RoundState.{VerifierView};
 
-    ghost Value = { Verifying S S.Signature D };
+    ghost Value = { VerifierView S S.Signature D };
 
     ghost use Rattle.batcher_votes.specs.Certifications.{map_kinds, pending_room, verified_room, held_by};
-    ghost use Rattle.batcher_votes.specs.Sound.{IsSound};
+    ghost use Rattle.batcher_votes.specs.Soundness.{IsSound};
 
     ghost view = { λ v. record {
       scheme = v.scheme.value;
@@ -178,7 +178,7 @@ impl<S: Scheme<D>, D: Digest> Verifier<S, D> {
     }
 
     /// Takes a vote in, where it can still count. The leader's notarize selects its proposal. A
-    /// round makes the room first, and then calls `take`.
+    /// round makes the room first, and then calls `add_reserved`.
     pub fn add(&mut self, vote: Vote<S::Signature, D>, verified: bool) -> Result<(), AllocError>
         requires attests { verified ≡ true
             → (S.meaning self.old.scheme).attests (subject_of vote) (attestation_of vote) ≡ true }
@@ -194,18 +194,13 @@ impl<S: Scheme<D>, D: Digest> Verifier<S, D> {
             ≤ room_for self.new kind true + taken_by vote verified kind true }
         ensures same { SameVerifier self.old self.new }
     {
-        if !self.drops(&vote) {
-            self.make_room(vote.kind(), verified, 1)?;
-        }
-        self.select_by(&vote);
-        if self.proposal.may_wait(&vote) {
-            self.kinds.get_mut(vote.kind()).place(&vote, verified);
-        }
+        self.make_room_to_add(&vote, verified)?;
+        self.add_reserved(&vote, verified);
         Ok(())
     }
 
     /// Takes a vote in as `add` does, with the room that it may need. It takes no memory.
-    pub fn take(&mut self, vote: &Vote<S::Signature, D>, verified: bool)
+    pub fn add_reserved(&mut self, vote: &Vote<S::Signature, D>, verified: bool)
         requires attests { verified ≡ true
             → (S.meaning self.old.scheme).attests (subject_of vote.now) (attestation_of vote.now)
             ≡ true }
@@ -215,11 +210,15 @@ impl<S: Scheme<D>, D: Digest> Verifier<S, D> {
         requires room { is_dropped D.eq self.old.holds vote.now ≡ false
             → 1 ≤ room_for self.old (kind_of vote.now) verified }
         ensures adds { AddsVote D.eq self.old.holds vote.now verified self.new.holds }
+        ensures pending_room { (kind : TheKind) → room_for self.old kind false
+            ≤ room_for self.new kind false + taken_by vote.now verified kind false }
+        ensures verified_room { (kind : TheKind) → room_for self.old kind true
+            ≤ room_for self.new kind true + taken_by vote.now verified kind true }
         ensures same { SameVerifier self.old self.new }
     {
         self.select_by(vote);
-        if self.proposal.may_wait(vote) {
-            self.kinds.get_mut(vote.kind()).place(vote, verified);
+        if self.proposal.may_be_eligible(vote) {
+            self.kinds.get_mut(vote.kind()).push(vote, verified);
         }
     }
 
@@ -341,7 +340,7 @@ impl<S: Scheme<D>, D: Digest> Verifier<S, D> {
 
     /// A certificate of the kind is there, so its votes go, and their memory goes back. It takes no
     /// memory.
-    pub fn record_certificate(&mut self, kind: Kind)
+    pub fn complete_kind(&mut self, kind: Kind)
         ensures completes { CompletesKind D.eq self.old.holds kind self.new.holds }
         ensures room { KeepsOtherRoom kind self.old.pending_room self.old.verified_room
             self.new.pending_room self.new.verified_room }
@@ -519,7 +518,7 @@ impl<S: Scheme<D>, D: Digest> Verifier<S, D> {
                     None
                 }
             }
-            _ => None,
+            (Vote::Notarize(_), None) | (Vote::Nullify(_) | Vote::Finalize(_), _) => None,
         }
     }
 
@@ -539,6 +538,26 @@ impl<S: Scheme<D>, D: Digest> Verifier<S, D> {
         }
     }
 
+    // Makes room for a vote, where `add` doesn't drop it, and changes nothing else.
+    fn make_room_to_add(
+        &mut self,
+        vote: &Vote<S::Signature, D>,
+        verified: bool,
+    ) -> Result<(), AllocError>
+        ensures room { OnOk result (is_dropped D.eq self.old.holds vote.now ≡ false
+            → 1 ≤ room_for self.new (kind_of vote.now) verified) }
+        ensures holds { self.new.holds ≡ self.old.holds }
+        ensures kept { KeepsAllRoom self.old self.new }
+        ensures dropped { is_dropped D.eq self.old.holds vote.now ≡ true → IsOk result }
+        ensures no_memory { 1 ≤ room_for self.old (kind_of vote.now) verified → IsOk result }
+        ensures same { SameVerifier self.old self.new }
+    {
+        if self.drops(vote) {
+            return Ok(());
+        }
+        self.make_room(vote.kind(), verified, 1)
+    }
+
     // Whether `add` drops the vote: no vote of its kind is needed, or it is for another proposal.
     fn drops(&self, vote: &Vote<S::Signature, D>) -> bool
         ensures { result ≡ is_dropped D.eq self.now.holds vote.now }
@@ -547,7 +566,7 @@ impl<S: Scheme<D>, D: Digest> Verifier<S, D> {
             Some(proposal) => self.proposal.updated(ProposalState::Leader(proposal)),
             None => self.proposal,
         };
-        self.kinds.get(vote.kind()).is_complete() || !selection.may_wait(vote)
+        self.kinds.get(vote.kind()).is_complete() || !selection.may_be_eligible(vote)
     }
 
     // What is to be tried of a kind, where it is ready.
@@ -558,7 +577,7 @@ impl<S: Scheme<D>, D: Digest> Verifier<S, D> {
         ensures sound { IsSound (S.meaning self.now.scheme) D.eq self.now.number self.now.quorum
             self.now.holds }
     {
-        let any_proposal = self.waits_for_any(kind);
+        let any_proposal = self.eligible_for_any(kind);
         if !self
             .kinds
             .get(kind)
@@ -570,7 +589,7 @@ impl<S: Scheme<D>, D: Digest> Verifier<S, D> {
     }
 
     // Whether votes of the kind for any proposal wait.
-    fn waits_for_any(&self, kind: Kind) -> bool
+    fn eligible_for_any(&self, kind: Kind) -> bool
         ensures { result ≡ (has_proposals kind
             && is_none (proposal_of self.now.holds.selection)) }
     {
@@ -732,12 +751,12 @@ impl<D: Digest> ProposalState<D> {
     }
 
     // Whether the vote waits with what is selected.
-    fn may_wait<G: Copy>(&self, vote: &Vote<G, D>) -> bool
-        ensures { result ≡ waits D.eq (proposal_of self.now) vote.now }
+    fn may_be_eligible<G: Copy>(&self, vote: &Vote<G, D>) -> bool
+        ensures { result ≡ is_eligible D.eq (proposal_of self.now) vote.now }
     {
         match self.selected() {
             None => true,
-            Some(proposal) => vote.waits_with(proposal),
+            Some(proposal) => vote.eligible_with(proposal),
         }
     }
 }

@@ -7,10 +7,11 @@ ghost use Rattle.batcher_types.specs.declared.messages.Kind.{Kind};
 ghost use Rattle.batcher_types.specs.declared.messages.Kind.TheVariants.{Notarization, Nullification, Finalization};
 ghost use Rattle.batcher_types.specs.Ascending.{IsAscending};
 ghost use Rattle.batcher_types.specs.Lists.{count, is_some_and};
-ghost use Rattle.batcher_types.specs.Votes.{kind_of, attestation_of, waits};
-ghost use Rattle.batcher_votes.specs.Held.{of_kind};
+ghost use Rattle.batcher_types.specs.Votes.{kind_of, attestation_of, is_eligible};
+ghost use Rattle.batcher_votes.specs.RoundState.{of_kind};
 ghost use Rattle.batcher_votes.specs.Entries.{Entry as TheEntry, key_of, part, with_part, seen_in, entries_with, entry_released, votes_in, room_in, vote_at};
 ghost use Rattle.batcher_types.specs.Items.{item_of, place_of};
+ghost use Rattle.batcher_votes.specs.Texts.{mode_text, outcome_text};
 
 mod entry;
 mod kept;
@@ -20,6 +21,7 @@ use batcher_types::positions::Participant;
 use entry::{Entry, Seen, is_selected};
 use kept::KeptLists;
 use std::alloc::{AllocError, Global};
+use std::fmt;
 use std::marker::Model;
 
 /// How a round keeps its votes.
@@ -33,8 +35,20 @@ pub enum Mode {
     Skipped,
 }
 
+impl fmt::Display for Mode {
+    ghost output = { λ mode. Some (mode_text mode) };
+
+    fn fmt<W: fmt::Write>(&self, f: &mut fmt::Formatter<W>) -> fmt::Result {
+        f.write_str(match self {
+            Mode::Retaining => "retaining",
+            Mode::Releasing => "releasing",
+            Mode::Skipped => "skipped",
+        })
+    }
+}
+
 impl Mode {
-    ghost use Rattle.batcher_votes.specs.Tracking.{is_released_in};
+    ghost use Rattle.batcher_votes.specs.TrackerSteps.{is_released_in, is_skipped};
 
     // Whether votes of a certified kind are released.
     fn is_releasing(self) -> bool
@@ -45,9 +59,19 @@ impl Mode {
             Mode::Releasing | Mode::Skipped => true,
         }
     }
+
+    // Whether no votes are kept, of any kind.
+    fn is_skipped(self) -> bool
+        ensures { result ≡ is_skipped self }
+    {
+        match self {
+            Mode::Retaining | Mode::Releasing => false,
+            Mode::Skipped => true,
+        }
+    }
 }
 
-/// What came of recording a vote. `retained` tells whether votes of its kind are kept in full.
+/// What came of recording a vote. `retained` says whether votes of its kind are kept in full.
 #[derive(Clone, Copy, Debug, PartialEq, Eq)]
 pub enum Outcome {
     /// It is the first of its kind and signer.
@@ -57,6 +81,20 @@ pub enum Outcome {
     Duplicate { retained: bool },
     /// There was one before, and only one of the two is for the selected proposal.
     Conflicting,
+}
+
+impl fmt::Display for Outcome {
+    ghost output = { λ outcome. Some (outcome_text outcome) };
+
+    fn fmt<W: fmt::Write>(&self, f: &mut fmt::Formatter<W>) -> fmt::Result {
+        f.write_str(match self {
+            Outcome::Added { retained: true } => "added retained",
+            Outcome::Added { retained: false } => "added compact",
+            Outcome::Duplicate { retained: true } => "duplicate retained",
+            Outcome::Duplicate { retained: false } => "duplicate compact",
+            Outcome::Conflicting => "conflicting",
+        })
+    }
 }
 
 /// A recorded vote that is kept, or one of which only facts are.
@@ -75,7 +113,7 @@ struct Marks {
 }
 
 impl Marks {
-    ghost use Rattle.batcher_votes.specs.Held.{of_kind};
+    ghost use Rattle.batcher_votes.specs.RoundState.{of_kind};
     ghost use Rattle.batcher_votes.specs.Entries.{marks_of, with_mark};
 
     fn with(self, kind: Kind) -> Self
@@ -101,7 +139,7 @@ impl Marks {
     }
 }
 
-// What is known of a signer's votes of the kind, where `place` tells the place of its entry.
+// What is known of a signer's votes of the kind, where `place` is that of its entry.
 fn seen_at(entries: &AttributableMap<Entry>, place: Place, kind: Kind) -> Seen
     ensures seen { (i : ℕ) → place ≡ place_of (map key_of entries.now.items) i
         → result ≡ seen_in kind (item_of key_of entries.now.items i) }
@@ -114,18 +152,7 @@ fn seen_at(entries: &AttributableMap<Entry>, place: Place, kind: Kind) -> Seen
     }
 }
 
-// What is known of the signer's votes of the kind.
-fn seen_of(entries: &AttributableMap<Entry>, signer: Participant, kind: Kind) -> Seen
-    ensures seen { result ≡ seen_in kind (item_of key_of entries.now.items signer.0) }
-    ensures ascending { IsAscending key_of entries.now.items }
-{
-    match entries.get(signer) {
-        Some(entry) => entry.seen(kind),
-        None => Seen::Nothing,
-    }
-}
-
-// Has an entry say this of the kind, where it stands.
+// Has an entry say this of the kind, where it is.
 fn set_at(entries: &mut AttributableMap<Entry>, index: usize, kind: Kind, seen: Seen)
     requires { index < length entries.old.items }
     ensures items { (default : TheEntry) → entries.new.items ≡ slice_set entries.old.items index
@@ -137,7 +164,7 @@ fn set_at(entries: &mut AttributableMap<Entry>, index: usize, kind: Kind, seen: 
     entries.items[index].set(kind, seen);
 }
 
-// Has the signer's entry say this of the kind, where `place` tells its place. It takes no memory.
+// Has the signer's entry say this of the kind, where `place` is its place. It takes no memory.
 fn put_at(
     entries: &mut AttributableMap<Entry>,
     place: Place,
@@ -224,23 +251,23 @@ fn release_each<G: Copy, D: Digest>(
 /// The votes of a view: of each signer the first of each kind.
 ///
 /// The votes of a kind are kept in full, as evidence and for a certificate, until the kind is
-/// compacted. From then on facts of each signer take their place: they tell a repeat from a
-/// conflict, and whether a signer has the selected proposal's block. They stand in the signers'
-/// entries, as the places of the votes did, so a kind is compacted without any memory, and
+/// compacted. From then on facts of each signer take their place: they distinguish a repeat from a
+/// conflict, and whether a signer has the selected proposal's block. They are in the signers'
+/// entries, where the indices of the votes were, so a kind is compacted without any memory, and
 /// that of its votes goes back.
 #[derive(Drop)]
 pub struct VoteTracker<G: Copy, D: Digest> {
     mode: Mode,
-    // Of which kinds votes aren't kept. Their entries have no places, and those of others no facts.
+    // Of which kinds votes aren't kept. Their entries have no index, and those of others no facts.
     compacted: Marks,
     entries: AttributableMap<Entry>,
     kept: KeptLists<G, D>,
 }
 
 impl<G: Copy, D: Digest> Model for VoteTracker<G, D> {
-    ghost use Rattle.batcher_votes.specs.Held.{Tracker};
+    ghost use Rattle.batcher_votes.specs.RoundState.{TrackerView};
 
-    ghost Value = { Tracker G D };
+    ghost Value = { TrackerView G D };
 
     ghost use Rattle.std.specs.Prelude.{map};
     ghost use Rattle.batcher_votes.specs.Entries.{tracked_by, marks_of, key_of, votes_in, room_in, IsTracked};
@@ -259,51 +286,25 @@ impl<G: Copy, D: Digest> Model for VoteTracker<G, D> {
 }
 
 impl<G: Copy, D: Digest> VoteTracker<G, D> {
-    ghost use Rattle.batcher_votes.specs.declared.votes.Mode.TheVariants.{Retaining, Releasing, Skipped};
     ghost use Rattle.batcher_types.specs.declared.messages.Vote.TheVariants.{Notarize as NotarizeVote};
-    ghost use Rattle.batcher_votes.specs.Tracking.{nothing_tracked, outcome_of, outcome_by, RecordsKind, ReleasesKind, SameTracked, is_known, is_seen, kept_vote, observed, shown, is_seen_for, is_released_in, KeepsEach, HasRoomToRecord};
+    ghost use Rattle.batcher_votes.specs.TrackerSteps.{nothing_tracked, outcome_of, outcome_by, RecordsKind, ReleasesKind, SameTrackerState, is_known};
+    ghost use Rattle.batcher_votes.specs.TrackerSteps.{is_seen, kept_vote, observed, shown, is_seen_for, is_released_in, KeepsEach, HasRoomToRecord};
     ghost use Rattle.batcher_types.specs.Votes.{signer_of, is_kind};
-    ghost use Rattle.std.specs.Prelude.{if◌then◌else◌};
 
-    /// A tracker that keeps votes in full, to the end or until their kind is certified. It takes
-    /// no memory.
-    pub fn new(alloc: Global, participants: usize, retain_votes_after_certification: bool) -> Self
+    /// A tracker that keeps votes as the mode says. It takes no memory.
+    pub fn new(alloc: Global, participants: usize, mode: Mode) -> Self
         requires { participants < 2 ^ 32 }
         ensures participants { result.participants ≡ participants }
-        ensures mode { result.mode ≡ (if retain_votes_after_certification then Retaining else
-            Releasing) }
-        ensures holds { result.holds ≡ nothing_tracked result.mode }
+        ensures mode { result.mode ≡ mode }
+        ensures holds { result.holds ≡ nothing_tracked mode }
     {
-        let mode = if retain_votes_after_certification {
-            Mode::Retaining
-        } else {
-            Mode::Releasing
-        };
+        let is_compacted = mode.is_skipped();
         VoteTracker {
             mode,
             compacted: Marks {
-                notarize: false,
-                nullify: false,
-                finalize: false,
-            },
-            entries: AttributableMap::new(alloc, participants),
-            kept: KeptLists::new(alloc),
-        }
-    }
-
-    /// A tracker of a skipped view, which keeps facts alone. It takes no memory.
-    pub fn skipped(alloc: Global, participants: usize) -> Self
-        requires { participants < 2 ^ 32 }
-        ensures participants { result.participants ≡ participants }
-        ensures mode { result.mode ≡ Skipped }
-        ensures holds { result.holds ≡ nothing_tracked Skipped }
-    {
-        VoteTracker {
-            mode: Mode::Skipped,
-            compacted: Marks {
-                notarize: true,
-                nullify: true,
-                finalize: true,
+                notarize: is_compacted,
+                nullify: is_compacted,
+                finalize: is_compacted,
             },
             entries: AttributableMap::new(alloc, participants),
             kept: KeptLists::new(alloc),
@@ -317,7 +318,7 @@ impl<G: Copy, D: Digest> VoteTracker<G, D> {
         self.mode
     }
 
-    /// Where the signer's entry stands, else where it would. `make_room` keeps all places. It
+    /// Where the signer's entry is, else where it would be. `make_room` keeps all places. It
     /// takes no memory.
     pub fn place(&self, signer: Participant) -> Place
         ensures { result ≡ place_of self.now.signers signer.0 }
@@ -421,7 +422,7 @@ impl<G: Copy, D: Digest> VoteTracker<G, D> {
             → ReleasesKind D.eq self.old.holds self.new.holds selected
             (is_kind released kind && is_released_in self.old.mode true) kind }
         ensures others { (kind : Kind) → is_kind released kind ≡ false
-            → SameTracked self.old.holds self.new.holds kind }
+            → SameTrackerState self.old.holds self.new.holds kind }
         ensures participants { self.new.participants ≡ self.old.participants }
         ensures mode { self.new.mode ≡ self.old.mode }
     {
@@ -436,7 +437,8 @@ impl<G: Copy, D: Digest> VoteTracker<G, D> {
     pub fn notarize(&self, signer: Participant) -> Option<Notarize<G, D>>
         ensures { option_map NotarizeVote result ≡ kept_vote self.now.holds Notarization signer.0 }
     {
-        let seen = seen_of(&self.entries, signer, Kind::Notarization);
+        let place = self.entries.place(signer);
+        let seen = seen_at(&self.entries, place, Kind::Notarization);
         self.kept.notarize(seen)
     }
 
@@ -465,26 +467,9 @@ impl<G: Copy, D: Digest> VoteTracker<G, D> {
         self.compacted.of(kind)
     }
 
-    /// Whether the signer is known to have notarized the proposal. Of notarizes that aren't kept
-    /// it is known whether one was for the selected proposal, so another one isn't told from it.
-    pub fn has_notarize_for(&self, signer: Participant, proposal: &Proposal<D>) -> bool
-        ensures { result ≡ is_seen_for D.eq proposal.now
-            (observed self.now.holds Notarization signer.0) }
-    {
-        self.has_vote_for(Kind::Notarization, signer, proposal)
-    }
-
-    /// Whether the signer is known to have finalized the proposal. Of finalizes that aren't kept
-    /// it is known whether one was for the selected proposal, so another one isn't told from it.
-    pub fn has_finalize_for(&self, signer: Participant, proposal: &Proposal<D>) -> bool
-        ensures { result ≡ is_seen_for D.eq proposal.now
-            (observed self.now.holds Finalization signer.0) }
-    {
-        self.has_vote_for(Kind::Finalization, signer, proposal)
-    }
-
     /// Whether the signer whose place `place` gave is known to have the proposal's block, since it
-    /// notarized it or finalized it, as far as `has_notarize_for` and `has_finalize_for` tell.
+    /// notarized it or finalized it. Of a compacted kind it is known whether a vote was for the
+    /// selected proposal, and such a vote counts for whichever proposal is asked about.
     pub fn has_block_at(&self, place: Place, proposal: &Proposal<D>) -> bool
         ensures { (i : ℕ) → place ≡ place_of self.now.signers i → result
             ≡ (is_seen_for D.eq proposal.now (observed self.now.holds Notarization i)
@@ -507,14 +492,8 @@ impl<G: Copy, D: Digest> VoteTracker<G, D> {
     pub fn has_nullify(&self, signer: Participant) -> bool
         ensures { result ≡ is_some (kept_vote self.now.holds Nullification signer.0) }
     {
-        seen_of(&self.entries, signer, Kind::Nullification).is_kept()
-    }
-
-    // Whether a vote of the signer for the proposal was seen, as far as is known.
-    fn has_vote_for(&self, kind: Kind, signer: Participant, proposal: &Proposal<D>) -> bool
-        ensures { result ≡ is_seen_for D.eq proposal.now (observed self.now.holds kind signer.0) }
-    {
-        self.has_vote_at(self.place(signer), kind, proposal)
+        let place = self.entries.place(signer);
+        seen_at(&self.entries, place, Kind::Nullification).is_kept()
     }
 
     /// The votes of a kind that are kept, in ascending order of their signers.
@@ -529,25 +508,9 @@ impl<G: Copy, D: Digest> VoteTracker<G, D> {
         }
     }
 
-    /// The notarizes that are kept, in ascending order of their signers.
-    pub fn iter_notarizes(&self) -> KeptVotes<'_, G, D>
-        ensures votes { result ≡ self.now.holds.kept.notarize }
-        ensures each { KeepsEach self.now.holds Notarization }
-    {
-        self.iter_kept(Kind::Notarization)
-    }
-
-    /// The finalizes that are kept, in ascending order of their signers.
-    pub fn iter_finalizes(&self) -> KeptVotes<'_, G, D>
-        ensures votes { result ≡ self.now.holds.kept.finalize }
-        ensures each { KeepsEach self.now.holds Finalization }
-    {
-        self.iter_kept(Kind::Finalization)
-    }
-
     /// How many of the kept votes of a kind wait with the proposal.
     pub fn count_for(&self, kind: Kind, proposal: &Proposal<D>) -> usize
-        ensures count { result ≡ length (filter (waits D.eq (Some proposal.now))
+        ensures count { result ≡ length (filter (is_eligible D.eq (Some proposal.now))
             (of_kind self.now.holds.kept kind)) }
         ensures none { of_kind self.now.holds.compacted kind ≡ true → result ≡ 0 }
     {
@@ -564,7 +527,7 @@ fn count_for<G: Copy, D: Digest>(
 ) -> usize
     ensures { result ≡ length (filter
         (λ entry. is_some_and (vote_at (of_kind (votes_in kept.now) kind) (part kind entry))
-        (waits D.eq (Some proposal.now))) entries.now) }
+        (is_eligible D.eq (Some proposal.now))) entries.now) }
 {
     entries
         .iter()
@@ -587,7 +550,7 @@ impl<'a, G: Copy, D: Digest> Model for KeptVotes<'a, G, D> {
     ghost Value = { List (Vote G D) };
 
     ghost use Rattle.std.specs.List.{filter_map};
-    ghost use Rattle.batcher_votes.specs.Held.{of_kind};
+    ghost use Rattle.batcher_votes.specs.RoundState.{of_kind};
     ghost use Rattle.batcher_votes.specs.Entries.{part, votes_in, vote_at};
 
     ghost view = { λ s. filter_map

@@ -29,6 +29,13 @@ unsafe extern "C" {
     ) -> u8;
     fn batcher_node_free(node: *mut NodeHandle);
     fn batcher_node_record_verdict(node: *mut NodeHandle, number: u64, attests: bool) -> u8;
+    fn batcher_node_record_verdicts(
+        node: *mut NodeHandle,
+        list: *const Attestation,
+        list_length: usize,
+        verdicts: *const bool,
+        verdicts_length: usize,
+    ) -> u8;
     fn batcher_node_record_verdict_together(
         node: *mut NodeHandle,
         list: *const Attestation,
@@ -162,6 +169,19 @@ impl Node {
         unsafe { batcher_node_record_verdict(self.handle.get(), number, attests) }
     }
 
+    pub(crate) fn record_verdicts(&mut self, list: &[Attestation], verdicts: &[bool]) -> u8 {
+        // SAFETY: as of a round.
+        unsafe {
+            batcher_node_record_verdicts(
+                self.handle.get(),
+                list.as_ptr(),
+                list.len(),
+                verdicts.as_ptr(),
+                verdicts.len(),
+            )
+        }
+    }
+
     pub(crate) fn record_verdict_together(&mut self, list: &[Attestation], passes: bool) -> u8 {
         // SAFETY: as of a round.
         unsafe {
@@ -174,6 +194,7 @@ impl Node {
         }
     }
 
+    #[inline]
     pub(crate) fn receive_vote(&mut self, peer: u64, vote: &Vote, admission: &mut Admission) -> u8 {
         // SAFETY: as of a round.
         unsafe { batcher_node_receive_vote(self.handle.get(), peer, vote, admission) }

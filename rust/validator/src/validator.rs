@@ -306,7 +306,7 @@ impl Validator {
             .accept_verified_vote(vote)
         {
             Ok(Outcome::ToSend { .. }) => {}
-            // A vote that stands already, or that an earlier one excludes, isn't sent.
+            // A vote that was added already, or that an earlier one excludes, isn't sent.
             Ok(Outcome::Duplicate { .. }) | Err(Error::Own(_)) => return Ok(false),
             Err(error) => return Err(error),
         }

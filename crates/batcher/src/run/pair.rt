@@ -2,7 +2,7 @@
 
 ghost use Rattle.std.specs.Prelude.{◌≡◌, ◌≤◌, All, IfOk, OnErr, [], length, vec_capacity};
 ghost use Rattle.batcher_votes.specs.declared.votes.Mode.{Mode};
-ghost use Rattle.batcher_histories.specs.Setting.{setting};
+ghost use Rattle.batcher_histories.specs.Config.{config};
 ghost use Rattle.batcher_histories.specs.Steps.{nothing_held};
 ghost use Rattle.batcher_histories.specs.Runs.{MayCall};
 ghost use Rattle.batcher_promises.specs.Pairs.{IsPairRun, ends_pair};
@@ -27,7 +27,7 @@ pub struct PairRan<S: Scheme<D>, D: Digest> {
 /// Makes each call on a round that retains its votes, and then on one that releases them.
 ///
 /// Both rounds are fresh and of one number and scheme, and their generators have the same stream.
-/// The first call that is refused, for want of memory or by the fault of an own vote, stops both:
+/// The first call that is refused, out of memory or by the fault of an own vote, stops both:
 /// the refusal is the last answer of the round that refused. Where that is the retaining round the
 /// other isn't asked; where it is the other, for memory alone, the retaining one has made the call.
 /// Room for both lists of answers is made first: that growth alone gives the error, and both rounds
@@ -47,7 +47,7 @@ pub fn run_pair<S: Scheme<D>, D: Digest, R: CryptoRng>(
     requires streams { R.stream rng_b.old ≡ R.stream rng_a.old }
     requires calls { All (MayCall (S.meaning retaining.scheme) retaining.number) calls.now }
     ensures ran { IfOk result (λ pair. IsPairRun
-        (setting (S.meaning retaining.scheme) S.PublicKey.cmp S.Signature.eq D.eq retaining.number
+        (config (S.meaning retaining.scheme) S.PublicKey.cmp S.Signature.eq D.eq retaining.number
         Mode.Retaining) (R.stream rng_a.old) calls.now pair.stopped pair.retaining.answers.items
         pair.retaining.round.holds (R.stream rng_a.new) pair.releasing.answers.items
         pair.releasing.round.holds (R.stream rng_b.new)) }
@@ -124,7 +124,7 @@ fn step_both<S: Scheme<D>, D: Digest, R: CryptoRng>(
     requires empty { (retained.old.items ≡ []) × (released.old.items ≡ []) }
     requires room { (length calls.now ≤ vec_capacity retained.old)
         × (length calls.now ≤ vec_capacity released.old) }
-    ensures ran { IsPairRun (setting (S.meaning retaining.old.scheme) S.PublicKey.cmp S.Signature.eq
+    ensures ran { IsPairRun (config (S.meaning retaining.old.scheme) S.PublicKey.cmp S.Signature.eq
         D.eq retaining.old.number Mode.Retaining) (R.stream rng_a.old) calls.now result
         retained.new.items retaining.new.holds (R.stream rng_a.new) released.new.items
         releasing.new.holds (R.stream rng_b.new) }
@@ -134,24 +134,24 @@ fn step_both<S: Scheme<D>, D: Digest, R: CryptoRng>(
     // For what it says of every round: that it has participants.
     let _ = retaining.number();
     for call in calls {
-        let place = released.len();
+        let index = released.len();
         let answer = step(retaining, rng_a, call);
         let is_refused = is_refusal(&answer);
         retained.push_reserved(answer);
         if is_refused {
-            return Some(place);
+            return Some(index);
         }
         let answer = step(releasing, rng_b, call);
         let is_refused = is_refusal(&answer);
         released.push_reserved(answer);
         if is_refused {
-            return Some(place);
+            return Some(index);
         }
     }
     None
 }
 
-// Whether a call was refused for want of memory, or by the fault of an own vote.
+// Whether a call was refused out of memory, or by the fault of an own vote.
 fn is_refusal<G, C, D>(answer: &Answer<G, C, D>) -> bool
     ensures { result ≡ ends_pair answer.now }
 {

@@ -3,16 +3,16 @@
 ghost use Rattle.std.specs.Prelude.{◌≤◌, length};
 ghost use Rattle.batcher_types.specs.declared.positions.Round.{Round as TheNumber};
 ghost use Rattle.batcher_votes.specs.declared.votes.Mode.{Mode as TheMode};
-ghost use Rattle.batcher_histories.specs.Setting.{setting, Setting as TheSetting};
-ghost use Rattle.batcher_promises.specs.Converge.{OrderIsFree};
+ghost use Rattle.batcher_histories.specs.Config.{config, Config as TheConfig};
+ghost use Rattle.batcher_promises.specs.OrderIndependence.{OrderIsFree};
 ghost use Rattle.batcher_promises.specs.Examples.Answers.{WorkedExamples};
 ghost use Rattle.batcher_promises.specs.Examples.Certificates.{CertificateExamples};
 ghost use Rattle.batcher_promises.specs.Examples.Blocks.{BlockExamples};
 ghost use Rattle.batcher_promises.specs.Examples.Honest.{HonestExamples};
 ghost use Rattle.batcher_promises.specs.Examples.Replays.{ReplayExamples};
 ghost use Rattle.batcher_promises.specs.Replay.{EqualRunsGoAlike};
-ghost use Rattle.batcher_promises.specs.Ran.{IsPromised};
-ghost use Rattle.batcher_promises.specs.Sent.{SendersOfAddedGiveNoCause};
+ghost use Rattle.batcher_promises.specs.RunContract.{IsPromised};
+ghost use Rattle.batcher_promises.specs.SentVotes.{SendersOfAddedGiveNoCause};
 ghost use Rattle.batcher_histories.specs.History.{History as TheHistory};
 ghost use Rattle.batcher_histories.specs.Answers.{IsPossible};
 
@@ -34,7 +34,7 @@ pub fn worked_examples()
 pub fn order_is_free<S: Scheme<D>, D: Digest>()
     ensures { (scheme : S) (number : TheNumber) (mode : TheMode)
         → OrderIsFree
-        (setting (S.meaning scheme) S.PublicKey.cmp S.Signature.eq D.eq number mode) }
+        (config (S.meaning scheme) S.PublicKey.cmp S.Signature.eq D.eq number mode) }
 {}
 
 /// Does nothing. Its contract says, for every scheme, that what `run` promises of its calls is so
@@ -45,9 +45,9 @@ pub fn possible_histories_are_promised<S: Scheme<D>, D: Digest>()
         → 1 ≤ length (S.meaning scheme).participants
         → (past : TheHistory D S.PublicKey S.Signature S.Certificate)
         → IsPossible
-        (setting (S.meaning scheme) S.PublicKey.cmp S.Signature.eq D.eq number mode) past
+        (config (S.meaning scheme) S.PublicKey.cmp S.Signature.eq D.eq number mode) past
         → IsPromised
-        (setting (S.meaning scheme) S.PublicKey.cmp S.Signature.eq D.eq number mode) past }
+        (config (S.meaning scheme) S.PublicKey.cmp S.Signature.eq D.eq number mode) past }
 {}
 
 /// Does nothing. Its contract says, for every scheme, that a participant that sends just those own
@@ -57,12 +57,12 @@ pub fn possible_histories_are_promised<S: Scheme<D>, D: Digest>()
 pub fn senders_of_added_give_no_cause<S: Scheme<D>, D: Digest>()
     ensures { (scheme : S) (number : TheNumber) (mode : TheMode)
         → SendersOfAddedGiveNoCause
-        (setting (S.meaning scheme) S.PublicKey.cmp S.Signature.eq D.eq number mode) }
+        (config (S.meaning scheme) S.PublicKey.cmp S.Signature.eq D.eq number mode) }
 {}
 
 /// Does nothing. Its contract says that runs of equal calls on equal rounds, with equal generators,
 /// give equal answers and leave equal rounds and generators, as long as memory isn't refused in
 /// either; and that a run of the first calls gives the first answers.
 pub fn replays<P, G, C, D>()
-    ensures { (x : TheSetting D P G C) → EqualRunsGoAlike x }
+    ensures { (x : TheConfig D P G C) → EqualRunsGoAlike x }
 {}

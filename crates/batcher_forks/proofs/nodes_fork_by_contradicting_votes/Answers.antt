@@ -3,21 +3,21 @@ use Rattle.std.specs.declared.cmp.Ordering.{Ordering}
 use Rattle.batcher.specs.positions.Epoch.{Epoch}
 use Rattle.batcher.specs.votes.Mode.{Mode}
 use Rattle.batcher.specs.Meaning.{Meaning}
-use Rattle.batcher.specs.Setting.{Setting, setting}
+use Rattle.batcher.specs.Config.{Config, config}
 use Rattle.batcher.specs.History.{History}
-use Rattle.batcher.specs.Ran.{IsPromised}
+use Rattle.batcher.specs.RunContract.{IsPromised}
 use Rattle.batcher_evidence.specs.Rounds.{TakesContradicting}
 use Rattle.batcher_node.specs.Windows.{numbered}
-use Rattle.batcher_node.specs.Events.{told}
-use Rattle.batcher_node.specs.Nodes.{judge_node}
-use Rattle.batcher_node.specs.Stands.{mode_of}
+use Rattle.batcher_node.specs.Events.{view_history}
+use Rattle.batcher_node.specs.Nodes.{node_config}
+use Rattle.batcher_node.specs.Represents.{mode_of}
 use Rattle.batcher_forks.proofs.nodes_fork_by_contradicting_votes.Goals as goal
 
 module _ {D K G C : Type 0} (compare_keys : K → K → Ordering) (same_signature : G → G → Bool)
     (same_digest : D → D → Bool) (view : ℕ) where
   -- a round of the view, in an epoch
-  abbrev round_in : Mode → Meaning D K G C → Epoch → Setting D K G C
-  round_in mode m epoch = setting m compare_keys same_signature same_digest (numbered epoch view) mode
+  abbrev round_in : Mode → Meaning D K G C → Epoch → Config D K G C
+  round_in mode m epoch = config m compare_keys same_signature same_digest (numbered epoch view) mode
 
   -- The other node's round is one of the same scheme and number.
   alike : (m other : Meaning D K G C) (epoch other_epoch : Epoch) (mode other_mode : Mode)
@@ -39,21 +39,21 @@ module _ {D K G C : Type 0} (compare_keys : K → K → Ordering) (same_signatur
       (takes here))
 
 pub returns : goal.returns
-returns g c = λ node other same same_epoch some past other_past stands other_stands view a b given_a given_b contradict.
+returns g c = λ node other same same_epoch some past other_past represents other_represents view a b given_a given_b contradict.
     let meaning = g.S.Scheme.meaning in
     let compare_keys = g.S.PublicKey.Ord.cmp in
     let same_signature = g.S.Signature.PartialEq.eq in
     let same_digest = g.D.PartialEq.eq in
-    let x = judge_node meaning compare_keys same_signature same_digest node in
-    let y = judge_node meaning compare_keys same_signature same_digest other in
+    let x = node_config meaning compare_keys same_signature same_digest node in
+    let y = node_config meaning compare_keys same_signature same_digest other in
     let mode = mode_of x past view in
     let other_mode = mode_of y other_past view in
     let promised = c.nodes_keep_their_promises.ensures.promised in
     let some_other = subst (λ m. 1 ≤ length m.participants) (sym same) some in
     alike compare_keys same_signature same_digest view
     (meaning node.scheme) (meaning other.scheme) node.epoch other.epoch mode other_mode
-    (told view past) (told view other_past) same same_epoch
+    (view_history view past) (view_history view other_past) same same_epoch
     (λ here. c.forks_take_contradicting_votes.ensures node.scheme (numbered node.epoch view)
-    mode other_mode (told view past) (told view other_past) some
-    ((promised node some past stands).each_view view) here a b given_a given_b contradict)
-    ((promised other some_other other_past other_stands).each_view view)
+    mode other_mode (view_history view past) (view_history view other_past) some
+    ((promised node some past represents).each_view view) here a b given_a given_b contradict)
+    ((promised other some_other other_past other_represents).each_view view)

@@ -4,18 +4,18 @@ use Rattle.std.specs.Prelude.{filter, is_some, IfSome}
 use Rattle.std.proofs.lemmas.Bool.{cases_Bool, and_parts, and_from, or_cases, cond_both, false_from_ne_true, leb-true, le-leb, or_right, true≢false}
 use Rattle.std.proofs.lemmas.Option.{same_Some}
 use Rattle.batcher_histories.specs.Answers.{IsPossible, MayAnswer}
-use Rattle.batcher_votes.specs.Buffering.{have_one_subject, is_enough}
+use Rattle.batcher_votes.specs.VerifierSteps.{have_one_subject, is_enough}
 use Rattle.batcher_histories.specs.FirstVotes.{first_vote, first_votes}
 use Rattle.batcher_histories.specs.History.{Event, History, batch_given}
 use Rattle.batcher_types.specs.Lists.{SameElements, count, is_some_and}
-use Rattle.batcher_votes.specs.Selected.{proposal_of}
+use Rattle.batcher_votes.specs.ProposalStates.{proposal_of}
 use Rattle.batcher_histories.specs.Selection.{certificate_of, is_restored, fixed_proposal, fixing_evidence, is_certified, leaders_proposal, selected_proposal, selection_by}
-use Rattle.batcher_histories.specs.Setting.{Setting, quorum_in}
-use Rattle.batcher_histories.specs.Standing.{fresh_votes, is_among, is_counted, is_ready_by, is_trusted, is_valid, proven_votes, ready_kind, standing_votes, stood_before, trials, was_invalid}
-use Rattle.batcher_histories.specs.Stands.{tries_kind}
-use Rattle.batcher_votes.specs.Tracking.{is_skipped}
-use Rattle.batcher_histories.specs.Trying.{Attempt, AttemptAfter, are_of, bad_signers, certifies_subject, votes_checked}
-use Rattle.batcher_types.specs.Votes.{attestation_of, has_proposals, is_for, is_kind, is_of_kind, is_vote_of, kind_certified, kind_of, same_subject, signer_of, subject_certified, subject_of, waits}
+use Rattle.batcher_histories.specs.Config.{Config, quorum_in}
+use Rattle.batcher_histories.specs.Eligible.{fresh_votes, is_among, is_counted, is_ready_by, is_trusted, is_valid, proven_votes, ready_kind, eligible_votes, was_eligible, trials, was_invalid}
+use Rattle.batcher_histories.specs.Represents.{tries_kind}
+use Rattle.batcher_votes.specs.TrackerSteps.{is_skipped}
+use Rattle.batcher_histories.specs.Attempts.{Attempt, AttemptAfter, are_of, bad_signers, certifies_subject, votes_checked}
+use Rattle.batcher_types.specs.Votes.{attestation_of, has_proposals, is_for, is_kind, is_of_kind, is_vote_of, kind_certified, kind_of, same_subject, signer_of, subject_certified, subject_of, is_eligible}
 use Rattle.batcher_types.specs.declared.messages.Certificate.{Certificate}
 use Rattle.batcher_types.specs.declared.messages.Certificate.TheVariants.{Finalization as FinalizationCertificate, Notarization as NotarizationCertificate, Nullification as NullificationCertificate}
 use Rattle.batcher_types.specs.declared.messages.Kind.{Kind}
@@ -26,21 +26,22 @@ use Rattle.batcher_types.specs.declared.messages.Subject.TheVariants.{Finalize a
 use Rattle.batcher_types.specs.declared.messages.Vote.{Vote}
 use Rattle.batcher_types.specs.declared.messages.Vote.TheVariants.{Finalize as FinalizeVote, Notarize as NotarizeVote, Nullify as NullifyVote}
 use Rattle.batcher_types.specs.declared.positions.Participant.{Participant}
-use Rattle.batcher_types.proofs.CountLemmas.{count-append, count-false, count-map, count_same, length_same, keeps_all}
+use Rattle.batcher_types.proofs.CountLemmas.{count-append, count-false, count-map, count_same, length_same, keeps_all, count-filter}
 use Rattle.batcher_types.proofs.VoteLemmas.{same_subject-true}
+use Rattle.batcher_types.proofs.KindLemmas.{is_kind-refl, is_kind-true}
 use Rattle.batcher_histories.specs.declared.answers.Answer.{Answer}
 use Rattle.batcher_histories.specs.declared.answers.Answer.TheVariants.{Certificate as CertificateAnswer, Construct as ConstructAnswer, Forward as ForwardAnswer, Leader as LeaderAnswer, Missing as MissingAnswer, Network as NetworkAnswer}
 use Rattle.batcher_histories.specs.declared.answers.Answer.TheVariants.{OutOfMemory as OutOfMemoryAnswer, Own as OwnAnswer, OwnRefused as OwnRefusedAnswer}
 use Rattle.batcher_histories.specs.declared.calls.Call.{Call}
 use Rattle.batcher_histories.specs.declared.calls.Call.TheVariants.{Certificate as CertificateCall, Construct as ConstructCall, Forward as ForwardCall, Leader as LeaderCall, Missing as MissingCall, Network as NetworkCall, Own as OwnCall}
 use Rattle.batcher_votes.specs.declared.verifier.Batch.{Batch}
-use Rattle.batcher_histories.proofs.History.Distinct.{IsAt, any_count, count-filter, count_at, first_stays, firsts_apart, is_kind-refl, is_kind-true, positive, some_of, where_holds, option_cases}
+use Rattle.batcher_histories.proofs.History.Distinct.{IsAt, any_count, count_at, first_stays, firsts_apart, positive, some_of, where_holds, option_cases}
 use Rattle.batcher_histories.proofs.History.Laws.{HasLaws}
-use Rattle.batcher_histories.proofs.Shown.Named.{or_none}
-use Rattle.batcher_histories.proofs.History.Past.{among_standing, closed_is_empty, count_fresh, count_proven, invalid_after, invalid_in, tried_after, tried_filled}
+use Rattle.batcher_histories.proofs.KnownLemmas.Named.{or_none}
+use Rattle.batcher_histories.proofs.History.Past.{among_eligible, closed_is_empty, count_fresh, count_proven, invalid_after, invalid_in, tried_after, tried_filled}
 use Rattle.batcher_histories.proofs.History.Selection.{back_not_counted, certified_before, is_restored_by, leaders_stays}
 
-module _ {D K G C : Type 0} (x : Setting D K G C) where
+module _ {D K G C : Type 0} (x : Config D K G C) where
   -- an attempt that gives no certificate looked at all of the pending votes
   pub bad_of_all : (verified pending : List (Vote G D)) (batch : Batch (Certificate C D))
       → Attempt x verified pending batch → is_some batch.certificate ≡ false →
@@ -147,7 +148,7 @@ chosen r false true c k ea eb ec h = let e : Nullification ≡ k = cc in subst (
 chosen r false false true k ea eb ec h = let e : Finalization ≡ k = cc in subst (λ (l : Kind). r l ≡ true) e ec
 chosen r false false false k ea eb ec h = cc
 
-module _ {D K G C : Type 0} (x : Setting D K G C) where
+module _ {D K G C : Type 0} (x : Config D K G C) where
   pub kind_of_vote : (v : Vote G D) → kind_in (subject_of v) ≡ kind_of v
   kind_of_vote (NotarizeVote v) = refl
   kind_of_vote (NullifyVote v) = refl
@@ -170,7 +171,8 @@ module _ {D K G C : Type 0} (x : Setting D K G C) where
       ∙ count-filter (λ v. eqb (signer_of v) i) (λ v. not (is_valid x v)) votes))
 
   abbrev pub is_fresh_bad : History D K G C → Vote G D → Bool
-  is_fresh_bad past v = waits x.same_digest (selected_proposal x past) v && (not (is_trusted x past v || stood_before (trials x past) v) && not (is_valid x v))
+  is_fresh_bad past v = is_eligible x.same_digest (selected_proposal x past) v
+      && (not (is_trusted x past v || was_eligible (trials x past) v) && not (is_valid x v))
 
   -- An attempt over the fresh votes finds bad those that don't attest.
   pub any_bad_fresh : (past : History D K G C) (kind : Kind) (votes : List (Vote G D)) (i : ℕ)
@@ -184,7 +186,7 @@ module _ {D K G C : Type 0} (x : Setting D K G C) where
       (same (λ v. not (is_valid x v) && eqb (signer_of v) i)
       ∙ (count_fresh x past kind (λ v. not (is_valid x v) && eqb (signer_of v) i) still
       ∙ (count_same _ (λ v. is_fresh_bad past v && is_vote_of kind i v) (first_votes x past)
-      (λ v. bad_order (is_of_kind kind v) (waits x.same_digest (selected_proposal x past) v) (not (is_trusted x past v || stood_before (trials x past) v))
+      (λ v. bad_order (is_of_kind kind v) (is_eligible x.same_digest (selected_proposal x past) v) (not (is_trusted x past v || was_eligible (trials x past) v))
       (not (is_valid x v)) (eqb (signer_of v) i))
       ∙ count_at (is_fresh_bad past) (first_votes x past) kind i (firsts_apart x past))))
       ∙ positive (is_some_and (first_vote x past kind i) (is_fresh_bad past)))
@@ -283,28 +285,28 @@ module _ {D K G C : Type 0} (x : Setting D K G C) where
 
   -- What was found invalid was tried.
   pub invalid_tried : (past : History D K G C) → IsPossible x past → (v : Vote G D)
-      → was_invalid (trials x past) v ≡ true → stood_before (trials x past) v ≡ true
+      → was_invalid (trials x past) v ≡ true → was_eligible (trials x past) v ≡ true
   invalid_tried [] possible v h = cc
   invalid_tried (event ∷ past) possible v h =
       or_weaker _ _ _ _ _ _ (invalid_after x past event v) (tried_after x past event v)
       (λ now. and_from _ _ (and_parts _ _ now).0 (tried_now (and_parts _ _ now).0 (and_parts _ _ now).1))
       (invalid_tried past possible.1.1.1 v) h
     where
-      waits_if_bad : (o : Option (Vote G D)) → is_some_and o (is_fresh_bad past) ≡ true
-          → is_some_and o (waits x.same_digest (selected_proposal x past)) ≡ true
-      waits_if_bad None e = e
-      waits_if_bad (Some w) e = (and_parts _ _ e).0
+      eligible_if_bad : (o : Option (Vote G D)) → is_some_and o (is_fresh_bad past) ≡ true
+          → is_some_and o (is_eligible x.same_digest (selected_proposal x past)) ≡ true
+      eligible_if_bad None e = e
+      eligible_if_bad (Some w) e = (and_parts _ _ e).0
 
       tried_now : tries_kind x past event.1 (kind_of v) ≡ true
           → is_among (signer_of v) (invalid_in x (batch_given event.1)) ≡ true
-          → is_among (signer_of v) (map signer_of (standing_votes x past (kind_of v))) ≡ true
+          → is_among (signer_of v) (map signer_of (eligible_votes x past (kind_of v))) ≡ true
       tried_now tries among =
           let t = tries_by past event.0 event.1 (kind_of v) possible.1.1.0 tries in
           let named : is_among (signer_of v) (map (λ j. j.0) t.batch.invalid)
           ≡ true = subst (λ (o : Option (Batch (Certificate C D))). is_among (signer_of v) (invalid_in x o) ≡ true) t.given among in
           let found = found_among past (kind_of v) (signer_of v) t.after.verified t.after.pending t.batch t.after.attempt t.after.pending_are named in
-          among_standing x past (kind_of v) (signer_of v)
-          ∙ and_from _ _ (ap not found.0) (waits_if_bad (first_vote x past (kind_of v) (signer_of v)) found.1)
+          among_eligible x past (kind_of v) (signer_of v)
+          ∙ and_from _ _ (ap not found.0) (eligible_if_bad (first_vote x past (kind_of v) (signer_of v)) found.1)
 
   -- the buffers of a kind have votes of it alone
   count_never : (kind : Kind) (others : Vote G D → Bool) (more : Vote G D → Bool)
@@ -318,7 +320,7 @@ module _ {D K G C : Type 0} (x : Setting D K G C) where
       ⊎_elim
       (λ closed. ap (count (λ v. not (is_of_kind kind v))) (closed_is_empty x past kind closed).0)
       (λ still. count_fresh x past kind (λ v. not (is_of_kind kind v)) still
-      ∙ count_never kind (waits x.same_digest (selected_proposal x past)) (λ v. not (is_trusted x past v || stood_before (trials x past) v))
+      ∙ count_never kind (is_eligible x.same_digest (selected_proposal x past)) (λ v. not (is_trusted x past v || was_eligible (trials x past) v))
       (first_votes x past))
       (cases_Bool (is_certified past kind || is_skipped x.mode))
 
@@ -328,8 +330,8 @@ module _ {D K G C : Type 0} (x : Setting D K G C) where
       ⊎_elim
       (λ closed. ap (count (λ v. not (is_of_kind kind v))) (closed_is_empty x past kind closed).1)
       (λ still. count_proven x past kind (λ v. not (is_of_kind kind v)) still
-      ∙ count_never kind (waits x.same_digest (selected_proposal x past))
-      (λ v. (is_trusted x past v || stood_before (trials x past) v) && not (was_invalid (trials x past) v)) (first_votes x past))
+      ∙ count_never kind (is_eligible x.same_digest (selected_proposal x past))
+      (λ v. (is_trusted x past v || was_eligible (trials x past) v) && not (was_invalid (trials x past) v)) (first_votes x past))
       (cases_Bool (is_certified past kind || is_skipped x.mode))
 
   tried_none : (test : Vote G D → Bool) (verified pending : List (Vote G D)) → count test pending
@@ -461,7 +463,7 @@ module _ {D K G C : Type 0} (x : Setting D K G C) where
   -- proposal.
   pub tried_counts : HasLaws x → (past : History D K G C) → IsPossible x past → (v : Vote G D)
       → IsAt (first_votes x past) v → fixed_proposal past ≡ None →
-      stood_before (trials x past) v ≡ true → is_certified past (kind_of v) ≡ false
+      was_eligible (trials x past) v ≡ true → is_certified past (kind_of v) ≡ false
       → is_counted x (leaders_proposal x past) v ≡ true
   tried_counts lawful [] possible v found unfixed h still = cc
   tried_counts lawful (event ∷ past) possible v found unfixed h still =
@@ -478,7 +480,7 @@ module _ {D K G C : Type 0} (x : Setting D K G C) where
       still_before : is_certified past (kind_of v) ≡ false
       still_before = certified_before past event (kind_of v) still
 
-      found_before : stood_before (trials x past) v ≡ true → IsAt (first_votes x past) v
+      found_before : was_eligible (trials x past) v ≡ true → IsAt (first_votes x past) v
       found_before before =
           let w = some_of (first_vote x past (kind_of v) (signer_of v)) (tried_filled x past v before) in
           w.1 ∙ ap Some (same_Some w.0 v (sym (first_stays x past event (kind_of v) (signer_of v) w.0 w.1) ∙ found))
@@ -487,16 +489,16 @@ module _ {D K G C : Type 0} (x : Setting D K G C) where
       selected_is = ap (λ f. proposal_of (selection_by f (leaders_proposal x past))) unfixed_before ∙ unfixed_selects (leaders_proposal x past)
 
       tried_now : tries_kind x past event.1 (kind_of v) ≡ true
-          → is_among (signer_of v) (map signer_of (standing_votes x past (kind_of v))) ≡ true
+          → is_among (signer_of v) (map signer_of (eligible_votes x past (kind_of v))) ≡ true
           → is_counted x (leaders_proposal x past) v ≡ true
       tried_now tries among =
-          let w = where_holds (waits x.same_digest (selected_proposal x past)) (first_vote x past (kind_of v) (signer_of v))
+          let w = where_holds (is_eligible x.same_digest (selected_proposal x past)) (first_vote x past (kind_of v) (signer_of v))
           (and_parts (not (is_certified past (kind_of v) || is_skipped x.mode))
-          (is_some_and (first_vote x past (kind_of v) (signer_of v)) (waits x.same_digest (selected_proposal x past)))
-          (sym (among_standing x past (kind_of v) (signer_of v)) ∙ among)).1 in
+          (is_some_and (first_vote x past (kind_of v) (signer_of v)) (is_eligible x.same_digest (selected_proposal x past)))
+          (sym (among_eligible x past (kind_of v) (signer_of v)) ∙ among)).1 in
           let same = same_Some w.0 v (sym (first_stays x past event (kind_of v) (signer_of v) w.0 w.1) ∙ found) in
-          let waited : waits x.same_digest (selected_proposal x past) v
-          ≡ true = subst (λ (u : Vote G D). waits x.same_digest (selected_proposal x past) u ≡ true) same w.2 in
+          let waited : is_eligible x.same_digest (selected_proposal x past) v
+          ≡ true = subst (λ (u : Vote G D). is_eligible x.same_digest (selected_proposal x past) u ≡ true) same w.2 in
           ⊎_elim
           (λ none.
           ⊎_elim
@@ -504,13 +506,13 @@ module _ {D K G C : Type 0} (x : Setting D K G C) where
           (λ has_none. rw has_none refl)
           (cases_Bool (has_proposals (kind_of v))))
           (λ (some : (p : Proposal D) × (leaders_proposal x past ≡ Some p)).
-          ap (λ o. is_counted x o v) some.1 ∙ (ap (λ o. waits x.same_digest o v) (sym (selected_is ∙ some.1)) ∙ waited))
+          ap (λ o. is_counted x o v) some.1 ∙ (ap (λ o. is_eligible x.same_digest o v) (sym (selected_is ∙ some.1)) ∙ waited))
           (option_cases (leaders_proposal x past))
 
   -- what is restored wasn't tried
   pub back_not_tried : HasLaws x → (past : History D K G C) (event : Event D K G C)
       → IsPossible x past → (v : Vote G D) → IsAt (first_votes x past) v
-      → is_restored x past event v ≡ true → stood_before (trials x past) v ≡ false
+      → is_restored x past event v ≡ true → was_eligible (trials x past) v ≡ false
   back_not_tried lawful past event possible v found back =
       false_from_ne_true _ (λ tried.
       let c = is_restored_by x lawful past event v back in

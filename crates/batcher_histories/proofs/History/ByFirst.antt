@@ -15,9 +15,9 @@ use Rattle.batcher_histories.specs.declared.answers.BlockReason.TheVariants.{Unk
 use Rattle.batcher_histories.specs.declared.answers.OwnFault.{OwnFault}
 use Rattle.batcher_types.specs.Lists.{is_empty, is_some_and, exactly_one}
 use Rattle.batcher_types.specs.Votes.{kind_of, signer_of, is_for}
-use Rattle.batcher_votes.specs.Held.{Facts}
-use Rattle.batcher_votes.specs.Tracking.{as_facts, in_full, is_seen_for, outcome_by}
-use Rattle.batcher_histories.specs.Setting.{Setting, sender_in}
+use Rattle.batcher_votes.specs.RoundState.{Facts}
+use Rattle.batcher_votes.specs.TrackerSteps.{as_facts, in_full, is_seen_for, outcome_by}
+use Rattle.batcher_histories.specs.Config.{Config, sender_in}
 use Rattle.batcher_histories.specs.Admissions.{addition, refusal, block_for, mismatch_reason, conflict_reason, admission_after, admission_after_facts, admission_beside}
 use Rattle.batcher_histories.specs.Known.{known_by, opposite_fault, unopposed_result, own_result_by, admission_by, admission_named, admission_from}
 use Rattle.batcher_histories.specs.History.{History}
@@ -25,9 +25,9 @@ use Rattle.batcher_histories.specs.FirstVotes.{first_vote, first_like, opposite_
 use Rattle.batcher_histories.specs.Selection.{selected_proposal, is_released}
 use Rattle.batcher_histories.specs.Comparison.{compared_votes_of, is_matched, conflicts, facts_of, known_after, known_opposite, has_block}
 use Rattle.batcher_histories.specs.Answers.{network_answer, own_answer}
-use Rattle.batcher_histories.proofs.Shown.Observed.{none_compared, nothing_matches}
+use Rattle.batcher_histories.proofs.KnownLemmas.Observed.{none_compared, nothing_matches}
 
-module _ {D K G C : Type 0} (x : Setting D K G C) where
+module _ {D K G C : Type 0} (x : Config D K G C) where
   -- CONFLICTS
   -- whether the vote is for the proposal and none of the others is, or some of them is and the vote
   -- isn't

@@ -5,18 +5,14 @@ use Rattle.std.specs.List.{list_any}
 use Rattle.std.proofs.lemmas.Bool.{cases_Bool, eqb-true, eq-eqb, and_parts, and_from, or_parts, not-true, false_from_ne_true, lt-ltb, le-ltb}
 use Rattle.batcher_types.specs.declared.messages.Vote.{Vote}
 use Rattle.batcher_types.specs.declared.messages.Kind.{Kind}
-use Rattle.batcher_types.specs.declared.messages.Kind.TheVariants.{Notarization, Nullification, Finalization}
 use Rattle.batcher_histories.specs.declared.calls.Call.TheVariants.{Network as NetworkCall, Own as OwnCall, Certificate as CertificateCall, Leader as LeaderCall, Construct as ConstructCall, Forward as ForwardCall, Missing as MissingCall}
-use Rattle.batcher_histories.specs.Setting.{Setting}
+use Rattle.batcher_histories.specs.Config.{Config}
 use Rattle.batcher_types.specs.Lists.{count, is_some_and}
 use Rattle.batcher_types.specs.Votes.{is_kind, kind_of, signer_of, is_vote_of, excludes, are_opposite}
+use Rattle.batcher_types.proofs.KindLemmas.{is_kind-true, is_kind-refl}
+use Rattle.batcher_types.proofs.CountLemmas.{count-filter}
 use Rattle.batcher_histories.specs.History.{Event, History, cast_votes, names_sender}
 use Rattle.batcher_histories.specs.FirstVotes.{is_free, first_votes, first_vote}
-
-pub count-filter : {X : Type 0} (p q : X → Bool) (xs : List X) → count p (filter q xs)
-    ≡ count (λ v. q v && p v) xs
-count-filter p q [] = refl
-count-filter p q (x ∷ xs) = grind (arith, count-filter p q xs)
 
 pub positive : (b : Bool) → ltb 0 (cond b 1 0) ≡ b
 positive true = refl
@@ -25,22 +21,6 @@ positive false = refl
 pub any_count : {X : Type 0} (p : X → Bool) (xs : List X) → list_any p xs ≡ ltb 0 (count p xs)
 any_count p [] = refl
 any_count p (x ∷ xs) = grind (arith, any_count p xs, lt-ltb, le-ltb)
-
-pub is_kind-refl : (k : Kind) → is_kind k k ≡ true
-is_kind-refl Notarization = refl
-is_kind-refl Nullification = refl
-is_kind-refl Finalization = refl
-
-pub is_kind-true : (a b : Kind) → is_kind a b ≡ true → a ≡ b
-is_kind-true Notarization Notarization h = refl
-is_kind-true Nullification Nullification h = refl
-is_kind-true Finalization Finalization h = refl
-is_kind-true Notarization Nullification h = cc
-is_kind-true Notarization Finalization h = cc
-is_kind-true Nullification Notarization h = cc
-is_kind-true Nullification Finalization h = cc
-is_kind-true Finalization Notarization h = cc
-is_kind-true Finalization Nullification h = cc
 
 some_not_none : {X : Type 0} (b : Bool) (v : X) (o : Option X) → cond b (Some v) o ≡ None → b
     ≡ false
@@ -209,7 +189,7 @@ module _ {G D : Type 0} where
       (subst (λ (l : Kind). vote_at vs l (signer_of w) ≡ None) k (free_is_new vs w free)) in
       let no : Some v ≡ None = sym found ∙ none in cc)
 
-module _ {D K G C : Type 0} (x : Setting D K G C) where
+module _ {D K G C : Type 0} (x : Config D K G C) where
   -- the first votes that an event brings
   abbrev pub new_votes : History D K G C → Event D K G C → List (Vote G D)
   new_votes past event = filter (is_free (first_votes x past)) (cast_votes x event.0)

@@ -1,4 +1,4 @@
--- What holds of the first votes, of the trials and of the standing votes of a history.
+-- What holds of the first votes, of the trials and of the eligible votes of a history.
 use Rattle.std.proofs.Common.{◌≡◌, ℕ, Bool, true, false, not, ◌&&◌, ◌||◌, List, [], ◌∷◌, map, Option, Some, None, refl, ap, sym, ◌∙◌, ⊎_elim, eqb, ltb, subst}
 use Rattle.std.specs.Prelude.{filter, is_some}
 use Rattle.std.specs.List.{list_any}
@@ -8,76 +8,78 @@ use Rattle.batcher_histories.specs.FirstVotes.{first_vote, first_votes, is_free,
 use Rattle.batcher_histories.specs.History.{Event, History, batch_given, own_votes}
 use Rattle.batcher_types.specs.Lists.{count, is_some_and}
 use Rattle.batcher_histories.specs.Selection.{is_restored, is_certified, restored_votes, selected_proposal, votes_restored_by}
-use Rattle.batcher_histories.specs.Setting.{Setting}
-use Rattle.batcher_histories.specs.Standing.{fresh_votes, holds_vote, is_among, is_trusted, proven_votes, ready_kind, standing_votes, stood_before, trials, was_invalid, with_batch, waiting_votes}
-use Rattle.batcher_histories.specs.Stands.{tries_kind}
-use Rattle.batcher_votes.specs.Tracking.{is_skipped}
-use Rattle.batcher_types.specs.Votes.{is_kind, is_of_kind, is_vote_of, kind_of, signer_of, waits}
+use Rattle.batcher_histories.specs.Config.{Config}
+use Rattle.batcher_histories.specs.Eligible.{fresh_votes, holds_vote, is_among, is_trusted, proven_votes, ready_kind, eligible_votes, was_eligible, trials, was_invalid, with_batch, eligible_among}
+use Rattle.batcher_histories.specs.Represents.{tries_kind}
+use Rattle.batcher_votes.specs.TrackerSteps.{is_skipped}
+use Rattle.batcher_types.specs.Votes.{is_kind, is_of_kind, is_vote_of, kind_of, signer_of, is_eligible}
 use Rattle.batcher_types.specs.declared.messages.Certificate.{Certificate}
 use Rattle.batcher_types.specs.declared.messages.Kind.{Kind}
 use Rattle.batcher_types.specs.declared.messages.Vote.{Vote}
-use Rattle.batcher_types.proofs.CountLemmas.{count-map, count_same}
+use Rattle.batcher_types.proofs.CountLemmas.{count-map, count_same, count-filter}
+use Rattle.batcher_types.proofs.KindLemmas.{is_kind-true}
 use Rattle.batcher_histories.specs.declared.calls.Call.TheVariants.{Certificate as CertificateCall, Construct as ConstructCall, Forward as ForwardCall, Leader as LeaderCall, Missing as MissingCall, Network as NetworkCall, Own as OwnCall}
 use Rattle.batcher_votes.specs.declared.verifier.Batch.{Batch}
-use Rattle.batcher_histories.proofs.History.Distinct.{free_apart, new_votes, new_cases, firsts_apart, filled_stays, IsAt, any_count, any_filtered, any_is_found, count-filter, count_at, is_kind-true, positive, some_where}
+use Rattle.batcher_histories.proofs.History.Distinct.{free_apart, new_votes, new_cases, firsts_apart, filled_stays, IsAt, any_count, any_filtered, any_is_found, count_at, positive, some_where}
 
-module _ {D K G C : Type 0} (x : Setting D K G C) where
-  -- the standing votes of a kind, by signer
+module _ {D K G C : Type 0} (x : Config D K G C) where
+  -- the eligible votes of a kind, by signer
   pub kind_and_signer : (k w s : Bool) → (k && (w && s)) ≡ (w && (k && s))
   kind_and_signer true true s = refl
   kind_and_signer true false s = refl
   kind_and_signer false true s = refl
   kind_and_signer false false s = refl
 
-  pub among_standing : (past : History D K G C) (kind : Kind) (i : ℕ) →
-      is_among i (map signer_of (standing_votes x past kind))
+  pub among_eligible : (past : History D K G C) (kind : Kind) (i : ℕ) →
+      is_among i (map signer_of (eligible_votes x past kind))
       ≡ (not (is_certified past kind || is_skipped x.mode)
       && is_some_and (first_vote x past kind i)
-      (waits x.same_digest (selected_proposal x past)))
-  among_standing past kind i =
+      (is_eligible x.same_digest (selected_proposal x past)))
+  among_eligible past kind i =
       ⊎_elim
       (λ closed. rw closed refl)
       (λ still. rw still still_open)
       (cases_Bool (is_certified past kind || is_skipped x.mode))
     where
       passed : List (Vote G D)
-      passed = filter (waits x.same_digest (selected_proposal x past)) (filter (is_of_kind kind) (first_votes x past))
+      passed = filter (is_eligible x.same_digest (selected_proposal x past)) (filter (is_of_kind kind) (first_votes x past))
 
       still_open : is_among i (map signer_of passed)
-          ≡ is_some_and (first_vote x past kind i) (waits x.same_digest (selected_proposal x past))
+          ≡ is_some_and (first_vote x past kind i)
+          (is_eligible x.same_digest (selected_proposal x past))
       still_open =
           any_count (λ j. eqb j i) (map signer_of passed)
           ∙ (ap (λ n. ltb 0 n)
           (count-map (λ j. eqb j i) signer_of passed
-          ∙ (count-filter (λ v. eqb (signer_of v) i) (waits x.same_digest (selected_proposal x past)) (filter (is_of_kind kind) (first_votes x past))
-          ∙ (count-filter (λ v. waits x.same_digest (selected_proposal x past) v && eqb (signer_of v) i) (is_of_kind kind) (first_votes x past)
-          ∙ (count_same _ (λ v. waits x.same_digest (selected_proposal x past) v && is_vote_of kind i v) (first_votes x past)
-          (λ v. kind_and_signer (is_of_kind kind v) (waits x.same_digest (selected_proposal x past) v) (eqb (signer_of v) i))
-          ∙ count_at (waits x.same_digest (selected_proposal x past)) (first_votes x past) kind i (firsts_apart x past)))))
-          ∙ positive (is_some_and (first_vote x past kind i) (waits x.same_digest (selected_proposal x past))))
+          ∙ (count-filter (λ v. eqb (signer_of v) i) (is_eligible x.same_digest (selected_proposal x past)) (filter (is_of_kind kind) (first_votes x past))
+          ∙ (count-filter (λ v. is_eligible x.same_digest (selected_proposal x past) v && eqb (signer_of v) i) (is_of_kind kind) (first_votes x past)
+          ∙ (count_same _ (λ v. is_eligible x.same_digest (selected_proposal x past) v && is_vote_of kind i v) (first_votes x past)
+          (λ v. kind_and_signer (is_of_kind kind v) (is_eligible x.same_digest (selected_proposal x past) v) (eqb (signer_of v) i))
+          ∙ count_at (is_eligible x.same_digest (selected_proposal x past)) (first_votes x past) kind i (firsts_apart x past)))))
+          ∙ positive (is_some_and (first_vote x past kind i) (is_eligible x.same_digest (selected_proposal x past))))
 
   -- what a batch has tried and found, after one more event
   of_kind_alike : (k l : Kind) (f : Kind → Bool) → (is_kind k l && f k) ≡ (is_kind k l && f l)
   of_kind_alike k l f =
       ⊎_elim (λ e. let same : k ≡ l = is_kind-true k l e in ap (λ m. is_kind k l && f m) same) (λ e. rw e refl) (cases_Bool (is_kind k l))
 
-  tried_with : (past : History D K G C) (batch : Option (Batch (Certificate C D)))
+  attempt_with : (past : History D K G C) (batch : Option (Batch (Certificate C D)))
       (ready : Option Kind) (v : Vote G D) → ready_kind x past ≡ ready →
-      stood_before (with_batch x past (trials x past) batch) v
+      was_eligible (with_batch x past (trials x past) batch) v
       ≡ (((is_some batch && is_some_and ready (λ k. is_kind k (kind_of v)))
-      && is_among (signer_of v) (map signer_of (standing_votes x past (kind_of v))))
-      || stood_before (trials x past) v)
-  tried_with past None ready v e = refl
-  tried_with past (Some batch) None v e = rw e refl
-  tried_with past (Some batch) (Some k) v e =
-      rw e (ap (λ b. b || stood_before (trials x past) v) (of_kind_alike k (kind_of v) (λ l. is_among (signer_of v) (map signer_of (standing_votes x past l)))))
+      && is_among (signer_of v) (map signer_of (eligible_votes x past (kind_of v))))
+      || was_eligible (trials x past) v)
+  attempt_with past None ready v e = refl
+  attempt_with past (Some batch) None v e = rw e refl
+  attempt_with past (Some batch) (Some k) v e =
+      rw e (ap (λ b. b || was_eligible (trials x past) v) (of_kind_alike k (kind_of v) (λ l. is_among (signer_of v) (map signer_of (eligible_votes x past l)))))
 
   pub tried_after : (past : History D K G C) (event : Event D K G C) (v : Vote G D) →
-      stood_before (trials x (event ∷ past)) v
+      was_eligible (trials x (event ∷ past)) v
       ≡ ((tries_kind x past event.1 (kind_of v)
-      && is_among (signer_of v) (map signer_of (standing_votes x past (kind_of v))))
-      || stood_before (trials x past) v)
-  tried_after past event v = tried_with past (batch_given event.1) (ready_kind x past) v refl
+      && is_among (signer_of v) (map signer_of (eligible_votes x past (kind_of v))))
+      || was_eligible (trials x past) v)
+  tried_after past event v = attempt_with past (batch_given event.1) (ready_kind x past) v refl
 
   abbrev pub invalid_in : Option (Batch (Certificate C D)) → List ℕ
   invalid_in None = []
@@ -100,14 +102,14 @@ module _ {D K G C : Type 0} (x : Setting D K G C) where
   invalid_after past event v = invalid_with past (batch_given event.1) (ready_kind x past) v refl
 
   -- what was tried has a first vote
-  pub tried_filled : (past : History D K G C) (v : Vote G D) → stood_before (trials x past) v ≡ true
+  pub tried_filled : (past : History D K G C) (v : Vote G D) → was_eligible (trials x past) v ≡ true
       → is_some (first_vote x past (kind_of v) (signer_of v)) ≡ true
   tried_filled [] v h = cc
   tried_filled (event ∷ past) v h =
       filled_stays x past event (kind_of v) (signer_of v)
       (⊎_elim
-      (λ now. some_where (waits x.same_digest (selected_proposal x past)) _
-      (and_parts _ _ (sym (among_standing past (kind_of v) (signer_of v)) ∙ (and_parts _ _ now).1)).1)
+      (λ now. some_where (is_eligible x.same_digest (selected_proposal x past)) _
+      (and_parts _ _ (sym (among_eligible past (kind_of v) (signer_of v)) ∙ (and_parts _ _ now).1)).1)
       (λ before. tried_filled past v before)
       (or_cases _ _ (sym (tried_after past event v) ∙ h)))
 
@@ -184,15 +186,16 @@ module _ {D K G C : Type 0} (x : Setting D K G C) where
       ∙ ap (λ o. is_some_and o (is_restored x past event)) found)
 
   -- of a kind that is closed nothing waits
-  pub nothing_waits : (past : History D K G C) (kind : Kind) (votes : List (Vote G D))
-      → (is_certified past kind || is_skipped x.mode) ≡ true → waiting_votes x past kind votes ≡ []
-  nothing_waits past kind votes closed = rw closed refl
+  pub nothing_eligible : (past : History D K G C) (kind : Kind) (votes : List (Vote G D))
+      → (is_certified past kind || is_skipped x.mode) ≡ true → eligible_among x past kind votes ≡ []
+  nothing_eligible past kind votes closed = rw closed refl
 
-  pub open_waits : (past : History D K G C) (kind : Kind) (votes : List (Vote G D))
+  pub open_eligible : (past : History D K G C) (kind : Kind) (votes : List (Vote G D))
       → (is_certified past kind || is_skipped x.mode) ≡ false →
-      waiting_votes x past kind votes ≡ filter (waits x.same_digest (selected_proposal x past))
+      eligible_among x past kind votes ≡ filter
+      (is_eligible x.same_digest (selected_proposal x past))
       votes
-  open_waits past kind votes still = rw still refl
+  open_eligible past kind votes still = rw still refl
 
   -- the fresh and the proven votes by counts over the first votes
   pub closed_is_empty : (past : History D K G C) (kind : Kind)
@@ -202,32 +205,32 @@ module _ {D K G C : Type 0} (x : Setting D K G C) where
 
   pub count_passed : (past : History D K G C) (kind : Kind) (test : Vote G D → Bool)
       → (is_certified past kind || is_skipped x.mode) ≡ false →
-      count test (standing_votes x past kind)
+      count test (eligible_votes x past kind)
       ≡ count (λ v. is_of_kind kind v &&
-      (waits x.same_digest (selected_proposal x past) v && test v)) (first_votes x past)
+      (is_eligible x.same_digest (selected_proposal x past) v && test v)) (first_votes x past)
   count_passed past kind test still =
-      ap (count test) (open_waits past kind (filter (is_of_kind kind) (first_votes x past)) still)
-      ∙ (count-filter test (waits x.same_digest (selected_proposal x past)) (filter (is_of_kind kind) (first_votes x past))
-      ∙ count-filter (λ v. waits x.same_digest (selected_proposal x past) v && test v) (is_of_kind kind) (first_votes x past))
+      ap (count test) (open_eligible past kind (filter (is_of_kind kind) (first_votes x past)) still)
+      ∙ (count-filter test (is_eligible x.same_digest (selected_proposal x past)) (filter (is_of_kind kind) (first_votes x past))
+      ∙ count-filter (λ v. is_eligible x.same_digest (selected_proposal x past) v && test v) (is_of_kind kind) (first_votes x past))
 
   pub count_fresh : (past : History D K G C) (kind : Kind) (test : Vote G D → Bool)
       → (is_certified past kind || is_skipped x.mode) ≡ false →
       count test (fresh_votes x past kind)
       ≡ count (λ v. is_of_kind kind v &&
-      (waits x.same_digest (selected_proposal x past) v
-      && (not (is_trusted x past v || stood_before (trials x past) v) && test v)))
+      (is_eligible x.same_digest (selected_proposal x past) v
+      && (not (is_trusted x past v || was_eligible (trials x past) v) && test v)))
       (first_votes x past)
   count_fresh past kind test still =
-      count-filter test (λ v. not (is_trusted x past v || stood_before (trials x past) v)) (standing_votes x past kind)
-      ∙ count_passed past kind (λ v. not (is_trusted x past v || stood_before (trials x past) v) && test v) still
+      count-filter test (λ v. not (is_trusted x past v || was_eligible (trials x past) v)) (eligible_votes x past kind)
+      ∙ count_passed past kind (λ v. not (is_trusted x past v || was_eligible (trials x past) v) && test v) still
 
   pub count_proven : (past : History D K G C) (kind : Kind) (test : Vote G D → Bool)
       → (is_certified past kind || is_skipped x.mode) ≡ false →
       count test (proven_votes x past kind)
       ≡ count (λ v. is_of_kind kind v &&
-      (waits x.same_digest (selected_proposal x past) v
-      && (((is_trusted x past v || stood_before (trials x past) v)
+      (is_eligible x.same_digest (selected_proposal x past) v
+      && (((is_trusted x past v || was_eligible (trials x past) v)
       && not (was_invalid (trials x past) v)) && test v))) (first_votes x past)
   count_proven past kind test still =
-      count-filter test (λ v. (is_trusted x past v || stood_before (trials x past) v) && not (was_invalid (trials x past) v)) (standing_votes x past kind)
-      ∙ count_passed past kind (λ v. ((is_trusted x past v || stood_before (trials x past) v) && not (was_invalid (trials x past) v)) && test v) still
+      count-filter test (λ v. (is_trusted x past v || was_eligible (trials x past) v) && not (was_invalid (trials x past) v)) (eligible_votes x past kind)
+      ∙ count_passed past kind (λ v. ((is_trusted x past v || was_eligible (trials x past) v) && not (was_invalid (trials x past) v)) && test v) still

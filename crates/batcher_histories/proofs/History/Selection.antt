@@ -7,12 +7,12 @@ use Rattle.std.proofs.Math.Bool.{and-true}
 use Rattle.batcher_histories.specs.FirstVotes.{first_vote}
 use Rattle.batcher_histories.specs.History.{Event, History}
 use Rattle.batcher_types.specs.Lists.{is_some_and}
-use Rattle.batcher_votes.specs.Selected.{proposal_of, replaces, fixes}
+use Rattle.batcher_votes.specs.ProposalStates.{proposal_of, replaces, fixes}
 use Rattle.batcher_histories.specs.Selection.{is_restored, fixed_proposal, fixing_evidence, is_certified, leader_of, leaders_proposal, replacement, selected_proposal, selection_by, selection}
-use Rattle.batcher_histories.specs.Setting.{Setting}
-use Rattle.batcher_histories.specs.Standing.{is_counted}
-use Rattle.batcher_votes.specs.Tracking.{is_skipped}
-use Rattle.batcher_types.specs.Votes.{has_proposals, is_for, kind_of, proposal_in, same_proposal, subject_of, waits}
+use Rattle.batcher_histories.specs.Config.{Config}
+use Rattle.batcher_histories.specs.Eligible.{is_counted}
+use Rattle.batcher_votes.specs.TrackerSteps.{is_skipped}
+use Rattle.batcher_types.specs.Votes.{has_proposals, is_for, kind_of, proposal_in, same_proposal, subject_of, is_eligible}
 use Rattle.batcher_types.specs.declared.messages.Kind.{Kind}
 use Rattle.batcher_types.specs.declared.messages.Kind.TheVariants.{Notarization}
 use Rattle.batcher_types.specs.declared.messages.Proposal.{Proposal}
@@ -34,7 +34,7 @@ pub certified_before : {D K G C : Type 0} (past : History D K G C) (event : Even
 certified_before past event kind h = (or_parts _ _ h).1
 
 -- where nothing is replaced nothing is restored
-pub unreplaced : {D K G C : Type 0} (x : Setting D K G C) (past : History D K G C)
+pub unreplaced : {D K G C : Type 0} (x : Config D K G C) (past : History D K G C)
     (event : Event D K G C) (v : Vote G D) → replacement x past event ≡ None
     → is_restored x past event v ≡ false
 unreplaced x past event v h = rw h refl
@@ -49,7 +49,7 @@ fixes_by None (Some p) None = refl
 fixes_by None (Some p) (Some l) = refl
 
 -- where the leader's proposal stays, the evidence of an event alone changes the selection
-pub selection_fixes : {D K G C : Type 0} (x : Setting D K G C) (past : History D K G C)
+pub selection_fixes : {D K G C : Type 0} (x : Config D K G C) (past : History D K G C)
     (event : Event D K G C) (evidence : Option (Proposal D)) → leaders_proposal x (event ∷ past)
     ≡ leaders_proposal x past →
     fixing_evidence event ≡ evidence → selection x (event ∷ past)
@@ -66,7 +66,7 @@ for_has_proposals same p (NotarizeVote v) h = refl
 for_has_proposals same p (NullifyVote v) h = absurd (cc)
 for_has_proposals same p (FinalizeVote v) h = refl
 
-module _ {D K G C : Type 0} (x : Setting D K G C) (lawful : HasLaws x) where
+module _ {D K G C : Type 0} (x : Config D K G C) (lawful : HasLaws x) where
   -- a vote is for one proposal at most
   pub for_one : (p q : Proposal D) (v : Vote G D) → is_for x.same_digest p v ≡ true
       → is_for x.same_digest q v ≡ true → p ≡ q
@@ -163,12 +163,12 @@ module _ {D K G C : Type 0} (x : Setting D K G C) (lawful : HasLaws x) where
       }))
       (goes_on past event)
 
-  pub back_waits_after : (past : History D K G C) (event : Event D K G C) (v : Vote G D)
+  pub back_eligible_after : (past : History D K G C) (event : Event D K G C) (v : Vote G D)
       → is_restored x past event v ≡ true
-      → waits x.same_digest (selected_proposal x (event ∷ past)) v ≡ true
-  back_waits_after past event v h =
+      → is_eligible x.same_digest (selected_proposal x (event ∷ past)) v ≡ true
+  back_eligible_after past event v h =
       let c = is_restored_by past event v h in
-      ap (λ o. waits x.same_digest o v) c.replaced.becomes ∙ or_right (not (has_proposals (kind_of v))) (is_for x.same_digest c.replaced.later v) c.is_new
+      ap (λ o. is_eligible x.same_digest o v) c.replaced.becomes ∙ or_right (not (has_proposals (kind_of v))) (is_for x.same_digest c.replaced.later v) c.is_new
 
   not_for_both : (p q : Proposal D) (v : Vote G D) → same_proposal x.same_digest p q ≡ false
       → is_for x.same_digest q v ≡ true → is_for x.same_digest p v ≡ false
@@ -188,12 +188,13 @@ module _ {D K G C : Type 0} (x : Setting D K G C) (lawful : HasLaws x) where
       let other : is_for x.same_digest c.replaced.earlier v ≡ false = not_for_both c.replaced.earlier c.replaced.later v c.replaced.differs c.is_new in
       ap (λ o. is_counted x o v) c.replaced.was ∙ rw (has, other) refl
 
-  pub back_waits_before : (past : History D K G C) (event : Event D K G C) (v : Vote G D)
-      → is_restored x past event v ≡ true → waits x.same_digest (selected_proposal x past) v ≡ false
-  back_waits_before past event v h =
+  pub back_eligible_before : (past : History D K G C) (event : Event D K G C) (v : Vote G D)
+      → is_restored x past event v ≡ true → is_eligible x.same_digest (selected_proposal x past) v
+      ≡ false
+  back_eligible_before past event v h =
       let c = is_restored_by past event v h in
-      ap (λ f. waits x.same_digest (proposal_of (selection_by f (leaders_proposal x past))) v) c.replaced.unfixed
-      ∙ (ap (λ l. waits x.same_digest (proposal_of (selection_by None l)) v) c.replaced.was
+      ap (λ f. is_eligible x.same_digest (proposal_of (selection_by f (leaders_proposal x past))) v) c.replaced.unfixed
+      ∙ (ap (λ l. is_eligible x.same_digest (proposal_of (selection_by None l)) v) c.replaced.was
       ∙ (ap (λ o. is_counted x o v) (sym c.replaced.was) ∙ back_not_counted past event v h))
 
   forced : (h f g : Bool) → (h || f) ≡ true → f ≡ false → (h || g) ≡ true
@@ -203,21 +204,21 @@ module _ {D K G C : Type 0} (x : Setting D K G C) (lawful : HasLaws x) where
   -- what waits after an event did before it, or is restored
   pub waited_before : (past : History D K G C) (event : Event D K G C) (v : Vote G D)
       → is_certified (event ∷ past) (kind_of v) ≡ false → is_restored x past event v ≡ false →
-      waits x.same_digest (selected_proposal x (event ∷ past)) v ≡ true
-      → waits x.same_digest (selected_proposal x past) v ≡ true
+      is_eligible x.same_digest (selected_proposal x (event ∷ past)) v ≡ true
+      → is_eligible x.same_digest (selected_proposal x past) v ≡ true
   waited_before past event v still not_back h =
       ⊎_elim
-      (λ unknown. ap (λ o. waits x.same_digest o v) unknown.0)
+      (λ unknown. ap (λ o. is_eligible x.same_digest o v) unknown.0)
       (⊎_elim
-      (λ same. ap (λ o. waits x.same_digest o v) (sym same.0) ∙ h)
+      (λ same. ap (λ o. is_eligible x.same_digest o v) (sym same.0) ∙ h)
       (λ (r : Replaced past event).
       let k : (is_for x.same_digest r.later v && not (is_certified (event ∷ past) (kind_of v)))
       ≡ false = subst (λ (o : Option (Proposal D)). (is_some_and o (λ p. is_for x.same_digest p v) && not (is_certified (event ∷ past) (kind_of v)))
       ≡ false) r.replaced not_back in
       let other : is_for x.same_digest r.later v ≡ false = sym (and-true (is_for x.same_digest r.later v))
       ∙ (ap (λ b. is_for x.same_digest r.later v && not b) (sym still) ∙ k) in
-      let l : (not (has_proposals (kind_of v)) || is_for x.same_digest r.later v) ≡ true = ap (λ o. waits x.same_digest o v) (sym r.becomes) ∙ h in
-      ap (λ f. waits x.same_digest (proposal_of (selection_by f (leaders_proposal x past))) v) r.unfixed
-      ∙ (ap (λ m. waits x.same_digest (proposal_of (selection_by None m)) v) r.was
+      let l : (not (has_proposals (kind_of v)) || is_for x.same_digest r.later v) ≡ true = ap (λ o. is_eligible x.same_digest o v) (sym r.becomes) ∙ h in
+      ap (λ f. is_eligible x.same_digest (proposal_of (selection_by f (leaders_proposal x past))) v) r.unfixed
+      ∙ (ap (λ m. is_eligible x.same_digest (proposal_of (selection_by None m)) v) r.was
       ∙ forced (not (has_proposals (kind_of v))) (is_for x.same_digest r.later v) (is_for x.same_digest r.earlier v) l other)))
       (goes_on past event)

@@ -8,22 +8,22 @@ use Rattle.batcher_types.specs.declared.messages.Kind.{Kind}
 use Rattle.batcher_types.specs.declared.messages.Certificate.{Certificate}
 use Rattle.batcher_histories.specs.declared.calls.Call.TheVariants.{Certificate as CertificateCall}
 use Rattle.batcher_histories.specs.declared.answers.Answer.TheVariants.{Certificate as CertificateAnswer}
-use Rattle.batcher_histories.specs.Setting.{Setting}
+use Rattle.batcher_histories.specs.Config.{Config}
 use Rattle.batcher_types.specs.Lists.{count, is_empty}
-use Rattle.batcher_types.specs.Votes.{is_kind, is_of_kind, has_proposals, kind_certified, subject_certified, proposal_in, signer_of, waits}
-use Rattle.batcher_types.proofs.CountLemmas.{count-filter_le, count_same, count-true}
-use Rattle.batcher_votes.specs.Selected.{proposal_of, replaces, fixes}
-use Rattle.batcher_votes.specs.Held.{of_kind, Held}
-use Rattle.batcher_votes.specs.Buffering.{coming_back}
+use Rattle.batcher_types.specs.Votes.{is_kind, is_of_kind, has_proposals, kind_certified, subject_certified, proposal_in, signer_of, is_eligible}
+use Rattle.batcher_types.proofs.CountLemmas.{count-filter_le, count_same, count-true, count-filter}
+use Rattle.batcher_types.proofs.KindLemmas.{is_kind-refl, is_kind-true}
+use Rattle.batcher_votes.specs.ProposalStates.{proposal_of, replaces, fixes}
+use Rattle.batcher_votes.specs.RoundState.{of_kind, RoundState}
+use Rattle.batcher_votes.specs.VerifierSteps.{restored_by_fix}
 use Rattle.batcher_histories.specs.Steps.{restored_by, restored_with}
 use Rattle.batcher_histories.specs.History.{Event, History}
 use Rattle.batcher_histories.specs.FirstVotes.{first_votes}
 use Rattle.batcher_histories.specs.Selection.{selected_proposal, leader_of, is_certified, leaders_proposal, is_restored, votes_restored_by, is_released}
-use Rattle.batcher_histories.specs.Stands.{Stands, first_by_signer}
-use Rattle.batcher_histories.proofs.History.Distinct.{is_kind-refl, is_kind-true, count-filter}
-use Rattle.batcher_histories.proofs.Follow.Buffers.{count_ordered}
-use Rattle.batcher_histories.proofs.Follow.Frame.{or_nothing, leaders_same}
-use Rattle.batcher_histories.proofs.Follow.Restored.{returned, replaced_is}
+use Rattle.batcher_histories.specs.Represents.{Represents, first_by_signer}
+use Rattle.batcher_histories.proofs.Simulation.Buffers.{count_ordered}
+use Rattle.batcher_histories.proofs.Simulation.Frame.{or_nothing, leaders_same}
+use Rattle.batcher_histories.proofs.Simulation.Restored.{returned, replaced_is}
 use Rattle.batcher_histories.proofs.History.Selection.{selection_fixes}
 
 empty_is : {X : Type 0} (xs : List X) → is_empty xs ≡ true → xs ≡ []
@@ -44,14 +44,15 @@ kind_swapped a b h = by (is_kind b a) refl
     by true e = let same : b ≡ a = is_kind-true b a e in let no : true ≡ false = sym (is_kind-refl a) ∙ (ap (is_kind a) (sym same) ∙ h) in absurd (cc)
     by false e = refl
 
-module _ {D K G C : Type 0} (x : Setting D K G C) where
+module _ {D K G C : Type 0} (x : Config D K G C) where
   -- where no first vote is restored, no kept one does
-  none_kept_back : (past : History D K G C) (event : Event D K G C) (held : Held G D) (kind : Kind)
-      → Stands x past held → is_empty (votes_restored_by x past event) ≡ true →
+  none_kept_back : (past : History D K G C) (event : Event D K G C) (held : RoundState G D)
+      (kind : Kind)
+      → Represents x past held → is_empty (votes_restored_by x past event) ≡ true →
       filter (is_restored x past event) (of_kind held.tracked.kept kind) ≡ []
-  none_kept_back past event held kind stands none =
+  none_kept_back past event held kind represents none =
       nil_from_length (filter (is_restored x past event) (of_kind held.tracked.kept kind))
-      (sym (counted (is_restored x past event) (of_kind held.tracked.kept kind)) ∙ ap (count (is_restored x past event)) (stands.each_kind kind).kept_are
+      (sym (counted (is_restored x past event) (of_kind held.tracked.kept kind)) ∙ ap (count (is_restored x past event)) (represents.each_kind kind).kept_are
       ∙ by_released (is_released x past kind))
     where
       none_first : count (is_restored x past event) (first_votes x past) ≡ 0
@@ -65,11 +66,11 @@ module _ {D K G C : Type 0} (x : Setting D K G C) where
           ∙ omega (arith, none_first, count-filter_le (is_restored x past event) (is_of_kind kind) (first_votes x past))
 
   -- With a certificate that brings no vote back, nothing waits again.
-  pub nothing_restored : (past : History D K G C) (held : Held G D) (c : Certificate C D)
-      (answer : Bool) → Stands x past held →
+  pub nothing_restored : (past : History D K G C) (held : RoundState G D) (c : Certificate C D)
+      (answer : Bool) → Represents x past held →
       is_empty (votes_restored_by x past (CertificateCall c, CertificateAnswer answer)) ≡ true
       → (kind : Kind) → restored_with x held c kind ≡ []
-  nothing_restored past held c answer stands none kind =
+  nothing_restored past held c answer represents none kind =
       either_empty (is_kind kind (kind_certified c)) _ (λ other. by_proposal other (proposal_in (subject_certified c)) refl)
     where
       leaders_stay : leaders_proposal x ((CertificateCall c, CertificateAnswer answer) ∷ past)
@@ -84,23 +85,24 @@ module _ {D K G C : Type 0} (x : Setting D K G C) where
         where
           by_replaced : of_kind held.buffered.certified kind ≡ false → (r : Bool)
               → replaces x.same_digest held.buffered.selection p ≡ r
-              → filter (waits x.same_digest (Some p))
-              (coming_back x.same_digest held.buffered held.tracked.kept p kind) ≡ []
+              → filter (is_eligible x.same_digest (Some p))
+              (restored_by_fix x.same_digest held.buffered held.tracked.kept p kind) ≡ []
           by_replaced unfinished false e =
-              ap (λ b. filter (waits x.same_digest (Some p)) (cond (b && has_proposals kind) (of_kind held.tracked.kept kind) [])) e
+              ap (λ b. filter (is_eligible x.same_digest (Some p)) (cond (b && has_proposals kind) (of_kind held.tracked.kept kind) [])) e
           by_replaced unfinished true e =
-              ap (λ o. filter (waits x.same_digest o) (coming_back x.same_digest held.buffered held.tracked.kept p kind)) (sym selected)
-              ∙ (returned x past (CertificateCall c, CertificateAnswer answer) held kind p held.buffered stands refl is leaders_stay still
-              ∙ ap (filter (waits x.same_digest (selected_proposal x ((CertificateCall c, CertificateAnswer answer) ∷ past))))
-              (none_kept_back past (CertificateCall c, CertificateAnswer answer) held kind stands none))
+              ap (λ o. filter (is_eligible x.same_digest o) (restored_by_fix x.same_digest held.buffered held.tracked.kept p kind)) (sym selected)
+              ∙ (returned x past (CertificateCall c, CertificateAnswer answer) held kind p held.buffered represents refl is leaders_stay still
+              ∙ ap (filter (is_eligible x.same_digest (selected_proposal x ((CertificateCall c, CertificateAnswer answer) ∷ past))))
+              (none_kept_back past (CertificateCall c, CertificateAnswer answer) held kind represents none))
             where
               still : is_certified ((CertificateCall c, CertificateAnswer answer) ∷ past) kind
                   ≡ false
               still =
-                  ap (λ b. b || is_certified past kind) (kind_swapped kind (kind_certified c) other) ∙ (sym (stands.each_kind kind).certified_is ∙ unfinished)
+                  ap (λ b. b || is_certified past kind) (kind_swapped kind (kind_certified c) other)
+                  ∙ (sym (represents.each_kind kind).certified_is ∙ unfinished)
 
               selected : selected_proposal x ((CertificateCall c, CertificateAnswer answer) ∷ past)
                   ≡ Some p
               selected =
                   ap proposal_of (selection_fixes x past (CertificateCall c, CertificateAnswer answer) (Some p) leaders_stay is)
-                  ∙ (ap (λ s. proposal_of (fixes s (Some p))) (sym stands.selection_is) ∙ replaced_is x held.buffered.selection p e)
+                  ∙ (ap (λ s. proposal_of (fixes s (Some p))) (sym represents.selection_is) ∙ replaced_is x held.buffered.selection p e)

@@ -43,9 +43,9 @@ fn second_notarize_in_a_skipped_view(rt: HostRuntime) -> Result<(), Fail> {
     cast?;
     let mut peer = Station::new(&rt, rt.alloc(), true)?;
     let reason = BlockReason::ConflictingNotarize;
-    let told = peer_tells_apart(&rt, &mut peer, notarize(1, 1), notarize(1, 2), reason);
+    let view_history = peer_tells_apart(&rt, &mut peer, notarize(1, 1), notarize(1, 2), reason);
     drop(peer);
-    told
+    view_history
 }
 
 // The notarization for a third proposal releases the first vote. Neither is for the one that is
@@ -75,9 +75,9 @@ fn nullify_signed_anew(rt: HostRuntime) -> Result<(), Fail> {
     cast?;
     let mut peer = Station::new(&rt, rt.alloc(), true)?;
     let reason = BlockReason::ConflictingNullify;
-    let told = peer_tells_apart(&rt, &mut peer, nullify(1), nullify(1), reason);
+    let view_history = peer_tells_apart(&rt, &mut peer, nullify(1), nullify(1), reason);
     drop(peer);
-    told
+    view_history
 }
 
 // Two good notarizes and a bad one come, and nullifies of others. The leader's notarize is among

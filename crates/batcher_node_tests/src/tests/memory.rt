@@ -1,7 +1,7 @@
 //! Each request for memory of a node's calls refused once: the node is as it was, and the same call
 //! then goes well.
 //!
-//! As they stand these tests refuse nothing. `tools/refuse` runs them with their first request
+//! As they are these tests refuse nothing. `tools/refuse` runs them with their first request
 //! for memory refused, then their second, and so on. `Station` makes each call once more where
 //! it was refused.
 

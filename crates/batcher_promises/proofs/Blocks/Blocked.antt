@@ -8,11 +8,11 @@ use Rattle.batcher_types.specs.declared.positions.Participant.{Participant}
 use Rattle.batcher_types.specs.declared.messages.Vote.{Vote}
 use Rattle.batcher_histories.specs.declared.answers.Admission.{Admission}
 use Rattle.batcher_histories.specs.declared.answers.BlockReason.{BlockReason}
-use Rattle.batcher_histories.specs.Setting.{Setting, sender_in}
+use Rattle.batcher_histories.specs.Config.{Config, sender_in}
 use Rattle.batcher_types.specs.Lists.{is_some_and}
 use Rattle.batcher_types.specs.Votes.{is_kind, kind_of, signer_of, is_vote_of, are_opposite, opposes}
 use Rattle.batcher_types.proofs.ListLemmas.{any_found, none_found}
-use Rattle.batcher_votes.specs.Tracking.{is_released_in}
+use Rattle.batcher_votes.specs.TrackerSteps.{is_released_in}
 use Rattle.batcher_histories.specs.Admissions.{same_vote, block_for, mismatch_reason}
 use Rattle.batcher_histories.specs.History.{History, names_sender}
 use Rattle.batcher_histories.specs.FirstVotes.{first_votes, contradicts, first_like, opposite_vote}
@@ -20,16 +20,16 @@ use Rattle.batcher_histories.specs.Selection.{is_certified, is_released}
 use Rattle.batcher_histories.specs.Comparison.{conflicts}
 use Rattle.batcher_histories.specs.Answers.{IsPossible, network_answer}
 use Rattle.batcher_promises.specs.Promises.{votes_cast}
-use Rattle.batcher_promises.specs.Blocked.{IsBlockedForItself, IsBlockedInEveryMode, IsBlockedExactlyUntilRelease, IsBlockedExactlyIfRetaining, BlocksJustly}
+use Rattle.batcher_promises.specs.Blocks.{IsBlockedForItself, IsBlockedInEveryMode, IsBlockedExactlyUntilRelease, IsBlockedExactlyIfRetaining, BlocksJustly}
 use Rattle.batcher_histories.proofs.History.Distinct.{any_count, count_at, positive, option_cases, firsts_apart, found_is_of}
 use Rattle.batcher_histories.proofs.History.Laws.{HasLaws}
 use Rattle.batcher_promises.proofs.Headline.Promises.{opposites_differ, beside_blocks, against_contradicts, at_each_vote}
 use Rattle.batcher_promises.proofs.Blocks.Refused.{opposed_blocks}
-use Rattle.batcher_histories.proofs.Right.Kept.{found_passes}
+use Rattle.batcher_histories.proofs.Correctness.Kept.{found_passes}
 use Rattle.batcher_histories.proofs.History.ByFirst.{admission_against, admission_by_first, admission_sent_by, network_is}
 
 -- WHO SENDS A VOTE
-module _ {D K G C : Type 0} (x : Setting D K G C) (past : History D K G C) (vote : Vote G D) where
+module _ {D K G C : Type 0} (x : Config D K G C) (past : History D K G C) (vote : Vote G D) where
   -- what is answered to a vote that names its sender
   abbrev pub named_answer : Admission G D
   named_answer = admission_against x past (opposite_vote x past vote) vote
@@ -79,7 +79,7 @@ true_unless : (b c : Bool) → cond b c true ≡ (not b || c)
 true_unless true c = refl
 true_unless false c = refl
 
-module _ {D K G C : Type 0} (x : Setting D K G C) (past : History D K G C) (vote : Vote G D) where
+module _ {D K G C : Type 0} (x : Config D K G C) (past : History D K G C) (vote : Vote G D) where
   -- UNTIL THE RELEASE
   abbrev differs : Vote G D → Bool
   differs v = not (same_vote x.same_digest x.same_signature v vote)
@@ -174,7 +174,7 @@ module _ {D K G C : Type 0} (x : Setting D K G C) (past : History D K G C) (vote
     if_retaining : IsBlockedExactlyIfRetaining x past sender vote answer
     if_retaining retains = until_release (ap (λ mode. is_released_in mode (is_certified past (kind_of vote))) retains)
 
-module _ {D K G C : Type 0} (x : Setting D K G C) where
+module _ {D K G C : Type 0} (x : Config D K G C) where
   -- Each history that is possible blocks whom it has to, and nobody without cause.
   pub blocks_justly : HasLaws x → (past : History D K G C) → IsPossible x past → BlocksJustly x past
   blocks_justly laws past possible =

@@ -12,7 +12,7 @@ use Rattle.batcher_histories.specs.declared.calls.Call.TheVariants.{Network as N
 use Rattle.batcher_histories.specs.declared.answers.Answer.{Answer}
 use Rattle.batcher_histories.specs.declared.answers.Answer.TheVariants.{OutOfMemory, Network as NetworkAnswer, Own as OwnAnswer, OwnRefused, Certificate as CertificateAnswer}
 use Rattle.batcher_histories.specs.declared.answers.Answer.TheVariants.{Leader as LeaderAnswer, Construct as ConstructAnswer, Forward as ForwardAnswer, Missing as MissingAnswer}
-use Rattle.batcher_histories.specs.Setting.{Setting, sender_in}
+use Rattle.batcher_histories.specs.Config.{Config, sender_in}
 use Rattle.batcher_types.specs.Votes.{signer_of}
 use Rattle.batcher_types.proofs.ListLemmas.{any_more}
 use Rattle.batcher_histories.specs.Runs.{blocked_sender, blocked_senders}
@@ -20,11 +20,11 @@ use Rattle.batcher_histories.specs.History.{Event, History, is_made, history_aft
 use Rattle.batcher_histories.specs.FirstVotes.{contradicts}
 use Rattle.batcher_histories.specs.Answers.{IsAnswered, AreAnswered}
 use Rattle.batcher_promises.specs.Promises.{votes_cast, names_another, contradicts_itself, gave_cause}
-use Rattle.batcher_promises.specs.Blocked.{GaveCause}
+use Rattle.batcher_promises.specs.Blocks.{GaveCause}
 use Rattle.batcher_histories.proofs.History.Laws.{HasLaws}
 use Rattle.batcher_promises.proofs.Headline.Promises.{blocked_for_cause}
 
-module _ {D K G C : Type 0} (x : Setting D K G C) where
+module _ {D K G C : Type 0} (x : Config D K G C) where
   -- CAUSE STAYS
   -- Beside more votes two still contradict each other.
   still_contradicts : (new old : List (Vote G D)) (i : ℕ) → contradicts_itself x old i ≡ true
@@ -72,7 +72,7 @@ module _ {D K G C : Type 0} (x : Setting D K G C) where
       cause_stays (history_after past call answer) calls answers i (cause_after past call answer i h)
 
 -- WHO IS BLOCKED
-module _ {D K G C : Type 0} (x : Setting D K G C) (laws : HasLaws x) where
+module _ {D K G C : Type 0} (x : Config D K G C) (laws : HasLaws x) where
   cause_now : (past : History D K G C) (call : Call K G C D) (answer : Answer G C D)
       → IsAnswered x past call answer → (key : K) → blocked_sender call answer ≡ Some key
       → GaveCause x (history_after past call answer) key

@@ -4,7 +4,7 @@ use Rattle.batcher_types.specs.declared.messages.Certificate.{Certificate}
 use Rattle.batcher_votes.specs.declared.verifier.Batch.{Batch}
 use Rattle.batcher_histories.specs.declared.calls.Call.TheVariants.{Network as NetworkCall, Own as OwnCall, Certificate as CertificateCall, Leader as LeaderCall, Construct as ConstructCall, Forward as ForwardCall, Missing as MissingCall}
 use Rattle.batcher_histories.specs.declared.answers.Answer.TheVariants.{Construct as ConstructAnswer}
-use Rattle.batcher_histories.specs.Setting.{Setting}
+use Rattle.batcher_histories.specs.Config.{Config}
 use Rattle.batcher_histories.specs.History.{Event, History}
 use Rattle.batcher_histories.specs.Answers.{IsPossible}
 use Rattle.batcher_promises.specs.Promises.{AtEachEvent}
@@ -30,7 +30,7 @@ module _ {D K G C : Type 0} where
   constructed_few past None few awake = omega (arith, few, ap more_at awake)
   constructed_few past (Some batch) few awake = omega (arith, few, ap more_at awake)
 
-module _ {D K G C : Type 0} (x : Setting D K G C) where
+module _ {D K G C : Type 0} (x : Config D K G C) where
   one_more_few : (past : History D K G C) (event : Event D K G C) → IsPossible x (event ∷ past)
       → ConstructsUnlessAtRest past event → AreFew past → AreFew (event ∷ past)
   one_more_few past (ConstructCall, answer) possible unless few =

@@ -8,16 +8,17 @@ use Rattle.std.proofs.lemmas.Option.{same_Some}
 use Rattle.batcher_types.specs.declared.messages.Vote.{Vote}
 use Rattle.batcher_types.specs.declared.messages.Kind.{Kind}
 use Rattle.batcher_types.specs.declared.messages.Kind.TheVariants.{Notarization, Nullification, Finalization}
-use Rattle.batcher_histories.specs.Setting.{Setting}
+use Rattle.batcher_histories.specs.Config.{Config}
 use Rattle.batcher_types.specs.Votes.{is_kind, kind_of, signer_of, are_opposite, is_vote_of, opposes}
 use Rattle.batcher_types.proofs.ListLemmas.{any_found, none_found}
+use Rattle.batcher_types.proofs.KindLemmas.{is_kind-true}
 use Rattle.batcher_histories.specs.History.{History}
 use Rattle.batcher_histories.specs.FirstVotes.{first_votes, first_vote, opposite_vote}
 use Rattle.batcher_histories.specs.Selection.{is_released}
-use Rattle.batcher_promises.specs.Reported.{are_contrary, contrary_vote}
-use Rattle.batcher_histories.proofs.History.Distinct.{IsAt, AreApart, vote_at, is_kind-true, option_cases, found_here, found_behind, firsts_apart}
+use Rattle.batcher_promises.specs.Reports.{are_contrary, contrary_vote}
+use Rattle.batcher_histories.proofs.History.Distinct.{IsAt, AreApart, vote_at, option_cases, found_here, found_behind, firsts_apart}
 use Rattle.batcher_promises.proofs.Headline.NeverBoth.{never_both}
-use Rattle.batcher_histories.proofs.Right.Kept.{found_passes}
+use Rattle.batcher_histories.proofs.Correctness.Kept.{found_passes}
 
 -- KINDS
 one_opposite : (a b kind : Kind) → are_opposite a kind ≡ true → are_opposite b kind ≡ true →
@@ -85,7 +86,7 @@ module _ {G D : Type 0} (p q : Vote G D → Bool) where
       (cases_Bool (is_vote_of kind i v))
 
 -- FIRST VOTES
-module _ {D K G C : Type 0} (x : Setting D K G C) (past : History D K G C) where
+module _ {D K G C : Type 0} (x : Config D K G C) (past : History D K G C) where
   abbrev firsts : List (Vote G D)
   firsts = first_votes x past
 

@@ -14,33 +14,34 @@ use Rattle.batcher_histories.specs.declared.calls.Call.TheVariants.{Network as N
 use Rattle.batcher_histories.specs.declared.answers.Answer.{Answer}
 use Rattle.batcher_histories.specs.declared.answers.Answer.TheVariants.{OutOfMemory, Network as NetworkAnswer, Own as OwnAnswer, OwnRefused, Certificate as CertificateAnswer}
 use Rattle.batcher_histories.specs.declared.answers.Answer.TheVariants.{Leader as LeaderAnswer, Construct as ConstructAnswer, Forward as ForwardAnswer, Missing as MissingAnswer}
-use Rattle.batcher_histories.specs.Setting.{Setting, participants_in, quorum_in}
+use Rattle.batcher_histories.specs.Config.{Config, participants_in, quorum_in}
 use Rattle.batcher_types.specs.Lists.{count, is_some_and}
-use Rattle.batcher_types.specs.Votes.{is_kind, kind_of, signer_of, is_of_kind, is_vote_of, waits}
-use Rattle.batcher_types.proofs.CountLemmas.{at_most_one, count_mono, count-append, count-false, count-true, count_same, count_covers, count_split, below_or_at, below_zero}
-use Rattle.batcher_votes.specs.Tracking.{is_skipped}
+use Rattle.batcher_types.specs.Votes.{is_kind, kind_of, signer_of, is_of_kind, is_vote_of, is_eligible}
+use Rattle.batcher_types.proofs.CountLemmas.{at_most_one, count_mono, count-append, count-false, count-true, count_same, count_covers, count_split, below_or_at, below_zero, count-filter}
+use Rattle.batcher_types.proofs.KindLemmas.{is_kind-true, is_kind-refl}
+use Rattle.batcher_votes.specs.TrackerSteps.{is_skipped}
 use Rattle.batcher_histories.specs.History.{Event, History, batch_given, cast_votes}
 use Rattle.batcher_histories.specs.FirstVotes.{first_vote, first_votes, is_free}
 use Rattle.batcher_histories.specs.Selection.{selected_proposal, is_restored, is_certified}
-use Rattle.batcher_histories.specs.Standing.{is_trusted, stood_before, was_invalid, trials, fresh_votes, proven_votes, ready_kind}
-use Rattle.batcher_histories.specs.Stands.{tries_kind}
+use Rattle.batcher_histories.specs.Eligible.{is_trusted, was_eligible, was_invalid, trials, fresh_votes, proven_votes, ready_kind}
+use Rattle.batcher_histories.specs.Represents.{tries_kind}
 use Rattle.batcher_histories.specs.Answers.{MayAnswer, IsPossible}
 use Rattle.batcher_promises.specs.Work.{processed_total}
 use Rattle.batcher_promises.specs.Flood.{batches_given, IsFloodBounded}
-use Rattle.batcher_promises.specs.Composed.{votes_added}
+use Rattle.batcher_promises.specs.AnswerFacts.{votes_added}
 use Rattle.batcher_histories.proofs.History.Laws.{HasLaws}
-use Rattle.batcher_histories.proofs.History.Distinct.{IsAt, count-filter, firsts_apart, free_is_new, is_kind-true, is_kind-refl, new_votes, option_cases}
+use Rattle.batcher_histories.proofs.History.Distinct.{IsAt, firsts_apart, free_is_new, new_votes, option_cases}
 use Rattle.batcher_histories.proofs.History.Past.{tried_after, invalid_after, count_fresh, count_proven, closed_is_empty}
 use Rattle.batcher_histories.proofs.History.Selection.{waited_before}
 use Rattle.batcher_histories.proofs.History.Attempts.{MadeBatch, batch_made, ready_is, back_not_tried, quorum_positive}
-use Rattle.batcher_histories.proofs.Follow.Buffers.{new_not_tried, open_before, tried_of}
-use Rattle.batcher_promises.proofs.Quorums.Held.{holds_before}
+use Rattle.batcher_histories.proofs.Simulation.Buffers.{new_not_tried, open_before, tried_of}
+use Rattle.batcher_promises.proofs.Quorums.Buffers.{holds_before}
 use Rattle.batcher_promises.proofs.Quorums.Left.{tried_proven}
 use Rattle.batcher_promises.proofs.Quorums.Done.{done_if, ready_not_done}
 use Rattle.batcher_promises.proofs.Headline.Work.{counts_within, count_weaker, count_implied, is_worked, processed_within}
-use Rattle.batcher_promises.proofs.Certificates.Backed.{firsts_take_part}
+use Rattle.batcher_promises.proofs.Certificates.Backing.{firsts_take_part}
 use Rattle.batcher_promises.proofs.Certificates.Agree.{is_either, one_at, either_once}
-use Rattle.batcher_promises.proofs.Throughout.Told.{added_are}
+use Rattle.batcher_promises.proofs.AnswerFacts.Told.{added_are}
 use Rattle.batcher_promises.proofs.Blocks.Constructions.{constructions_few}
 
 -- NO MORE THAN TWO OF EACH
@@ -60,7 +61,7 @@ few_twice number (suc n) xs twice =
           (λ v. below_or_at (number v) n),
     )
 
-module _ {D K G C : Type 0} (x : Setting D K G C) (laws : HasLaws x) where
+module _ {D K G C : Type 0} (x : Config D K G C) (laws : HasLaws x) where
   -- Of each signer a notarize is among the first votes at most, and a nullify or a finalize.
   two_at : (past : History D K G C) (i : ℕ) → count (λ v. signer_of v == i) (first_votes x past) ≤ 2
   two_at past i =
@@ -95,22 +96,22 @@ module _ {D K G C : Type 0} (x : Setting D K G C) (laws : HasLaws x) where
       )
 
   -- WHAT STOOD AT A BATCH
-  -- whether the vote waits, stood at a batch, and was found invalid by one
+  -- whether the vote is eligible, was so at a batch, and was found invalid by one
   abbrev waited : History D K G C → Vote G D → Bool
-  waited past v = waits x.same_digest (selected_proposal x past) v
+  waited past v = is_eligible x.same_digest (selected_proposal x past) v
 
-  abbrev stood : History D K G C → Vote G D → Bool
-  stood past v = stood_before (trials x past) v
+  abbrev eligible : History D K G C → Vote G D → Bool
+  eligible past v = was_eligible (trials x past) v
 
   abbrev was_bad : History D K G C → Vote G D → Bool
   was_bad past v = was_invalid (trials x past) v
 
-  -- whether it is of the kind, waits, and stood at a batch that didn't find it invalid; or at none
+  -- whether it is of the kind, waits, and was eligible at a batch that didn't find it invalid; or at none
   abbrev is_left : History D K G C → Kind → Vote G D → Bool
-  is_left past kind v = is_of_kind kind v && (waited past v && (stood past v && not (was_bad past v)))
+  is_left past kind v = is_of_kind kind v && (waited past v && (eligible past v && not (was_bad past v)))
 
   abbrev is_untried : History D K G C → Kind → Vote G D → Bool
-  is_untried past kind v = is_of_kind kind v && (waited past v && not (stood past v))
+  is_untried past kind v = is_of_kind kind v && (waited past v && not (eligible past v))
 
   -- A batch that leaves its kind open leaves too few proven votes.
   tried_short :
@@ -151,7 +152,7 @@ module _ {D K G C : Type 0} (x : Setting D K G C) (laws : HasLaws x) where
         sym (count-true (proven_votes x past kind)),
         count_proven x past kind (λ _. true) still,
         count_mono (is_left past kind) _ (first_votes x past)
-            (λ v. left_if (is_of_kind kind v) (waited past v) (is_trusted x past v) (stood past v) (was_bad past v)),
+            (λ v. left_if (is_of_kind kind v) (waited past v) (is_trusted x past v) (eligible past v) (was_bad past v)),
       )
 
   -- AT AN EVENT THAT DOESN'T TRY THE KIND
@@ -161,9 +162,9 @@ module _ {D K G C : Type 0} (x : Setting D K G C) (laws : HasLaws x) where
     abbrev then : History D K G C
     then = event ∷ past
 
-    -- what stood at a batch stood at one before,
+    -- what was eligible at a batch was so at one before,
     stood_already :
-        (v : Vote G D) → is_of_kind kind v ≡ true → stood then v ≡ true → stood past v ≡ true
+        (v : Vote G D) → is_of_kind kind v ≡ true → eligible then v ≡ true → eligible past v ≡ true
     stood_already v of_kind tried =
         ⊎_elim
         (λ now.
@@ -171,15 +172,15 @@ module _ {D K G C : Type 0} (x : Setting D K G C) (laws : HasLaws x) where
         ap (tries_kind x past event.1) (sym (is_kind-true (kind_of v) kind of_kind)) ∙ (and_parts _ _ now).0 in
         absurd (true≢false (sym its ∙ untried)))
         (λ before. before)
-        (or_cases _ (stood past v) (sym (tried_after x past event v) ∙ tried))
+        (or_cases _ (eligible past v) (sym (tried_after x past event v) ∙ tried))
 
     new_not_left : (v : Vote G D) → (is_free (first_votes x past) v && is_left then kind v) ≡ false
     new_not_left v =
         false_from_ne_true _ (λ both.
         let parts = and_parts (is_free (first_votes x past) v) (is_left then kind v) both in
-        let of_kind = and_parts (is_of_kind kind v) (waited then v && (stood then v && not (was_bad then v))) parts.1 in
-        let left = and_parts (waited then v) (stood then v && not (was_bad then v)) of_kind.1 in
-        let tried = and_parts (stood then v) (not (was_bad then v)) left.1 in
+        let of_kind = and_parts (is_of_kind kind v) (waited then v && (eligible then v && not (was_bad then v))) parts.1 in
+        let left = and_parts (waited then v) (eligible then v && not (was_bad then v)) of_kind.1 in
+        let tried = and_parts (eligible then v) (not (was_bad then v)) left.1 in
         let new = new_not_tried x past v (free_is_new (first_votes x past) v parts.0) in
         true≢false (sym (stood_already v of_kind.0 tried.0) ∙ new))
 
@@ -194,10 +195,10 @@ module _ {D K G C : Type 0} (x : Setting D K G C) (laws : HasLaws x) where
         is_certified then kind ≡ false → (v : Vote G D) → IsAt (first_votes x past) v
         → is_left then kind v ≡ true → is_left past kind v ≡ true
     left_already still v found h =
-        let of_kind = and_parts (is_of_kind kind v) (waited then v && (stood then v && not (was_bad then v))) h in
-        let left = and_parts (waited then v) (stood then v && not (was_bad then v)) of_kind.1 in
-        let tried = and_parts (stood then v) (not (was_bad then v)) left.1 in
-        let before : stood past v ≡ true = stood_already v of_kind.0 tried.0 in
+        let of_kind = and_parts (is_of_kind kind v) (waited then v && (eligible then v && not (was_bad then v))) h in
+        let left = and_parts (waited then v) (eligible then v && not (was_bad then v)) of_kind.1 in
+        let tried = and_parts (eligible then v) (not (was_bad then v)) left.1 in
+        let before : eligible past v ≡ true = stood_already v of_kind.0 tried.0 in
         let its : is_certified then (kind_of v) ≡ false = ap (is_certified then) (is_kind-true (kind_of v) kind of_kind.0) ∙ still in
         let stayed : is_restored x past event v ≡ false =
         false_from_ne_true _ (λ back. true≢false (sym before ∙ back_not_tried x laws past event possible.1.1.1 v found back)) in
@@ -261,7 +262,7 @@ module _ {D K G C : Type 0} (x : Setting D K G C) (laws : HasLaws x) where
   some_of zero h = absurd (h refl)
   some_of (suc n) h = omega arith
 
-  -- Of a kind that is ready some vote waits that stood at no batch.
+  -- Of a kind that is ready some vote waits that was eligible at none.
   one_untried :
       (past : History D K G C) → IsPossible x past → (kind : Kind) → ready_kind x past ≡ Some kind
       → 1 ≤ count (is_untried past kind) (first_votes x past)
@@ -275,7 +276,7 @@ module _ {D K G C : Type 0} (x : Setting D K G C) (laws : HasLaws x) where
         count_proven x past kind (λ _. true) still,
         left_short past possible kind still,
         count_covers _ (is_left past kind) (is_untried past kind) (first_votes x past)
-            (λ v. proven_cases (is_of_kind kind v) (waited past v) (is_trusted x past v) (stood past v) (was_bad past v)),
+            (λ v. proven_cases (is_of_kind kind v) (waited past v) (is_trusted x past v) (eligible past v) (was_bad past v)),
       ))
       (omega (
         arith,
@@ -283,7 +284,7 @@ module _ {D K G C : Type 0} (x : Setting D K G C) (laws : HasLaws x) where
         sym (count-true (fresh_votes x past kind)),
         count_fresh x past kind (λ _. true) still,
         count_mono _ (is_untried past kind) (first_votes x past)
-            (λ v. fresh_untried (is_of_kind kind v) (waited past v) (is_trusted x past v) (stood past v)),
+            (λ v. fresh_untried (is_of_kind kind v) (waited past v) (is_trusted x past v) (eligible past v)),
       )))
     where
       still : (is_certified past kind || is_skipped x.mode) ≡ false
@@ -291,23 +292,23 @@ module _ {D K G C : Type 0} (x : Setting D K G C) (laws : HasLaws x) where
 
   stays_stood :
       (past : History D K G C) (event : Event D K G C) (v : Vote G D)
-      → stood past v ≡ true → stood (event ∷ past) v ≡ true
-  stays_stood past event v tried = tried_after x past event v ∙ or_right _ (stood past v) tried
+      → eligible past v ≡ true → eligible (event ∷ past) v ≡ true
+  stays_stood past event v tried = tried_after x past event v ∙ or_right _ (eligible past v) tried
 
   tries_untried :
       (past : History D K G C) (event : Event D K G C) (kind : Kind)
       → tries_kind x past event.1 kind ≡ true
       → (is_certified past kind || is_skipped x.mode) ≡ false
       → (v : Vote G D) → IsAt (first_votes x past) v
-      → is_untried past kind v ≡ true → stood (event ∷ past) v ≡ true
+      → is_untried past kind v ≡ true → eligible (event ∷ past) v ≡ true
   tries_untried past event kind tries still v found untried =
-      let of_kind = and_parts (is_of_kind kind v) (waited past v && not (stood past v)) untried in
-      let waiting = and_parts (waited past v) (not (stood past v)) of_kind.1 in
+      let of_kind = and_parts (is_of_kind kind v) (waited past v && not (eligible past v)) untried in
+      let waiting = and_parts (waited past v) (not (eligible past v)) of_kind.1 in
       let same : kind ≡ kind_of v = sym (is_kind-true (kind_of v) kind of_kind.0) in
       let its : (is_certified past (kind_of v) || is_skipped x.mode) ≡ false =
       ap (λ k. is_certified past k || is_skipped x.mode) (sym same) ∙ still in
       tried_of x laws past event v found its
-      ∙ or_left _ (stood past v) (and_from _ _ (sym (ap (tries_kind x past event.1) same) ∙ tries) waiting.0)
+      ∙ or_left _ (eligible past v) (and_from _ _ (sym (ap (tries_kind x past event.1) same) ∙ tries) waiting.0)
 
   one_more :
       (untried before after : Bool) → (untried ≡ true → before ≡ false)
@@ -318,18 +319,18 @@ module _ {D K G C : Type 0} (x : Setting D K G C) (laws : HasLaws x) where
   one_more false true after new now stays = rw (stays refl) (omega arith)
   one_more false false after new now stays = omega arith
 
-  -- So at each batch some vote stands that stood at none before.
+  -- So at each batch some vote is eligible that was so at none before.
   more_by_batch :
       (past : History D K G C) (event : Event D K G C) (batch : Batch (Certificate C D))
       → IsPossible x (event ∷ past) → batch_given event.1 ≡ Some batch
-      → 1 + count (stood past) (first_votes x past)
-      ≤ count (stood (event ∷ past)) (first_votes x past)
+      → 1 + count (eligible past) (first_votes x past)
+      ≤ count (eligible (event ∷ past)) (first_votes x past)
   more_by_batch past event batch possible given =
       omega (
         arith,
         one_untried past possible.1.1.1 made.kind made.ready,
         count-false (first_votes x past),
-        counts_within (is_untried past made.kind) (stood past) (stood (event ∷ past)) (λ _. false) (first_votes x past)
+        counts_within (is_untried past made.kind) (eligible past) (eligible (event ∷ past)) (λ _. false) (first_votes x past)
             (firsts_apart x past) each,
       )
     where
@@ -341,28 +342,28 @@ module _ {D K G C : Type 0} (x : Setting D K G C) (laws : HasLaws x) where
           ap (λ o. is_some o && is_some_and (ready_kind x past) (λ k. is_kind k made.kind)) given
           ∙ (ap (λ o. is_some_and o (λ k. is_kind k made.kind)) made.ready ∙ is_kind-refl made.kind)
 
-      untried_new : (v : Vote G D) → is_untried past made.kind v ≡ true → stood past v ≡ false
+      untried_new : (v : Vote G D) → is_untried past made.kind v ≡ true → eligible past v ≡ false
       untried_new v untried =
-          let of_kind = and_parts (is_of_kind made.kind v) (waited past v && not (stood past v)) untried in
-          not-true (stood past v) (and_parts (waited past v) (not (stood past v)) of_kind.1).1
+          let of_kind = and_parts (is_of_kind made.kind v) (waited past v && not (eligible past v)) untried in
+          not-true (eligible past v) (and_parts (waited past v) (not (eligible past v)) of_kind.1).1
 
       each :
           (v : Vote G D) → IsAt (first_votes x past) v
-          → cond (is_untried past made.kind v) 1 0 + cond (stood past v) 1 0
-          ≤ cond (stood (event ∷ past) v) 1 0 + cond false 1 0
+          → cond (is_untried past made.kind v) 1 0 + cond (eligible past v) 1 0
+          ≤ cond (eligible (event ∷ past) v) 1 0 + cond false 1 0
       each v found =
-          one_more (is_untried past made.kind v) (stood past v) (stood (event ∷ past) v) (untried_new v)
+          one_more (is_untried past made.kind v) (eligible past v) (eligible (event ∷ past) v) (untried_new v)
           (tries_untried past event made.kind tries (ready_open past made.kind made.ready) v found)
           (stays_stood past event v)
 
   more_stood :
       (past : History D K G C) (event : Event D K G C) → IsPossible x (event ∷ past)
-      → cond (is_some (batch_given event.1)) 1 0 + count (stood past) (first_votes x past)
-      ≤ count (stood (event ∷ past)) (first_votes x past)
+      → cond (is_some (batch_given event.1)) 1 0 + count (eligible past) (first_votes x past)
+      ≤ count (eligible (event ∷ past)) (first_votes x past)
   more_stood past event possible =
       ⊎_elim
       (λ none.
-      omega (arith, is_none_at (ap is_some none), count_implied (stood past) (stood (event ∷ past)) (first_votes x past) (stays_stood past event)))
+      omega (arith, is_none_at (ap is_some none), count_implied (eligible past) (eligible (event ∷ past)) (first_votes x past) (stays_stood past event)))
       (λ (some : (b : Batch (Certificate C D)) × (batch_given event.1 ≡ Some b)).
       omega (arith, at_most_one (is_some (batch_given event.1)), more_by_batch past event some.0 possible some.1))
       (option_cases (batch_given event.1))
@@ -372,14 +373,14 @@ module _ {D K G C : Type 0} (x : Setting D K G C) (laws : HasLaws x) where
 
   batches_stood :
       (past : History D K G C) → IsPossible x past
-      → batches_given past ≤ count (stood past) (first_votes x past)
+      → batches_given past ≤ count (eligible past) (first_votes x past)
   batches_stood [] possible = omega arith
   batches_stood (event ∷ past) possible =
       omega (
         arith,
         more_stood past event possible,
         batches_stood past possible.1.1.1,
-        count-append (stood (event ∷ past)) (new_votes x past event) (first_votes x past),
+        count-append (eligible (event ∷ past)) (new_votes x past event) (first_votes x past),
       )
 
   -- ALL OF IT
@@ -410,4 +411,4 @@ module _ {D K G C : Type 0} (x : Setting D K G C) (laws : HasLaws x) where
           omega (arith, processed_within x past possible, count_split (is_worked x past) (first_votes x past))
 
       batches : batches_given past ≤ length (first_votes x past)
-      batches = omega (arith, batches_stood past possible, count_split (stood past) (first_votes x past))
+      batches = omega (arith, batches_stood past possible, count_split (eligible past) (first_votes x past))

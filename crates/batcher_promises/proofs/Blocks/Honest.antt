@@ -19,36 +19,37 @@ use Rattle.batcher_types.specs.declared.messages.Certificate.{Certificate}
 use Rattle.batcher_votes.specs.declared.verifier.Batch.{Batch}
 use Rattle.batcher_histories.specs.declared.calls.Call.{Call}
 use Rattle.batcher_histories.specs.declared.calls.Call.TheVariants.{Network as NetworkCall, Own as OwnCall, Certificate as CertificateCall, Leader as LeaderCall, Construct as ConstructCall, Forward as ForwardCall, Missing as MissingCall}
-use Rattle.batcher_histories.specs.Setting.{Setting, participants_in}
+use Rattle.batcher_histories.specs.Config.{Config, participants_in}
 use Rattle.batcher_types.specs.Lists.{count, is_some_and}
-use Rattle.batcher_types.specs.Votes.{is_kind, kind_of, signer_of, subject_of, attestation_of, proposal_in, has_proposals, same_proposal, same_subject, excludes, is_of_kind, is_vote_of, waits}
+use Rattle.batcher_types.specs.Votes.{is_kind, kind_of, signer_of, subject_of, attestation_of, proposal_in, has_proposals, same_proposal, same_subject, excludes, is_of_kind, is_vote_of, is_eligible}
 use Rattle.batcher_types.proofs.ListLemmas.{any_more, any_other, any_filter, any_found}
 use Rattle.batcher_types.proofs.CountLemmas.{at_most_one, count-append, count-false, count-filter_le, count-map, count_covers}
 use Rattle.batcher_types.proofs.VoteLemmas.{same_subject-true}
+use Rattle.batcher_types.proofs.KindLemmas.{is_kind-refl, is_kind-true}
 use Rattle.batcher_histories.specs.Runs.{MayCall}
 use Rattle.batcher_histories.specs.Admissions.{same_vote}
 use Rattle.batcher_histories.specs.History.{Event, History, batch_given, sent_votes, own_votes, cast_votes}
 use Rattle.batcher_histories.specs.FirstVotes.{first_votes, first_vote, is_free, contradicts}
-use Rattle.batcher_votes.specs.Tracking.{is_skipped}
+use Rattle.batcher_votes.specs.TrackerSteps.{is_skipped}
 use Rattle.batcher_histories.specs.Selection.{selected_proposal, is_certified}
-use Rattle.batcher_histories.specs.Standing.{is_valid, is_trusted, is_among, is_counted, was_invalid, stood_before, trials, ready_kind, fresh_votes, proven_votes, counted_votes, valid_votes}
-use Rattle.batcher_histories.specs.Stands.{tries_kind}
-use Rattle.batcher_histories.specs.Trying.{AttemptAfter}
-use Rattle.batcher_promises.specs.Composed.{has_bad_vote}
+use Rattle.batcher_histories.specs.Eligible.{is_valid, is_trusted, is_among, is_counted, was_invalid, was_eligible, trials, ready_kind, fresh_votes, proven_votes, counted_votes, valid_votes}
+use Rattle.batcher_histories.specs.Represents.{tries_kind}
+use Rattle.batcher_histories.specs.Attempts.{AttemptAfter}
+use Rattle.batcher_promises.specs.AnswerFacts.{has_bad_vote}
 use Rattle.batcher_histories.specs.Answers.{IsPossible, network_answer}
 use Rattle.batcher_promises.specs.Promises.{votes_cast, names_another, contradicts_itself, gave_cause}
-use Rattle.batcher_promises.specs.Reported.{IsAmong}
+use Rattle.batcher_promises.specs.Reports.{IsAmong}
 use Rattle.batcher_promises.specs.Honest.{named_invalid, IsAddedWithoutCause, times_named, votes_sent, sent_bad_vote, NamesForOwnVotes, voted_well, honest_voters, CompletesHonestQuorums, LeavesNoHonestQuorum, TakesInHonest}
 use Rattle.batcher_histories.proofs.History.Laws.{HasLaws}
-use Rattle.batcher_histories.proofs.History.Distinct.{any_count, any_is_found, is_kind-refl, is_kind-true, some_of, found_is_of, first_stays, where_holds}
+use Rattle.batcher_histories.proofs.History.Distinct.{any_count, any_is_found, some_of, found_is_of, first_stays, where_holds}
 use Rattle.batcher_histories.proofs.History.Past.{invalid_after, invalid_in}
 use Rattle.batcher_histories.proofs.History.Attempts.{kind_in, kind_of_vote, TriesKind, tries_by, is_fresh_bad, invalid_cases, invalid_tried, found_among}
 use Rattle.batcher_promises.proofs.Headline.Attesting.{some_more, names_bad_signers, usable_once}
-use Rattle.batcher_histories.proofs.Follow.Network.{added_is}
+use Rattle.batcher_histories.proofs.Simulation.Network.{added_is}
 use Rattle.batcher_promises.proofs.Quorums.Completed.{completes, construct_answered}
-use Rattle.batcher_promises.specs.Prompt.{has_valid_quorum}
-use Rattle.batcher_promises.proofs.Certificates.Prompt.{none_due}
-use Rattle.batcher_histories.proofs.Follow.Settled.{constructed}
+use Rattle.batcher_promises.specs.CertificateTiming.{has_valid_quorum}
+use Rattle.batcher_promises.proofs.Certificates.Timing.{none_due}
+use Rattle.batcher_histories.proofs.Simulation.Settled.{constructed}
 use Rattle.batcher_promises.proofs.Headline.Work.{count_implied}
 use Rattle.batcher_promises.proofs.Pairs.Compared.{any_in_filtered}
 use Rattle.batcher_promises.proofs.Order.Reordered.{excludes_same, excludes_itself}
@@ -100,7 +101,7 @@ few_numbers number n (v ∷ vs) =
           (range_with_len 0 n) (λ i. either_of (number v == i) (list_any (λ w. number w == i) vs)),
     )
 
-module _ {D K G C : Type 0} (x : Setting D K G C) where
+module _ {D K G C : Type 0} (x : Config D K G C) where
   -- WHOSE VOTES ARE ADDED
   abbrev is_same : Vote G D → Vote G D → Bool
   is_same a b = same_vote x.same_digest x.same_signature a b
@@ -286,11 +287,11 @@ module _ {D K G C : Type 0} (x : Setting D K G C) where
         )
       where
         stood_not :
-            (v : Vote G D) → is_fresh_bad x past v ≡ true → stood_before (trials x past) v ≡ false
+            (v : Vote G D) → is_fresh_bad x past v ≡ true → was_eligible (trials x past) v ≡ false
         stood_not v h =
-            let waiting = and_parts (waits x.same_digest (selected_proposal x past) v) _ h in
-            let fresh = and_parts (not (is_trusted x past v || stood_before (trials x past) v)) (not (is_valid x v)) waiting.1 in
-            (or_parts (is_trusted x past v) (stood_before (trials x past) v) (not-true _ fresh.0)).1
+            let waiting = and_parts (is_eligible x.same_digest (selected_proposal x past) v) _ h in
+            let fresh = and_parts (not (is_trusted x past v || was_eligible (trials x past) v)) (not (is_valid x v)) waiting.1 in
+            (or_parts (is_trusted x past v) (was_eligible (trials x past) v) (not-true _ fresh.0)).1
 
     named_adds :
         (tries : Bool) → tries_kind x past event.1 kind ≡ tries
@@ -358,7 +359,7 @@ module _ {D K G C : Type 0} (x : Setting D K G C) where
       new : List (Vote G D)
       new = filter (is_free (first_votes x past)) (cast_votes x event.0)
 
-  -- whether a vote counts is told by its subject
+  -- whether a vote counts is determined by its subject
   counted_by :
       (selected : Option (Proposal D)) (v w : Vote G D) → subject_of v ≡ subject_of w
       → is_counted x selected v ≡ is_counted x selected w

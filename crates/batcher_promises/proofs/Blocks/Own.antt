@@ -7,7 +7,7 @@ use Rattle.batcher_types.specs.declared.messages.Kind.TheVariants.{Notarization,
 use Rattle.batcher_histories.specs.declared.calls.Call.TheVariants.{Network as NetworkCall, Own as OwnCall, Certificate as CertificateCall, Leader as LeaderCall, Construct as ConstructCall, Forward as ForwardCall, Missing as MissingCall}
 use Rattle.batcher_histories.specs.declared.answers.Answer.TheVariants.{OutOfMemory, Network as NetworkAnswer, Own as OwnAnswer, OwnRefused, Certificate as CertificateAnswer}
 use Rattle.batcher_histories.specs.declared.answers.Answer.TheVariants.{Leader as LeaderAnswer, Construct as ConstructAnswer, Forward as ForwardAnswer, Missing as MissingAnswer}
-use Rattle.batcher_histories.specs.Setting.{Setting}
+use Rattle.batcher_histories.specs.Config.{Config}
 use Rattle.batcher_types.specs.Lists.{count}
 use Rattle.batcher_types.specs.Votes.{is_kind, kind_of, signer_of, are_opposite, excludes}
 use Rattle.batcher_types.proofs.CountLemmas.{count-append, count_none}
@@ -15,10 +15,10 @@ use Rattle.batcher_types.proofs.ListLemmas.{any_more}
 use Rattle.batcher_histories.specs.History.{Event, History}
 use Rattle.batcher_histories.specs.FirstVotes.{first_votes, is_free}
 use Rattle.batcher_histories.specs.Answers.{IsPossible}
-use Rattle.batcher_promises.specs.Composed.{added_by, votes_added}
+use Rattle.batcher_promises.specs.AnswerFacts.{added_by, votes_added}
 use Rattle.batcher_promises.specs.Honest.{own_added_by, own_votes_added, OwnAddedAgree}
 use Rattle.batcher_histories.proofs.History.Distinct.{new_votes, new_cases}
-use Rattle.batcher_promises.proofs.Throughout.Told.{added_are}
+use Rattle.batcher_promises.proofs.AnswerFacts.Told.{added_are}
 
 -- WHICH VOTES EXCLUDE EACH OTHER
 -- Notarizes exclude each other, and so do votes of the two other kinds.
@@ -111,7 +111,7 @@ module _ {D K G C : Type 0} where
         count-append p (added_by event) (votes_added past),
       )
 
-module _ {D K G C : Type 0} (x : Setting D K G C) where
+module _ {D K G C : Type 0} (x : Config D K G C) where
   -- Of the first votes no two exclude each other.
   firsts_exclude : (past : History D K G C) (v : Vote G D) → count (excludes v) (first_votes x past)
       ≤ 1

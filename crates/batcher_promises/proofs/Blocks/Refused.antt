@@ -19,10 +19,11 @@ use Rattle.batcher_histories.specs.declared.calls.Call.{Call}
 use Rattle.batcher_histories.specs.declared.calls.Call.TheVariants.{Network as NetworkCall, Own as OwnCall}
 use Rattle.batcher_histories.specs.declared.answers.Answer.{Answer}
 use Rattle.batcher_histories.specs.declared.answers.Answer.TheVariants.{Network as NetworkAnswer, Own as OwnAnswer, OwnRefused}
-use Rattle.batcher_histories.specs.Setting.{Setting, sender_in}
+use Rattle.batcher_histories.specs.Config.{Config, sender_in}
 use Rattle.batcher_types.specs.Lists.{is_some_and}
 use Rattle.batcher_types.specs.Votes.{is_kind, kind_of, signer_of, is_vote_of, has_proposals, are_opposite, opposes}
-use Rattle.batcher_votes.specs.Tracking.{is_released_in}
+use Rattle.batcher_types.proofs.KindLemmas.{is_kind-true}
+use Rattle.batcher_votes.specs.TrackerSteps.{is_released_in}
 use Rattle.batcher_histories.specs.Admissions.{same_vote, block_for, mismatch_reason, admission_after_facts}
 use Rattle.batcher_histories.specs.Steps.{duplicate_result, unopposed_result}
 use Rattle.batcher_histories.specs.History.{Event, History, is_made, names_sender, cast_votes}
@@ -32,11 +33,11 @@ use Rattle.batcher_histories.specs.Comparison.{conflicts}
 use Rattle.batcher_histories.specs.Answers.{network_answer, own_answer, MayAnswer, IsPossible}
 use Rattle.batcher_promises.specs.Promises.{votes_cast}
 use Rattle.batcher_promises.specs.Pairs.{blocks_participant}
-use Rattle.batcher_histories.proofs.History.Distinct.{first_stays, is_itself, is_kind-true, option_cases, found_is_of}
-use Rattle.batcher_histories.proofs.Shown.Observed.{cast_cases}
+use Rattle.batcher_histories.proofs.History.Distinct.{first_stays, is_itself, option_cases, found_is_of}
+use Rattle.batcher_histories.proofs.KnownLemmas.Observed.{cast_cases}
 use Rattle.batcher_promises.proofs.Headline.Promises.{after_blocks, beside_blocks}
-use Rattle.batcher_histories.proofs.Right.Kept.{found_passes}
-use Rattle.batcher_histories.proofs.Follow.FirstVotes.{free_is}
+use Rattle.batcher_histories.proofs.Correctness.Kept.{found_passes}
+use Rattle.batcher_histories.proofs.Simulation.FirstVotes.{free_is}
 use Rattle.batcher_histories.proofs.History.ByFirst.{admission_against, admission_by_first, admission_sent_by, outcome_by_first, own_answer_against, network_is, own_is}
 
 err_not_ok : {A B : Type 0} (e : B) (a : A) → ◌≡◌ {A = Result A B} (Err e) (Ok a) → ⊥
@@ -69,7 +70,7 @@ one_cast : {X : Type 0} (b : Bool) (v w : X) → cond b (v ∷ []) [] ++ [] ≡ 
 one_cast true v w h = (refl, cc)
 one_cast false v w h = absurd (cc)
 
-module _ {D K G C : Type 0} (x : Setting D K G C) where
+module _ {D K G C : Type 0} (x : Config D K G C) where
   -- CALLS THAT CAST A VOTE
   sent_blocks : (past : History D K G C) (vote : Vote G D) (index : Option Participant)
       → is_some_and index (λ i. eqb i.0 (signer_of vote)) ≡ true →

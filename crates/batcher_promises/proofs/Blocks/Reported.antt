@@ -1,9 +1,9 @@
 -- What is reported: each vote that is added, and with each vote the kept one that is contrary to
 -- it.
-use Rattle.std.proofs.Common.{◌≡◌, ℕ, ◌==◌, Bool, true, false, not, cond, ◌&&◌, ◌||◌, List, [], ◌∷◌, ◌++◌, Option, Some, None, refl, ap, sym, ◌∙◌, ⊎_elim, subst}
+use Rattle.std.proofs.Common.{◌≡◌, ◌==◌, Bool, true, false, not, cond, ◌&&◌, ◌||◌, List, [], ◌∷◌, ◌++◌, Option, Some, None, refl, ap, sym, ◌∙◌, ⊎_elim, subst}
 use Rattle.std.specs.Prelude.{filter, is_some, IfSome, option_map, option_and_then}
 use Rattle.std.specs.List.{list_any}
-use Rattle.std.proofs.lemmas.Bool.{cases_Bool, cond_both, and_parts, and_from, and_right, or_left, or_right, or_cases, false_from_ne_true, eqb-true, eq-eqb, true≢false, false≢true}
+use Rattle.std.proofs.lemmas.Bool.{cases_Bool, cond_both, and_parts, and_from, and_right, or_left, or_right, or_cases, false_from_ne_true, eqb-true, true≢false, false≢true}
 use Rattle.std.proofs.lemmas.List.Folds.{list_any-append}
 use Rattle.batcher_types.specs.declared.positions.Round.{Round}
 use Rattle.batcher_types.specs.declared.positions.Participant.{Participant}
@@ -19,11 +19,12 @@ use Rattle.batcher_votes.specs.declared.votes.Outcome.TheVariants.{Added, Duplic
 use Rattle.batcher_histories.specs.declared.calls.Call.{Call}
 use Rattle.batcher_histories.specs.declared.calls.Call.TheVariants.{Network as NetworkCall, Own as OwnCall, Certificate as CertificateCall, Leader as LeaderCall, Construct as ConstructCall, Forward as ForwardCall, Missing as MissingCall}
 use Rattle.batcher_histories.specs.declared.answers.Answer.TheVariants.{Network as NetworkAnswer, Own as OwnAnswer}
-use Rattle.batcher_histories.specs.Setting.{Setting, sender_in}
+use Rattle.batcher_histories.specs.Config.{Config, sender_in}
 use Rattle.batcher_types.specs.Votes.{is_kind, kind_of, signer_of, subject_of, round_in, same_round, same_proposal, are_opposite, is_vote_of, opposes}
 use Rattle.batcher_types.proofs.ListLemmas.{any_filter, any_found}
-use Rattle.batcher_types.proofs.VoteLemmas.{same_round-true}
-use Rattle.batcher_votes.specs.Tracking.{is_released_in}
+use Rattle.batcher_types.proofs.VoteLemmas.{same_round-true, same_round-refl}
+use Rattle.batcher_types.proofs.KindLemmas.{is_kind-true}
+use Rattle.batcher_votes.specs.TrackerSteps.{is_released_in}
 use Rattle.batcher_histories.specs.Admissions.{same_vote, report_of, addition, refusal, block_for, mismatch_reason, conflict_reason, admission_after, admission_after_facts, admission_beside}
 use Rattle.batcher_histories.specs.Steps.{is_added, report_by}
 use Rattle.batcher_histories.specs.Runs.{MayCall}
@@ -33,18 +34,18 @@ use Rattle.batcher_histories.specs.Selection.{is_certified, is_released}
 use Rattle.batcher_histories.specs.Comparison.{conflicts}
 use Rattle.batcher_histories.specs.Answers.{IsPossible, network_answer}
 use Rattle.batcher_promises.specs.Promises.{AtEachVote, votes_cast}
-use Rattle.batcher_promises.specs.Composed.{carry_different}
-use Rattle.batcher_promises.specs.Reported.{subjects_contradict, vote_in, evidence_in, ordered_pair, are_contrary, kept_votes, contrary_vote, contrary_pair}
-use Rattle.batcher_promises.specs.Reported.{IsAmong, AreContrary, ReportsAdded, ReportsEvidence, ReportsEachContrary, ReportsContrary, ReportsTruly}
-use Rattle.batcher_histories.proofs.History.Distinct.{is_kind-true, found_is_of, firsts_apart}
+use Rattle.batcher_promises.specs.AnswerFacts.{carry_different}
+use Rattle.batcher_promises.specs.Reports.{subjects_contradict, vote_in, evidence_in, ordered_pair, are_contrary, kept_votes, contrary_vote, contrary_pair}
+use Rattle.batcher_promises.specs.Reports.{IsAmong, AreContrary, ReportsAdded, ReportsEvidence, ReportsEachContrary, ReportsContrary, ReportsTruly}
+use Rattle.batcher_histories.proofs.History.Distinct.{found_is_of, firsts_apart}
 use Rattle.batcher_promises.proofs.Blocks.Blocked.{named_answer, answer_by_name}
 use Rattle.batcher_promises.proofs.Blocks.Contrary.{opposed_parts, found_at, unopposed_only, if_contrary, contrary_of_kind, contrary_is}
 use Rattle.batcher_promises.proofs.Headline.Promises.{first_is_cast, at_each_event, at_each_allowed, at_each_vote}
-use Rattle.batcher_histories.proofs.Right.Kept.{found_passes}
+use Rattle.batcher_histories.proofs.Correctness.Kept.{found_passes}
 use Rattle.batcher_histories.proofs.History.ByFirst.{admission_against, admission_by_first, admission_sent_by, network_is}
 
 -- THE SORTS OF ANSWERS
-module _ {D K G C : Type 0} (x : Setting D K G C) (P : Admission G D → Type 0) (refused : P refusal)
+module _ {D K G C : Type 0} (x : Config D K G C) (P : Admission G D → Type 0) (refused : P refusal)
     (blocked : (reason : BlockReason) (report : Option (Activity G D)) →
     option_and_then vote_in report ≡ None → P (block_for reason report)) where
   unless_equal : (same : Bool) (reason : BlockReason) →
@@ -129,7 +130,7 @@ module _ {G D : Type 0} where
   abbrev evidence : Admission G D → Option (Vote G D × Vote G D)
   evidence admission = option_and_then evidence_in admission.report
 
-module _ {D K G C : Type 0} (x : Setting D K G C) where
+module _ {D K G C : Type 0} (x : Config D K G C) where
   -- an answer reports its vote exactly if it adds it
   reports_its_vote : (past : History D K G C) (sender : K) (vote : Vote G D) →
       option_and_then vote_in (network_answer x past sender vote).report
@@ -147,11 +148,8 @@ module _ {D K G C : Type 0} (x : Setting D K G C) where
       past vote (λ h. absurd (false≢true (sym (ap is_some (alone_none vote)) ∙ h))) sender
 
 -- PAIRS OF VOTES
-same_numbers : (n : ℕ) → (n == n) ≡ true
-same_numbers n = eq-eqb n n refl
-
 rounds_same : (r s : Round) → r ≡ s → same_round r s ≡ true
-rounds_same r s e = subst (λ (t : Round). same_round r t ≡ true) e (and_from _ _ (same_numbers r.epoch.0) (same_numbers r.view.0))
+rounds_same r s e = subst (λ (t : Round). same_round r t ≡ true) e (same_round-refl r)
 
 -- a pair with a vote of the same kind that is kept, and with one that is released
 kept_pair : {X Y : Type 0} (f : X → Y) (v : X) (released opposed alike different : Bool) →
@@ -175,7 +173,7 @@ alike_unopposed Nullification Nullification k = refl
 alike_unopposed Finalization Finalization k = refl
 alike_unopposed a b k = absurd (false≢true k)
 
-module _ {D K G C : Type 0} (x : Setting D K G C) where
+module _ {D K G C : Type 0} (x : Config D K G C) where
   -- WHAT IS REPORTED OF TWO VOTES
   after_facts_none : (vote : Vote G D) → evidence (admission_after_facts vote) ≡ None
   after_facts_none (NotarizeVote vote) = refl
@@ -212,7 +210,7 @@ module _ {D K G C : Type 0} (x : Setting D K G C) where
   evidence_beside kept vote k = absurd (false≢true k)
 
 -- EVIDENCE WITH A NETWORK VOTE
-module _ {D K G C : Type 0} (x : Setting D K G C) (past : History D K G C) (vote : Vote G D) where
+module _ {D K G C : Type 0} (x : Config D K G C) (past : History D K G C) (vote : Vote G D) where
   abbrev pair_with : Option (Vote G D) → Option (Vote G D × Vote G D)
   pair_with earlier = option_map (λ v. ordered_pair v vote) earlier
 
@@ -275,7 +273,7 @@ module _ {D K G C : Type 0} (x : Setting D K G C) (past : History D K G C) (vote
         ∙ ap (λ mode. cond (not (is_released_in mode (is_certified past (kind_of v)))) (Some v) None) retains)
 
 -- FIRST VOTES ARE OF THE ROUND
-module _ {D K G C : Type 0} (x : Setting D K G C) where
+module _ {D K G C : Type 0} (x : Config D K G C) where
   abbrev is_elsewhere : Vote G D → Bool
   is_elsewhere v = not (same_round (round_in (subject_of v)) x.number)
 
@@ -316,7 +314,7 @@ module _ {D K G C : Type 0} (x : Setting D K G C) where
       (cases_Bool (same_round (round_in (subject_of v)) x.number))
 
 -- CONTRARY VOTES
-module _ {D K G C : Type 0} (x : Setting D K G C) where
+module _ {D K G C : Type 0} (x : Config D K G C) where
   abbrev contradict : Vote G D → Vote G D → Bool
   contradict a b = subjects_contradict x.same_digest (subject_of a) (subject_of b)
 
@@ -372,7 +370,7 @@ module _ {D K G C : Type 0} (x : Setting D K G C) where
         let parts = contrary_parts a b contrary (rounds_same _ _ (before.0 ∙ sym now.0)) in
         (record { one_signer = parts.0; contradict = parts.1; of_round = (before.0, now.0); both_cast = (before.1, now.1) }, parts.0)
 
-module _ {D K G C : Type 0} (x : Setting D K G C) (past : History D K G C)
+module _ {D K G C : Type 0} (x : Config D K G C) (past : History D K G C)
     (sender : K) (vote : Vote G D) where
   abbrev answer : Admission G D
   answer = network_answer x past sender vote
@@ -420,7 +418,7 @@ module _ {D K G C : Type 0} (x : Setting D K G C) (past : History D K G C)
       by_name false earlier names found = tt
 
 -- AT EACH EVENT OF A HISTORY
-module _ {D K G C : Type 0} (x : Setting D K G C) where
+module _ {D K G C : Type 0} (x : Config D K G C) where
   reports_added : (past : History D K G C) (event : Event D K G C) → IsPossible x (event ∷ past) →
       ReportsAdded past event
   reports_added past (NetworkCall sender vote, NetworkAnswer admission) possible =

@@ -1,26 +1,24 @@
 -- Who sends just those own votes that its round answered as added gives no cause to be blocked.
 use Rattle.std.proofs.Common.{◌≡◌, ◌≤◌, ◌+◌, ◌==◌, ℕ, Bool, true, false, not, cond, ◌&&◌, List, [], ◌∷◌, ◌++◌, Option, Some, None, refl, ap, sym, ◌∙◌, subst, arith, ⊎_elim}
 use Rattle.std.specs.List.{list_any}
-use Rattle.std.proofs.lemmas.Bool.{and_parts, and_from, or_cases, false_from_ne_true, true≢false, false≢true, eqb-true, eq-eqb, ltb-true}
+use Rattle.std.proofs.lemmas.Bool.{and_parts, and_from, or_cases, false_from_ne_true, true≢false, false≢true, eqb-true, eq-eqb}
 use Rattle.std.proofs.lemmas.List.Folds.{list_any-append}
 use Rattle.batcher_types.specs.declared.positions.Participant.{Participant}
-use Rattle.batcher_types.specs.declared.positions.Round.{Round}
-use Rattle.batcher_types.specs.declared.messages.Proposal.{Proposal}
 use Rattle.batcher_types.specs.declared.messages.Vote.{Vote}
-use Rattle.batcher_types.specs.declared.messages.Vote.TheVariants.{Notarize as NotarizeVote, Nullify as NullifyVote, Finalize as FinalizeVote}
 use Rattle.batcher_histories.specs.declared.calls.Call.TheVariants.{Network as NetworkCall, Own as OwnCall, Certificate as CertificateCall, Leader as LeaderCall, Construct as ConstructCall, Forward as ForwardCall, Missing as MissingCall}
-use Rattle.batcher_histories.specs.Setting.{Setting, sender_in}
+use Rattle.batcher_histories.specs.Config.{Config, sender_in}
 use Rattle.batcher_types.specs.Lists.{count, is_some_and}
-use Rattle.batcher_types.specs.Votes.{signer_of, subject_of, attestation_of, excludes, same_round, same_proposal, same_subject}
+use Rattle.batcher_types.specs.Votes.{signer_of, subject_of, attestation_of, excludes}
 use Rattle.batcher_types.proofs.ListLemmas.{any_more}
+use Rattle.batcher_types.proofs.CountLemmas.{any_count}
+use Rattle.batcher_types.proofs.VoteLemmas.{same_subject-refl}
 use Rattle.batcher_histories.specs.Admissions.{same_vote}
 use Rattle.batcher_histories.specs.History.{Event, History, cast_votes}
 use Rattle.batcher_histories.specs.FirstVotes.{contradicts}
 use Rattle.batcher_promises.specs.Promises.{AtEachEvent, votes_cast, names_another, contradicts_itself}
-use Rattle.batcher_promises.specs.Reported.{IsAmong}
+use Rattle.batcher_promises.specs.Reports.{IsAmong}
 use Rattle.batcher_promises.specs.Honest.{own_votes_added, OwnAddedAgree}
-use Rattle.batcher_promises.specs.Sent.{SendsAdded, SendersOfAddedGiveNoCause}
-use Rattle.batcher_histories.proofs.History.Distinct.{any_count}
+use Rattle.batcher_promises.specs.SentVotes.{SendsAdded, SendersOfAddedGiveNoCause}
 use Rattle.batcher_promises.proofs.Order.Reordered.{excludes_itself}
 use Rattle.batcher_promises.proofs.Blocks.Honest.{some_among}
 
@@ -35,28 +33,14 @@ halves : {X : Type 0} (a b : X → Bool) (xs : List X)
 halves a b [] = omega arith
 halves a b (x ∷ xs) = omega (arith, half_of (a x) (b x), halves a b xs)
 
-some_counted : {X : Type 0} (p : X → Bool) (xs : List X) → list_any p xs ≡ true → 1 ≤ count p xs
-some_counted p xs some = omega (arith, ltb-true 0 (count p xs) (sym (any_count p xs) ∙ some))
-
 -- ONE VOTE
 module _ {D G : Type 0} (same : D → D → Bool) (equal : G → G → Bool) (same_is : (a : D) → same a a ≡ true) (equal_is : (a : G) → equal a a ≡ true) where
-  round_itself : (r : Round) → same_round r r ≡ true
-  round_itself r = and_from _ _ (eq-eqb r.epoch.0 r.epoch.0 refl) (eq-eqb r.view.0 r.view.0 refl)
-
-  proposal_itself : (p : Proposal D) → same_proposal same p p ≡ true
-  proposal_itself p =
-      and_from _ _ (round_itself p.round) (and_from _ _ (eq-eqb p.parent.0 p.parent.0 refl) (same_is p.payload))
-
-  subject_itself : (v : Vote G D) → same_subject same (subject_of v) (subject_of v) ≡ true
-  subject_itself (NotarizeVote v) = proposal_itself v.proposal
-  subject_itself (NullifyVote v) = round_itself v.round
-  subject_itself (FinalizeVote v) = proposal_itself v.proposal
-
   vote_itself : (v : Vote G D) → same_vote same equal v v ≡ true
   vote_itself v =
-      and_from _ _ (subject_itself v) (and_from _ _ (eq-eqb (signer_of v) (signer_of v) refl) (equal_is (attestation_of v).signature))
+      and_from _ _ (same_subject-refl same same_is (subject_of v))
+      (and_from _ _ (eq-eqb (signer_of v) (signer_of v) refl) (equal_is (attestation_of v).signature))
 
-module _ {D K G C : Type 0} (x : Setting D K G C) (mine : History D K G C) (i : ℕ) where
+module _ {D K G C : Type 0} (x : Config D K G C) (mine : History D K G C) (i : ℕ) where
   abbrev sent : List (Vote G D)
   sent = own_votes_added mine
 
@@ -122,8 +106,8 @@ module _ {D K G C : Type 0} (x : Setting D K G C) (mine : History D K G C) (i : 
           arith,
           agree v,
           halves (excludes v) (same_vote x.same_digest x.same_signature v) sent,
-          some_counted (contradicts x v) sent some,
-          some_counted (λ u. excludes v u && same_vote x.same_digest x.same_signature v u) sent
+          any_count (contradicts x v) sent some,
+          any_count (λ u. excludes v u && same_vote x.same_digest x.same_signature v u) sent
               (among (λ u. excludes v u && same_vote x.same_digest x.same_signature v u)
               (and_from _ _ (excludes_itself v) (vote_itself x.same_digest x.same_signature same_is equal_is v))),
         ))
@@ -172,7 +156,7 @@ module _ {D K G C : Type 0} (x : Setting D K G C) (mine : History D K G C) (i : 
   names_none [] sends = refl
   names_none (event ∷ past) sends = rw (names_it past event sends.0, names_none past sends.1) refl
 
-module _ {D K G C : Type 0} (x : Setting D K G C) where
+module _ {D K G C : Type 0} (x : Config D K G C) where
   pub senders_of_added : ((a : D) → x.same_digest a a ≡ true)
       → ((a : G) → x.same_signature a a ≡ true)
       → SendersOfAddedGiveNoCause x

@@ -14,27 +14,28 @@ use Rattle.batcher_types.specs.declared.messages.Certificate.TheVariants.{Notari
 use Rattle.batcher_votes.specs.declared.verifier.ProposalState.TheVariants.{Certificate as FixedProposal}
 use Rattle.batcher_histories.specs.declared.calls.Call.{Call}
 use Rattle.batcher_histories.specs.declared.answers.Answer.{Answer}
-use Rattle.batcher_histories.specs.Setting.{Setting, participants_in, quorum_in}
+use Rattle.batcher_histories.specs.Config.{Config, participants_in, quorum_in}
 use Rattle.batcher_types.specs.Lists.{count, is_some_and, EachOnce}
 use Rattle.batcher_types.specs.Votes.{is_kind, signer_of, kind_certified, subject_certified, same_proposal, same_round, is_of_kind, is_vote_of}
-use Rattle.batcher_types.proofs.CountLemmas.{count-append, count-filter_le, count_covers, few_distinct, quorums_overlap, count_none}
+use Rattle.batcher_types.proofs.CountLemmas.{count-append, count-filter_le, count_covers, few_distinct, quorums_overlap, count_none, count-filter}
 use Rattle.batcher_types.proofs.VoteLemmas.{same_proposal-refl}
-use Rattle.batcher_votes.specs.Selected.{proposal_of}
+use Rattle.batcher_types.proofs.KindLemmas.{is_kind-refl, is_kind-true}
+use Rattle.batcher_votes.specs.ProposalStates.{proposal_of}
 use Rattle.batcher_histories.specs.History.{Event, History, batch_given, certificate_given, cast_votes}
 use Rattle.batcher_histories.specs.FirstVotes.{first_votes, first_vote, is_free}
 use Rattle.batcher_histories.specs.Selection.{is_certified, selection, selection_by, fixed_proposal, leaders_proposal, fixing_evidence, finalized_by, certificate_of}
 use Rattle.batcher_histories.specs.Answers.{IsPossible}
-use Rattle.batcher_promises.specs.Reported.{subjects_contradict}
-use Rattle.batcher_promises.specs.Backed.{proposal_certified, gives_kind, was_given, IsGiven, GivesOnce, IsBacked, GivesBacked, GivesFixed, NameOneProposal, GivesSafely}
+use Rattle.batcher_promises.specs.Reports.{subjects_contradict}
+use Rattle.batcher_promises.specs.Backing.{proposal_certified, gives_kind, was_given, IsGiven, GivesOnce, IsBacked, GivesBacked, GivesFixed, NameOneProposal, GivesSafely}
 use Rattle.batcher_histories.proofs.History.Laws.{HasLaws}
-use Rattle.batcher_histories.proofs.History.Distinct.{count-filter, count_at, count_sum, firsts_apart, where_holds, is_kind-refl, is_kind-true}
+use Rattle.batcher_histories.proofs.History.Distinct.{count_at, count_sum, firsts_apart, where_holds}
 use Rattle.batcher_histories.proofs.Memory.Spared.{counted}
 use Rattle.batcher_histories.proofs.History.Attempts.{ready_is}
 use Rattle.batcher_promises.proofs.Headline.NeverBoth.{never_both}
 use Rattle.batcher_promises.proofs.Headline.Promises.{at_each_event}
-use Rattle.batcher_promises.proofs.Throughout.ByDefinition.{keeps_fixed}
-use Rattle.batcher_promises.proofs.Certificates.Backed.{is_outside, firsts_take_part, Gave, gave_in, gave, kind_enough, backed_here}
-use Rattle.batcher_promises.proofs.Throughout.Told.{if_some}
+use Rattle.batcher_promises.proofs.AnswerFacts.ByDefinition.{keeps_fixed}
+use Rattle.batcher_promises.proofs.Certificates.Backing.{is_outside, firsts_take_part, Gave, gave_in, gave, kind_enough, backed_here}
+use Rattle.batcher_promises.proofs.AnswerFacts.Told.{if_some}
 use Rattle.batcher_promises.proofs.Quorums.Left.{given_evidence}
 
 -- AT EACH EVENT
@@ -52,7 +53,7 @@ module _ {D : Type 0} where
   fixed_then (Some f) leaders after e p is (inr (q, (so, inr some))) =
       let same : f ≡ p = cc in ap FixedProposal same
 
-module _ {D K G C : Type 0} (x : Setting D K G C) (laws : HasLaws x)
+module _ {D K G C : Type 0} (x : Config D K G C) (laws : HasLaws x)
     (past : History D K G C) (event : Event D K G C) (possible : IsPossible x (event ∷ past)) where
   gives_backed : GivesBacked x past event
   gives_backed =
@@ -95,7 +96,7 @@ given_where : {G C D : Type 0} (kind : Kind) (answer : Answer G C D)
     × (is_kind (kind_certified c) kind ≡ true)
 given_where kind answer = where_holds (λ c. is_kind (kind_certified c) kind) (certificate_given answer)
 
-module _ {D K G C : Type 0} (x : Setting D K G C) (laws : HasLaws x) where
+module _ {D K G C : Type 0} (x : Config D K G C) (laws : HasLaws x) where
   -- ONE OF EACH KIND
   given_is_certified : (past : History D K G C) → IsPossible x past → (kind : Kind)
       → was_given past kind ≡ true → is_certified past kind ≡ true

@@ -11,11 +11,11 @@ use Rattle.batcher_types.specs.Meaning.{IsLawful}
 use Rattle.batcher_histories.specs.History.{history}
 use Rattle.batcher_types.specs.Lists.{is_some_and}
 use Rattle.batcher_types.specs.Votes.{same_proposal}
-use Rattle.batcher_promises.specs.Composed.{HoldsThroughout}
+use Rattle.batcher_promises.specs.AnswerFacts.{HoldsThroughout}
 use Rattle.batcher_promises.specs.Examples.Answers.{WorkedExamples, is_good, listing, four, p, net, nullify, refused}
 use Rattle.batcher_promises.specs.Examples.Answers.{changed_calls, changed_answers, repeated_calls, repeated_answers}
 use Rattle.batcher_histories.proofs.History.Laws.{HasLaws}
-use Rattle.batcher_promises.proofs.Throughout.ByDefinition.{follows_by_definition}
+use Rattle.batcher_promises.proofs.AnswerFacts.ByDefinition.{follows_by_definition}
 use Rattle.batcher_types.specs.Keys.{index_of}
 
 none_added : {X : Type 0} {v : X} → [] ≡ v ∷ [] → ⊥
@@ -76,7 +76,7 @@ worked =
       finalization_fixes = refl;
       leader_named_late = refl;
       own_finalize = refl;
-      own_finalize_waits = refl;
+      own_finalize_eligible = refl;
       nullified = refl;
       skipped = refl;
       whole = refl;

@@ -5,16 +5,16 @@ use Rattle.std.proofs.lemmas.Option.{same_Some}
 use Rattle.std.specs.List.{list_all}
 use Rattle.std.proofs.lemmas.List.Sums.{list_all-from_AllPass, AllPass-from_list_all}
 use Rattle.batcher_histories.specs.FirstVotes.{first_votes}
-use Rattle.batcher_histories.specs.Standing.{is_valid, ready_kind, proven_votes}
-use Rattle.batcher_promises.specs.Composed.{has_bad_vote}
-use Rattle.batcher_promises.specs.Prompt.{HasNoBadVote}
+use Rattle.batcher_histories.specs.Eligible.{is_valid, ready_kind, proven_votes}
+use Rattle.batcher_promises.specs.AnswerFacts.{has_bad_vote}
+use Rattle.batcher_promises.specs.CertificateTiming.{HasNoBadVote}
 use Rattle.batcher_types.specs.declared.messages.Kind.TheVariants.{Notarization, Nullification}
 use Rattle.batcher_types.specs.Keys.{index_of, participant}
 use Rattle.batcher_types.specs.Meaning.{IsLawful}
 use Rattle.batcher_types.specs.Lists.{is_some_and}
 use Rattle.batcher_types.specs.Votes.{signer_of, same_proposal}
-use Rattle.batcher_votes.specs.Selected.{proposal_of}
-use Rattle.batcher_promises.specs.Backed.{votes_behind}
+use Rattle.batcher_votes.specs.ProposalStates.{proposal_of}
+use Rattle.batcher_promises.specs.Backing.{votes_behind}
 use Rattle.batcher_promises.specs.Examples.Answers.{TinyCall, is_good, p, construct, batch, notarization, finalization, played}
 use Rattle.batcher_promises.specs.Examples.Certificates.{hopeful, tiny, three_notarizes, one_bad, with_outsider, CertificateExamples}
 

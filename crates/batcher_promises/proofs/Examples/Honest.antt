@@ -8,7 +8,7 @@ use Rattle.batcher_types.specs.declared.messages.Kind.TheVariants.{Nullification
 use Rattle.batcher_votes.specs.declared.votes.Mode.TheVariants.{Retaining}
 use Rattle.batcher_types.specs.Lists.{is_some_and}
 use Rattle.batcher_types.specs.Votes.{is_for}
-use Rattle.batcher_histories.specs.Standing.{ready_kind}
+use Rattle.batcher_histories.specs.Eligible.{ready_kind}
 use Rattle.batcher_promises.specs.Honest.{sent_bad_vote}
 use Rattle.batcher_promises.specs.Examples.Answers.{is_good, four, p, notarize, nullify}
 use Rattle.batcher_types.specs.Keys.{index_of, participant}

@@ -4,10 +4,10 @@ use Rattle.std.proofs.lemmas.Bool.{true≢false, false≢true}
 use Rattle.rand_core.specs.Stream.{Stream}
 use Rattle.batcher_types.specs.declared.positions.Participant.{Participant}
 use Rattle.batcher_votes.specs.declared.votes.Mode.TheVariants.{Retaining}
-use Rattle.batcher_histories.specs.Setting.{sender_in}
+use Rattle.batcher_histories.specs.Config.{sender_in}
 use Rattle.batcher_types.specs.Lists.{is_some_and}
 use Rattle.batcher_types.specs.Keys.{index_of}
-use Rattle.batcher_votes.specs.Held.{Held}
+use Rattle.batcher_votes.specs.RoundState.{RoundState}
 use Rattle.batcher_promises.specs.Pairs.{TellsNoKeysApart}
 use Rattle.batcher_promises.specs.Examples.Answers.{four, no_words}
 use Rattle.batcher_promises.specs.Examples.Replays.{ReplayExamples, new_round}
@@ -21,7 +21,7 @@ unfolding is_second
 second_is_one a b i at_a at_b =
     ap (λ (o : Option Participant). is_some_and o (λ j. eqb j.0 2)) (at_a ∙ sym at_b)
 
-forwarded : Held ℕ ℕ → Bool
+forwarded : RoundState ℕ ℕ → Bool
 forwarded held = held.forwarded
 
 first_word : Stream → ℕ

@@ -16,23 +16,24 @@ use Rattle.batcher_votes.specs.declared.verifier.Batch.{Batch}
 use Rattle.batcher_histories.specs.declared.calls.Call.{Call}
 use Rattle.batcher_histories.specs.declared.calls.Call.TheVariants.{Network as NetworkCall, Own as OwnCall, Certificate as CertificateCall, Leader as LeaderCall, Construct as ConstructCall, Forward as ForwardCall, Missing as MissingCall}
 use Rattle.batcher_histories.specs.declared.answers.Answer.{Answer}
-use Rattle.batcher_histories.specs.Setting.{Setting}
+use Rattle.batcher_histories.specs.Config.{Config}
 use Rattle.batcher_types.specs.Lists.{count, is_some_and, EachOnce, SameElements}
-use Rattle.batcher_types.specs.Votes.{kind_of, signer_of, is_of_kind, is_vote_of, has_proposals, is_for, waits}
-use Rattle.batcher_types.proofs.CountLemmas.{count-append, count-false, count_same, all_count, once_fewer}
-use Rattle.batcher_votes.specs.Tracking.{is_skipped}
+use Rattle.batcher_types.specs.Votes.{kind_of, signer_of, is_of_kind, is_vote_of, has_proposals, is_for, is_eligible}
+use Rattle.batcher_types.proofs.CountLemmas.{count-append, count-false, count_same, all_count, once_fewer, count-filter}
+use Rattle.batcher_types.proofs.KindLemmas.{is_kind-true}
+use Rattle.batcher_votes.specs.TrackerSteps.{is_skipped}
 use Rattle.batcher_histories.specs.Runs.{MayCall}
 use Rattle.batcher_histories.specs.History.{Event, History, batch_given, own_votes}
 use Rattle.batcher_histories.specs.FirstVotes.{first_votes, first_vote, own_first_votes, is_free}
 use Rattle.batcher_histories.specs.Selection.{selected_proposal, is_certified}
-use Rattle.batcher_histories.specs.Standing.{is_among, is_trusted, is_valid, holds_vote, stood_before, was_invalid, trials, standing_votes, fresh_votes, proven_votes, ready_kind}
-use Rattle.batcher_histories.specs.Stands.{tries_kind}
+use Rattle.batcher_histories.specs.Eligible.{is_among, is_trusted, is_valid, holds_vote, was_eligible, was_invalid, trials, eligible_votes, fresh_votes, proven_votes, ready_kind}
+use Rattle.batcher_histories.specs.Represents.{tries_kind}
 use Rattle.batcher_histories.specs.Answers.{IsPossible}
-use Rattle.batcher_histories.specs.Trying.{bad_signers}
-use Rattle.batcher_promises.specs.Composed.{NamesBadSigners, usable_votes, has_bad_vote}
+use Rattle.batcher_histories.specs.Attempts.{bad_signers}
+use Rattle.batcher_promises.specs.AnswerFacts.{NamesBadSigners, usable_votes, has_bad_vote}
 use Rattle.batcher_histories.proofs.History.Laws.{HasLaws}
-use Rattle.batcher_histories.proofs.History.Distinct.{IsAt, AreApart, count-filter, count_at, firsts_apart, first_stays, found_here, found_behind, is_kind-true, some_of, some_where}
-use Rattle.batcher_histories.proofs.History.Past.{among_standing, closed_is_empty, count_passed, count_proven, invalid_after, invalid_in, own_filled, tried_after, tried_filled, kind_and_signer}
+use Rattle.batcher_histories.proofs.History.Distinct.{IsAt, AreApart, count_at, firsts_apart, first_stays, found_here, found_behind, some_of, some_where}
+use Rattle.batcher_histories.proofs.History.Past.{among_eligible, closed_is_empty, count_passed, count_proven, invalid_after, invalid_in, own_filled, tried_after, tried_filled, kind_and_signer}
 use Rattle.batcher_histories.proofs.History.Selection.{certified_before}
 use Rattle.batcher_histories.proofs.History.Attempts.{any_bad_fresh, bad_of_all, batch_made, found_among, given_certified, invalid_tried, is_fresh_bad, tries_by}
 
@@ -95,7 +96,7 @@ one_of_two true true passes = omega arith
 one_of_two true false passes = omega arith
 one_of_two false invalid passes = omega arith
 
--- of what stands, by whether it is trusted, tried and invalid
+-- of what is eligible, by whether it is trusted, tried and invalid
 fresh_or_proven : (trusted tried invalid passes : Bool) → (invalid ≡ true → tried ≡ true) →
     cond (not (trusted || tried) && passes) 1 0 + cond
     (((trusted || tried) && not invalid) && passes) 1 0 ≡ cond (not invalid && passes) 1 0
@@ -105,16 +106,17 @@ fresh_or_proven false false true passes h = absurd (false≢true (h refl))
 fresh_or_proven false false false passes h = omega arith
 
 -- what has a proposal waits for the selected one alone
-waits_for_it : (of_kind has for_it : Bool) → (of_kind ≡ true → has ≡ true)
+eligible_for_it : (of_kind has for_it : Bool) → (of_kind ≡ true → has ≡ true)
     → (of_kind && ((not has || for_it) && not for_it)) ≡ false
-waits_for_it true true true h = refl
-waits_for_it true true false h = refl
-waits_for_it true false for_it h = absurd (false≢true (h refl))
-waits_for_it false has for_it h = refl
+eligible_for_it true true true h = refl
+eligible_for_it true true false h = refl
+eligible_for_it true false for_it h = absurd (false≢true (h refl))
+eligible_for_it false has for_it h = refl
 
 -- what waits and isn't found bad, while it is fresh
-attests_if : (waits trusted tried valid : Bool) → waits ≡ true
-    → (waits && (not (trusted || tried) && not valid)) ≡ false → (trusted ≡ true → valid ≡ true)
+attests_if : (is_eligible trusted tried valid : Bool) → is_eligible ≡ true
+    → (is_eligible && (not (trusted || tried) && not valid)) ≡ false
+    → (trusted ≡ true → valid ≡ true)
     → (tried ≡ true → valid ≡ true) → valid ≡ true
 attests_if true true tried valid w h a b = a refl
 attests_if true false true valid w h a b = b refl
@@ -122,7 +124,7 @@ attests_if true false false true w h a b = refl
 attests_if true false false false w h a b = absurd (true≢false h)
 attests_if false trusted tried valid w h a b = absurd (false≢true w)
 
-module _ {D K G C : Type 0} (x : Setting D K G C) where
+module _ {D K G C : Type 0} (x : Config D K G C) where
   -- a vote that was there before an event is the one that is there after it
   found_before : (past : History D K G C) (event : Event D K G C) (v : Vote G D)
       → IsAt (first_votes x (event ∷ past)) v
@@ -131,16 +133,16 @@ module _ {D K G C : Type 0} (x : Setting D K G C) where
       let w = some_of (first_vote x past (kind_of v) (signer_of v)) before in
       w.1 ∙ ap Some (same_Some w.0 v (sym (first_stays x past event (kind_of v) (signer_of v) w.0 w.1) ∙ found))
 
-  -- where a vote of its kind and signer stands, that is of an open kind and waits
-  standing_waits : (past : History D K G C) (v : Vote G D)
-      → is_among (signer_of v) (map signer_of (standing_votes x past (kind_of v))) ≡ true →
+  -- where a vote of its kind and signer is eligible, that is of an open kind and waits
+  eligible_eligible : (past : History D K G C) (v : Vote G D)
+      → is_among (signer_of v) (map signer_of (eligible_votes x past (kind_of v))) ≡ true →
       (not (is_certified past (kind_of v) || is_skipped x.mode) ≡ true)
       × (is_some_and (first_vote x past (kind_of v) (signer_of v))
-      (waits x.same_digest (selected_proposal x past)) ≡ true)
-  standing_waits past v among =
+      (is_eligible x.same_digest (selected_proposal x past)) ≡ true)
+  eligible_eligible past v among =
       and_parts (not (is_certified past (kind_of v) || is_skipped x.mode))
-      (is_some_and (first_vote x past (kind_of v) (signer_of v)) (waits x.same_digest (selected_proposal x past)))
-      (sym (among_standing x past (kind_of v) (signer_of v)) ∙ among)
+      (is_some_and (first_vote x past (kind_of v) (signer_of v)) (is_eligible x.same_digest (selected_proposal x past)))
+      (sym (among_eligible x past (kind_of v) (signer_of v)) ∙ among)
 
   -- an own vote that an event brings attests
   own_attests_now : (past : History D K G C) (call : Call K G C D) (answer : Answer G C D)
@@ -171,18 +173,18 @@ module _ {D K G C : Type 0} (x : Setting D K G C) where
       (own_first_votes x past)) ∙ own))
 
   module _ (laws : HasLaws x) where
-    -- A vote that stands at a batch, which leaves its kind open and doesn't name it, attests.
+    -- A vote that is eligible at a batch, which leaves its kind open and doesn't name it, attests.
     attests_if_unnamed : (past : History D K G C) (event : Event D K G C)
         → IsPossible x (event ∷ past) → (v : Vote G D) → IsAt (first_votes x past) v
         → is_certified (event ∷ past) (kind_of v) ≡ false →
         tries_kind x past event.1 (kind_of v) ≡ true
-        → is_among (signer_of v) (map signer_of (standing_votes x past (kind_of v))) ≡ true →
+        → is_among (signer_of v) (map signer_of (eligible_votes x past (kind_of v))) ≡ true →
         is_among (signer_of v) (invalid_in x (batch_given event.1)) ≡ false
-        → (stood_before (trials x past) v ≡ true → is_valid x v ≡ true) → is_valid x v ≡ true
+        → (was_eligible (trials x past) v ≡ true → is_valid x v ≡ true) → is_valid x v ≡ true
     attests_if_unnamed past event possible v found still tries among unnamed before =
-        let stands = standing_waits past v among in
-        let waits_now : waits x.same_digest (selected_proposal x past) v
-        ≡ true = ap (λ o. is_some_and o (waits x.same_digest (selected_proposal x past))) (sym found) ∙ stands.1 in
+        let represents = eligible_eligible past v among in
+        let eligible_now : is_eligible x.same_digest (selected_proposal x past) v
+        ≡ true = ap (λ o. is_some_and o (is_eligible x.same_digest (selected_proposal x past))) (sym found) ∙ represents.1 in
         let t = tries_by x past event.0 event.1 (kind_of v) possible.1.1.0 tries in
         let none : is_some t.batch.certificate ≡ false = false_from_ne_true _ (λ some.
         true≢false (sym (given_certified x laws past event.0 event.1 (kind_of v) t.after.verified t.after.pending t.batch possible.1.1.0 t.given t.after.attempt
@@ -193,27 +195,28 @@ module _ {D K G C : Type 0} (x : Setting D K G C) where
         ∙ (ap (λ (o : Option (Batch (Certificate C D))). is_among (signer_of v) (invalid_in x o)) (sym t.given) ∙ unnamed) in
         let fresh : is_fresh_bad x past v ≡ false =
         ap (λ o. is_some_and o (is_fresh_bad x past)) (sym found)
-        ∙ (sym (any_bad_fresh x past (kind_of v) t.after.pending (signer_of v) (not-true _ stands.0) t.after.pending_are) ∙ not_bad) in
-        attests_if (waits x.same_digest (selected_proposal x past) v) (is_trusted x past v) (stood_before (trials x past) v) (is_valid x v) waits_now fresh
+        ∙ (sym (any_bad_fresh x past (kind_of v) t.after.pending (signer_of v) (not-true _ represents.0) t.after.pending_are) ∙ not_bad) in
+        attests_if (is_eligible x.same_digest (selected_proposal x past) v) (is_trusted x past v) (was_eligible (trials x past) v)
+        (is_valid x v) eligible_now fresh
         (λ trusted. own_attests past possible.1.1.1 v found (and_parts _ _ trusted).0)
         before
 
-    -- What stood at a batch, is of a kind that is open and wasn't found invalid attests.
+    -- What was eligible at a batch, is of a kind that is open and wasn't found invalid attests.
     pub tried_attests : (past : History D K G C) → IsPossible x past → (v : Vote G D)
         → IsAt (first_votes x past) v → is_certified past (kind_of v) ≡ false →
-        stood_before (trials x past) v ≡ true → was_invalid (trials x past) v ≡ false → is_valid x v
+        was_eligible (trials x past) v ≡ true → was_invalid (trials x past) v ≡ false → is_valid x v
         ≡ true
-    tried_attests [] possible v found still stood good = absurd (false≢true stood)
-    tried_attests (event ∷ past) possible v found still stood good =
+    tried_attests [] possible v found still eligible good = absurd (false≢true eligible)
+    tried_attests (event ∷ past) possible v found still eligible good =
         ⊎_elim
         (λ now.
         let parts = and_parts _ _ now in
-        let at = found_before past event v found (some_where (waits x.same_digest (selected_proposal x past)) _ (standing_waits past v parts.1).1) in
+        let at = found_before past event v found (some_where (is_eligible x.same_digest (selected_proposal x past)) _ (eligible_eligible past v parts.1).1) in
         attests_if_unnamed past event possible v at still parts.0 parts.1 (unnamed parts.0)
         (λ before. tried_attests past possible.1.1.1 v at (certified_before past event (kind_of v) still) before good_before))
         (λ before. tried_attests past possible.1.1.1 v (found_before past event v found (tried_filled x past v before))
         (certified_before past event (kind_of v) still) before good_before)
-        (or_cases _ _ (sym (tried_after x past event v) ∙ stood))
+        (or_cases _ _ (sym (tried_after x past event v) ∙ eligible))
       where
         good_parts : ((tries_kind x past event.1 (kind_of v)
             && is_among (signer_of v) (invalid_in x (batch_given event.1))) ≡ false)
@@ -231,8 +234,8 @@ module _ {D K G C : Type 0} (x : Setting D K G C) where
     none_fails : (past : History D K G C) (kind : Kind) → IsPossible x past
         → (is_certified past kind || is_skipped x.mode) ≡ false → (v : Vote G D)
         → IsAt (first_votes x past) v →
-        (is_of_kind kind v && (waits x.same_digest (selected_proposal x past) v
-        && (((is_trusted x past v || stood_before (trials x past) v)
+        (is_of_kind kind v && (is_eligible x.same_digest (selected_proposal x past) v
+        && (((is_trusted x past v || was_eligible (trials x past) v)
         && not (was_invalid (trials x past) v)) && not (is_valid x v)))) ≡ false
     none_fails past kind possible still v found =
         false_from_ne_true _ (λ h.
@@ -244,7 +247,7 @@ module _ {D K G C : Type 0} (x : Setting D K G C) where
         let valid : is_valid x v ≡ true =
         ⊎_elim
         (λ trusted. own_attests past possible v found (and_parts _ _ trusted).0)
-        (λ stood. tried_attests past possible v found open_kind stood (not-true _ proven.1))
+        (λ eligible. tried_attests past possible v found open_kind eligible (not-true _ proven.1))
         (or_cases _ _ proven.0) in
         true≢false (sym valid ∙ not-true _ rest.1))
 
@@ -282,50 +285,50 @@ module _ {D K G C : Type 0} (x : Setting D K G C) where
         → IsPossible x (event ∷ past) → NamesBadSigners x past event
     names_bad_signers past event possible = named_are_bad past event (batch_given event.1) possible refl
 
-module _ {D K G C : Type 0} (x : Setting D K G C) where
+module _ {D K G C : Type 0} (x : Config D K G C) where
   -- NO STANDING VOTE IS LOST BUT THOSE FOUND INVALID
   pub usable_are : (past : History D K G C) → IsPossible x past → (kind : Kind) →
       SameElements (usable_votes x past kind)
-      (filter (λ v. not (was_invalid (trials x past) v)) (standing_votes x past kind))
+      (filter (λ v. not (was_invalid (trials x past) v)) (eligible_votes x past kind))
   usable_are past possible kind test =
       count-append test (fresh_votes x past kind) (proven_votes x past kind)
-      ∙ (adds (count-filter test (λ v. not (is_trusted x past v || stood_before (trials x past) v)) (standing_votes x past kind))
-      (count-filter test (λ v. (is_trusted x past v || stood_before (trials x past) v) && not (was_invalid (trials x past) v)) (standing_votes x past kind))
-      (count_adds _ _ (λ v. not (was_invalid (trials x past) v) && test v) (standing_votes x past kind)
-      (λ v. fresh_or_proven (is_trusted x past v) (stood_before (trials x past) v) (was_invalid (trials x past) v) (test v) (invalid_tried x past possible v)))
-      ∙ sym (count-filter test (λ v. not (was_invalid (trials x past) v)) (standing_votes x past kind)))
+      ∙ (adds (count-filter test (λ v. not (is_trusted x past v || was_eligible (trials x past) v)) (eligible_votes x past kind))
+      (count-filter test (λ v. (is_trusted x past v || was_eligible (trials x past) v) && not (was_invalid (trials x past) v)) (eligible_votes x past kind))
+      (count_adds _ _ (λ v. not (was_invalid (trials x past) v) && test v) (eligible_votes x past kind)
+      (λ v. fresh_or_proven (is_trusted x past v) (was_eligible (trials x past) v) (was_invalid (trials x past) v) (test v) (invalid_tried x past possible v)))
+      ∙ sym (count-filter test (λ v. not (was_invalid (trials x past) v)) (eligible_votes x past kind)))
     where
       adds : {f p n m all : ℕ} → f ≡ n → p ≡ m → n + m ≡ all → f + p ≡ all
       adds a b c = omega (arith, a, b, c)
 
-  -- no more of them than stand, whatever was answered
+  -- no more of them than are eligible, whatever was answered
   pub usable_within : (past : History D K G C) (kind : Kind) (test : Vote G D → Bool)
-      → count test (usable_votes x past kind) ≤ count test (standing_votes x past kind)
+      → count test (usable_votes x past kind) ≤ count test (eligible_votes x past kind)
   usable_within past kind test =
       omega (
         arith,
         count-append test (fresh_votes x past kind) (proven_votes x past kind),
-        count-filter test (λ v. not (is_trusted x past v || stood_before (trials x past) v)) (standing_votes x past kind),
-        count-filter test (λ v. (is_trusted x past v || stood_before (trials x past) v) && not (was_invalid (trials x past) v)) (standing_votes x past kind),
+        count-filter test (λ v. not (is_trusted x past v || was_eligible (trials x past) v)) (eligible_votes x past kind),
+        count-filter test (λ v. (is_trusted x past v || was_eligible (trials x past) v) && not (was_invalid (trials x past) v)) (eligible_votes x past kind),
         counts_within
-            (λ v. not (is_trusted x past v || stood_before (trials x past) v) && test v)
-            (λ v. ((is_trusted x past v || stood_before (trials x past) v) && not (was_invalid (trials x past) v)) && test v)
-            test (standing_votes x past kind)
-            (λ v. one_of_two (is_trusted x past v || stood_before (trials x past) v) (was_invalid (trials x past) v) (test v)),
+            (λ v. not (is_trusted x past v || was_eligible (trials x past) v) && test v)
+            (λ v. ((is_trusted x past v || was_eligible (trials x past) v) && not (was_invalid (trials x past) v)) && test v)
+            test (eligible_votes x past kind)
+            (λ v. one_of_two (is_trusted x past v || was_eligible (trials x past) v) (was_invalid (trials x past) v) (test v)),
       )
 
-  -- Of each signer one vote at most stands.
-  standing_once : (past : History D K G C) (kind : Kind)
-      → EachOnce signer_of (standing_votes x past kind)
-  standing_once past kind i =
+  -- Of each signer one vote at most is eligible.
+  eligible_once : (past : History D K G C) (kind : Kind)
+      → EachOnce signer_of (eligible_votes x past kind)
+  eligible_once past kind i =
       ⊎_elim
-      (λ closed. let none : count (λ v. eqb (signer_of v) i) (standing_votes x past kind) ≡ 0 = rw closed refl in omega (arith, none))
+      (λ closed. let none : count (λ v. eqb (signer_of v) i) (eligible_votes x past kind) ≡ 0 = rw closed refl in omega (arith, none))
       (λ still.
       let counted = count_passed x past kind (λ v. eqb (signer_of v) i) still in
-      let alike = count_same _ (λ v. waits x.same_digest (selected_proposal x past) v && is_vote_of kind i v) (first_votes x past)
-      (λ v. kind_and_signer x (is_of_kind kind v) (waits x.same_digest (selected_proposal x past) v) (eqb (signer_of v) i)) in
-      let one = count_at (waits x.same_digest (selected_proposal x past)) (first_votes x past) kind i (firsts_apart x past) in
-      one_of (is_some_and (first_vote x past kind i) (waits x.same_digest (selected_proposal x past))) _ (counted ∙ (alike ∙ one)))
+      let alike = count_same _ (λ v. is_eligible x.same_digest (selected_proposal x past) v && is_vote_of kind i v) (first_votes x past)
+      (λ v. kind_and_signer x (is_of_kind kind v) (is_eligible x.same_digest (selected_proposal x past) v) (eqb (signer_of v) i)) in
+      let one = count_at (is_eligible x.same_digest (selected_proposal x past)) (first_votes x past) kind i (firsts_apart x past) in
+      one_of (is_some_and (first_vote x past kind i) (is_eligible x.same_digest (selected_proposal x past))) _ (counted ∙ (alike ∙ one)))
       (cases_Bool (is_certified past kind || is_skipped x.mode))
     where
       one_of : (b : Bool) (n : ℕ) → n ≡ cond b 1 0 → n ≤ 1
@@ -335,20 +338,20 @@ module _ {D K G C : Type 0} (x : Setting D K G C) where
   pub usable_once : (past : History D K G C) (kind : Kind)
       → EachOnce signer_of (usable_votes x past kind)
   usable_once past kind =
-      once_fewer signer_of (standing_votes x past kind) (usable_votes x past kind) (usable_within past kind) (standing_once past kind)
+      once_fewer signer_of (eligible_votes x past kind) (usable_votes x past kind) (usable_within past kind) (eligible_once past kind)
 
-  -- With a proposal selected, the standing votes of a kind with proposals are for it.
-  standing_for : (past : History D K G C) (kind : Kind) (p : Proposal D) → has_proposals kind ≡ true
+  -- With a proposal selected, the eligible votes of a kind with proposals are for it.
+  eligible_for : (past : History D K G C) (kind : Kind) (p : Proposal D) → has_proposals kind ≡ true
       → selected_proposal x past ≡ Some p
-      → count (λ v. not (is_for x.same_digest p v)) (standing_votes x past kind) ≡ 0
-  standing_for past kind p has selected =
+      → count (λ v. not (is_for x.same_digest p v)) (eligible_votes x past kind) ≡ 0
+  eligible_for past kind p has selected =
       ⊎_elim
       (λ closed. rw closed refl)
       (λ still.
       count_passed x past kind (λ v. not (is_for x.same_digest p v)) still
-      ∙ (ap (λ o. count (λ v. is_of_kind kind v && (waits x.same_digest o v && not (is_for x.same_digest p v))) (first_votes x past)) selected
+      ∙ (ap (λ o. count (λ v. is_of_kind kind v && (is_eligible x.same_digest o v && not (is_for x.same_digest p v))) (first_votes x past)) selected
       ∙ (count_same _ (λ _. false) (first_votes x past)
-      (λ v. waits_for_it (is_of_kind kind v) (has_proposals (kind_of v)) (is_for x.same_digest p v)
+      (λ v. eligible_for_it (is_of_kind kind v) (has_proposals (kind_of v)) (is_for x.same_digest p v)
       (λ e. ap has_proposals (is_kind-true (kind_of v) kind e) ∙ has))
       ∙ count-false (first_votes x past))))
       (cases_Bool (is_certified past kind || is_skipped x.mode))
@@ -359,7 +362,7 @@ module _ {D K G C : Type 0} (x : Setting D K G C) where
   usable_for past kind p has selected =
       AllPass-from_list_all (is_for x.same_digest p) (usable_votes x past kind)
       (all_count (is_for x.same_digest p) (usable_votes x past kind)
-      (none_more (usable_within past kind (λ v. not (is_for x.same_digest p v))) (standing_for past kind p has selected)))
+      (none_more (usable_within past kind (λ v. not (is_for x.same_digest p v))) (eligible_for past kind p has selected)))
     where
       none_more : {n m : ℕ} → n ≤ m → m ≡ 0 → n ≡ 0
       none_more h e = omega (arith, h, e)

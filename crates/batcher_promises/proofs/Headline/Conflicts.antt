@@ -5,7 +5,7 @@ use Rattle.std.proofs.lemmas.Bool.{and_parts, and_from, or_left, or_parts, true�
 use Rattle.batcher_types.specs.declared.messages.Proposal.{Proposal}
 use Rattle.batcher_types.specs.declared.messages.Vote.{Vote}
 use Rattle.batcher_types.specs.declared.messages.Vote.TheVariants.{Notarize as NotarizeVote, Nullify as NullifyVote, Finalize as FinalizeVote}
-use Rattle.batcher_histories.specs.Setting.{Setting}
+use Rattle.batcher_histories.specs.Config.{Config}
 use Rattle.batcher_types.specs.Lists.{is_empty, exactly_one}
 use Rattle.batcher_types.specs.Votes.{is_kind, kind_of, signer_of, is_vote_of, is_for, same_proposal}
 use Rattle.batcher_types.proofs.VoteLemmas.{same_proposal-true}
@@ -14,7 +14,7 @@ use Rattle.batcher_histories.specs.History.{History}
 use Rattle.batcher_histories.specs.Selection.{selected_proposal}
 use Rattle.batcher_histories.specs.Comparison.{compared_votes, compared_votes_of, conflicts}
 use Rattle.batcher_histories.proofs.History.ByFirst.{differs_from, conflicts_is}
-use Rattle.batcher_promises.specs.Composed.{carry_different}
+use Rattle.batcher_promises.specs.AnswerFacts.{carry_different}
 use Rattle.batcher_histories.proofs.History.Laws.{HasLaws}
 use Rattle.batcher_histories.proofs.History.Distinct.{where_holds}
 use Rattle.batcher_histories.specs.Admissions.{same_vote}
@@ -59,7 +59,7 @@ module _ {D : Type 0} (same : D → D → Bool) (identical : (a b : D) → same 
   votes_differ (FinalizeVote a) (NotarizeVote b) p mark k e h = absurd (false≢true k)
   votes_differ (FinalizeVote a) (NullifyVote b) p mark k e h = absurd (false≢true k)
 
-module _ {D K G C : Type 0} (x : Setting D K G C) (laws : HasLaws x) where
+module _ {D K G C : Type 0} (x : Config D K G C) (laws : HasLaws x) where
   -- A vote that conflicts has a compared one of its kind and signer beside it, with another
   -- proposal.
   pub conflict_with_compared : (past : History D K G C) (vote : Vote G D) → conflicts x past vote

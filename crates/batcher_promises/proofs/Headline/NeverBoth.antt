@@ -6,12 +6,13 @@ use Rattle.std.proofs.lemmas.Bool.{or_from, and_left, and_parts, and_from, or_ri
 use Rattle.batcher_types.specs.declared.messages.Vote.{Vote}
 use Rattle.batcher_types.specs.declared.messages.Kind.{Kind}
 use Rattle.batcher_types.specs.declared.messages.Kind.TheVariants.{Nullification, Finalization}
-use Rattle.batcher_histories.specs.Setting.{Setting}
+use Rattle.batcher_histories.specs.Config.{Config}
 use Rattle.batcher_types.specs.Votes.{is_kind, kind_of, signer_of, is_vote_of, are_opposite, excludes}
 use Rattle.batcher_types.proofs.ListLemmas.{any_more}
+use Rattle.batcher_types.proofs.KindLemmas.{is_kind-true}
 use Rattle.batcher_histories.specs.History.{History}
 use Rattle.batcher_histories.specs.FirstVotes.{first_votes, first_vote, is_free}
-use Rattle.batcher_histories.proofs.History.Distinct.{any_is_found, is_kind-true, new_votes, new_cases}
+use Rattle.batcher_histories.proofs.History.Distinct.{any_is_found, new_votes, new_cases}
 
 -- a vote of one of two sorts beside others of which one sort is missing
 still_apart : (n f a b : Bool) → (n ≡ true → f ≡ false) → (n ≡ true → b ≡ false)
@@ -44,7 +45,7 @@ module _ {G D : Type 0} where
       (λ some. true≢false (sym (any_more (is_vote_of a i) (λ v. excludes v w) (λ v of_a. opposite_excludes a b i v w opposite of_a of_b) votes some)
       ∙ not-true (list_any (λ v. excludes v w) votes) free))
 
-module _ {D K G C : Type 0} (x : Setting D K G C) where
+module _ {D K G C : Type 0} (x : Config D K G C) where
   apart_lists : (past : History D K G C) (i : ℕ)
       → (list_any (is_vote_of Nullification i) (first_votes x past)
       && list_any (is_vote_of Finalization i) (first_votes x past)) ≡ false

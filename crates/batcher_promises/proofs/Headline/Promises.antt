@@ -20,11 +20,11 @@ use Rattle.batcher_histories.specs.declared.calls.Call.TheVariants.{Network as N
 use Rattle.batcher_histories.specs.declared.answers.Answer.{Answer}
 use Rattle.batcher_histories.specs.declared.answers.Answer.TheVariants.{OutOfMemory, Network as NetworkAnswer, Own as OwnAnswer, OwnRefused, Certificate as CertificateAnswer, Leader as LeaderAnswer, Construct as ConstructAnswer}
 use Rattle.batcher_histories.specs.declared.answers.Answer.TheVariants.{Forward as ForwardAnswer, Missing as MissingAnswer}
-use Rattle.batcher_histories.specs.Setting.{Setting, sender_in}
+use Rattle.batcher_histories.specs.Config.{Config, sender_in}
 use Rattle.batcher_types.specs.Lists.{is_some_and}
 use Rattle.batcher_types.specs.Votes.{is_kind, kind_of, signer_of, subject_of, round_in, is_vote_of, are_opposite, excludes, opposes, same_proposal}
 use Rattle.batcher_types.proofs.ListLemmas.{any_more, any_filter, any_found, none_found, any_other}
-use Rattle.batcher_votes.specs.Tracking.{is_released_in}
+use Rattle.batcher_votes.specs.TrackerSteps.{is_released_in}
 use Rattle.batcher_histories.specs.Admissions.{same_vote, refusal, mismatch_reason, block_for, admission_after, admission_after_facts, admission_beside}
 use Rattle.batcher_histories.specs.History.{Event, History, names_sender, cast_votes, batch_given}
 use Rattle.batcher_histories.specs.FirstVotes.{first_votes, is_free, contradicts, first_like, opposite_vote}
@@ -34,15 +34,15 @@ use Rattle.batcher_histories.specs.Answers.{network_answer, MayAnswer, IsPossibl
 use Rattle.batcher_promises.specs.Promises.{AtEachVote, IsAcceptedExactly, votes_cast, contradicts_itself, gave_cause, IsBlockedForCause, IsBlockedIfContradicting, AtEachEvent, AtEachTime, GivesVerified, CompletesQuorums, Rests}
 use Rattle.batcher_promises.specs.Promises.{GivesNone, Promises}
 use Rattle.batcher_histories.specs.Runs.{certifies_answer}
-use Rattle.batcher_histories.specs.Trying.{certifies_subject}
+use Rattle.batcher_histories.specs.Attempts.{certifies_subject}
 use Rattle.batcher_votes.specs.Verifiers.{certifies_itself}
 use Rattle.batcher_histories.proofs.History.Attempts.{batch_made}
-use Rattle.batcher_promises.specs.Composed.{carry_different}
+use Rattle.batcher_promises.specs.AnswerFacts.{carry_different}
 use Rattle.batcher_promises.proofs.Headline.Conflicts.{conflict_with_compared, carried_differ}
 use Rattle.batcher_histories.proofs.History.Laws.{HasLaws}
-use Rattle.batcher_histories.proofs.Right.Kept.{found_passes}
+use Rattle.batcher_histories.proofs.Correctness.Kept.{found_passes}
 use Rattle.batcher_histories.proofs.History.Distinct.{any_count, count_at, positive, firsts_apart, found_is_of}
-use Rattle.batcher_histories.proofs.Follow.Network.{added_is}
+use Rattle.batcher_histories.proofs.Simulation.Network.{added_is}
 use Rattle.batcher_promises.proofs.Quorums.Completed.{completes, rests}
 use Rattle.batcher_promises.specs.Work.{IsWorkBounded}
 use Rattle.batcher_promises.proofs.Headline.Work.{work_bounded, skipped_gives_none}
@@ -99,7 +99,7 @@ module _ {G D : Type 0} (same : D → D → Bool) (equal : G → G → Bool) whe
   after_blocks (FinalizeVote a) (NullifyVote b) = refl
   after_blocks (FinalizeVote a) (FinalizeVote b) = refl
 
-module _ {D K G C : Type 0} (x : Setting D K G C) where
+module _ {D K G C : Type 0} (x : Config D K G C) where
   -- CAST VOTES
   pub first_is_cast : (p : Vote G D → Bool) (past : History D K G C)
       → list_any p (first_votes x past) ≡ true → list_any p (votes_cast x past) ≡ true
@@ -214,7 +214,7 @@ module _ {D K G C : Type 0} (x : Setting D K G C) where
         by_name (eqb i.0 (signer_of vote)) answer refl
         (sym (ap (λ a. is_some a.block) (network_is x past vote sender) ∙ ap (λ o. is_some (admission_sent_by x past o vote).block) known) ∙ h)
 
-module _ {D K G C : Type 0} (x : Setting D K G C) (retains : x.mode ≡ Retaining) where
+module _ {D K G C : Type 0} (x : Config D K G C) (retains : x.mode ≡ Retaining) where
   kept_in_full : (past : History D K G C) (kind : Kind) → is_released x past kind ≡ false
   kept_in_full past kind = ap (λ m. is_released_in m (is_certified past kind)) retains
 
@@ -280,21 +280,21 @@ module _ {D K G C : Type 0} (x : Setting D K G C) (retains : x.mode ≡ Retainin
       ap (λ a. is_some a.block) (network_is x past vote sender) ∙ blocked_of past vote (sender_in x sender) (and_parts _ _ h).0 (and_parts _ _ h).1
 
 -- AT EACH EVENT OF A HISTORY
-module _ {D K G C : Type 0} (x : Setting D K G C) (holds : History D K G C → Event D K G C → Type 0)
+module _ {D K G C : Type 0} (x : Config D K G C) (holds : History D K G C → Event D K G C → Type 0)
     (each : (past : History D K G C) (event : Event D K G C) → IsPossible x (event ∷ past) → holds past event) where
   pub at_each_event : (past : History D K G C) → IsPossible x past → AtEachEvent holds past
   at_each_event [] possible = tt
   at_each_event (event ∷ past) possible = (each past event possible, at_each_event past possible.1.1.1)
 
 -- after each,
-module _ {D K G C : Type 0} (x : Setting D K G C) (holds : History D K G C → Type 0)
+module _ {D K G C : Type 0} (x : Config D K G C) (holds : History D K G C → Type 0)
     (each : (past : History D K G C) → IsPossible x past → holds past) where
   pub at_each_time : (past : History D K G C) → IsPossible x past → AtEachTime holds past
   at_each_time [] possible = each [] possible
   at_each_time (event ∷ past) possible = (each (event ∷ past) possible, at_each_time past possible.1.1.1)
 
 -- at each network vote, which is of this round,
-module _ {D K G C : Type 0} (x : Setting D K G C)
+module _ {D K G C : Type 0} (x : Config D K G C)
     (holds : History D K G C → K → Vote G D → Admission G D → Type 0)
     (named : (past : History D K G C) (sender : K) (vote : Vote G D) → IsPossible x past →
     round_in (subject_of vote) ≡ x.number → holds past sender vote (network_answer x past sender vote)) where
@@ -321,13 +321,13 @@ module _ {D K G C : Type 0} (x : Setting D K G C)
   at_each_allowed ((MissingCall p, answer) ∷ past) possible = at_each_allowed past possible.1.1.1
 
 -- and at each whatever round it is of
-module _ {D K G C : Type 0} (x : Setting D K G C)
+module _ {D K G C : Type 0} (x : Config D K G C)
     (holds : History D K G C → K → Vote G D → Admission G D → Type 0)
     (named : (past : History D K G C) (sender : K) (vote : Vote G D) → holds past sender vote (network_answer x past sender vote)) where
   pub at_each_vote : (past : History D K G C) → IsPossible x past → AtEachVote holds past
   at_each_vote = at_each_allowed x holds (λ past sender vote _ _. named past sender vote)
 
-module _ {D K G C : Type 0} (x : Setting D K G C) where
+module _ {D K G C : Type 0} (x : Config D K G C) where
   accepted_exactly : (past : History D K G C) → IsPossible x past
       → AtEachVote (IsAcceptedExactly x) past
   accepted_exactly = at_each_vote x (IsAcceptedExactly x) (added_is x)

@@ -19,27 +19,28 @@ use Rattle.batcher_votes.specs.declared.votes.Mode.TheVariants.{Skipped}
 use Rattle.batcher_histories.specs.declared.answers.Answer.{Answer}
 use Rattle.batcher_histories.specs.declared.calls.Call.{Call}
 use Rattle.batcher_histories.specs.declared.calls.Call.TheVariants.{Network as NetworkCall, Own as OwnCall, Certificate as CertificateCall, Leader as LeaderCall, Construct as ConstructCall, Forward as ForwardCall, Missing as MissingCall}
-use Rattle.batcher_histories.specs.Setting.{Setting, quorum_in}
+use Rattle.batcher_histories.specs.Config.{Config, quorum_in}
 use Rattle.batcher_types.specs.Lists.{count, is_some_and}
-use Rattle.batcher_types.specs.Votes.{has_proposals, is_kind, kind_of, signer_of, is_of_kind, is_vote_of, waits}
-use Rattle.batcher_types.proofs.CountLemmas.{count-append, count-false, count-true, count_same, length_same}
+use Rattle.batcher_types.specs.Votes.{has_proposals, is_kind, kind_of, signer_of, is_of_kind, is_vote_of, is_eligible}
+use Rattle.batcher_types.proofs.CountLemmas.{count-append, count-false, count-true, count_same, length_same, count-filter}
 use Rattle.batcher_types.proofs.ListLemmas.{any_filter}
-use Rattle.batcher_votes.specs.Tracking.{is_skipped}
+use Rattle.batcher_types.proofs.KindLemmas.{is_kind-refl, is_kind-true}
+use Rattle.batcher_votes.specs.TrackerSteps.{is_skipped}
 use Rattle.batcher_histories.specs.History.{Event, History, batch_given, own_votes, sent_votes, cast_votes}
 use Rattle.batcher_histories.specs.FirstVotes.{first_vote, first_votes, own_first_votes, is_free}
 use Rattle.batcher_histories.specs.Selection.{is_restored, fixed_proposal, fixing_evidence, is_certified, restored_votes, selected_proposal, votes_restored_by}
-use Rattle.batcher_histories.specs.Standing.{fresh_votes, holds_vote, is_among, is_ready_by, is_trusted, ready_kind, standing_votes, stood_before, trials}
-use Rattle.batcher_histories.specs.Stands.{tries_kind}
-use Rattle.batcher_histories.specs.Trying.{votes_checked}
+use Rattle.batcher_histories.specs.Eligible.{fresh_votes, holds_vote, is_among, is_ready_by, is_trusted, ready_kind, eligible_votes, was_eligible, trials}
+use Rattle.batcher_histories.specs.Represents.{tries_kind}
+use Rattle.batcher_histories.specs.Attempts.{votes_checked}
 use Rattle.batcher_histories.specs.Answers.{IsPossible, MayAnswer}
 use Rattle.batcher_promises.specs.Promises.{GivesNone}
 use Rattle.batcher_promises.specs.Work.{IsWorkBounded, processed_by, processed_total, votes_accepted_open}
-use Rattle.batcher_histories.proofs.History.Distinct.{AreApart, IsAt, count-filter, firsts_apart, found_behind, found_here, free_is_new, is_itself, is_kind-refl, is_kind-true, new_votes, option_cases, some_of}
+use Rattle.batcher_histories.proofs.History.Distinct.{AreApart, IsAt, firsts_apart, found_behind, found_here, free_is_new, is_itself, new_votes, option_cases, some_of}
 use Rattle.batcher_histories.proofs.History.Attempts.{MadeBatch, batch_made, ready_is, quorum_positive}
-use Rattle.batcher_histories.proofs.Follow.Buffers.{is_fresh, new_not_tried, no_batch, no_trial, not_restored}
+use Rattle.batcher_histories.proofs.Simulation.Buffers.{is_fresh, new_not_tried, no_batch, no_trial, not_restored}
 use Rattle.batcher_histories.proofs.History.Laws.{HasLaws}
 use Rattle.batcher_histories.proofs.Memory.Spared.{counted}
-use Rattle.batcher_histories.proofs.History.Past.{among_standing, closed_is_empty, count_fresh, own_stays, restored_after, tried_after}
+use Rattle.batcher_histories.proofs.History.Past.{among_eligible, closed_is_empty, count_fresh, own_stays, restored_after, tried_after}
 use Rattle.batcher_histories.proofs.History.Selection.{certified_before, is_restored_by}
 
 -- Counts over votes apart compare as they do at each vote that is found.
@@ -77,7 +78,7 @@ count_implied p q (v ∷ vs) weaker =
     let rest : count p vs ≤ count q vs = count_implied p q vs weaker in
     omega (arith, here, rest)
 
--- What was worked on and what is worked on now, by whether a vote is tried now, stood before, is
+-- What was worked on and what is worked on now, by whether a vote is tried now, was eligible before, is
 -- own, was restored, and is so again.
 worked_table : (t s o r b : Bool) → cond (s && not (o && not r)) 1 0 + cond
     (t && not ((o && not r) || s)) 1 0 ≤ cond ((t || s) && not (o && not (b || r))) 1 0 + 0
@@ -100,19 +101,19 @@ processed_none : {G C D : Type 0} (answer : Answer G C D) → batch_given answer
     → processed_by answer ≡ 0
 processed_none {C = C} {D = D} answer none = ap (λ o. option_map_or (λ (b : Batch (Certificate C D)). b.processed) o 0) none
 
-module _ {D K G C : Type 0} (x : Setting D K G C) where
+module _ {D K G C : Type 0} (x : Config D K G C) where
   -- WHAT WAS WORKED ON
-  -- A vote was worked on if it stood before and isn't trusted.
+  -- A vote was worked on if it was eligible before and isn't trusted.
   abbrev pub is_worked : History D K G C → Vote G D → Bool
-  is_worked past v = stood_before (trials x past) v && not (is_trusted x past v)
+  is_worked past v = was_eligible (trials x past) v && not (is_trusted x past v)
 
   -- whether an event tries the vote
   abbrev is_tried : History D K G C → Event D K G C → Vote G D → Bool
-  is_tried past event v = tries_kind x past event.1 (kind_of v) && is_among (signer_of v) (map signer_of (standing_votes x past (kind_of v)))
+  is_tried past event v = tries_kind x past event.1 (kind_of v) && is_among (signer_of v) (map signer_of (eligible_votes x past (kind_of v)))
 
   -- and is the first to work on it
   abbrev is_worked_at : History D K G C → Event D K G C → Vote G D → Bool
-  is_worked_at past event v = is_tried past event v && not (is_trusted x past v || stood_before (trials x past) v)
+  is_worked_at past event v = is_tried past event v && not (is_trusted x past v || was_eligible (trials x past) v)
 
   -- A batch works on the fresh votes of its kind,
   fresh_worked : (past : History D K G C) (event : Event D K G C) (batch : Batch (Certificate C D))
@@ -122,16 +123,16 @@ module _ {D K G C : Type 0} (x : Setting D K G C) where
       → is_worked_at past event v ≡ true
   fresh_worked past event batch kind given ready still v found fresh =
       let parts = and_parts (is_of_kind kind v) _ fresh in
-      let more = and_parts (waits x.same_digest (selected_proposal x past) v) _ parts.1 in
-      let new = and_parts (not (is_trusted x past v || stood_before (trials x past) v)) true more.1 in
+      let more = and_parts (is_eligible x.same_digest (selected_proposal x past) v) _ parts.1 in
+      let new = and_parts (not (is_trusted x past v || was_eligible (trials x past) v)) true more.1 in
       let same : kind_of v ≡ kind = is_kind-true (kind_of v) kind parts.0 in
       let tries : tries_kind x past event.1 (kind_of v) ≡ true =
       ap (λ o. is_some o && is_some_and (ready_kind x past) (λ k. is_kind k (kind_of v))) given
       ∙ (ap (λ o. is_some_and o (λ k. is_kind k (kind_of v))) ready ∙ (ap (λ k. is_kind k (kind_of v)) (sym same) ∙ is_kind-refl (kind_of v))) in
       let open_now : (is_certified past (kind_of v) || is_skipped x.mode) ≡ false = ap (λ k. is_certified past k || is_skipped x.mode) same ∙ still in
-      let among : is_among (signer_of v) (map signer_of (standing_votes x past (kind_of v))) ≡ true =
-      among_standing x past (kind_of v) (signer_of v) ∙ and_from _ _ (ap not open_now)
-      (ap (λ o. is_some_and o (waits x.same_digest (selected_proposal x past))) found ∙ more.0) in
+      let among : is_among (signer_of v) (map signer_of (eligible_votes x past (kind_of v))) ≡ true =
+      among_eligible x past (kind_of v) (signer_of v) ∙ and_from _ _ (ap not open_now)
+      (ap (λ o. is_some_and o (is_eligible x.same_digest (selected_proposal x past))) found ∙ more.0) in
       and_from (is_tried past event v) _ (and_from _ _ tries among) new.0
 
   fresh_within : (past : History D K G C) (event : Event D K G C) (batch : Batch (Certificate C D))
@@ -187,15 +188,15 @@ module _ {D K G C : Type 0} (x : Setting D K G C) where
       cond (is_worked past v) 1 0 + cond (is_worked_at past event v) 1 0
       ≤ cond (is_worked (event ∷ past) v) 1 0 + 0
   worked_after past event v found =
-      let now : is_worked (event ∷ past) v ≡ ((is_tried past event v || stood_before (trials x past) v)
+      let now : is_worked (event ∷ past) v ≡ ((is_tried past event v || was_eligible (trials x past) v)
       && not (holds_vote (own_first_votes x past) v && not (is_restored x past event v || holds_vote (restored_votes x past) v))) =
       ap (λ b. b && not (is_trusted x (event ∷ past) v)) (tried_after x past event v)
-      ∙ (ap (λ b. (is_tried past event v || stood_before (trials x past) v) && not (b && not (holds_vote (restored_votes x (event ∷ past)) v)))
+      ∙ (ap (λ b. (is_tried past event v || was_eligible (trials x past) v) && not (b && not (holds_vote (restored_votes x (event ∷ past)) v)))
       (own_stays x past event v found)
-      ∙ ap (λ b. (is_tried past event v || stood_before (trials x past) v) && not (holds_vote (own_first_votes x past) v && not b))
+      ∙ ap (λ b. (is_tried past event v || was_eligible (trials x past) v) && not (holds_vote (own_first_votes x past) v && not b))
       (restored_after x past event v found)) in
       subst (λ (b : Bool). cond (is_worked past v) 1 0 + cond (is_worked_at past event v) 1 0 ≤ cond b 1 0 + 0) (sym now)
-      (worked_table (is_tried past event v) (stood_before (trials x past) v) (holds_vote (own_first_votes x past) v) (holds_vote (restored_votes x past) v)
+      (worked_table (is_tried past event v) (was_eligible (trials x past) v) (holds_vote (own_first_votes x past) v) (holds_vote (restored_votes x past) v)
       (is_restored x past event v))
 
   -- So the batches have processed no more than was worked on.
@@ -213,17 +214,17 @@ module _ {D K G C : Type 0} (x : Setting D K G C) where
       omega (arith, before, now, grows, none, parts)
 
   -- THE VOTES OF OTHERS
-  -- A vote of another can be worked on, or was, if it stood before or its kind isn't certified.
+  -- A vote of another can be worked on, or was, if it was eligible before or its kind isn't certified.
   abbrev is_workable : History D K G C → Vote G D → Bool
-  is_workable past v = not (holds_vote (own_first_votes x past) v) && (stood_before (trials x past) v || not (is_certified past (kind_of v)))
+  is_workable past v = not (holds_vote (own_first_votes x past) v) && (was_eligible (trials x past) v || not (is_certified past (kind_of v)))
 
   -- What is tried is of a kind that isn't certified.
   tried_open : (past : History D K G C) (event : Event D K G C) (v : Vote G D)
       → is_tried past event v ≡ true → is_certified past (kind_of v) ≡ false
   tried_open past event v tried =
       let among : (not (is_certified past (kind_of v) || is_skipped x.mode)
-      && is_some_and (first_vote x past (kind_of v) (signer_of v)) (waits x.same_digest (selected_proposal x past))) ≡ true =
-      sym (among_standing x past (kind_of v) (signer_of v)) ∙ (and_parts _ _ tried).1 in
+      && is_some_and (first_vote x past (kind_of v) (signer_of v)) (is_eligible x.same_digest (selected_proposal x past))) ≡ true =
+      sym (among_eligible x past (kind_of v) (signer_of v)) ∙ (and_parts _ _ tried).1 in
       (or_parts (is_certified past (kind_of v)) (is_skipped x.mode) (not-true _ (and_parts _ _ among).0)).0
 
   workable_before : (past : History D K G C) (event : Event D K G C) (v : Vote G D)
@@ -233,13 +234,13 @@ module _ {D K G C : Type 0} (x : Setting D K G C) where
       let parts = and_parts (not (holds_vote (own_first_votes x (event ∷ past)) v)) _ workable in
       and_from _ _ (ap not (sym (own_stays x past event v found)) ∙ parts.0)
       (⊎_elim
-      (λ stood.
+      (λ eligible.
       ⊎_elim
-      (λ tried. or_right (stood_before (trials x past) v) _ (ap not (tried_open past event v tried)))
+      (λ tried. or_right (was_eligible (trials x past) v) _ (ap not (tried_open past event v tried)))
       (λ before. or_left _ (not (is_certified past (kind_of v))) before)
-      (or_cases (is_tried past event v) (stood_before (trials x past) v) (sym (tried_after x past event v) ∙ stood)))
-      (λ still. or_right (stood_before (trials x past) v) _ (ap not (certified_before past event (kind_of v) (not-true _ still))))
-      (or_cases (stood_before (trials x (event ∷ past)) v) (not (is_certified (event ∷ past) (kind_of v))) parts.1))
+      (or_cases (is_tried past event v) (was_eligible (trials x past) v) (sym (tried_after x past event v) ∙ eligible)))
+      (λ still. or_right (was_eligible (trials x past) v) _ (ap not (certified_before past event (kind_of v) (not-true _ still))))
+      (or_cases (was_eligible (trials x (event ∷ past)) v) (not (is_certified (event ∷ past) (kind_of v))) parts.1))
 
   -- whether a vote is accepted while its kind isn't certified
   abbrev is_in_time : History D K G C → Vote G D → Bool
@@ -251,13 +252,13 @@ module _ {D K G C : Type 0} (x : Setting D K G C) where
       → is_in_time past v ≡ true
   new_in_time past event none v both =
       let parts = and_parts (is_free (first_votes x past) v) _ both in
-      let untried : stood_before (trials x (event ∷ past)) v ≡ false = no_trial x past event v none
+      let untried : was_eligible (trials x (event ∷ past)) v ≡ false = no_trial x past event v none
       ∙ new_not_tried x past v (free_is_new (first_votes x past) v parts.0) in
       and_from _ _ parts.0
       (⊎_elim
-      (λ stood. absurd (false≢true (sym untried ∙ stood)))
+      (λ eligible. absurd (false≢true (sym untried ∙ eligible)))
       (λ still. ap not (certified_before past event (kind_of v) (not-true _ still)))
-      (or_cases (stood_before (trials x (event ∷ past)) v) _ (and_parts (not (holds_vote (own_first_votes x (event ∷ past)) v)) _ parts.1).1))
+      (or_cases (was_eligible (trials x (event ∷ past)) v) _ (and_parts (not (holds_vote (own_first_votes x (event ∷ past)) v)) _ parts.1).1))
 
   -- and isn't own.
   new_of_others : (past : History D K G C) (vote : Vote G D) (answer : Answer G C D)
@@ -419,7 +420,7 @@ module _ {D K G C : Type 0} (x : Setting D K G C) where
   worked_cases : (past : History D K G C) (v : Vote G D) → cond (is_worked past v) 1 0 + 0
       ≤ cond (is_workable past v) 1 0 + cond (is_own_restored past v) 1 0
   worked_cases past v =
-      worked_by (stood_before (trials x past) v) (holds_vote (own_first_votes x past) v) (holds_vote (restored_votes x past) v)
+      worked_by (was_eligible (trials x past) v) (holds_vote (own_first_votes x past) v) (holds_vote (restored_votes x past) v)
       (not (is_certified past (kind_of v)))
 
   -- and each is processed once at most.

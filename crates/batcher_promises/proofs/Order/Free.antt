@@ -8,26 +8,27 @@ use Rattle.batcher_types.specs.declared.messages.Kind.{Kind}
 use Rattle.batcher_types.specs.declared.messages.Certificate.{Certificate}
 use Rattle.batcher_votes.specs.declared.verifier.Batch.{Batch}
 use Rattle.batcher_histories.specs.declared.answers.Answer.TheVariants.{Construct as ConstructAnswer}
-use Rattle.batcher_histories.specs.Setting.{Setting, quorum_in}
+use Rattle.batcher_histories.specs.Config.{Config, quorum_in}
 use Rattle.batcher_types.specs.Votes.{is_kind, kind_certified}
+use Rattle.batcher_types.proofs.KindLemmas.{is_kind-true}
 use Rattle.batcher_histories.specs.History.{History, certificate_given}
 use Rattle.batcher_histories.specs.FirstVotes.{first_votes}
 use Rattle.batcher_histories.specs.Selection.{is_certified}
-use Rattle.batcher_histories.specs.Standing.{is_valid, valid_votes, proven_votes, fresh_votes}
+use Rattle.batcher_histories.specs.Eligible.{is_valid, valid_votes, proven_votes, fresh_votes}
 use Rattle.batcher_histories.specs.Answers.{IsPossible}
-use Rattle.batcher_promises.specs.Backed.{gives_kind}
-use Rattle.batcher_promises.specs.Prompt.{HasNoBadVote, has_valid_quorum}
-use Rattle.batcher_promises.specs.Converge.{Batches, after_constructions, is_settled, CertifiesExactly, CertifyAlike, Converges, OrderIsFree}
+use Rattle.batcher_promises.specs.Backing.{gives_kind}
+use Rattle.batcher_promises.specs.CertificateTiming.{HasNoBadVote, has_valid_quorum}
+use Rattle.batcher_promises.specs.OrderIndependence.{Batches, after_constructions, is_settled, CertifiesExactly, CertifyAlike, Converges, OrderIsFree}
 use Rattle.batcher_histories.proofs.History.Laws.{HasLaws}
-use Rattle.batcher_histories.proofs.History.Distinct.{where_holds, is_kind-true}
+use Rattle.batcher_histories.proofs.History.Distinct.{where_holds}
 use Rattle.batcher_promises.proofs.Quorums.Completed.{completes}
-use Rattle.batcher_histories.proofs.Follow.Settled.{constructed}
-use Rattle.batcher_promises.proofs.Certificates.Backed.{gave, usable_enough}
+use Rattle.batcher_histories.proofs.Simulation.Settled.{constructed}
+use Rattle.batcher_promises.proofs.Certificates.Backing.{gave, usable_enough}
 use Rattle.batcher_promises.proofs.Order.Reordered.{same_tests, selection_same, certified_same, quorum_same, clean_too, settled_same}
 use Rattle.batcher_promises.proofs.Quorums.ValidVotes.{settled_stays, valid_stay, enough_valid}
 
 -- THREE CONSTRUCTIONS
-module _ {D K G C : Type 0} (x : Setting D K G C) (laws : HasLaws x) where
+module _ {D K G C : Type 0} (x : Config D K G C) (laws : HasLaws x) where
   -- A settled kind that a construction certifies had a valid quorum.
   certified_now : (past : History D K G C) (given : Option (Batch (Certificate C D)))
       → IsPossible x (constructed x past given ∷ past) → HasNoBadVote x past
@@ -107,7 +108,7 @@ module _ {D K G C : Type 0} (x : Setting D K G C) (laws : HasLaws x) where
       (or_cases _ _ either))
 
 -- ANOTHER ORDER
-module _ {D K G C : Type 0} (x : Setting D K G C) (laws : HasLaws x) where
+module _ {D K G C : Type 0} (x : Config D K G C) (laws : HasLaws x) where
   converges : (a b : History D K G C) → Converges x a b
   converges a b possible_a possible_b same orderless =
       (selection_same x laws a b possible_a possible_b same orderless, certify_alike)

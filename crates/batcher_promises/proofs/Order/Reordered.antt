@@ -20,32 +20,32 @@ use Rattle.batcher_histories.specs.declared.calls.Call.{Call}
 use Rattle.batcher_histories.specs.declared.calls.Call.TheVariants.{Network as NetworkCall, Own as OwnCall, Certificate as CertificateCall, Leader as LeaderCall, Construct as ConstructCall, Forward as ForwardCall, Missing as MissingCall}
 use Rattle.batcher_histories.specs.declared.answers.Answer.{Answer}
 use Rattle.batcher_histories.specs.declared.answers.Answer.TheVariants.{Leader as LeaderAnswer}
-use Rattle.batcher_histories.specs.Setting.{Setting, quorum_in}
+use Rattle.batcher_histories.specs.Config.{Config, quorum_in}
 use Rattle.batcher_types.specs.Lists.{count, is_some_and, SameElements}
 use Rattle.batcher_types.specs.Votes.{is_kind, kind_of, signer_of, subject_of, is_of_kind, is_vote_of, are_opposite, has_proposals, excludes, proposal_in, kind_certified, same_proposal, is_for}
 use Rattle.batcher_types.proofs.CountLemmas.{count-append, count_same, all_count, none_fails}
-use Rattle.batcher_types.proofs.KindLemmas.{each_kind}
+use Rattle.batcher_types.proofs.KindLemmas.{each_kind, is_kind-refl}
 use Rattle.batcher_types.proofs.VoteLemmas.{same_proposal-true, same_proposal-refl}
 use Rattle.batcher_types.proofs.ListLemmas.{any_more}
-use Rattle.batcher_votes.specs.Tracking.{is_skipped}
+use Rattle.batcher_votes.specs.TrackerSteps.{is_skipped}
 use Rattle.batcher_histories.specs.Steps.{leader_set_answer}
 use Rattle.batcher_histories.specs.History.{Event, History, is_made, recorded_certificate, certificate_given, cast_votes}
 use Rattle.batcher_histories.specs.FirstVotes.{first_votes, first_vote, is_free}
 use Rattle.batcher_histories.specs.Selection.{leader_named, leader_of, finalized_by, fixing_evidence, fixed_proposal, leaders_proposal, selection, selection_by, is_certified, certificate_of}
-use Rattle.batcher_votes.specs.Selected.{proposal_of}
-use Rattle.batcher_histories.specs.Standing.{is_valid, is_counted}
+use Rattle.batcher_votes.specs.ProposalStates.{proposal_of}
+use Rattle.batcher_histories.specs.Eligible.{is_valid, is_counted}
 use Rattle.batcher_histories.specs.Answers.{MayAnswer, IsPossible}
 use Rattle.batcher_promises.specs.Promises.{votes_cast}
-use Rattle.batcher_promises.specs.Backed.{proposal_certified}
-use Rattle.batcher_promises.specs.Prompt.{HasNoBadVote, has_valid_quorum}
-use Rattle.batcher_promises.specs.Converge.{calls_of, is_construction, evidence_by, fix_different, IsOrderless, is_settled}
+use Rattle.batcher_promises.specs.Backing.{proposal_certified}
+use Rattle.batcher_promises.specs.CertificateTiming.{HasNoBadVote, has_valid_quorum}
+use Rattle.batcher_promises.specs.OrderIndependence.{calls_of, is_construction, evidence_by, fix_different, IsOrderless, is_settled}
 use Rattle.batcher_histories.proofs.History.Laws.{HasLaws}
-use Rattle.batcher_histories.proofs.History.Distinct.{positive, any_count, count_at, firsts_apart, option_cases, where_holds, is_kind-refl}
-use Rattle.batcher_histories.proofs.Shown.Observed.{cast_cases}
-use Rattle.batcher_histories.proofs.Follow.Frame.{or_nothing}
-use Rattle.batcher_histories.proofs.Shown.Named.{or_none}
+use Rattle.batcher_histories.proofs.History.Distinct.{positive, any_count, count_at, firsts_apart, option_cases, where_holds}
+use Rattle.batcher_histories.proofs.KnownLemmas.Observed.{cast_cases}
+use Rattle.batcher_histories.proofs.Simulation.Frame.{or_nothing}
+use Rattle.batcher_histories.proofs.KnownLemmas.Named.{or_none}
 use Rattle.batcher_promises.proofs.Quorums.ValidQuorums.{count_valid, skipped_counts}
-use Rattle.batcher_promises.proofs.Certificates.Backed.{gave}
+use Rattle.batcher_promises.proofs.Certificates.Backing.{gave}
 
 -- tests that imply each other
 pub same_tests : (a b : Bool) → (a ≡ true → b ≡ true) → (b ≡ true → a ≡ true) → a ≡ b
@@ -175,7 +175,7 @@ module _ {G D : Type 0} where
           ∙ ap (λ n. nat_lt 0 n) (count_same (λ w. excludes w v) (excludes v) votes (λ w. excludes_same w v) ∙ none))
   all_free (v ∷ w ∷ cast) votes few apart = absurd (omega (arith, few))
 
-module _ {D K G C : Type 0} (x : Setting D K G C) where
+module _ {D K G C : Type 0} (x : Config D K G C) where
   -- A call casts one vote at most, so the same calls cast the same votes.
   casts_one : (call : Call K G C D) → length (cast_votes x call) ≤ 1
   casts_one call =
@@ -236,7 +236,7 @@ is_itself i = eq-eqb i.0 i.0 refl
 leader_is : (i j : Participant) → is_leader i j ≡ true → i ≡ j
 leader_is i j h = let made : ℕ → Participant = λ k. record { 0 = k } in ap made (eqb-true i.0 j.0 h)
 
-module _ {D K G C : Type 0} (x : Setting D K G C) where
+module _ {D K G C : Type 0} (x : Config D K G C) where
   -- Each leader call that is made names the same one.
   named_again : (i j : Participant) (result : Result (Unit {0}) LeaderFault)
       → result ≡ leader_set_answer (Some i) j
@@ -296,7 +296,7 @@ module _ {D K G C : Type 0} (x : Setting D K G C) where
 abbrev records_kind : {D K G C : Type 0} → Kind → Call K G C D → Bool
 records_kind kind call = is_some_and (recorded_certificate call) (λ c. is_kind (kind_certified c) kind)
 
-module _ {D K G C : Type 0} (x : Setting D K G C) (laws : HasLaws x) where
+module _ {D K G C : Type 0} (x : Config D K G C) (laws : HasLaws x) where
   -- only a construction is given a certificate
   recorded_only : (past : History D K G C) (event : Event D K G C) → IsPossible x (event ∷ past)
       → is_construction event.0 ≡ false → certificate_of event ≡ recorded_certificate event.0
@@ -359,7 +359,7 @@ module _ {D K G C : Type 0} (x : Setting D K G C) (laws : HasLaws x) where
 abbrev carried : {G D : Type 0} → Option (Vote G D) → Option (Proposal D)
 carried o = option_and_then (λ v. proposal_in (subject_of v)) o
 
-module _ {D K G C : Type 0} (x : Setting D K G C) (laws : HasLaws x) where
+module _ {D K G C : Type 0} (x : Config D K G C) (laws : HasLaws x) where
   -- It is known by tests.
   carries : (o : Option (Vote G D)) (p : Proposal D)
       → is_some_and o (is_for x.same_digest p) ≡ true → carried o ≡ Some p
@@ -403,7 +403,7 @@ module _ {D K G C : Type 0} (x : Setting D K G C) (laws : HasLaws x) where
         carried_same (first_vote x a Notarization i.0) (first_vote x b Notarization i.0) (tested_same Notarization i.0)
 
 -- THE SAME CALLS IN ANOTHER ORDER
-module _ {D K G C : Type 0} (x : Setting D K G C) (laws : HasLaws x) (a b : History D K G C)
+module _ {D K G C : Type 0} (x : Config D K G C) (laws : HasLaws x) (a b : History D K G C)
     (possible_a : IsPossible x a) (possible_b : IsPossible x b)
     (same : SameElements (calls_of a) (calls_of b)) (orderless : IsOrderless x a) where
   firsts : SameElements (first_votes x a) (first_votes x b)

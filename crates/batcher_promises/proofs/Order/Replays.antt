@@ -27,21 +27,21 @@ use Rattle.batcher_histories.specs.declared.answers.Answer.{Answer}
 use Rattle.batcher_histories.specs.declared.answers.Answer.TheVariants.{OutOfMemory, Network as NetworkAnswer, Own as OwnAnswer, OwnRefused, Certificate as CertificateAnswer}
 use Rattle.batcher_histories.specs.declared.answers.Answer.TheVariants.{Leader as LeaderAnswer, Construct as ConstructAnswer, Forward as ForwardAnswer, Missing as MissingAnswer}
 use Rattle.batcher_types.specs.Meaning.{Meaning}
-use Rattle.batcher_histories.specs.Setting.{Setting, quorum_in}
-use Rattle.batcher_types.specs.Votes.{is_kind, waits, kind_of, is_of_kind, kind_certified, subject_certified, proposal_in}
-use Rattle.batcher_votes.specs.Selected.{proposal_of, same_selected}
-use Rattle.batcher_votes.specs.Held.{PerKind, of_kind, Tracked, Buffered, Held}
-use Rattle.batcher_votes.specs.Tracking.{RecordsKind, ReleasesKind, facts_of_kept, is_released_in, kept_vote}
-use Rattle.batcher_votes.specs.Buffering.{Buffers, still_waiting, AddsVote, SetsLeader, SetsProposal, MayFix, CompletesKind, TriesKind, coming_back, vote_for}
+use Rattle.batcher_histories.specs.Config.{Config, quorum_in}
+use Rattle.batcher_types.specs.Votes.{is_kind, is_eligible, kind_of, is_of_kind, kind_certified, subject_certified, proposal_in}
+use Rattle.batcher_types.proofs.KindLemmas.{is_kind-true}
+use Rattle.batcher_votes.specs.ProposalStates.{proposal_of, same_selected}
+use Rattle.batcher_votes.specs.RoundState.{PerKind, of_kind, TrackerState, VerifierState, RoundState}
+use Rattle.batcher_votes.specs.TrackerSteps.{RecordsKind, ReleasesKind, facts_of_kept, is_released_in, kept_vote}
+use Rattle.batcher_votes.specs.VerifierSteps.{Buffers, still_eligible, AddsVote, SetsLeader, SetsProposal, MayFix, CompletesKind, TriesKind, restored_by_fix, vote_for}
 use Rattle.batcher_histories.specs.Steps.{AfterLeader, AfterNetwork, AfterOwn, AfterCertificate, AfterBatch, AfterConstruct, Fixes, Settles, AfterGiven, is_kept, nothing_held, option_proposal, report_by}
 use Rattle.batcher_histories.specs.Runs.{AfterLeaderSet, Steps, StepsNetwork, StepsOwn, StepsCertificate, StepsLeader, StepsConstruct, StepsForward, StepsMissing, Runs}
 use Rattle.batcher_promises.specs.Replay.{is_out_of_memory, HadMemory, GoAlike, EqualRunsGoAlike}
-use Rattle.batcher_histories.proofs.History.Distinct.{is_kind-true}
 use Rattle.batcher_promises.proofs.Pairs.Together.{each_same, buffered_same, one_outcome, one_attempt}
 
 -- WHAT IS HELD
 -- records with the same fields
-tracked_same : {G D : Type 0} (a b : Tracked G D)
+tracked_same : {G D : Type 0} (a b : TrackerState G D)
     → ((kind : Kind) → of_kind a.compacted kind ≡ of_kind b.compacted kind)
     → ((kind : Kind) → of_kind a.kept kind ≡ of_kind b.kept kind)
     → ((kind : Kind) → of_kind a.facts kind ≡ of_kind b.facts kind) → a ≡ b
@@ -50,7 +50,7 @@ tracked_same a b compacted kept facts =
     ∙ (ap (λ v. record b { kept = v; facts = a.facts }) (each_same a.kept b.kept kept)
     ∙ ap (λ v. record b { facts = v }) (each_same a.facts b.facts facts))
 
-held_same : {G D : Type 0} (a b : Held G D)
+held_same : {G D : Type 0} (a b : RoundState G D)
     → a.tracked ≡ b.tracked → a.buffered ≡ b.buffered → a.forwarded ≡ b.forwarded → a ≡ b
 held_same a b tracked buffered forwarded =
     ap (λ v. record a { tracked = v }) tracked
@@ -58,7 +58,7 @@ held_same a b tracked buffered forwarded =
     ∙ ap (λ v. record b { forwarded = v }) forwarded)
 
 -- TRACKED VOTES
-module _ {G D : Type 0} (same : D → D → Bool) (old new news : Tracked G D) where
+module _ {G D : Type 0} (same : D → D → Bool) (old new news : TrackerState G D) where
   recorded_once : (selected : Option (Proposal D)) (recorded : Bool) (vote : Vote G D)
       → ((kind : Kind) → RecordsKind same old new selected recorded vote kind)
       → ((kind : Kind) → RecordsKind same old news selected recorded vote kind) → new ≡ news
@@ -87,7 +87,7 @@ module _ {G D : Type 0} (same : D → D → Bool) (old new news : Tracked G D) w
       compacted kind = (one kind).compacted ∙ sym (two kind).compacted
 
 -- WAITING VOTES
-module _ {G D : Type 0} (same : D → D → Bool) (old new news : Buffered G D) where
+module _ {G D : Type 0} (same : D → D → Bool) (old new news : VerifierState G D) where
   -- the same leader and selected proposal, and the same votes added
   filled_once : (to_pending to_verified : Kind → List (Vote G D))
       → new.leader ≡ news.leader → new.selection ≡ news.selection
@@ -107,10 +107,10 @@ module _ {G D : Type 0} (same : D → D → Bool) (old new news : Buffered G D) 
       certified kind = (one kind).certified ∙ sym (two kind).certified
 
       still : (kind : Kind) (votes : List (Vote G D))
-          → still_waiting same new kind votes ≡ still_waiting same news kind votes
+          → still_eligible same new kind votes ≡ still_eligible same news kind votes
       still kind votes =
-          ap (λ c. cond c [] (filter (waits same (proposal_of new.selection)) votes)) (certified kind)
-          ∙ ap (λ s. cond (of_kind news.certified kind) [] (filter (waits same (proposal_of s)) votes)) selection
+          ap (λ c. cond c [] (filter (is_eligible same (proposal_of new.selection)) votes)) (certified kind)
+          ∙ ap (λ s. cond (of_kind news.certified kind) [] (filter (is_eligible same (proposal_of s)) votes)) selection
 
   added_once : (vote : Vote G D) (verified : Bool)
       → AddsVote same old vote verified new → AddsVote same old vote verified news → new ≡ news
@@ -137,7 +137,7 @@ module _ {G D : Type 0} (same : D → D → Bool) (old new news : Buffered G D) 
       → MayFix same old kept proposal new → MayFix same old kept proposal news → new ≡ news
   fixed_once kept None one two = one ∙ sym two
   fixed_once kept (Some p) one two =
-      filled_once (coming_back same old kept p) (λ kind. [])
+      filled_once (restored_by_fix same old kept p) (λ kind. [])
       (one.leader ∙ sym two.leader) (one.selection ∙ sym two.selection) one.buffers two.buffers
 
   completed_once : (completed : Kind)
@@ -157,9 +157,9 @@ module _ {G D : Type 0} (same : D → D → Bool) (old new news : Buffered G D) 
 
 -- ATTEMPTS
 module _ {D K G C : Type 0} (m : Meaning D K G C) (number : Round) (q : ℕ)
-    (held : Buffered G D) (tried : Kind) (before : Stream) where
+    (held : VerifierState G D) (tried : Kind) (before : Stream) where
   tried_once : (batch other : Batch (Certificate C D)) (after left : Stream)
-      (new news : Buffered G D)
+      (new news : VerifierState G D)
       → TriesKind m number q held tried before batch after new
       → TriesKind m number q held tried before other left news → new ≡ news
   tried_once batch other after left new news one two =
@@ -177,7 +177,7 @@ module _ {D K G C : Type 0} (m : Meaning D K G C) (number : Round) (q : ℕ)
       ∙ (ap (λ s. map (vote_for s) one.outcome.verified) same.0
       ∙ (ap (λ o. map (vote_for two.subject) o.verified) same.1.0 ∙ sym two.verified))))
     where
-      each : {X : Type 0} (f : Buffered G D → Kind → X)
+      each : {X : Type 0} (f : VerifierState G D → Kind → X)
           → ((kind : Kind) → is_kind tried kind ≡ false → f new kind ≡ f news kind)
           → f new tried ≡ f news tried → (kind : Kind) → f new kind ≡ f news kind
       each f others at kind =
@@ -196,7 +196,7 @@ same_err r a b e h = cc
 ok_or_err : {X Y : Type 0} (r : Result X Y) (a : X) (b : Y) → r ≡ Ok a → r ≡ Err b → ⊥
 ok_or_err r a b e h = absurd (cc)
 
-module _ {D K G C : Type 0} (x : Setting D K G C) (old new news : Held G D) where
+module _ {D K G C : Type 0} (x : Config D K G C) (old new news : RoundState G D) where
   network_once : (sender : K) (vote : Vote G D) (a b : Admission G D)
       → AfterNetwork x old sender vote a new → AfterNetwork x old sender vote b news
       → (a ≡ b) × (new ≡ news)
@@ -226,7 +226,7 @@ module _ {D K G C : Type 0} (x : Setting D K G C) (old new news : Held G D) wher
             (may_add_once x.same_digest two.fixed new.buffered news.buffered (is_kept other) vote true
             (subst (λ (o : Outcome). MatchBool (is_kept o)
             (AddsVote x.same_digest two.fixed vote true new.buffered) (new.buffered ≡ two.fixed)) same
-            (subst (λ (f : Buffered G D). MatchBool (is_kept outcome)
+            (subst (λ (f : VerifierState G D). MatchBool (is_kept outcome)
             (AddsVote x.same_digest f vote true new.buffered) (new.buffered ≡ f)) fixed one.buffered))
             two.buffered)
             (one.forwarded ∙ sym two.forwarded),
@@ -242,17 +242,17 @@ module _ {D K G C : Type 0} (x : Setting D K G C) (old new news : Held G D) wher
       completed_once x.same_digest old.buffered one.completed two.completed kind one.completes two.completes in
       let fixed =
       fixed_once x.same_digest two.completed new.buffered news.buffered old.tracked.kept proposal
-      (subst (λ (c : Buffered G D). MayFix x.same_digest c old.tracked.kept proposal new.buffered) completed one.fixes)
+      (subst (λ (c : VerifierState G D). MayFix x.same_digest c old.tracked.kept proposal new.buffered) completed one.fixes)
       two.fixes in (
         one.answer_is
-            ∙ (ap (λ (h : Buffered G D).
+            ∙ (ap (λ (h : VerifierState G D).
             is_kind Notarization kind
             && not (same_selected x.same_digest (proposal_of old.buffered.selection) (proposal_of h.selection))) fixed
             ∙ sym two.answer_is),
         held_same new news
             (released_once x.same_digest old.tracked new.tracked news.tracked (proposal_of news.buffered.selection)
             (λ k. is_kind kind k && is_released_in x.mode true)
-            (subst (λ (h : Buffered G D).
+            (subst (λ (h : VerifierState G D).
             (k : Kind)
             → ReleasesKind x.same_digest old.tracked new.tracked (proposal_of h.selection)
             (is_kind kind k && is_released_in x.mode true) k) fixed one.releases)
@@ -306,8 +306,8 @@ module _ {D K G C : Type 0} (x : Setting D K G C) (old new news : Held G D) wher
   given_once kind (Some certificate) one two =
       settled_once kind (proposal_in (subject_certified certificate)) one two
 
-module _ {D K G C : Type 0} (x : Setting D K G C) (old : Held G D) (before : Stream)
-    (new news : Held G D) (after left : Stream) where
+module _ {D K G C : Type 0} (x : Config D K G C) (old : RoundState G D) (before : Stream)
+    (new news : RoundState G D) (after left : Stream) where
   batch_once : (batch other : Batch (Certificate C D))
       → AfterBatch x old before batch new after → AfterBatch x old before other news left
       → (batch ≡ other) × ((new ≡ news) × (after ≡ left))
@@ -330,7 +330,7 @@ module _ {D K G C : Type 0} (x : Setting D K G C) (old : Held G D) (before : Str
           given_once x middle new news two.kind other.certificate
               (subst (λ (k : Kind). AfterGiven x middle k other.certificate new) kinds
               (subst (λ (b : Batch (Certificate C D)). AfterGiven x middle one.kind b.certificate new) both.0
-              (subst (λ (h : Buffered G D). AfterGiven x (record old { buffered = h }) one.kind batch.certificate new)
+              (subst (λ (h : VerifierState G D). AfterGiven x (record old { buffered = h }) one.kind batch.certificate new)
               buffers first.given)))
               second.given,
           both.1,
@@ -348,7 +348,8 @@ module _ {D K G C : Type 0} (x : Setting D K G C) (old : Held G D) (before : Str
 
   -- Two answers to one call, in neither of which memory is refused, are the same, and so is what
   -- they leave.
-  abbrev IsOnce : (Answer G C D → Held G D → Stream → Type 0) → Answer G C D → Answer G C D → Type 0
+  abbrev IsOnce : (Answer G C D → RoundState G D → Stream → Type 0) → Answer G C D → Answer G C D
+      → Type 0
   IsOnce takes a b =
       is_out_of_memory a ≡ false → is_out_of_memory b ≡ false
       → takes a new after → takes b news left → (a ≡ b) × ((new ≡ news) × (after ≡ left))
@@ -437,15 +438,15 @@ module _ {D K G C : Type 0} (x : Setting D K G C) (old : Held G D) (before : Str
   step_once (MissingCall proposal) a b = missing_steps proposal a b
 
 -- RUNS
-module _ {D K G C : Type 0} (x : Setting D K G C) (old : Held G D) (before : Stream) where
+module _ {D K G C : Type 0} (x : Config D K G C) (old : RoundState G D) (before : Stream) where
   -- a run from here that leaves something
   abbrev RunsOn : List (Call K G C D) → List (Answer G C D) → Type 0
   RunsOn calls answers =
-      (held : Held G D) × ((after : Stream) × Runs x old before calls answers held after)
+      (held : RoundState G D) × ((after : Stream) × Runs x old before calls answers held after)
 
-module _ {D K G C : Type 0} (x : Setting D K G C) where
+module _ {D K G C : Type 0} (x : Config D K G C) where
   -- The first calls of a run are a run, with the first answers.
-  first_of_run : (n : ℕ) (old : Held G D) (before : Stream)
+  first_of_run : (n : ℕ) (old : RoundState G D) (before : Stream)
       (calls : List (Call K G C D)) (answers : List (Answer G C D))
       → RunsOn x old before calls answers → RunsOn x old before (take n calls) (take n answers)
   first_of_run zero old before calls answers run = (old, (before, (refl, refl)))
@@ -458,8 +459,8 @@ module _ {D K G C : Type 0} (x : Setting D K G C) where
   first_of_run (suc n) old before (c ∷ calls) [] run = absurd run.1.1
 
   -- Two runs of the same calls are answered the same, and leave the same.
-  same_run : (old : Held G D) (before : Stream) (calls : List (Call K G C D))
-      (answers given : List (Answer G C D)) (held left : Held G D) (after then : Stream)
+  same_run : (old : RoundState G D) (before : Stream) (calls : List (Call K G C D))
+      (answers given : List (Answer G C D)) (held left : RoundState G D) (after then : Stream)
       → Runs x old before calls answers held after → Runs x old before calls given left then
       → HadMemory answers → HadMemory given
       → (answers ≡ given) × ((held ≡ left) × (after ≡ then))
@@ -472,7 +473,7 @@ module _ {D K G C : Type 0} (x : Setting D K G C) where
       step_once x old before one.0 two.0 one.1.0 two.1.0 c a b now.0 also.0 one.1.1.0 two.1.1.0 in
       let goes_on =
       subst (λ (s : Stream). Runs x two.0 s calls answers held after) step.1.1
-      (subst (λ (h : Held G D). Runs x h one.1.0 calls answers held after) step.1.0 one.1.1.1) in
+      (subst (λ (h : RoundState G D). Runs x h one.1.0 calls answers held after) step.1.0 one.1.1.1) in
       let rest =
       same_run two.0 two.1.0 calls answers given held left after then goes_on two.1.1.1 now.1 also.1 in
       (ap (λ e. e ∷ answers) step.0 ∙ ap (λ es. b ∷ es) rest.0, rest.1)
@@ -482,9 +483,9 @@ module _ {D K G C : Type 0} (x : Setting D K G C) where
   same_run old before (c ∷ calls) answers [] held left after then one two had has = absurd two
 
   -- Two runs from what is held the same, with the same stream, go alike.
-  pub go_alike : (old : Held G D) (before : Stream)
+  pub go_alike : (old : RoundState G D) (before : Stream)
       (calls others : List (Call K G C D)) (answers given : List (Answer G C D))
-      (held left : Held G D) (after then : Stream)
+      (held left : RoundState G D) (after then : Stream)
       → Runs x old before calls answers held after → Runs x old before others given left then
       → GoAlike calls answers held after others given left then
   go_alike old before calls others answers given held left after then one two =
@@ -506,14 +507,14 @@ module _ {D K G C : Type 0} (x : Setting D K G C) where
       at n = first_of_run n old before others given (left, (then, two))
 
       same_as : (cs ds : List (Call K G C D)) (a b : List (Answer G C D))
-          (h k : Held G D) (s t : Stream) → cs ≡ ds
+          (h k : RoundState G D) (s t : Stream) → cs ≡ ds
           → Runs x old before cs a h s → Runs x old before ds b k t
           → HadMemory a → HadMemory b → (a ≡ b) × ((h ≡ k) × (s ≡ t))
       same_as cs ds a b h k s t same first second =
           same_run old before cs a b h k s t first
           (subst (λ (es : List (Call K G C D)). Runs x old before es b k t) (sym same) second)
 
-pub equal_runs_go_alike : {D K G C : Type 0} (x : Setting D K G C) → EqualRunsGoAlike x
+pub equal_runs_go_alike : {D K G C : Type 0} (x : Config D K G C) → EqualRunsGoAlike x
 equal_runs_go_alike x before calls others answers given held left after then one two =
     go_alike x (nothing_held x.mode) before calls others answers given held left after then
     one.runs two.runs

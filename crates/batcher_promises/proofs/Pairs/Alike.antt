@@ -13,19 +13,19 @@ use Rattle.batcher_votes.specs.declared.votes.Mode.TheVariants.{Retaining, Relea
 use Rattle.batcher_histories.specs.declared.answers.Answer.{Answer}
 use Rattle.batcher_histories.specs.declared.answers.Answer.TheVariants.{Network as NetworkAnswer, Own as OwnAnswer, Certificate as CertificateAnswer, Leader as LeaderAnswer, Construct as ConstructAnswer, Forward as ForwardAnswer}
 use Rattle.batcher_histories.specs.declared.answers.Answer.TheVariants.{Missing as MissingAnswer}
-use Rattle.batcher_histories.specs.Setting.{Setting, quorum_in}
+use Rattle.batcher_histories.specs.Config.{Config, quorum_in}
 use Rattle.batcher_types.specs.Lists.{is_some_and}
-use Rattle.batcher_types.specs.Votes.{is_kind, kind_of, signer_of, subject_of, proposal_in, is_of_kind, is_vote_of, is_for, kind_certified, subject_certified, waits}
-use Rattle.batcher_votes.specs.Selected.{proposal_of, replaces}
-use Rattle.batcher_votes.specs.Buffering.{is_enough}
+use Rattle.batcher_types.specs.Votes.{is_kind, kind_of, signer_of, subject_of, proposal_in, is_of_kind, is_vote_of, is_for, kind_certified, subject_certified, is_eligible}
+use Rattle.batcher_votes.specs.ProposalStates.{proposal_of, replaces}
+use Rattle.batcher_votes.specs.VerifierSteps.{is_enough}
 use Rattle.batcher_histories.specs.History.{Event, History, is_made, recorded_certificate, batch_given, certificate_given, own_votes, cast_votes}
 use Rattle.batcher_histories.specs.FirstVotes.{is_free, first_votes, own_first_votes}
 use Rattle.batcher_histories.specs.Selection.{selection_by, forwards, leader_named, leader_of, certificate_of, is_certified, finalized_by, fixing_evidence, fixed_proposal, was_forwarded, leaders_proposal, selection, selected_proposal}
 use Rattle.batcher_histories.specs.Selection.{replacement}
 use Rattle.batcher_histories.specs.Selection.{is_restored, votes_restored_by, restored_votes}
-use Rattle.batcher_histories.specs.Standing.{Trial, stood_before, was_invalid, holds_vote, waiting_votes, standing_votes, is_trusted, proven_by, fresh_by, is_ready_by, ready_kind_by}
-use Rattle.batcher_histories.specs.Standing.{with_batch}
-use Rattle.batcher_histories.specs.Standing.{trial_of, trials, ready_kind}
+use Rattle.batcher_histories.specs.Eligible.{Trial, was_eligible, was_invalid, holds_vote, eligible_among, eligible_votes, is_trusted, proven_by, fresh_by, is_ready_by, ready_kind_by}
+use Rattle.batcher_histories.specs.Eligible.{with_batch}
+use Rattle.batcher_histories.specs.Eligible.{trial_of, trials, ready_kind}
 use Rattle.batcher_promises.specs.Pairs.{IsAlike, in_mode}
 
 module _ {D K G C : Type 0} where
@@ -123,7 +123,7 @@ module _ {D K G C : Type 0} where
       (λ a b retained released alike same.
       ap (λ o. option_or o (fixing_evidence a)) same ∙ ap (λ e. option_or (fixed_proposal released) e) (evidence_alike a b retained released alike))
 
-module _ {D K G C : Type 0} (x : Setting D K G C) where
+module _ {D K G C : Type 0} (x : Config D K G C) where
   -- VOTES
   pub firsts_alike : (retained released : History D K G C) → AreAlike retained released
       → first_votes (in_mode x Retaining) retained ≡ first_votes (in_mode x Releasing) released
@@ -165,18 +165,18 @@ module _ {D K G C : Type 0} (x : Setting D K G C) where
 
     -- WAITING AND STANDING VOTES
     pub waiting_alike : (kind : Kind) (votes : List (Vote G D))
-        → waiting_votes (in_mode x Retaining) retained kind votes
-        ≡ waiting_votes (in_mode x Releasing) released kind votes
+        → eligible_among (in_mode x Retaining) retained kind votes
+        ≡ eligible_among (in_mode x Releasing) released kind votes
     waiting_alike kind votes =
-        ap (λ c. cond (c || false) [] (filter (waits x.same_digest (selected_proposal (in_mode x Retaining) retained)) votes))
+        ap (λ c. cond (c || false) [] (filter (is_eligible x.same_digest (selected_proposal (in_mode x Retaining) retained)) votes))
         (certified_alike retained released alike kind)
-        ∙ ap (λ o. cond (is_certified released kind || false) [] (filter (waits x.same_digest o) votes)) selected_alike
+        ∙ ap (λ o. cond (is_certified released kind || false) [] (filter (is_eligible x.same_digest o) votes)) selected_alike
 
-    pub standing_alike : (kind : Kind) → standing_votes (in_mode x Retaining) retained kind
-        ≡ standing_votes (in_mode x Releasing) released kind
-    standing_alike kind =
+    pub eligible_alike : (kind : Kind) → eligible_votes (in_mode x Retaining) retained kind
+        ≡ eligible_votes (in_mode x Releasing) released kind
+    eligible_alike kind =
         waiting_alike kind (filter (is_of_kind kind) (first_votes (in_mode x Retaining) retained))
-        ∙ ap (λ vs. waiting_votes (in_mode x Releasing) released kind (filter (is_of_kind kind) vs)) (firsts_alike retained released alike)
+        ∙ ap (λ vs. eligible_among (in_mode x Releasing) released kind (filter (is_of_kind kind) vs)) (firsts_alike retained released alike)
 
   -- a vote that is for the selected proposal counts in both
 
@@ -226,17 +226,17 @@ module _ {D K G C : Type 0} (x : Setting D K G C) where
         → proven_by (in_mode x Retaining) tried retained kind
         ≡ proven_by (in_mode x Releasing) tried released kind
     proven_by_alike tried kind =
-        filter_agree _ _ (λ v. ap (λ t. (t || stood_before tried v) && not (was_invalid tried v)) (trusted_alike v))
-        (standing_votes (in_mode x Retaining) retained kind)
-        ∙ ap (filter (λ v. (is_trusted (in_mode x Releasing) released v || stood_before tried v) && not (was_invalid tried v)))
-        (standing_alike retained released alike kind)
+        filter_agree _ _ (λ v. ap (λ t. (t || was_eligible tried v) && not (was_invalid tried v)) (trusted_alike v))
+        (eligible_votes (in_mode x Retaining) retained kind)
+        ∙ ap (filter (λ v. (is_trusted (in_mode x Releasing) released v || was_eligible tried v) && not (was_invalid tried v)))
+        (eligible_alike retained released alike kind)
 
     fresh_by_alike : (tried : List Trial) (kind : Kind)
         → fresh_by (in_mode x Retaining) tried retained kind
         ≡ fresh_by (in_mode x Releasing) tried released kind
     fresh_by_alike tried kind =
-        filter_agree _ _ (λ v. ap (λ t. not (t || stood_before tried v)) (trusted_alike v)) (standing_votes (in_mode x Retaining) retained kind)
-        ∙ ap (filter (λ v. not (is_trusted (in_mode x Releasing) released v || stood_before tried v))) (standing_alike retained released alike kind)
+        filter_agree _ _ (λ v. ap (λ t. not (t || was_eligible tried v)) (trusted_alike v)) (eligible_votes (in_mode x Retaining) retained kind)
+        ∙ ap (filter (λ v. not (is_trusted (in_mode x Releasing) released v || was_eligible tried v))) (eligible_alike retained released alike kind)
 
     is_ready_alike : (tried : List Trial) (kind : Kind)
         → is_ready_by (in_mode x Retaining) tried retained kind
@@ -284,8 +284,8 @@ module _ {D K G C : Type 0} (x : Setting D K G C) where
             tried
         by None = refl
         by (Some kind) =
-            ap (λ vs. (let trial : Trial = record { kind = kind; stood = map signer_of vs; invalid = map (λ i. i.0) batch.invalid } in trial) ∷ tried)
-            (standing_alike retained released alike kind)
+            ap (λ vs. (let trial : Trial = record { kind = kind; eligible = map signer_of vs; invalid = map (λ i. i.0) batch.invalid } in trial) ∷ tried)
+            (eligible_alike retained released alike kind)
 
   pub trials_alike : (retained released : History D K G C) → AreAlike retained released
       → trials (in_mode x Retaining) retained ≡ trials (in_mode x Releasing) released

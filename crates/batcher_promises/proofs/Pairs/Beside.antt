@@ -1,6 +1,6 @@
 -- Two rounds after alike histories are beside each other.
 use Rattle.batcher_votes.specs.declared.votes.Mode.TheVariants.{Retaining, Releasing}
-use Rattle.batcher_histories.specs.Setting.{Setting}
+use Rattle.batcher_histories.specs.Config.{Config}
 use Rattle.batcher_histories.specs.History.{History}
 use Rattle.batcher_histories.specs.Answers.{IsPossible}
 use Rattle.batcher_promises.specs.Pairs.{in_mode, IsBeside}
@@ -9,7 +9,7 @@ use Rattle.batcher_histories.proofs.History.Laws.{HasLaws}
 use Rattle.batcher_promises.proofs.Pairs.Blocked.{selects_alike, blocked_by_both, blocked_by_one}
 use Rattle.batcher_promises.proofs.Pairs.Missing.{missing_in_both}
 
-module _ {D K G C : Type 0} (x : Setting D K G C) where
+module _ {D K G C : Type 0} (x : Config D K G C) where
   pub beside_of : HasLaws x → (retained released : History D K G C) → AreAlike retained released
       → IsPossible (in_mode x Retaining) retained → IsPossible (in_mode x Releasing) released
       → IsBeside x retained released

@@ -16,28 +16,29 @@ use Rattle.batcher_votes.specs.declared.votes.Mode.TheVariants.{Retaining, Relea
 use Rattle.batcher_histories.specs.declared.calls.Call.TheVariants.{Network as NetworkCall}
 use Rattle.batcher_histories.specs.declared.answers.Answer.{Answer}
 use Rattle.batcher_histories.specs.declared.answers.Answer.TheVariants.{Network as NetworkAnswer}
-use Rattle.batcher_histories.specs.Setting.{Setting, sender_in}
+use Rattle.batcher_histories.specs.Config.{Config, sender_in}
 use Rattle.batcher_types.specs.Lists.{is_some_and}
 use Rattle.batcher_types.specs.Votes.{kind_of, signer_of, subject_of, proposal_in, is_vote_of, has_proposals, are_opposite, opposes, is_for, same_proposal, same_subject}
 use Rattle.batcher_types.proofs.VoteLemmas.{same_proposal-refl, same_proposal-true}
-use Rattle.batcher_votes.specs.Selected.{same_selected}
+use Rattle.batcher_types.proofs.KindLemmas.{is_kind-true}
+use Rattle.batcher_votes.specs.ProposalStates.{same_selected}
 use Rattle.batcher_histories.specs.Admissions.{same_vote, block_for, mismatch_reason}
 use Rattle.batcher_histories.specs.History.{Event, History, cast_votes}
 use Rattle.batcher_histories.specs.FirstVotes.{first_votes, first_like, opposite_vote}
 use Rattle.batcher_histories.specs.Selection.{fixed_proposal, is_released}
 use Rattle.batcher_histories.specs.Comparison.{compared_votes, conflicts}
-use Rattle.batcher_promises.specs.Composed.{carry_different}
+use Rattle.batcher_promises.specs.AnswerFacts.{carry_different}
 use Rattle.batcher_histories.specs.Answers.{MayAnswer, IsPossible}
 use Rattle.batcher_promises.specs.Promises.{votes_cast}
 use Rattle.batcher_promises.specs.Pairs.{in_mode, blocks, blocks_participant, was_blocked, tells_nothing, AtEachPlace, SelectsAlike, IsBlockedByBoth, IsBlockedByOne}
 use Rattle.batcher_promises.proofs.Pairs.Alike.{AreAlike, along, certified_alike, firsts_alike, selection_alike}
-use Rattle.batcher_histories.proofs.History.Distinct.{found_is_of, is_itself, is_kind-true}
+use Rattle.batcher_histories.proofs.History.Distinct.{found_is_of, is_itself}
 use Rattle.batcher_promises.proofs.Headline.Conflicts.{conflict_with_compared}
 use Rattle.batcher_promises.proofs.Pairs.Compared.{released_is_fixed, fixed_is_selected, matches, matching_conflicts, other_conflicts, matching_blocked}
 use Rattle.batcher_histories.proofs.History.Laws.{HasLaws}
 use Rattle.batcher_promises.proofs.Headline.Promises.{beside_blocks, compared_is_cast}
 use Rattle.batcher_promises.proofs.Blocks.Refused.{opposed_blocks, differing_blocked}
-use Rattle.batcher_histories.proofs.Right.Kept.{found_passes}
+use Rattle.batcher_histories.proofs.Correctness.Kept.{found_passes}
 use Rattle.batcher_histories.proofs.History.ByFirst.{admission_against, admission_by_first, admission_sent_by, network_is}
 
 -- WHAT VOTES CARRY
@@ -89,7 +90,7 @@ module _ {G D : Type 0} (same : D → D → Bool) (equal : G → G → Bool)
       ap (λ o. same_selected same o (proposal_in (subject_of b))) (carries_what_it_is_for p a for_a)
       ∙ (ap (same_selected same (Some p)) (carries_what_it_is_for p b for_b) ∙ same_proposal-refl same reflexive p)
 
-module _ {D K G C : Type 0} (x : Setting D K G C) where
+module _ {D K G C : Type 0} (x : Config D K G C) where
   -- AT EACH PLACE OF TWO HISTORIES
   pub selects_alike : (retained released : History D K G C) → AreAlike retained released
       → AtEachPlace (SelectsAlike x) retained released
@@ -121,7 +122,7 @@ module _ {D K G C : Type 0} (x : Setting D K G C) where
   blocks_is past sender vote (NetworkAnswer admission) may = ap (λ (a : Admission G D). is_some a.block) (may ∙ network_is x past vote sender)
   blocks_is past sender vote answer may = absurd may
 
-module _ {D K G C : Type 0} (x : Setting D K G C) (laws : HasLaws x) where
+module _ {D K G C : Type 0} (x : Config D K G C) (laws : HasLaws x) where
   laws_in : HasLaws (in_mode x Releasing)
   laws_in = record { scheme = laws.scheme; some_participant = laws.some_participant; digests_equal = laws.digests_equal; digests_same = laws.digests_same }
 
@@ -242,7 +243,7 @@ module _ {D K G C : Type 0} (x : Setting D K G C) (laws : HasLaws x) where
 
     -- WHOM THE RETAINING ROUND ALONE BLOCKS
     -- Where a vote of a released kind doesn't conflict, and its signer wasn't blocked, facts don't
-    -- tell it from the first one.
+    -- distinguish it from the first one.
     by_marks : (first : Vote G D) → first_like (in_mode x Releasing) released vote ≡ Some first
         → is_released (in_mode x Releasing) released (kind_of vote) ≡ true →
         conflicts (in_mode x Releasing) released vote ≡ false
@@ -374,7 +375,7 @@ module _ {D K G C : Type 0} (x : Setting D K G C) (laws : HasLaws x) where
   blocked_by_one_at a retained b released alike possible also = tt
 
   -- Whom the retaining round alone blocks, then or before, has sent a vote of a kind that is
-  -- released, and of which facts tell nothing.
+  -- released, and of which facts say nothing.
   pub blocked_by_one : (retained released : History D K G C) → AreAlike retained released
       → IsPossible (in_mode x Retaining) retained → IsPossible (in_mode x Releasing) released →
       AtEachPlace (IsBlockedByOne x) retained released

@@ -13,12 +13,13 @@ use Rattle.batcher_types.specs.declared.messages.Proposal.{Proposal}
 use Rattle.batcher_types.specs.declared.messages.Vote.{Vote}
 use Rattle.batcher_types.specs.declared.messages.Kind.{Kind}
 use Rattle.batcher_votes.specs.declared.votes.Mode.TheVariants.{Releasing}
-use Rattle.batcher_histories.specs.Setting.{Setting}
+use Rattle.batcher_histories.specs.Config.{Config}
 use Rattle.batcher_types.specs.Lists.{is_some_and, is_empty, exactly_one}
 use Rattle.batcher_types.specs.Votes.{is_kind, kind_of, signer_of, is_vote_of, has_proposals, is_for}
 use Rattle.batcher_types.proofs.ListLemmas.{any_found, any_filter, any_more, any_of_filtered}
-use Rattle.batcher_votes.specs.Selected.{proposal_of}
-use Rattle.batcher_votes.specs.Tracking.{is_released_in}
+use Rattle.batcher_types.proofs.KindLemmas.{is_kind-true}
+use Rattle.batcher_votes.specs.ProposalStates.{proposal_of}
+use Rattle.batcher_votes.specs.TrackerSteps.{is_released_in}
 use Rattle.batcher_histories.specs.History.{Event, History, cast_votes}
 use Rattle.batcher_histories.specs.FirstVotes.{first_votes, is_free, first_vote, first_like, opposite_vote}
 use Rattle.batcher_histories.specs.Selection.{selection_by, is_certified, is_released, fixing_evidence, fixed_proposal, leaders_proposal, selected_proposal}
@@ -26,11 +27,11 @@ use Rattle.batcher_histories.specs.Comparison.{compared_votes, compared_votes_of
 use Rattle.batcher_histories.proofs.History.ByFirst.{differs_from, conflicts_is}
 use Rattle.batcher_histories.specs.Answers.{IsPossible}
 use Rattle.batcher_promises.specs.Pairs.{blocks_participant}
-use Rattle.batcher_histories.proofs.History.Distinct.{firsts_apart, first_stays, is_kind-true, option_cases, found_is_of, new_votes, new_cases, any_count, count_at, positive, where_holds}
-use Rattle.batcher_histories.proofs.Follow.Frame.{certified_same, released_same}
-use Rattle.batcher_histories.proofs.Shown.Named.{certified_fixes, compared_if_fixed}
-use Rattle.batcher_histories.proofs.Shown.Observed.{cast_cases, none_from}
-use Rattle.batcher_histories.proofs.Follow.FirstVotes.{free_is}
+use Rattle.batcher_histories.proofs.History.Distinct.{firsts_apart, first_stays, option_cases, found_is_of, new_votes, new_cases, any_count, count_at, positive, where_holds}
+use Rattle.batcher_histories.proofs.Simulation.Frame.{certified_same, released_same}
+use Rattle.batcher_histories.proofs.KnownLemmas.Named.{certified_fixes, compared_if_fixed}
+use Rattle.batcher_histories.proofs.KnownLemmas.Observed.{cast_cases, none_from}
+use Rattle.batcher_histories.proofs.Simulation.FirstVotes.{free_is}
 use Rattle.batcher_promises.proofs.Blocks.Refused.{refused_blocks, cast_uncertified, conflicting_refused, first_if_free, like_at, first_before}
 
 -- what passes a filter and a test is among the filtered ones that pass the test
@@ -60,7 +61,7 @@ found_first {G = G} {D = D} w first votes kind i found = by_mark (is_vote_of kin
     by_mark true k = inl (same_Some w first k)
     by_mark false k = inr k
 
-new_or_old : {D K G C : Type 0} (x : Setting D K G C) (past : History D K G C)
+new_or_old : {D K G C : Type 0} (x : Config D K G C) (past : History D K G C)
     (event : Event D K G C) (kind : Kind) (i : ℕ) (first : Vote G D)
     → first_vote x (event ∷ past) kind i ≡ Some first →
     ((new_votes x past event ≡ first ∷ []) × (is_free (first_votes x past) first ≡ true))
@@ -75,7 +76,7 @@ new_or_old {D = D} {G = G} x past event kind i first found =
     (found_first one.0 first (first_votes x past) kind i (ap (λ vs. find (is_vote_of kind i) (vs ++ first_votes x past)) (sym one.1) ∙ found)))
     (new_cases x past event)
 
-module _ {D K G C : Type 0} (x : Setting D K G C) where
+module _ {D K G C : Type 0} (x : Config D K G C) where
   -- what is fixed is selected, in every mode
   pub fixed_is_selected : (past : History D K G C) (p : Proposal D) → fixed_proposal past ≡ Some p
       → selected_proposal x past ≡ Some p

@@ -11,7 +11,7 @@ use Rattle.batcher_histories.specs.declared.calls.Call.{Call}
 use Rattle.batcher_histories.specs.declared.calls.Call.TheVariants.{Network as NetworkCall}
 use Rattle.batcher_histories.specs.declared.answers.Answer.{Answer}
 use Rattle.batcher_histories.specs.declared.answers.Answer.TheVariants.{Network as NetworkAnswer}
-use Rattle.batcher_histories.specs.Setting.{Setting, sender_in}
+use Rattle.batcher_histories.specs.Config.{Config, sender_in}
 use Rattle.batcher_types.specs.Keys.{participant}
 use Rattle.batcher_types.specs.Lists.{is_some_and}
 use Rattle.batcher_types.proofs.ListLemmas.{any_more}
@@ -112,7 +112,7 @@ or_also : (rest here before : Bool) → (rest || before) ≡ true → (rest || (
 or_also true here before k = refl
 or_also false here before k = or_right here before k
 
-module _ {D K G C : Type 0} (x : Setting D K G C)
+module _ {D K G C : Type 0} (x : Config D K G C)
     (test : K → Bool) (tells : TellsNoKeysApart x test) where
   -- Whoever was blocked before was blocked by a key that passes, where another one of the
   -- participant does.
@@ -192,7 +192,7 @@ module _ {D K G C : Type 0} (x : Setting D K G C)
       by_made false k =
           or_also (block_some test calls retained) (blocks_some test (c, a)) (list_any (blocks_some test) past) k
 
-module _ {D K G C : Type 0} (x : Setting D K G C) where
+module _ {D K G C : Type 0} (x : Config D K G C) where
   -- Two rounds have answered some calls each. Whom the releasing round's answers block those of the
   -- retaining one block too, also with more calls and answers, where those of the releasing round
   -- block nobody.

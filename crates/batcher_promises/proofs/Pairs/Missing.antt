@@ -11,7 +11,7 @@ use Rattle.batcher_votes.specs.declared.votes.Mode.TheVariants.{Retaining, Relea
 use Rattle.batcher_histories.specs.declared.calls.Call.{Call}
 use Rattle.batcher_histories.specs.declared.calls.Call.TheVariants.{Missing as MissingCall}
 use Rattle.batcher_histories.specs.declared.answers.Answer.TheVariants.{Missing as MissingAnswer}
-use Rattle.batcher_histories.specs.Setting.{Setting, participants_in}
+use Rattle.batcher_histories.specs.Config.{Config, participants_in}
 use Rattle.batcher_types.specs.Keys.{participant}
 use Rattle.batcher_types.specs.Lists.{is_some_and}
 use Rattle.batcher_types.specs.Votes.{is_vote_of, has_proposals, is_for, same_proposal}
@@ -52,11 +52,11 @@ if_either : (b one other : Bool) → (b ≡ true → one ≡ true) → other ≡
 if_either true one other this that = this refl
 if_either false one other this that = that
 
-module _ {D K G C : Type 0} (x : Setting D K G C) (laws : HasLaws x) where
-  abbrev retains : Setting D K G C
+module _ {D K G C : Type 0} (x : Config D K G C) (laws : HasLaws x) where
+  abbrev retains : Config D K G C
   retains = in_mode x Retaining
 
-  abbrev releases : Setting D K G C
+  abbrev releases : Config D K G C
   releases = in_mode x Releasing
 
   module _ (retained released : History D K G C) (alike : AreAlike retained released)

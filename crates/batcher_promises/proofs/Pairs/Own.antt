@@ -14,7 +14,7 @@ use Rattle.batcher_histories.specs.declared.calls.Call.TheVariants.{Network as N
 use Rattle.batcher_histories.specs.declared.answers.Answer.{Answer}
 use Rattle.batcher_histories.specs.declared.answers.Answer.TheVariants.{OutOfMemory, Network as NetworkAnswer, Own as OwnAnswer, OwnRefused, Certificate as CertificateAnswer, Leader as LeaderAnswer, Construct as ConstructAnswer}
 use Rattle.batcher_histories.specs.declared.answers.Answer.TheVariants.{Forward as ForwardAnswer, Missing as MissingAnswer}
-use Rattle.batcher_histories.specs.Setting.{Setting}
+use Rattle.batcher_histories.specs.Config.{Config}
 use Rattle.batcher_types.specs.Votes.{kind_of, signer_of, is_vote_of, opposes, has_proposals}
 use Rattle.batcher_types.proofs.ListLemmas.{any_more}
 use Rattle.batcher_histories.specs.Steps.{unopposed_result, duplicate_result}
@@ -22,7 +22,7 @@ use Rattle.batcher_histories.specs.History.{History}
 use Rattle.batcher_histories.specs.FirstVotes.{first_like, opposite_vote}
 use Rattle.batcher_histories.specs.Selection.{is_released}
 use Rattle.batcher_histories.specs.Comparison.{conflicts, compared_votes}
-use Rattle.batcher_promises.specs.Composed.{carry_different}
+use Rattle.batcher_promises.specs.AnswerFacts.{carry_different}
 use Rattle.batcher_histories.specs.Answers.{own_answer, IsAnswered}
 use Rattle.batcher_promises.specs.Pairs.{in_mode, ends_pair, is_own_fault}
 use Rattle.batcher_histories.proofs.History.Laws.{HasLaws}
@@ -45,7 +45,7 @@ module _ {G D : Type 0} (same : D → D → Bool) where
   none_carried (FinalizeVote a) (NullifyVote b) none h = h
   none_carried a (FinalizeVote b) none h = absurd (true≢false none)
 
-module _ {D K G C : Type 0} (x : Setting D K G C) (laws : HasLaws x) where
+module _ {D K G C : Type 0} (x : Config D K G C) (laws : HasLaws x) where
   -- A nullify never conflicts.
   conflict_has_proposal : (past : History D K G C) (vote : Vote G D) → conflicts x past vote ≡ true
       → has_proposals (kind_of vote) ≡ true
@@ -58,7 +58,7 @@ module _ {D K G C : Type 0} (x : Setting D K G C) (laws : HasLaws x) where
           (λ v both. none_carried x.same_digest v vote e (and_parts _ _ both).1) (compared_votes x past) (conflict_with_compared x laws past vote h))
           ∙ list_any_none (λ v. false) (compared_votes x past) (λ k d below. refl)))
 
-module _ {D K G C : Type 0} (x : Setting D K G C) (laws : HasLaws (in_mode x Releasing))
+module _ {D K G C : Type 0} (x : Config D K G C) (laws : HasLaws (in_mode x Releasing))
     (retained released : History D K G C) (alike : AreAlike retained released) (vote : Vote G D)
   where
     errs_by_first : (first : Option (Vote G D)) (r c conflict : Bool) (fault : OwnFault)
@@ -91,7 +91,7 @@ module _ {D K G C : Type 0} (x : Setting D K G C) (laws : HasLaws (in_mode x Rel
         (ap (find (λ v. opposes v vote)) (firsts_alike x retained released alike))
         ∙ errs_against (opposite_vote (in_mode x Releasing) released vote) fault (sym (own_is (in_mode x Releasing) released vote) ∙ h)
 
-module _ {D K G C : Type 0} (x : Setting D K G C) (laws : HasLaws (in_mode x Releasing))
+module _ {D K G C : Type 0} (x : Config D K G C) (laws : HasLaws (in_mode x Releasing))
     (retained released : History D K G C) (alike : AreAlike retained released) where
   taken_own : (vote : Vote G D) (a : Answer G C D) → ends_pair a ≡ false
       → IsAnswered (in_mode x Retaining) retained (OwnCall vote) a

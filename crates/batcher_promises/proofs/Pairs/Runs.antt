@@ -13,14 +13,14 @@ use Rattle.batcher_histories.specs.declared.answers.Answer.TheVariants.{OutOfMem
 use Rattle.batcher_histories.specs.declared.answers.Answer.TheVariants.{Forward as ForwardAnswer, Missing as MissingAnswer}
 use Rattle.batcher_votes.specs.declared.votes.Mode.{Mode}
 use Rattle.batcher_votes.specs.declared.votes.Mode.TheVariants.{Retaining, Releasing}
-use Rattle.batcher_histories.specs.Setting.{Setting}
-use Rattle.batcher_votes.specs.Held.{Held}
+use Rattle.batcher_histories.specs.Config.{Config}
+use Rattle.batcher_votes.specs.RoundState.{RoundState}
 use Rattle.batcher_histories.specs.Steps.{nothing_held}
 use Rattle.batcher_histories.specs.Runs.{Steps}
 use Rattle.batcher_histories.specs.History.{History, history, history_after}
 use Rattle.batcher_histories.specs.Answers.{IsAnswered}
-use Rattle.batcher_histories.specs.Stands.{Meets}
-use Rattle.batcher_promises.specs.Ran.{IsRun}
+use Rattle.batcher_histories.specs.Represents.{Meets}
+use Rattle.batcher_promises.specs.RunContract.{IsRun}
 use Rattle.batcher_promises.specs.Pairs.{in_mode, blocks, ends_pair, is_own_fault, IsAlike, AnsweredAlike, IsBeside, GoesOn, EndsAt, BlocksNoMore, IsPairRun}
 use Rattle.batcher_histories.proofs.History.Laws.{HasLaws}
 use Rattle.batcher_promises.proofs.Runs.Histories.{history-push}
@@ -88,9 +88,9 @@ alike_more (c ∷ retained) [] a b alike now = absurd alike
 alike_more (c ∷ retained) (d ∷ released) a b alike now = (alike.0, alike_more retained released a b alike.1 now)
 
 -- what stays true of a pair while it goes on
-pub record PairGoes {D K G C : Type 0} (x : Setting D K G C) (before : Stream)
+pub record PairGoes {D K G C : Type 0} (x : Config D K G C) (before : Stream)
     (calls : List (Call K G C D)) (retained released : List (Answer G C D))
-    (retaining releasing : Held G D) (after left : Stream) : Type 0 where
+    (retaining releasing : RoundState G D) (after left : Stream) : Type 0 where
   pub retains : Goes (in_mode x Retaining) before calls retained retaining after
   pub releases : Goes (in_mode x Releasing) before calls released releasing left
   pub together : AreTogether x (history calls retained) (history calls released) retaining releasing
@@ -100,14 +100,14 @@ pub record PairGoes {D K G C : Type 0} (x : Setting D K G C) (before : Stream)
   pub released_on : GoesOn (length calls) released
 
 -- one call of one round, as its step and its model have it
-pub record Takes {D K G C : Type 0} (x : Setting D K G C) (past : History D K G C) (old : Held G D)
-    (before : Stream) (call : Call K G C D) (answer : Answer G C D) (new : Held G D)
+pub record Takes {D K G C : Type 0} (x : Config D K G C) (past : History D K G C) (old : RoundState G D)
+    (before : Stream) (call : Call K G C D) (answer : Answer G C D) (new : RoundState G D)
     (after : Stream) : Type 0 where
   pub steps : Steps x old before call answer new after
   pub meets : Meets x past old (call, answer) new
   pub answered : IsAnswered x past call answer
 
-module _ {D K G C : Type 0} (x : Setting D K G C) where
+module _ {D K G C : Type 0} (x : Config D K G C) where
   pub pair_first : (before : Stream)
       → PairGoes x before [] [] [] (nothing_held Retaining) (nothing_held Releasing) before before
   pair_first before =
@@ -122,15 +122,15 @@ module _ {D K G C : Type 0} (x : Setting D K G C) where
       }
 
   module _ (before : Stream) (calls : List (Call K G C D)) (retained released : List (Answer G C D))
-      (retaining releasing : Held G D) (after left : Stream)
+      (retaining releasing : RoundState G D) (after left : Stream)
       (goes : PairGoes x before calls retained released retaining releasing after left) (call : Call K G C D) where
-    retains_more : (a : Answer G C D) (new : Held G D) (then : Stream)
+    retains_more : (a : Answer G C D) (new : RoundState G D) (then : Stream)
         → Takes (in_mode x Retaining) (history calls retained) retaining after call a new then →
         Goes (in_mode x Retaining) before (calls ++ call ∷ []) (retained ++ a ∷ []) new then
     retains_more a new then takes =
         goes_more (in_mode x Retaining) before calls retained retaining after call a new then goes.retains takes.steps takes.meets takes.answered
 
-    releases_more : (b : Answer G C D) (new : Held G D) (then : Stream)
+    releases_more : (b : Answer G C D) (new : RoundState G D) (then : Stream)
         → Takes (in_mode x Releasing) (history calls released) releasing left call b new then →
         Goes (in_mode x Releasing) before (calls ++ call ∷ []) (released ++ b ∷ []) new then
     releases_more b new then takes =
@@ -139,7 +139,7 @@ module _ {D K G C : Type 0} (x : Setting D K G C) where
     one_longer : length (calls ++ call ∷ []) ≡ length calls + 1
     one_longer = omega (arith, length-append calls (call ∷ []))
 
-    pub pair_more : (a b : Answer G C D) (new news : Held G D) (then next : Stream)
+    pub pair_more : (a b : Answer G C D) (new news : RoundState G D) (then next : Stream)
         → Takes (in_mode x Retaining) (history calls retained) retaining after call a new then
         → Takes (in_mode x Releasing) (history calls released) releasing left call b news next →
         ends_pair a ≡ false → ends_pair b ≡ false
@@ -164,18 +164,18 @@ module _ {D K G C : Type 0} (x : Setting D K G C) where
           released_on = subst (λ (n : ℕ). GoesOn n (released ++ b ∷ [])) (sym one_longer) (goes_on_more (length calls) released b goes.released_on goes_on);
         }
 
-module _ {D K G C : Type 0} (x : Setting D K G C) (laws : HasLaws x) where
+module _ {D K G C : Type 0} (x : Config D K G C) (laws : HasLaws x) where
   laws_in : (mode : Mode) → HasLaws (in_mode x mode)
   laws_in mode = record { scheme = laws.scheme; some_participant = laws.some_participant; digests_equal = laws.digests_equal; digests_same = laws.digests_same }
 
   module _ (before : Stream) (all calls : List (Call K G C D))
-      (retained released : List (Answer G C D)) (retaining releasing : Held G D)
+      (retained released : List (Answer G C D)) (retaining releasing : RoundState G D)
       (after left : Stream)
       (goes : PairGoes x before calls retained released retaining releasing after left) where
     besides : IsBeside x (history calls retained) (history calls released)
     besides =
-        beside_of x laws (history calls retained) (history calls released) goes.together.alike goes.together.stands.possible
-        goes.together.stands_released.possible
+        beside_of x laws (history calls retained) (history calls released) goes.together.alike goes.together.represents.possible
+        goes.together.represents_released.possible
 
     no_more_blocked : (cs more : List (Call K G C D))
         (more_retained more_released : List (Answer G C D)) → calls ++ more ≡ cs
@@ -255,7 +255,7 @@ module _ {D K G C : Type 0} (x : Setting D K G C) (laws : HasLaws x) where
           (ap (λ cs. cs ++ drop place all) (sym so_far) ∙ take-append-drop place all) none
 
       -- where the retaining round refused one,
-      pub pair_stops : (a : Answer G C D) (new : Held G D) (then : Stream)
+      pub pair_stops : (a : Answer G C D) (new : RoundState G D) (then : Stream)
           → Takes (in_mode x Retaining) (history calls retained) retaining after call a new then
           → ends_pair a ≡ true →
           IsPairRun x before all (Some place) (retained ++ a ∷ []) new then released releasing left
@@ -279,7 +279,7 @@ module _ {D K G C : Type 0} (x : Setting D K G C) (laws : HasLaws x) where
           }
 
       -- and where the releasing one refused the one that the retaining one made.
-      pub pair_stops_later : (a b : Answer G C D) (new news : Held G D) (then next : Stream)
+      pub pair_stops_later : (a b : Answer G C D) (new news : RoundState G D) (then next : Stream)
           → Takes (in_mode x Retaining) (history calls retained) retaining after call a new then →
           Takes (in_mode x Releasing) (history calls released) releasing left call b news next
           → ends_pair a ≡ false → ends_pair b ≡ true →

@@ -21,28 +21,28 @@ use Rattle.batcher_histories.specs.declared.answers.Answer.{Answer}
 use Rattle.batcher_histories.specs.declared.answers.Answer.TheVariants.{OutOfMemory, Network as NetworkAnswer, Own as OwnAnswer, OwnRefused, Certificate as CertificateAnswer, Leader as LeaderAnswer, Construct as ConstructAnswer}
 use Rattle.batcher_histories.specs.declared.answers.Answer.TheVariants.{Forward as ForwardAnswer, Missing as MissingAnswer}
 use Rattle.batcher_types.specs.Meaning.{Meaning}
-use Rattle.batcher_histories.specs.Setting.{Setting, quorum_in}
+use Rattle.batcher_histories.specs.Config.{Config, quorum_in}
 use Rattle.batcher_types.specs.Ascending.{ordered_by}
-use Rattle.batcher_types.specs.Votes.{is_kind, kind_of, is_of_kind, is_vote_of, signer_of, opposes, waits}
-use Rattle.batcher_votes.specs.Selected.{replaces}
+use Rattle.batcher_types.specs.Votes.{is_kind, kind_of, is_of_kind, is_vote_of, signer_of, opposes, is_eligible}
+use Rattle.batcher_votes.specs.ProposalStates.{replaces}
 use Rattle.batcher_types.specs.Lists.{is_some_and}
-use Rattle.batcher_votes.specs.Held.{PerKind, of_kind, Buffered, Held}
+use Rattle.batcher_votes.specs.RoundState.{PerKind, of_kind, VerifierState, RoundState}
 use Rattle.batcher_types.specs.Attempts.{attempt_of}
-use Rattle.batcher_votes.specs.Buffering.{TriesKind, attestations_of, batch_of}
+use Rattle.batcher_votes.specs.VerifierSteps.{TriesKind, attestations_of, batch_of}
 use Rattle.batcher_histories.specs.Steps.{AfterConstruct, kind_tried, forward_answer, leader_set_answer, nothing_held, is_added}
 use Rattle.batcher_histories.specs.Runs.{Steps}
 use Rattle.batcher_histories.specs.History.{History, is_made, history_after, names_sender, sent_votes, own_votes, batch_given}
 use Rattle.batcher_histories.specs.FirstVotes.{is_free, opposite_vote}
 use Rattle.batcher_histories.specs.Selection.{selection, selected_proposal, is_certified, is_restored}
-use Rattle.batcher_histories.specs.Standing.{ready_kind, waiting_votes}
-use Rattle.batcher_histories.specs.Trying.{left_verified}
+use Rattle.batcher_histories.specs.Eligible.{ready_kind, eligible_among}
+use Rattle.batcher_histories.specs.Attempts.{left_verified}
 use Rattle.batcher_histories.specs.Answers.{certificate_answer, network_answer, own_answer}
-use Rattle.batcher_histories.specs.Stands.{Stands, Follows, Meets, arrivals, first_by_signer, pending_after, tries_kind, verified_after}
+use Rattle.batcher_histories.specs.Represents.{Represents, Simulates, Meets, arrivals, first_by_signer, pending_after, tries_kind, verified_after}
 use Rattle.batcher_promises.specs.Pairs.{IsAlike, in_mode, ends_pair}
 use Rattle.batcher_promises.proofs.Pairs.Alike.{AreAlike, told_alike, leader_alike, forwarded_alike, certified_alike, firsts_alike, selection_alike, selected_alike, waiting_alike, back_alike, ready_alike}
-use Rattle.batcher_histories.proofs.Follow.Network.{added_is}
-use Rattle.batcher_promises.proofs.Throughout.Told.{own_added}
-use Rattle.batcher_histories.proofs.Shown.AtFirst.{fresh_stands}
+use Rattle.batcher_histories.proofs.Simulation.Network.{added_is}
+use Rattle.batcher_promises.proofs.AnswerFacts.Told.{own_added}
+use Rattle.batcher_histories.proofs.KnownLemmas.AtFirst.{fresh_represents}
 use Rattle.batcher_histories.proofs.History.ByFirst.{own_is}
 
 -- WHAT IS BUFFERED
@@ -56,7 +56,7 @@ each_same {X = X} a b same =
     by : X → X → X → PerKind X
     by u v w = record { notarize = u; nullify = v; finalize = w }
 
-pub buffered_same : {G D : Type 0} (a b : Buffered G D)
+pub buffered_same : {G D : Type 0} (a b : VerifierState G D)
     → a.leader ≡ b.leader → a.selection ≡ b.selection
     → ((kind : Kind) → of_kind a.certified kind ≡ of_kind b.certified kind)
     → ((kind : Kind) → of_kind a.pending kind ≡ of_kind b.pending kind)
@@ -72,8 +72,9 @@ buffered_same a b leader selection certified pending verified =
 -- Two attempts with the same buffers and stream are about one subject, come to one outcome, and
 -- leave one stream;
 pub one_outcome : {D K G C : Type 0} (m : Meaning D K G C) (number : Round) (q : ℕ)
-    (held : Buffered G D) (kind : Kind) (before : Stream) (batch other : Batch (Certificate C D))
-    (after left : Stream) (new news : Buffered G D)
+    (held : VerifierState G D) (kind : Kind) (before : Stream)
+    (batch other : Batch (Certificate C D))
+    (after left : Stream) (new news : VerifierState G D)
     → (first : TriesKind m number q held kind before batch after new)
     → (second : TriesKind m number q held kind before other left news)
     → (first.subject ≡ second.subject) × ((first.outcome ≡ second.outcome) × (after ≡ left))
@@ -87,8 +88,9 @@ one_outcome m number q held kind before batch other after left new news first se
 
 -- so they give one batch.
 pub one_attempt : {D K G C : Type 0} (m : Meaning D K G C) (number : Round) (q : ℕ)
-    (held : Buffered G D) (kind : Kind) (before : Stream) (batch other : Batch (Certificate C D))
-    (after left : Stream) (new news : Buffered G D)
+    (held : VerifierState G D) (kind : Kind) (before : Stream)
+    (batch other : Batch (Certificate C D))
+    (after left : Stream) (new news : VerifierState G D)
     → TriesKind m number q held kind before batch after new
     → TriesKind m number q held kind before other left news → (batch ≡ other) × (after ≡ left)
 one_attempt m number q held kind before batch other after left new news first second =
@@ -112,7 +114,8 @@ module _ {D K G C : Type 0} where
   Fits (MissingCall proposal) (MissingAnswer a) = ⊤
   Fits call answer = ⊥
 
-  fits : (x : Setting D K G C) (old : Held G D) (before : Stream) (new : Held G D) (after : Stream)
+  fits : (x : Config D K G C) (old : RoundState G D) (before : Stream) (new : RoundState G D)
+      (after : Stream)
       (call : Call K G C D) (answer : Answer G C D) → Steps x old before call answer new after
       → ends_pair answer ≡ false → Fits call answer
   fits x old before new after (NetworkCall sender vote) (NetworkAnswer a) steps ends = tt
@@ -126,12 +129,12 @@ module _ {D K G C : Type 0} where
   fits x old before new after call (OwnRefused fault) steps ends = absurd (true≢false ends)
   fits x old before new after call answer steps ends = absurd steps
 
-module _ {D K G C : Type 0} (x : Setting D K G C) where
-  -- Two rounds are beside each other: they stand after alike histories, and the same votes wait in
+module _ {D K G C : Type 0} (x : Config D K G C) where
+  -- Two rounds are beside each other: they represent alike histories, and the same votes wait in
   -- both, in the same order.
-  pub record AreTogether (retained released : History D K G C) (old other : Held G D) : Type 0 where
-    pub stands : Stands (in_mode x Retaining) retained old
-    pub stands_released : Stands (in_mode x Releasing) released other
+  pub record AreTogether (retained released : History D K G C) (old other : RoundState G D) : Type 0 where
+    pub represents : Represents (in_mode x Retaining) retained old
+    pub represents_released : Represents (in_mode x Releasing) released other
     pub alike : AreAlike retained released
     pub buffered : old.buffered ≡ other.buffered
     pub forwarded : old.forwarded ≡ other.forwarded
@@ -140,14 +143,14 @@ module _ {D K G C : Type 0} (x : Setting D K G C) where
   pub beside_at_first : AreTogether [] [] (nothing_held Retaining) (nothing_held Releasing)
   beside_at_first =
       record {
-        stands = fresh_stands (in_mode x Retaining);
-        stands_released = fresh_stands (in_mode x Releasing);
+        represents = fresh_represents (in_mode x Retaining);
+        represents_released = fresh_represents (in_mode x Releasing);
         alike = tt;
         buffered = refl;
         forwarded = refl;
       }
 
-  module _ (retained released : History D K G C) (old other : Held G D)
+  module _ (retained released : History D K G C) (old other : RoundState G D)
       (beside : AreTogether retained released old other) where
     -- WHAT IS ANSWERED
     -- by the history,
@@ -187,7 +190,7 @@ module _ {D K G C : Type 0} (x : Setting D K G C) where
     tried_alike : kind_tried (in_mode x Retaining) old ≡ kind_tried (in_mode x Releasing) other
     tried_alike = ap (λ b. kind_tried (in_mode x Retaining) (record old { buffered = b })) beside.buffered
 
-    module _ (before : Stream) (new news : Held G D) (after left : Stream) where
+    module _ (before : Stream) (new news : RoundState G D) (after left : Stream) where
       construct_alike : (given gives : Option (Batch (Certificate C D)))
           → AfterConstruct (in_mode x Retaining) old before given new after
           → AfterConstruct (in_mode x Releasing) other before gives news left →
@@ -213,14 +216,14 @@ module _ {D K G C : Type 0} (x : Setting D K G C) where
           → Meets (in_mode x Releasing) released other (call, b) news → IsAlike a b
           × (after ≡ left)
       answers_alike (NetworkCall sender vote) (NetworkAnswer a) (NetworkAnswer b) fit fit_released step step_released meets meets_released = (
-        ap (λ t. t.added) meets.stands.possible.1.1.0 ∙ (added_alike sender vote ∙ sym (ap (λ t. t.added) meets_released.stands.possible.1.1.0)),
+        ap (λ t. t.added) meets.represents.possible.1.1.0 ∙ (added_alike sender vote ∙ sym (ap (λ t. t.added) meets_released.represents.possible.1.1.0)),
         step.1
             ∙ sym step_released.1,
       )
       answers_alike (OwnCall vote) (OwnAnswer outcome report) (OwnAnswer second reported) fit fit_released step step_released meets meets_released =
-          (own_added_alike vote outcome second meets.stands.possible.1.1.0.0 meets_released.stands.possible.1.1.0.0, step.1 ∙ sym step_released.1)
+          (own_added_alike vote outcome second meets.represents.possible.1.1.0.0 meets_released.represents.possible.1.1.0.0, step.1 ∙ sym step_released.1)
       answers_alike (CertificateCall certificate) (CertificateAnswer a) (CertificateAnswer b) fit fit_released step step_released meets meets_released =
-          (meets.stands.possible.1.1.0 ∙ (changes_alike certificate ∙ sym meets_released.stands.possible.1.1.0), step.1 ∙ sym step_released.1)
+          (meets.represents.possible.1.1.0 ∙ (changes_alike certificate ∙ sym meets_released.represents.possible.1.1.0), step.1 ∙ sym step_released.1)
       answers_alike (LeaderCall leader) (LeaderAnswer a) (LeaderAnswer b) fit fit_released step step_released meets meets_released =
           (step.0 ∙ (ap (λ h. leader_set_answer h.leader leader) beside.buffered ∙ sym step_released.0), step.1.1 ∙ sym step_released.1.1)
       answers_alike ConstructCall (ConstructAnswer a) (ConstructAnswer b) fit fit_released step step_released meets meets_released =
@@ -247,9 +250,9 @@ module _ {D K G C : Type 0} (x : Setting D K G C) where
     kept_alike : (kind : Kind) → is_certified released kind ≡ false → of_kind old.tracked.kept kind
         ≡ of_kind other.tracked.kept kind
     kept_alike kind still =
-        (beside.stands.each_kind kind).kept_are
+        (beside.represents.each_kind kind).kept_are
         ∙ (ap (λ vs. ordered_by signer_of (filter (is_of_kind kind) vs)) (firsts_alike x retained released beside.alike)
-        ∙ sym ((beside.stands_released.each_kind kind).kept_are ∙ ap (λ c. cond c [] (first_by_signer (in_mode x Releasing) released kind)) still))
+        ∙ sym ((beside.represents_released.each_kind kind).kept_are ∙ ap (λ c. cond c [] (first_by_signer (in_mode x Releasing) released kind)) still))
 
     -- with one more call, that both answer alike
     module _ (call : Call K G C D) (a b : Answer G C D) (answers : IsAlike a b) where
@@ -281,19 +284,19 @@ module _ {D K G C : Type 0} (x : Setting D K G C) where
       -- No vote of a certified kind waits, so that votes need to be the same of the others alone.
       waits_alike : (kind : Kind) (vs ws : List (Vote G D))
           → (is_certified ((call, b) ∷ released) kind ≡ false → vs ≡ ws) →
-          waiting_votes (in_mode x Retaining) ((call, a) ∷ retained) kind vs
-          ≡ waiting_votes (in_mode x Releasing) ((call, b) ∷ released) kind ws
+          eligible_among (in_mode x Retaining) ((call, a) ∷ retained) kind vs
+          ≡ eligible_among (in_mode x Releasing) ((call, b) ∷ released) kind ws
       waits_alike kind vs ws same =
           waiting_alike x ((call, a) ∷ retained) ((call, b) ∷ released) longer kind vs
           ∙ ⊎_elim
           (λ closed. none closed vs ∙ sym (none closed ws))
-          (λ still. ap (waiting_votes (in_mode x Releasing) ((call, b) ∷ released) kind) (same still))
+          (λ still. ap (eligible_among (in_mode x Releasing) ((call, b) ∷ released) kind) (same still))
           (cases_Bool (is_certified ((call, b) ∷ released) kind))
         where
           none : is_certified ((call, b) ∷ released) kind ≡ true → (votes : List (Vote G D))
-              → waiting_votes (in_mode x Releasing) ((call, b) ∷ released) kind votes ≡ []
+              → eligible_among (in_mode x Releasing) ((call, b) ∷ released) kind votes ≡ []
           none closed votes =
-              ap (λ c. cond (c || false) [] (filter (waits x.same_digest (selected_proposal (in_mode x Releasing) ((call, b) ∷ released))) votes)) closed
+              ap (λ c. cond (c || false) [] (filter (is_eligible x.same_digest (selected_proposal (in_mode x Releasing) ((call, b) ∷ released))) votes)) closed
 
       pending_alike : (kind : Kind) → pending_after (in_mode x Retaining) retained old (call, a)
           kind ≡ pending_after (in_mode x Releasing) released other (call, b) kind
@@ -325,35 +328,39 @@ module _ {D K G C : Type 0} (x : Setting D K G C) where
           beside.buffered
           ∙ ap (λ vs. left_by (tries_kind (in_mode x Releasing) released b kind) other.buffered ++ vs) (arrivals_alike kind (own_votes call))))
         where
-          left_by : Bool → Buffered G D → List (Vote G D)
+          left_by : Bool → VerifierState G D → List (Vote G D)
           left_by tried held = cond tried (left_verified x (of_kind held.verified kind) (of_kind held.pending kind)) (of_kind held.verified kind)
 
       -- A made call leaves both beside each other.
-      made_beside : (new news : Held G D) → Follows (in_mode x Retaining) retained old (call, a) new
-          → Follows (in_mode x Releasing) released other (call, b) news →
+      made_beside : (new news : RoundState G D)
+          → Simulates (in_mode x Retaining) retained old (call, a) new
+          → Simulates (in_mode x Releasing) released other (call, b) news →
           AreTogether ((call, a) ∷ retained) ((call, b) ∷ released) new news
-      made_beside new news follows follows_released =
+      made_beside new news simulates follows_released =
           record {
-            stands = follows.stands;
-            stands_released = follows_released.stands;
+            represents = simulates.represents;
+            represents_released = follows_released.represents;
             alike = longer;
             buffered =
                 buffered_same new.buffered news.buffered
-                (follows.stands.leader_is ∙ (leader_alike ((call, a) ∷ retained) ((call, b) ∷ released) longer ∙ sym follows_released.stands.leader_is))
-                (follows.stands.selection_is ∙ (selection_alike x ((call, a) ∷ retained) ((call, b) ∷ released) longer
-                ∙ sym follows_released.stands.selection_is))
-                (λ kind. (follows.stands.each_kind kind).certified_is
-                ∙ (certified_alike ((call, a) ∷ retained) ((call, b) ∷ released) longer kind ∙ sym (follows_released.stands.each_kind kind).certified_is))
-                (λ kind. follows.pending_are kind ∙ (pending_alike kind ∙ sym (follows_released.pending_are kind)))
-                (λ kind. follows.verified_are kind ∙ (verified_alike kind ∙ sym (follows_released.verified_are kind)));
+                (simulates.represents.leader_is ∙ (leader_alike ((call, a) ∷ retained) ((call, b) ∷ released) longer
+                ∙ sym follows_released.represents.leader_is))
+                (simulates.represents.selection_is ∙ (selection_alike x ((call, a) ∷ retained) ((call, b) ∷ released) longer
+                ∙ sym follows_released.represents.selection_is))
+                (λ kind. (simulates.represents.each_kind kind).certified_is
+                ∙ (certified_alike ((call, a) ∷ retained) ((call, b) ∷ released) longer kind ∙ sym (follows_released.represents.each_kind kind).certified_is))
+                (λ kind. simulates.pending_are kind ∙ (pending_alike kind ∙ sym (follows_released.pending_are kind)))
+                (λ kind. simulates.verified_are kind ∙ (verified_alike kind ∙ sym (follows_released.verified_are kind)));
             forwarded =
-                follows.stands.forwarded_is ∙ (forwarded_alike ((call, a) ∷ retained) ((call, b) ∷ released) longer ∙ sym follows_released.stands.forwarded_is);
+                simulates.represents.forwarded_is ∙ (forwarded_alike ((call, a) ∷ retained) ((call, b) ∷ released) longer
+                ∙ sym follows_released.represents.forwarded_is);
           }
 
       -- One that is refused leaves both as they were.
-      any_beside : (new news : Held G D) (made makes : Bool) → made ≡ makes
-          → MatchBool made (Follows (in_mode x Retaining) retained old (call, a) new) (new ≡ old) →
-          MatchBool makes (Follows (in_mode x Releasing) released other (call, b) news)
+      any_beside : (new news : RoundState G D) (made makes : Bool) → made ≡ makes
+          → MatchBool made (Simulates (in_mode x Retaining) retained old (call, a) new)
+          (new ≡ old) →
+          MatchBool makes (Simulates (in_mode x Releasing) released other (call, b) news)
           (news ≡ other) → AreTogether (cond made ((call, a) ∷ retained) retained)
           (cond makes ((call, b) ∷ released) released) new news
       any_beside new news true true same meets meets_released = made_beside new news meets meets_released
@@ -364,7 +371,7 @@ module _ {D K G C : Type 0} (x : Setting D K G C) where
 
   -- What is true of two rounds once each has taken the same call.
   pub record StayBeside (retained released : History D K G C) (call : Call K G C D)
-      (a b : Answer G C D) (new news : Held G D) (after left : Stream) : Type 0 where
+      (a b : Answer G C D) (new news : RoundState G D) (after left : Stream) : Type 0 where
     pub answers : IsAlike a b
     pub made : is_made a ≡ is_made b
     pub streams : after ≡ left
@@ -373,8 +380,9 @@ module _ {D K G C : Type 0} (x : Setting D K G C) where
 
   -- Two rounds beside each other answer a call alike from one stream, unless it ends the pair, and
   -- stay so.
-  pub stay_beside : (retained released : History D K G C) (old other : Held G D) (before : Stream)
-      (call : Call K G C D) (a b : Answer G C D) (new news : Held G D) (after left : Stream) →
+  pub stay_beside : (retained released : History D K G C) (old other : RoundState G D)
+      (before : Stream)
+      (call : Call K G C D) (a b : Answer G C D) (new news : RoundState G D) (after left : Stream) →
       AreTogether retained released old other → ends_pair a ≡ false → ends_pair b ≡ false →
       Steps (in_mode x Retaining) old before call a new after
       → Meets (in_mode x Retaining) retained old (call, a) new →

@@ -14,14 +14,14 @@ use Rattle.batcher_histories.specs.Answers.{IsPossible, MayAnswer}
 use Rattle.batcher_promises.specs.Promises.{ends_in_constructions, CompletesQuorums, Rests}
 use Rattle.batcher_histories.specs.History.{Event, History}
 use Rattle.batcher_histories.specs.Selection.{is_certified}
-use Rattle.batcher_histories.specs.Setting.{Setting}
-use Rattle.batcher_histories.specs.Standing.{is_ready_by, ready_kind, trials}
-use Rattle.batcher_histories.proofs.Follow.Construct.{idle_moves}
+use Rattle.batcher_histories.specs.Config.{Config}
+use Rattle.batcher_histories.specs.Eligible.{is_ready_by, ready_kind, trials}
+use Rattle.batcher_histories.proofs.Simulation.Construct.{idle_moves}
 use Rattle.batcher_promises.proofs.Quorums.Done.{kinds_done, done_rests, one_more_done}
-use Rattle.batcher_histories.proofs.Follow.Frame.{followed}
-use Rattle.batcher_promises.proofs.Quorums.Held.{holds_before}
+use Rattle.batcher_histories.proofs.Simulation.Frame.{followed}
+use Rattle.batcher_promises.proofs.Quorums.Buffers.{holds_before}
 use Rattle.batcher_histories.proofs.History.Laws.{HasLaws}
-use Rattle.batcher_histories.proofs.Shown.Ready.{tried_is_ready}
+use Rattle.batcher_histories.proofs.KnownLemmas.Ready.{tried_is_ready}
 use Rattle.batcher_promises.proofs.Quorums.ValidQuorums.{valid_quorum_ready}
 
 -- where no kind is chosen, none passes
@@ -50,7 +50,7 @@ module _ {D K G C : Type 0} where
   last_constructs n (MissingCall p, answer) past ends = absurd (true≢false (sym ends))
 
   -- A construction is answered a batch or none.
-  pub construct_answered : (x : Setting D K G C) (past : History D K G C) (answer : Answer G C D)
+  pub construct_answered : (x : Config D K G C) (past : History D K G C) (answer : Answer G C D)
       → MayAnswer x past ConstructCall answer → (P : Answer G C D → Type 0) →
       ((given : Option (Batch (Certificate C D)))
       → MayAnswer x past ConstructCall (ConstructAnswer given) → P (ConstructAnswer given))
@@ -65,16 +65,16 @@ module _ {D K G C : Type 0} where
   construct_answered x past (MissingAnswer a) may P holds = absurd may
   construct_answered x past OutOfMemoryAnswer may P holds = absurd may
 
-module _ {D K G C : Type 0} (x : Setting D K G C) (lawful : HasLaws x) where
+module _ {D K G C : Type 0} (x : Config D K G C) (lawful : HasLaws x) where
   -- After a construction that gives no batch none is ready, as before.
   none_stays : (past : History D K G C) → IsPossible x past → ready_kind x past ≡ None
       → ready_kind x ((ConstructCall, ConstructAnswer None) ∷ past) ≡ None
   none_stays past possible none =
       let holds = holds_before x past None possible none in
-      let follows = followed x lawful past holds.held ConstructCall (ConstructAnswer None) holds.held holds.stands
-      (idle_moves x past holds.held holds.stands none) in
-      sym (tried_is_ready x lawful ((ConstructCall, ConstructAnswer None) ∷ past) holds.held follows.stands)
-      ∙ (tried_is_ready x lawful past holds.held holds.stands ∙ none)
+      let simulates = followed x lawful past holds.held ConstructCall (ConstructAnswer None) holds.held holds.represents
+      (idle_moves x past holds.held holds.represents none) in
+      sym (tried_is_ready x lawful ((ConstructCall, ConstructAnswer None) ∷ past) holds.held simulates.represents)
+      ∙ (tried_is_ready x lawful past holds.held holds.represents ∙ none)
 
   -- No kind is ready, or so many kinds are done.
   abbrev RestsOrDone : ℕ → History D K G C → Type 0

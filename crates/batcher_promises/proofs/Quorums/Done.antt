@@ -9,21 +9,22 @@ use Rattle.batcher_votes.specs.declared.verifier.Batch.{Batch}
 use Rattle.batcher_histories.specs.declared.calls.Call.TheVariants.{Construct as ConstructCall}
 use Rattle.batcher_histories.specs.declared.answers.Answer.TheVariants.{Construct as ConstructAnswer}
 use Rattle.batcher_histories.specs.Answers.{IsPossible, MayAnswer}
-use Rattle.batcher_votes.specs.Buffering.{have_one_subject}
+use Rattle.batcher_votes.specs.VerifierSteps.{have_one_subject}
 use Rattle.batcher_histories.specs.History.{Event, History}
 use Rattle.batcher_types.specs.Lists.{is_some_and}
 use Rattle.batcher_histories.specs.Selection.{is_certified, selected_proposal}
-use Rattle.batcher_histories.specs.Setting.{Setting, quorum_in}
-use Rattle.batcher_histories.specs.Standing.{fresh_votes, is_ready_by, proven_votes, ready_kind, trials}
-use Rattle.batcher_histories.specs.Stands.{tries_kind}
+use Rattle.batcher_histories.specs.Config.{Config, quorum_in}
+use Rattle.batcher_histories.specs.Eligible.{fresh_votes, is_ready_by, proven_votes, ready_kind, trials}
+use Rattle.batcher_histories.specs.Represents.{tries_kind}
 use Rattle.batcher_types.specs.Votes.{has_proposals, is_kind}
-use Rattle.batcher_histories.proofs.History.Distinct.{is_kind-refl, option_cases}
+use Rattle.batcher_types.proofs.KindLemmas.{is_kind-refl}
+use Rattle.batcher_histories.proofs.History.Distinct.{option_cases}
 use Rattle.batcher_histories.proofs.History.Attempts.{ready_is, tries_by}
-use Rattle.batcher_promises.proofs.Quorums.Held.{Holds, holds_before}
+use Rattle.batcher_promises.proofs.Quorums.Buffers.{Holds, holds_before}
 use Rattle.batcher_histories.proofs.History.Laws.{HasLaws}
 use Rattle.batcher_promises.proofs.Quorums.Left.{tried_fresh, tried_proven, untried_fresh, untried_proven}
 use Rattle.batcher_histories.proofs.History.Selection.{certified_before}
-use Rattle.batcher_histories.proofs.Follow.Settled.{constructed}
+use Rattle.batcher_histories.proofs.Simulation.Settled.{constructed}
 
 -- what is enough leaves something to try
 done_table : (certified full some one more unselected : Bool) →
@@ -64,7 +65,7 @@ all_three false b c h = absurd (omega (arith, h, no_fewer b true (λ _. refl), n
 all_three true false c h = absurd (omega (arith, h, no_fewer c true (λ _. refl)))
 all_three true true false h = absurd (omega (arith, h))
 
-module _ {D K G C : Type 0} (x : Setting D K G C) where
+module _ {D K G C : Type 0} (x : Config D K G C) where
   -- whether a kind is certified, or has neither a proven quorum nor a fresh vote
   abbrev pub is_done : History D K G C → Kind → Bool
   is_done past kind = is_certified past kind || not (nat_le (quorum_in x) (length (proven_votes x past kind)) || nat_lt 0 (length (fresh_votes x past kind)))
@@ -119,7 +120,7 @@ module _ {D K G C : Type 0} (x : Setting D K G C) where
       left_few (quorum_in x) (length (proven_votes x past kind)) (length (fresh_votes x past kind))
       (sym (ap (λ b. b || not (nat_le (quorum_in x) (length (proven_votes x past kind)) || nat_lt 0 (length (fresh_votes x past kind)))) still) ∙ done)
 
-module _ {D K G C : Type 0} (x : Setting D K G C) (lawful : HasLaws x) (past : History D K G C)
+module _ {D K G C : Type 0} (x : Config D K G C) (lawful : HasLaws x) (past : History D K G C)
     (batch : Batch (Certificate C D)) (possible : IsPossible x past)
     (may : MayAnswer x past ConstructCall (ConstructAnswer (Some batch))) where
   abbrev event : Event D K G C

@@ -5,6 +5,7 @@ use Rattle.std.proofs.Common.{subst, inl, inr, ◌≡◌, ◌≤◌, ◌<◌, �
 use Rattle.std.specs.Prelude.{filter, option_and_then}
 use Rattle.std.specs.Option.{option_or}
 use Rattle.std.proofs.lemmas.Bool.{cond_both, false_from_ne_true, leb-false, true≢false}
+use Rattle.std.proofs.Math.Bool.{and-not_self}
 use Rattle.batcher_types.specs.declared.messages.Kind.{Kind}
 use Rattle.batcher_types.specs.declared.messages.Proposal.{Proposal}
 use Rattle.batcher_types.specs.declared.messages.Vote.{Vote}
@@ -15,28 +16,28 @@ use Rattle.batcher_votes.specs.declared.verifier.Batch.{Batch}
 use Rattle.batcher_histories.specs.declared.calls.Call.TheVariants.{Construct as ConstructCall}
 use Rattle.batcher_histories.specs.declared.answers.Answer.TheVariants.{Construct as ConstructAnswer}
 use Rattle.batcher_histories.specs.Answers.{MayAnswer}
-use Rattle.batcher_votes.specs.Held.{of_kind, Held}
+use Rattle.batcher_votes.specs.RoundState.{of_kind, RoundState}
 use Rattle.batcher_histories.specs.History.{Event, History}
 use Rattle.batcher_types.specs.Lists.{count}
 use Rattle.batcher_histories.specs.Selection.{is_restored, fixing_evidence, is_certified, selected_proposal}
-use Rattle.batcher_histories.specs.Setting.{Setting, quorum_in}
-use Rattle.batcher_histories.specs.Standing.{fresh_votes, is_trusted, is_valid, proven_votes, standing_votes, stood_before, trials, waiting_votes, was_invalid}
-use Rattle.batcher_histories.specs.Stands.{tries_kind}
-use Rattle.batcher_votes.specs.Tracking.{is_skipped}
-use Rattle.batcher_histories.specs.Trying.{Attempt, AttemptAfter, left_verified, votes_checked}
-use Rattle.batcher_types.specs.Votes.{is_of_kind, proposal_in, subject_certified, subject_of, waits}
+use Rattle.batcher_histories.specs.Config.{Config, quorum_in}
+use Rattle.batcher_histories.specs.Eligible.{fresh_votes, is_trusted, is_valid, proven_votes, eligible_votes, was_eligible, trials, eligible_among, was_invalid}
+use Rattle.batcher_histories.specs.Represents.{tries_kind}
+use Rattle.batcher_votes.specs.TrackerSteps.{is_skipped}
+use Rattle.batcher_histories.specs.Attempts.{Attempt, AttemptAfter, left_verified, votes_checked}
+use Rattle.batcher_types.specs.Votes.{is_of_kind, proposal_in, subject_certified, subject_of, is_eligible}
 use Rattle.batcher_types.proofs.VoteLemmas.{same_subject-true, same_proposal-true}
-use Rattle.batcher_types.proofs.CountLemmas.{count-append, count-false, count-filter_le, count-true, count_same, keeps_all, length_same}
+use Rattle.batcher_types.proofs.CountLemmas.{count-append, count-false, count-filter_le, count-true, count_same, keeps_all, length_same, count-filter}
 use Rattle.batcher_histories.specs.FirstVotes.{first_votes}
-use Rattle.batcher_histories.proofs.History.Distinct.{count-filter, option_cases}
+use Rattle.batcher_histories.proofs.History.Distinct.{option_cases}
 use Rattle.batcher_histories.proofs.History.Attempts.{given_certified, witnessed}
-use Rattle.batcher_histories.proofs.Follow.Buffers.{open_trial, pending_follow, verified_follow}
-use Rattle.batcher_histories.proofs.Follow.Evidence.{IsEvidence, none_is_restored}
-use Rattle.batcher_histories.proofs.Follow.Frame.{no_evidence, none_back}
-use Rattle.batcher_promises.proofs.Quorums.Held.{Holds}
+use Rattle.batcher_histories.proofs.Simulation.Buffers.{open_trial, pending_follow, verified_follow}
+use Rattle.batcher_histories.proofs.Simulation.Evidence.{IsEvidence, none_is_restored}
+use Rattle.batcher_histories.proofs.Simulation.Frame.{no_evidence, none_back}
+use Rattle.batcher_promises.proofs.Quorums.Buffers.{Holds}
 use Rattle.batcher_histories.proofs.History.Laws.{HasLaws}
-use Rattle.batcher_histories.proofs.Follow.Settled.{constructed}
-use Rattle.batcher_histories.proofs.Follow.Staying.{pending_left, verified_left}
+use Rattle.batcher_histories.proofs.Simulation.Settled.{constructed}
+use Rattle.batcher_histories.proofs.Simulation.Staying.{pending_left, verified_left}
 
 at_most : {a b c d : ℕ} → a ≡ b → b ≤ c → c ≡ d → a ≤ d
 at_most p q r = omega (arith, p, q, r)
@@ -45,55 +46,52 @@ at_most p q r = omega (arith, p, q, r)
 filter_shorter : {X : Type 0} (p : X → Bool) (xs : List X) → length (filter p xs) ≤ length xs
 filter_shorter p xs = omega (arith, count-true xs, count-true (filter p xs), count-filter_le (λ _. true) p xs)
 
-module _ {D K G C : Type 0} (x : Setting D K G C) where
+module _ {D K G C : Type 0} (x : Config D K G C) where
   -- WHAT IS RESTORED
-  -- no standing vote fails to wait
+  -- no eligible vote fails to wait
   unwaiting_none : (past : History D K G C) (kind : Kind)
-      → count (λ v. not (waits x.same_digest (selected_proposal x past) v))
-      (standing_votes x past kind) ≡ 0
+      → count (λ v. not (is_eligible x.same_digest (selected_proposal x past) v))
+      (eligible_votes x past kind) ≡ 0
   unwaiting_none past kind =
       cond_both (is_certified past kind || is_skipped x.mode) [] (filter w (filter (is_of_kind kind) (first_votes x past)))
       (λ votes. count (λ v. not (w v)) votes ≡ 0)
       (λ _. refl)
       (λ _. count-filter (λ v. not (w v)) w (filter (is_of_kind kind) (first_votes x past))
-      ∙ (count_same _ (λ _. false) (filter (is_of_kind kind) (first_votes x past)) (λ v. never_both (w v))
+      ∙ (count_same _ (λ _. false) (filter (is_of_kind kind) (first_votes x past)) (λ v. and-not_self (w v))
       ∙ count-false (filter (is_of_kind kind) (first_votes x past))))
     where
       w : Vote G D → Bool
-      w v = waits x.same_digest (selected_proposal x past) v
-
-      never_both : (b : Bool) → (b && not b) ≡ false
-      never_both true = refl
-      never_both false = refl
+      w v = is_eligible x.same_digest (selected_proposal x past) v
 
   -- each vote that an attempt looks at waits
   pub looked_wait : (past : History D K G C) (kind : Kind) (batch : Batch (Certificate C D))
       (after : AttemptAfter x past kind batch) →
-      count (λ v. not (waits x.same_digest (selected_proposal x past) v))
+      count (λ v. not (is_eligible x.same_digest (selected_proposal x past) v))
       (after.verified ++ votes_checked (quorum_in x) after.verified after.pending) ≡ 0
   looked_wait past kind batch after =
       none_more (count-append t after.verified (votes_checked (quorum_in x) after.verified after.pending))
-      (after.verified_are t) (count-filter_le t (λ v. (is_trusted x past v || stood_before (trials x past) v) && not (was_invalid (trials x past) v))
-      (standing_votes x past kind))
+      (after.verified_are t) (count-filter_le t (λ v. (is_trusted x past v || was_eligible (trials x past) v) && not (was_invalid (trials x past) v))
+      (eligible_votes x past kind))
       (cond_both (nat_le (quorum_in x) (length after.verified)) [] after.pending (λ votes. count t votes ≤ count t after.pending) (λ _. omega arith)
       (λ _. omega arith))
-      (after.pending_are t) (count-filter_le t (λ v. not (is_trusted x past v || stood_before (trials x past) v)) (standing_votes x past kind))
+      (after.pending_are t) (count-filter_le t (λ v. not (is_trusted x past v || was_eligible (trials x past) v)) (eligible_votes x past kind))
       (unwaiting_none past kind)
     where
       t : Vote G D → Bool
-      t v = not (waits x.same_digest (selected_proposal x past) v)
+      t v = not (is_eligible x.same_digest (selected_proposal x past) v)
 
       none_more : {all v c p n f s : ℕ} → all ≡ v + c → v ≡ n → n ≤ s → c ≤ p → p ≡ f → f ≤ s → s
           ≡ 0 → all ≡ 0
       none_more a b d e g h i = omega (arith, a, b, d, e, g, h, i)
 
   -- what a waiting vote carries is the selected proposal, where one is selected
-  pub waiting_evidence : HasLaws x → (past : History D K G C) (v : Vote G D)
-      → waits x.same_digest (selected_proposal x past) v ≡ true
+  pub eligible_evidence : HasLaws x → (past : History D K G C) (v : Vote G D)
+      → is_eligible x.same_digest (selected_proposal x past) v ≡ true
       → IsEvidence x past (proposal_in (subject_of v))
-  waiting_evidence lawful past v = by_selected (selected_proposal x past) v
+  eligible_evidence lawful past v = by_selected (selected_proposal x past) v
     where
-      by_selected : (o : Option (Proposal D)) (u : Vote G D) → waits x.same_digest o u ≡ true →
+      by_selected : (o : Option (Proposal D)) (u : Vote G D) → is_eligible x.same_digest o u
+          ≡ true →
           (proposal_in (subject_of u) ≡ None)
           ⊎ ((p : Proposal D) × ((proposal_in (subject_of u) ≡ Some p)
           × ((o ≡ None) ⊎ (o ≡ Some p))))
@@ -110,13 +108,14 @@ module _ {D K G C : Type 0} (x : Setting D K G C) where
       → IsEvidence x past (proposal_in (subject_certified c))
   given_evidence lawful past kind batch c after given =
       let w = witnessed x lawful past kind after.verified after.pending batch c after.attempt after.verified_are after.pending_are given in
-      let first_waits : waits x.same_digest (selected_proposal x past) w.vote ≡ true =
-      (keeps_all (waits x.same_digest (selected_proposal x past) w.vote) (count (λ u. not (waits x.same_digest (selected_proposal x past) u)) w.rest)
-      (sym (ap (count (λ u. not (waits x.same_digest (selected_proposal x past) u))) w.looked_at) ∙ looked_wait past kind batch after)).0 in
+      let first_eligible : is_eligible x.same_digest (selected_proposal x past) w.vote ≡ true =
+      (keeps_all (is_eligible x.same_digest (selected_proposal x past) w.vote)
+      (count (λ u. not (is_eligible x.same_digest (selected_proposal x past) u)) w.rest)
+      (sym (ap (count (λ u. not (is_eligible x.same_digest (selected_proposal x past) u))) w.looked_at) ∙ looked_wait past kind batch after)).0 in
       let same : subject_of w.vote ≡ subject_certified c =
       sym (same_subject-true x.same_digest lawful.digests_equal w.subject (subject_of w.vote) w.of_vote)
       ∙ same_subject-true x.same_digest lawful.digests_equal w.subject (subject_certified c) w.of_certificate in
-      subst (λ (s : Subject D). IsEvidence x past (proposal_in s)) same (waiting_evidence lawful past w.vote first_waits)
+      subst (λ (s : Subject D). IsEvidence x past (proposal_in s)) same (eligible_evidence lawful past w.vote first_eligible)
 
   -- so it brings no vote back.
   given_back : HasLaws x → (past : History D K G C) (kind : Kind)
@@ -160,14 +159,14 @@ module _ {D K G C : Type 0} (x : Setting D K G C) where
       a.way
 
   -- no more than those of a list wait
-  waiting_fewer : (now : History D K G C) (kind : Kind) (votes : List (Vote G D))
-      → length (waiting_votes x now kind votes) ≤ length votes
-  waiting_fewer now kind votes =
-      cond_both (is_certified now kind || is_skipped x.mode) [] (filter (waits x.same_digest (selected_proposal x now)) votes)
+  eligible_fewer : (now : History D K G C) (kind : Kind) (votes : List (Vote G D))
+      → length (eligible_among x now kind votes) ≤ length votes
+  eligible_fewer now kind votes =
+      cond_both (is_certified now kind || is_skipped x.mode) [] (filter (is_eligible x.same_digest (selected_proposal x now)) votes)
       (λ left. length left ≤ length votes)
-      (λ _. omega arith) (λ _. filter_shorter (waits x.same_digest (selected_proposal x now)) votes)
+      (λ _. omega arith) (λ _. filter_shorter (is_eligible x.same_digest (selected_proposal x now)) votes)
 
-module _ {D K G C : Type 0} (x : Setting D K G C) (lawful : HasLaws x) (past : History D K G C)
+module _ {D K G C : Type 0} (x : Config D K G C) (lawful : HasLaws x) (past : History D K G C)
     (answer : Option (Batch (Certificate C D)))
     (may : MayAnswer x past ConstructCall (ConstructAnswer answer)) (holds : Holds x past answer)
   where
@@ -177,7 +176,7 @@ module _ {D K G C : Type 0} (x : Setting D K G C) (lawful : HasLaws x) (past : H
     abbrev then : History D K G C
     then = event ∷ past
 
-    abbrev held : Held G D
+    abbrev held : RoundState G D
     held = holds.held
 
     -- what is fresh and proven then is of what is left in the buffers
@@ -185,9 +184,9 @@ module _ {D K G C : Type 0} (x : Setting D K G C) (lawful : HasLaws x) (past : H
         → length (fresh_votes x then kind) ≤ length (cond b [] (of_kind held.buffered.pending kind))
     fresh_left kind b tries =
         at_most
-        (sym (length_same _ _ (pending_follow x lawful past held ConstructCall (ConstructAnswer answer) kind holds.stands may))
+        (sym (length_same _ _ (pending_follow x lawful past held ConstructCall (ConstructAnswer answer) kind holds.represents may))
         ∙ ap length (pending_left x past held answer (none_returns x lawful past answer may) kind))
-        (waiting_fewer x then kind (cond (tries_kind x past event.1 kind) [] (of_kind held.buffered.pending kind)))
+        (eligible_fewer x then kind (cond (tries_kind x past event.1 kind) [] (of_kind held.buffered.pending kind)))
         (ap (λ t. length (cond t [] (of_kind held.buffered.pending kind))) tries)
 
     proven_left : (kind : Kind) (b : Bool) → tries_kind x past event.1 kind ≡ b →
@@ -196,9 +195,9 @@ module _ {D K G C : Type 0} (x : Setting D K G C) (lawful : HasLaws x) (past : H
         (of_kind held.buffered.pending kind)) (of_kind held.buffered.verified kind))
     proven_left kind b tries =
         at_most
-        (sym (length_same _ _ (verified_follow x lawful past held ConstructCall (ConstructAnswer answer) kind holds.stands may holds.buffers))
+        (sym (length_same _ _ (verified_follow x lawful past held ConstructCall (ConstructAnswer answer) kind holds.represents may holds.buffers))
         ∙ ap length (verified_left x past held answer (none_returns x lawful past answer may) kind))
-        (waiting_fewer x then kind (cond (tries_kind x past event.1 kind)
+        (eligible_fewer x then kind (cond (tries_kind x past event.1 kind)
         (left_verified x (of_kind held.buffered.verified kind) (of_kind held.buffered.pending kind)) (of_kind held.buffered.verified kind)))
         (ap (λ t. length (cond t (left_verified x (of_kind held.buffered.verified kind) (of_kind held.buffered.pending kind))
         (of_kind held.buffered.verified kind))) tries)
@@ -206,11 +205,11 @@ module _ {D K G C : Type 0} (x : Setting D K G C) (lawful : HasLaws x) (past : H
     -- A kind that isn't tried has no more fresh and proven votes than before.
     pub untried_fresh : (kind : Kind) → tries_kind x past event.1 kind ≡ false
         → length (fresh_votes x then kind) ≤ length (fresh_votes x past kind)
-    untried_fresh kind none = omega (arith, fresh_left kind false none, length_same _ _ (holds.stands.each_kind kind).pending_are)
+    untried_fresh kind none = omega (arith, fresh_left kind false none, length_same _ _ (holds.represents.each_kind kind).pending_are)
 
     pub untried_proven : (kind : Kind) → tries_kind x past event.1 kind ≡ false
         → length (proven_votes x then kind) ≤ length (proven_votes x past kind)
-    untried_proven kind none = omega (arith, proven_left kind false none, length_same _ _ (holds.stands.each_kind kind).verified_are)
+    untried_proven kind none = omega (arith, proven_left kind false none, length_same _ _ (holds.represents.each_kind kind).verified_are)
 
     -- One that is tried, and isn't certified then, has no fresh votes and too few proven ones.
     pub tried_fresh : (kind : Kind) → tries_kind x past event.1 kind ≡ true
@@ -221,11 +220,11 @@ module _ {D K G C : Type 0} (x : Setting D K G C) (lawful : HasLaws x) (past : H
         → is_certified then kind
         ≡ false → length (proven_votes x then kind) < quorum_in x
     tried_proven kind tries still =
-        let o = open_trial x lawful past held event kind holds.stands may holds.buffers tries still in
+        let o = open_trial x lawful past held event kind holds.represents may holds.buffers tries still in
         let none : is_some o.batch.certificate ≡ false = false_from_ne_true _ (λ some. true≢false
         (sym (given_certified x lawful past ConstructCall (ConstructAnswer answer) kind (of_kind held.buffered.verified kind)
         (of_kind held.buffered.pending kind)
-        o.batch may o.given o.tried (holds.stands.each_kind kind).verified_are (holds.stands.each_kind kind).pending_are some)
+        o.batch may o.given o.tried (holds.represents.each_kind kind).verified_are (holds.represents.each_kind kind).pending_are some)
         ∙ still)) in
         let short : length (left_verified x (of_kind held.buffered.verified kind) (of_kind held.buffered.pending kind))
         < quorum_in x = left_short x (of_kind held.buffered.verified kind) (of_kind held.buffered.pending kind) o.batch o.tried none in

@@ -13,14 +13,15 @@ use Rattle.batcher_histories.specs.FirstVotes.{first_vote, first_votes}
 use Rattle.batcher_histories.specs.History.{History, batch_given}
 use Rattle.batcher_types.specs.Lists.{count}
 use Rattle.batcher_histories.specs.Selection.{is_certified, selected_proposal}
-use Rattle.batcher_histories.specs.Setting.{Setting, quorum_in}
-use Rattle.batcher_histories.specs.Standing.{counted_votes, fresh_votes, is_among, is_counted, is_ready_by, is_trusted, is_valid, proven_votes, stood_before, trials, valid_votes, was_invalid}
-use Rattle.batcher_histories.specs.Stands.{tries_kind}
-use Rattle.batcher_votes.specs.Tracking.{is_skipped}
-use Rattle.batcher_types.specs.Votes.{has_proposals, is_of_kind, kind_of, signer_of, waits}
-use Rattle.batcher_types.proofs.CountLemmas.{count-true}
+use Rattle.batcher_histories.specs.Config.{Config, quorum_in}
+use Rattle.batcher_histories.specs.Eligible.{counted_votes, fresh_votes, is_among, is_counted, is_ready_by, is_trusted, is_valid, proven_votes, was_eligible, trials, valid_votes, was_invalid}
+use Rattle.batcher_histories.specs.Represents.{tries_kind}
+use Rattle.batcher_votes.specs.TrackerSteps.{is_skipped}
+use Rattle.batcher_types.specs.Votes.{has_proposals, is_of_kind, kind_of, signer_of, is_eligible}
+use Rattle.batcher_types.proofs.CountLemmas.{count-true, count-filter}
 use Rattle.batcher_types.proofs.ListLemmas.{either_same, filter_none}
-use Rattle.batcher_histories.proofs.History.Distinct.{AreApart, IsAt, count-filter, firsts_apart, first_stays, found_behind, found_here, is_kind-true, some_of, where_holds}
+use Rattle.batcher_types.proofs.KindLemmas.{is_kind-true}
+use Rattle.batcher_histories.proofs.History.Distinct.{AreApart, IsAt, firsts_apart, first_stays, found_behind, found_here, some_of, where_holds}
 use Rattle.batcher_histories.proofs.History.Attempts.{found_among, invalid_tried, is_fresh_bad, quorum_positive, tries_by}
 use Rattle.batcher_histories.proofs.History.Laws.{HasLaws}
 use Rattle.batcher_histories.proofs.History.Past.{count_fresh, count_proven, invalid_after, invalid_in, tried_filled}
@@ -58,7 +59,7 @@ enough_of batchable q p f h =
     (λ part. rw (part, lt-ltb 0 f (omega (arith, h, leb-false q p part)), le-leb q (p + f) h) (or_right (not batchable) true refl))
     (cases_Bool (nat_le q p))
 
-module _ {D K G C : Type 0} (x : Setting D K G C) where
+module _ {D K G C : Type 0} (x : Config D K G C) where
   -- A first vote that was found invalid doesn't attest.
   pub invalid_are_bad : (past : History D K G C) → IsPossible x past → (v : Vote G D)
       → IsAt (first_votes x past) v → was_invalid (trials x past) v ≡ true → is_valid x v ≡ false
@@ -84,15 +85,16 @@ module _ {D K G C : Type 0} (x : Setting D K G C) where
           let bad = found_among x past (kind_of v) (signer_of v) t.after.verified t.after.pending t.batch t.after.attempt t.after.pending_are named in
           let w = where_holds (is_fresh_bad x past) (first_vote x past (kind_of v) (signer_of v)) bad.1 in
           let same : w.0 ≡ v = same_Some w.0 v (sym (first_stays x past event (kind_of v) (signer_of v) w.0 w.1) ∙ found) in
-          let unproven = (and_parts (waits x.same_digest (selected_proposal x past) w.0)
-          (not (is_trusted x past w.0 || stood_before (trials x past) w.0) && not (is_valid x w.0)) w.2).1 in
-          let not_valid = (and_parts (not (is_trusted x past w.0 || stood_before (trials x past) w.0)) (not (is_valid x w.0)) unproven).1 in
+          let unproven = (and_parts (is_eligible x.same_digest (selected_proposal x past) w.0)
+          (not (is_trusted x past w.0 || was_eligible (trials x past) w.0) && not (is_valid x w.0)) w.2).1 in
+          let not_valid = (and_parts (not (is_trusted x past w.0 || was_eligible (trials x past) w.0)) (not (is_valid x w.0)) unproven).1 in
           ap (is_valid x) (sym same) ∙ not-true (is_valid x w.0) not_valid
 
-  counted_waits : (selected : Option (Proposal D)) (v : Vote G D) → is_counted x selected v ≡ true
-      → waits x.same_digest selected v ≡ true
-  counted_waits None v h = refl
-  counted_waits (Some p) v h = h
+  counted_eligible : (selected : Option (Proposal D)) (v : Vote G D) → is_counted x selected v
+      ≡ true
+      → is_eligible x.same_digest selected v ≡ true
+  counted_eligible None v h = refl
+  counted_eligible (Some p) v h = h
 
   -- in a skipped round none counts
   pub skipped_counts : (past : History D K G C) (kind : Kind) → is_skipped x.mode ≡ true
@@ -120,9 +122,9 @@ module _ {D K G C : Type 0} (x : Setting D K G C) where
       (sym (count-true (proven_votes x past kind)) ∙ count_proven x past kind (λ _. true) still)
       (sym (count-true (fresh_votes x past kind)) ∙ count_fresh x past kind (λ _. true) still)
       (count_covered _ _ _ (first_votes x past) (firsts_apart x past) (λ v found.
-      valid_table (is_of_kind kind v) (is_counted x (selected_proposal x past) v) (waits x.same_digest (selected_proposal x past) v) (is_valid x v)
-      (is_trusted x past v || stood_before (trials x past) v) (was_invalid (trials x past) v)
-      (counted_waits (selected_proposal x past) v) (invalid_are_bad past possible v found)))
+      valid_table (is_of_kind kind v) (is_counted x (selected_proposal x past) v) (is_eligible x.same_digest (selected_proposal x past) v) (is_valid x v)
+      (is_trusted x past v || was_eligible (trials x past) v) (was_invalid (trials x past) v)
+      (counted_eligible (selected_proposal x past) v) (invalid_are_bad past possible v found)))
     where
       still : (is_certified past kind || is_skipped x.mode) ≡ false
       still = rw (uncertified, runs) refl

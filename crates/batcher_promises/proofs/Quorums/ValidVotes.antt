@@ -12,30 +12,31 @@ use Rattle.batcher_types.specs.declared.messages.Vote.{Vote}
 use Rattle.batcher_types.specs.declared.messages.Kind.{Kind}
 use Rattle.batcher_types.specs.declared.messages.Certificate.{Certificate}
 use Rattle.batcher_votes.specs.declared.verifier.Batch.{Batch}
-use Rattle.batcher_histories.specs.Setting.{Setting, quorum_in}
+use Rattle.batcher_histories.specs.Config.{Config, quorum_in}
 use Rattle.batcher_types.specs.Lists.{count, is_some_and}
-use Rattle.batcher_types.specs.Votes.{kind_of, kind_certified, has_proposals, is_of_kind, is_for, waits}
+use Rattle.batcher_types.specs.Votes.{kind_of, kind_certified, has_proposals, is_of_kind, is_for, is_eligible}
 use Rattle.batcher_types.proofs.CountLemmas.{count-append, count-true, count-filter_le, filter_all, none_fails}
 use Rattle.batcher_types.proofs.ListLemmas.{filter_twice}
-use Rattle.batcher_votes.specs.Selected.{proposal_of}
-use Rattle.batcher_votes.specs.Tracking.{is_skipped}
+use Rattle.batcher_types.proofs.KindLemmas.{is_kind-true}
+use Rattle.batcher_votes.specs.ProposalStates.{proposal_of}
+use Rattle.batcher_votes.specs.TrackerSteps.{is_skipped}
 use Rattle.batcher_histories.specs.History.{History, certificate_given}
 use Rattle.batcher_histories.specs.FirstVotes.{first_votes}
 use Rattle.batcher_histories.specs.Selection.{selected_proposal, is_certified, fixing_evidence}
-use Rattle.batcher_histories.specs.Standing.{is_valid, is_counted, counted_votes, valid_votes, standing_votes, proven_votes, fresh_votes}
+use Rattle.batcher_histories.specs.Eligible.{is_valid, is_counted, counted_votes, valid_votes, eligible_votes, proven_votes, fresh_votes}
 use Rattle.batcher_histories.specs.Answers.{IsPossible}
-use Rattle.batcher_promises.specs.Backed.{proposal_certified}
-use Rattle.batcher_promises.specs.Prompt.{HasNoBadVote}
-use Rattle.batcher_promises.specs.Converge.{is_settled}
+use Rattle.batcher_promises.specs.Backing.{proposal_certified}
+use Rattle.batcher_promises.specs.CertificateTiming.{HasNoBadVote}
+use Rattle.batcher_promises.specs.OrderIndependence.{is_settled}
 use Rattle.batcher_histories.proofs.History.Laws.{HasLaws}
-use Rattle.batcher_histories.proofs.History.Distinct.{option_cases, some_of, is_kind-true}
-use Rattle.batcher_histories.proofs.History.Past.{closed_is_empty, open_waits}
+use Rattle.batcher_histories.proofs.History.Distinct.{option_cases, some_of}
+use Rattle.batcher_histories.proofs.History.Past.{closed_is_empty, open_eligible}
 use Rattle.batcher_histories.proofs.History.Attempts.{quorum_positive}
 use Rattle.batcher_promises.proofs.Headline.Attesting.{usable_within}
-use Rattle.batcher_histories.proofs.Follow.Evidence.{IsEvidence}
+use Rattle.batcher_histories.proofs.Simulation.Evidence.{IsEvidence}
 use Rattle.batcher_promises.proofs.Quorums.Left.{given_evidence}
-use Rattle.batcher_histories.proofs.Follow.Settled.{constructed, selection_then, evidence_selects}
-use Rattle.batcher_promises.proofs.Certificates.Backed.{gave}
+use Rattle.batcher_histories.proofs.Simulation.Settled.{constructed, selection_then, evidence_selects}
+use Rattle.batcher_promises.proofs.Certificates.Backing.{gave}
 
 -- by whether a vote is of a kind, and then carries no proposal
 by_kind : (k n c : Bool) → (k ≡ true → n ≡ true) → (k && (n || c)) ≡ k
@@ -43,7 +44,7 @@ by_kind true true c h = refl
 by_kind true false c h = absurd (false≢true (h refl))
 by_kind false n c h = refl
 
-module _ {D K G C : Type 0} (x : Setting D K G C) (kind : Kind) where
+module _ {D K G C : Type 0} (x : Config D K G C) (kind : Kind) where
   -- Votes that carry no proposal all count and wait.
   all_count : not (has_proposals kind) ≡ true → (selected : Option (Proposal D)) (v : Vote G D)
       → (is_of_kind kind v && is_counted x selected v) ≡ is_of_kind kind v
@@ -53,7 +54,7 @@ module _ {D K G C : Type 0} (x : Setting D K G C) (kind : Kind) where
 
   waiting_count : (selected : Option (Proposal D))
       → (not (has_proposals kind) || is_some selected) ≡ true → (v : Vote G D)
-      → (is_of_kind kind v && waits x.same_digest selected v)
+      → (is_of_kind kind v && is_eligible x.same_digest selected v)
       ≡ (is_of_kind kind v && is_counted x selected v)
   waiting_count (Some p) settled v = refl
   waiting_count None settled v =
@@ -63,7 +64,7 @@ module _ {D K G C : Type 0} (x : Setting D K G C) (kind : Kind) where
       carry_none h = ⊎_elim (λ yes. yes) (λ no. absurd (false≢true no)) (or_cases _ false h)
 
 -- WHAT A CONSTRUCTION LEAVES AS IT IS
-module _ {D K G C : Type 0} (x : Setting D K G C) (laws : HasLaws x) (past : History D K G C)
+module _ {D K G C : Type 0} (x : Config D K G C) (laws : HasLaws x) (past : History D K G C)
     (given : Option (Batch (Certificate C D))) (possible : IsPossible x (constructed x past given ∷ past)) where
   gives_evidence : IsEvidence x past (fixing_evidence (constructed x past given))
   gives_evidence =
@@ -115,14 +116,14 @@ module _ {D K G C : Type 0} (x : Setting D K G C) (laws : HasLaws x) (past : His
       counts o v = is_of_kind kind v && is_counted x o v
 
 -- WHERE NO BAD VOTE WAS ACCEPTED
-module _ {D K G C : Type 0} (x : Setting D K G C) (laws : HasLaws x) (past : History D K G C)
+module _ {D K G C : Type 0} (x : Config D K G C) (laws : HasLaws x) (past : History D K G C)
     (possible : IsPossible x past) (kind : Kind) (settled : is_settled x past kind ≡ true) where
-  -- the standing votes of an open kind that is settled are the counted ones
-  standing_count : (is_certified past kind || is_skipped x.mode) ≡ false
-      → standing_votes x past kind ≡ counted_votes x past kind
-  standing_count still =
-      open_waits x past kind (filter (is_of_kind kind) (first_votes x past)) still
-      ∙ (filter_twice (waits x.same_digest (selected_proposal x past)) (is_of_kind kind) (first_votes x past)
+  -- the eligible votes of an open kind that is settled are the counted ones
+  eligible_count : (is_certified past kind || is_skipped x.mode) ≡ false
+      → eligible_votes x past kind ≡ counted_votes x past kind
+  eligible_count still =
+      open_eligible x past kind (filter (is_of_kind kind) (first_votes x past)) still
+      ∙ (filter_twice (is_eligible x.same_digest (selected_proposal x past)) (is_of_kind kind) (first_votes x past)
       ∙ (filter_agree _ counts (waiting_count x kind (selected_proposal x past) settled) (first_votes x past)
       ∙ sym (ap (λ b. cond b [] (filter counts (first_votes x past))) (or_parts (is_certified past kind) (is_skipped x.mode) still).1)))
     where
@@ -156,10 +157,10 @@ module _ {D K G C : Type 0} (x : Setting D K G C) (laws : HasLaws x) (past : His
         arith,
         reaches,
         ap length (all_valid clean),
-        ap length (standing_count still),
+        ap length (eligible_count still),
         usable_within x past kind (λ _. true),
         count-append (λ _. true) (fresh_votes x past kind) (proven_votes x past kind),
-        count-true (standing_votes x past kind),
+        count-true (eligible_votes x past kind),
         count-true (proven_votes x past kind),
         count-true (fresh_votes x past kind),
       )

@@ -3,45 +3,45 @@ use Rattle.std.proofs.Common.{◌++◌, ◌∷◌, [], List, refl, sym, subst}
 use Rattle.rand_core.specs.Stream.{Stream}
 use Rattle.batcher_histories.specs.declared.calls.Call.{Call}
 use Rattle.batcher_histories.specs.declared.answers.Answer.{Answer}
-use Rattle.batcher_histories.specs.Setting.{Setting}
-use Rattle.batcher_votes.specs.Held.{Held}
+use Rattle.batcher_histories.specs.Config.{Config}
+use Rattle.batcher_votes.specs.RoundState.{RoundState}
 use Rattle.batcher_histories.specs.Steps.{nothing_held}
 use Rattle.batcher_histories.specs.Runs.{Steps, Runs}
 use Rattle.batcher_histories.specs.History.{History, history}
 use Rattle.batcher_histories.specs.Answers.{IsPossible, IsAnswered, AreAnswered}
-use Rattle.batcher_histories.specs.Stands.{Stands, Meets}
-use Rattle.batcher_promises.specs.Ran.{IsPromised, IsRun}
+use Rattle.batcher_histories.specs.Represents.{Represents, Meets}
+use Rattle.batcher_promises.specs.RunContract.{IsPromised, IsRun}
 use Rattle.batcher_histories.proofs.History.Laws.{HasLaws}
-use Rattle.batcher_histories.proofs.Shown.AtFirst.{fresh_stands}
-use Rattle.batcher_promises.proofs.Runs.Histories.{meets_stands, history-push, answered-push}
+use Rattle.batcher_histories.proofs.KnownLemmas.AtFirst.{fresh_represents}
+use Rattle.batcher_promises.proofs.Runs.Histories.{meets_represents, history-push, answered-push}
 use Rattle.batcher_promises.proofs.Runs.Grown.{Runs-push}
 use Rattle.batcher_promises.proofs.Headline.Promises.{promised}
 use Rattle.batcher_promises.proofs.Certificates.Agree.{gives_safely}
-use Rattle.batcher_promises.proofs.Certificates.Prompt.{gives_promptly}
+use Rattle.batcher_promises.proofs.Certificates.Timing.{gives_promptly}
 use Rattle.batcher_promises.proofs.Blocks.Blocked.{blocks_justly}
 use Rattle.batcher_promises.proofs.Blocks.Caused.{blocked_for_cause_all}
 use Rattle.batcher_promises.proofs.Blocks.Reported.{reports_truly}
 use Rattle.batcher_promises.proofs.Blocks.Honest.{takes_in_honest}
 use Rattle.batcher_promises.proofs.Blocks.Flood.{flood_bounded}
-use Rattle.batcher_promises.proofs.Throughout.Told.{answered_conflicts}
-use Rattle.batcher_promises.proofs.Throughout.Composed.{holds_throughout}
-use Rattle.batcher_promises.proofs.Throughout.ByDefinition.{follows_by_definition}
+use Rattle.batcher_promises.proofs.AnswerFacts.Told.{answered_conflicts}
+use Rattle.batcher_promises.proofs.AnswerFacts.Facts.{holds_throughout}
+use Rattle.batcher_promises.proofs.AnswerFacts.ByDefinition.{follows_by_definition}
 
 -- what stays true of a run while it goes on
-pub record Goes {D K G C : Type 0} (x : Setting D K G C) (before : Stream)
-    (calls : List (Call K G C D)) (answers : List (Answer G C D)) (held : Held G D) (after : Stream)
+pub record Goes {D K G C : Type 0} (x : Config D K G C) (before : Stream)
+    (calls : List (Call K G C D)) (answers : List (Answer G C D)) (held : RoundState G D) (after : Stream)
     : Type 0 where
   pub runs : Runs x (nothing_held x.mode) before calls answers held after
-  pub stands : Stands x (history calls answers) held
+  pub represents : Represents x (history calls answers) held
   pub answered : AreAnswered x [] calls answers
 
-module _ {D K G C : Type 0} (x : Setting D K G C) where
+module _ {D K G C : Type 0} (x : Config D K G C) where
   pub goes_first : (before : Stream) → Goes x before [] [] (nothing_held x.mode) before
-  goes_first before = record { runs = (refl, refl); stands = fresh_stands x; answered = tt }
+  goes_first before = record { runs = (refl, refl); represents = fresh_represents x; answered = tt }
 
   pub goes_more : (before : Stream) (calls : List (Call K G C D)) (answers : List (Answer G C D))
-      (held : Held G D) (stream : Stream) (call : Call K G C D) (answer : Answer G C D)
-      (new : Held G D) (after : Stream) →
+      (held : RoundState G D) (stream : Stream) (call : Call K G C D) (answer : Answer G C D)
+      (new : RoundState G D) (after : Stream) →
       Goes x before calls answers held stream → Steps x held stream call answer new after
       → Meets x (history calls answers) held (call, answer) new
       → IsAnswered x (history calls answers) call answer →
@@ -49,9 +49,9 @@ module _ {D K G C : Type 0} (x : Setting D K G C) where
   goes_more before calls answers held stream call answer new after goes step meets answered =
       record {
         runs = Runs-push x (nothing_held x.mode) before calls answers held stream call answer new after goes.runs step;
-        stands =
-            subst (λ past. Stands x past new) (sym (history-push x [] calls answers call answer goes.answered))
-            (meets_stands x (history calls answers) held call answer new goes.stands meets);
+        represents =
+            subst (λ past. Represents x past new) (sym (history-push x [] calls answers call answer goes.answered))
+            (meets_represents x (history calls answers) held call answer new goes.represents meets);
         answered = answered-push x [] calls answers call answer goes.answered answered;
       }
 
@@ -71,14 +71,14 @@ module _ {D K G C : Type 0} (x : Setting D K G C) where
       }
 
   pub goes_to : HasLaws x → (before : Stream) (calls : List (Call K G C D))
-      (answers : List (Answer G C D)) (held : Held G D) (after : Stream)
+      (answers : List (Answer G C D)) (held : RoundState G D) (after : Stream)
       → Goes x before calls answers held after → IsRun x before calls answers held after
   goes_to laws before calls answers held after goes =
       record {
         runs = goes.runs;
-        stands = goes.stands;
+        represents = goes.represents;
         answered = goes.answered;
-        promised = is_promised laws (history calls answers) goes.stands.possible;
+        promised = is_promised laws (history calls answers) goes.represents.possible;
         conflicts_have_cause = answered_conflicts x laws [] calls answers goes.answered;
         blocked_gave_cause = blocked_for_cause_all x laws [] calls answers goes.answered;
         some_participant = laws.some_participant;

@@ -3,14 +3,15 @@ use Rattle.std.proofs.Common.{◌++◌, ◌∷◌, [], List, refl, subst}
 use Rattle.rand_core.specs.Stream.{Stream}
 use Rattle.batcher_histories.specs.declared.calls.Call.{Call}
 use Rattle.batcher_histories.specs.declared.answers.Answer.{Answer}
-use Rattle.batcher_histories.specs.Setting.{Setting}
-use Rattle.batcher_votes.specs.Held.{Held}
+use Rattle.batcher_histories.specs.Config.{Config}
+use Rattle.batcher_votes.specs.RoundState.{RoundState}
 use Rattle.batcher_histories.specs.Runs.{Steps, Runs}
 
-module _ {D K G C : Type 0} (x : Setting D K G C) where
-  pub Runs-push : (old : Held G D) (before : Stream) (calls : List (Call K G C D))
-      (answers : List (Answer G C D)) (middle : Held G D) (stream : Stream) (call : Call K G C D)
-      (answer : Answer G C D) (new : Held G D) (after : Stream)
+module _ {D K G C : Type 0} (x : Config D K G C) where
+  pub Runs-push : (old : RoundState G D) (before : Stream) (calls : List (Call K G C D))
+      (answers : List (Answer G C D)) (middle : RoundState G D) (stream : Stream)
+      (call : Call K G C D)
+      (answer : Answer G C D) (new : RoundState G D) (after : Stream)
       → Runs x old before calls answers middle stream → Steps x middle stream call answer new after
       → Runs x old before (calls ++ call ∷ []) (answers ++ answer ∷ []) new after
   Runs-push old before [] [] middle stream call answer new after h step =

@@ -1,27 +1,27 @@
--- Whole lists of calls: what stands after each, and that each is answered as the history before it
+-- Whole lists of calls: what represents each, and that each is answered as the history before it
 -- says.
 use Rattle.std.proofs.Common.{◌≡◌, Bool, true, false, cond, List, [], ◌∷◌, ◌++◌, refl, sym, subst}
 use Rattle.std.specs.Prelude.{MatchBool}
 use Rattle.batcher_histories.specs.declared.calls.Call.{Call}
 use Rattle.batcher_histories.specs.declared.answers.Answer.{Answer}
-use Rattle.batcher_histories.specs.Setting.{Setting}
-use Rattle.batcher_votes.specs.Held.{Held}
+use Rattle.batcher_histories.specs.Config.{Config}
+use Rattle.batcher_votes.specs.RoundState.{RoundState}
 use Rattle.batcher_histories.specs.History.{History, is_made, history_after, history_from}
 use Rattle.batcher_histories.specs.Answers.{MayAnswer, IsAnswered, AreAnswered}
-use Rattle.batcher_histories.specs.Stands.{Stands, Follows, Meets}
+use Rattle.batcher_histories.specs.Represents.{Represents, Simulates, Meets}
 
-module _ {D K G C : Type 0} (x : Setting D K G C) where
-  -- a call that meets the model leaves what stands after the history with it
-  pub meets_stands : (past : History D K G C) (old : Held G D) (call : Call K G C D)
-      (answer : Answer G C D) (new : Held G D) → Stands x past old
+module _ {D K G C : Type 0} (x : Config D K G C) where
+  -- a call that meets the model leaves what represents the history with it
+  pub meets_represents : (past : History D K G C) (old : RoundState G D) (call : Call K G C D)
+      (answer : Answer G C D) (new : RoundState G D) → Represents x past old
       → Meets x past old (call, answer) new →
-      Stands x (history_after past call answer) new
-  meets_stands past old call answer new stands meets = by_made (is_made answer) meets
+      Represents x (history_after past call answer) new
+  meets_represents past old call answer new represents meets = by_made (is_made answer) meets
     where
-      by_made : (made : Bool) → MatchBool made (Follows x past old (call, answer) new) (new ≡ old)
-          → Stands x (cond made ((call, answer) ∷ past) past) new
-      by_made true follows = follows.stands
-      by_made false same = subst (Stands x past) (sym same) stands
+      by_made : (made : Bool) → MatchBool made (Simulates x past old (call, answer) new) (new ≡ old)
+          → Represents x (cond made ((call, answer) ∷ past) past) new
+      by_made true simulates = simulates.represents
+      by_made false same = subst (Represents x past) (sym same) represents
 
   -- one more call behind others, each with its answer
   pub history-push : (past : History D K G C) (calls : List (Call K G C D))
@@ -45,9 +45,9 @@ module _ {D K G C : Type 0} (x : Setting D K G C) where
   answered-push past (c ∷ calls) (a ∷ answers) call answer before now =
       (before.0, answered-push (history_after past c a) calls answers call answer before.1 now)
 
-module _ {D K G C : Type 0} (x : Setting D K G C) where
+module _ {D K G C : Type 0} (x : Config D K G C) where
   -- A call that is followed is answered as the history names.
-  pub named : {past : History D K G C} {old : Held G D} {call : Call K G C D}
-      {answer : Answer G C D} {new : Held G D} → Follows x past old (call, answer) new →
-      Follows x past old (call, answer) new × MayAnswer x past call answer
-  named follows = (follows, follows.stands.possible.1.1.0)
+  pub named : {past : History D K G C} {old : RoundState G D} {call : Call K G C D}
+      {answer : Answer G C D} {new : RoundState G D} → Simulates x past old (call, answer) new →
+      Simulates x past old (call, answer) new × MayAnswer x past call answer
+  named simulates = (simulates, simulates.represents.possible.1.1.0)

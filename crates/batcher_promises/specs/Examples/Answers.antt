@@ -35,28 +35,28 @@ use Rattle.batcher_histories.specs.declared.answers.Answer.TheVariants.{Network 
 use Rattle.batcher_histories.specs.declared.answers.Answer.TheVariants.{Forward as ForwardAnswer}
 use Rattle.batcher_histories.specs.declared.answers.Answer.TheVariants.{Missing as MissingAnswer}
 use Rattle.batcher_types.specs.Meaning.{Meaning}
-use Rattle.batcher_histories.specs.Setting.{Setting, quorum_in, setting}
+use Rattle.batcher_histories.specs.Config.{Config, quorum_in, config}
 use Rattle.batcher_types.specs.Lists.{count}
 use Rattle.batcher_types.specs.Keys.{participant}
 use Rattle.batcher_types.specs.Votes.{signer_of, subject_of}
 use Rattle.batcher_types.specs.Attempts.{attempt_of}
-use Rattle.batcher_votes.specs.Buffering.{attestations_of, batch_of}
+use Rattle.batcher_votes.specs.VerifierSteps.{attestations_of, batch_of}
 use Rattle.batcher_histories.specs.Admissions.{addition, block_for, refusal, report_of}
-use Rattle.batcher_votes.specs.Held.{PerKind, Held, for_each}
+use Rattle.batcher_votes.specs.RoundState.{PerKind, RoundState, for_each}
 use Rattle.batcher_histories.specs.Steps.{leader_set_answer, report_by}
 use Rattle.batcher_histories.specs.History.{History, history_after, history}
 use Rattle.batcher_histories.specs.Selection.{leader_of, forwards, selection}
-use Rattle.batcher_histories.specs.Standing.{counted_votes, valid_votes, proven_votes, fresh_votes, ready_kind}
-use Rattle.batcher_histories.specs.Stands.{pending_after, verified_after}
+use Rattle.batcher_histories.specs.Eligible.{counted_votes, valid_votes, proven_votes, fresh_votes, ready_kind}
+use Rattle.batcher_histories.specs.Represents.{pending_after, verified_after}
 use Rattle.batcher_promises.specs.Work.{processed_total, votes_accepted_open, own_notarizes_restored}
 use Rattle.batcher_promises.specs.Promises.{AtEachEvent, gave_cause}
-use Rattle.batcher_promises.specs.Composed.{AtEachCall, usable_votes, has_bad_vote, ConflictsWithAnother, ConflictAnswered, ForwardsSelected, ChangesNoFixed, HoldsThroughout}
+use Rattle.batcher_promises.specs.AnswerFacts.{AtEachCall, usable_votes, has_bad_vote, ConflictsWithAnother, ConflictAnswered, ForwardsSelected, ChangesNoFixed, HoldsThroughout}
 use Rattle.batcher_promises.specs.Consequences.{replacements, FollowsByDefinition}
 use Rattle.batcher_promises.specs.Pairs.{blocks, tells_nothing}
 use Rattle.batcher_histories.specs.Answers.{network_answer, own_answer, certificate_answer, forward_after, missing_after, needs_memory}
 
-abbrev pub TinySetting : Type 0
-TinySetting = Setting ℕ ℕ ℕ ℕ
+abbrev pub TinyConfig : Type 0
+TinyConfig = Config ℕ ℕ ℕ ℕ
 
 abbrev pub TinyVote : Type 0
 TinyVote = Vote ℕ ℕ
@@ -97,14 +97,14 @@ listing n =
 abbrev pub the_round : Round
 the_round = record { epoch = record { 0 = 0 }; view = record { 0 = 1 } }
 
-abbrev pub round_of : ℕ → Mode → TinySetting
-round_of n mode = setting (listing n) compare (λ a b. a == b) (λ a b. a == b) the_round mode
+abbrev pub round_of : ℕ → Mode → TinyConfig
+round_of n mode = config (listing n) compare (λ a b. a == b) (λ a b. a == b) the_round mode
 
-abbrev pub four : Mode → TinySetting
+abbrev pub four : Mode → TinyConfig
 four mode = round_of 4 mode
 
 -- of a scheme that verifies votes one by one as they come
-abbrev pub one_by_one : Mode → TinySetting
+abbrev pub one_by_one : Mode → TinyConfig
 one_by_one mode = record (four mode) { meaning = record (listing 4) { batchable = false } }
 
 -- votes and certificates
@@ -183,7 +183,7 @@ only Notarization votes = record { notarize = votes; nullify = []; finalize = []
 only Nullification votes = record { notarize = []; nullify = votes; finalize = [] }
 only Finalization votes = record { notarize = []; nullify = []; finalize = votes }
 
-abbrev pub holding : Kind → List TinyVote → List TinyVote → List TinyVote → Held ℕ ℕ
+abbrev pub holding : Kind → List TinyVote → List TinyVote → List TinyVote → RoundState ℕ ℕ
 holding kind kept pending verified =
     record {
       tracked = record { compacted = for_each false; kept = only kind kept; facts = for_each [] };
@@ -236,7 +236,7 @@ batch processed invalid certificate fallback =
 
 -- what is answered to a call after a history, with the votes of a batch in the order in which they
 -- came
-module _ (x : TinySetting) where
+module _ (x : TinyConfig) where
   abbrev pub attempt_answer : List TinyVote → List TinyVote → List TinyVote → TinyAnswer
   attempt_answer [] verified pending = no_batch
   attempt_answer (vote ∷ votes) verified pending =
@@ -315,7 +315,7 @@ module _ (x : TinySetting) where
   lengths calls kind =
       (length (fresh_votes x (played calls) kind), length (proven_votes x (played calls) kind))
 
-  -- which answers block the sender, and of which pairs of votes facts tell nothing
+  -- which answers block the sender, and of which pairs of votes facts say nothing
   abbrev pub blocking : List TinyCall → List Bool
   blocking calls = map blocks (answers calls)
 
@@ -327,7 +327,7 @@ module _ (x : TinySetting) where
   abbrev pub needs : List TinyCall → List TinyCall → List Bool
   needs calls next = map (needs_memory x (played calls)) next
 
-  abbrev pub buffers_after : List TinyCall → Held ℕ ℕ → TinyCall → Kind → List TinyVote
+  abbrev pub buffers_after : List TinyCall → RoundState ℕ ℕ → TinyCall → Kind → List TinyVote
       × List TinyVote
   buffers_after calls held call kind = (
     pending_after x (played calls) held (call, answer (played calls) call) kind,
@@ -335,7 +335,7 @@ module _ (x : TinySetting) where
         (played calls) held (call, answer (played calls) call) kind,
   )
 
--- Answers that no round gives: after a finalization for P1 a notarization for P2 is told to change
+-- Answers that no round gives: after a finalization for P1 a notarization for P2 is said to change
 -- the
 -- selected proposal, and P2 is handed on; and a repeat is blocked as another vote.
 abbrev pub changed_calls : List TinyCall
@@ -430,7 +430,7 @@ pub record WorkedExamples : Type 0 where
       (finalize 2 2) ∷ own (finalize 3 2) ∷ construct ∷ [])
       ≡ leads ∷ added (notarize 0 1) ∷ added (finalize 1 2) ∷ added (finalize 2 2) ∷ own_added
       (finalize 3 2) ∷ batch 2 [] (Some (finalization 2)) false ∷ []
-  pub own_finalize_waits : lengths (four Retaining)
+  pub own_finalize_eligible : lengths (four Retaining)
       (lead 0 ∷ net 0 (notarize 0 1) ∷ net 1 (finalize 1 2) ∷ net 2 (finalize 2 2) ∷ own
       (finalize 3 2) ∷ []) Finalization ≡ (2, 1)
   -- A released nullify is known to have been seen, and no more.
@@ -486,7 +486,7 @@ pub record WorkedExamples : Type 0 where
       ≡ false ∷ true ∷ false ∷ []
   pub memory_for_a_batch : needs (round_of 1 Retaining) (own (notarize 0 1) ∷ []) (construct ∷ [])
       ≡ true ∷ []
-  -- Votes that are restored stand in the order of their signers, and an own one among the verified.
+  -- Votes that are restored are in the order of their signers, and an own one among the verified.
   pub votes_are_restored_in_order :
       buffers_after (four Retaining) (lead 0 ∷ net 0 (notarize 0 1) ∷ net 2 (finalize 2 2) ∷ net 1
       (finalize 1 2) ∷ []) (holding Finalization (finalize 1 2 ∷ finalize 2 2 ∷ []) [] [])
@@ -542,7 +542,7 @@ pub record WorkedExamples : Type 0 where
       usable_and_bad (four Retaining) (lead 0 ∷ net 0 (notarize 0 1) ∷ net 1 (notarize 1 1) ∷ net 2
       (bad_notarize 2 1) ∷ construct ∷ net 3 (notarize 3 1) ∷ []) Notarization
       ≡ (3 ∷ 1 ∷ 0 ∷ [], 2 ∷ [])
-  -- Once their kind is released, facts tell nothing of a repeat, nor of two votes that are both for
+  -- Once their kind is released, facts say nothing of a repeat, nor of two votes that are both for
   -- other proposals than the selected one.
   pub facts_tell_nothing :
       telling (four Releasing) (lead 0 ∷ net 0 (notarize 0 1) ∷ cert (notarization 1) ∷ [])
@@ -555,7 +555,8 @@ pub record WorkedExamples : Type 0 where
       ≡ (false ∷ false ∷ false ∷ true ∷ true ∷ []) ∷ (false ∷ false ∷ false ∷ true ∷ false ∷ []) ∷
       []
   -- Both lists of garbage meet what follows by definition, and what holds throughout refuses them.
-  pub changed_follows : FollowsByDefinition (four Retaining) (history changed_calls changed_answers)
+  pub changed_follows : FollowsByDefinition (four Retaining)
+      (history changed_calls changed_answers)
   pub changed_is_refused :
       AtEachEvent (ChangesNoFixed (four Retaining)) (history changed_calls changed_answers) → ⊥
   pub other_forward_is_refused :
@@ -567,6 +568,6 @@ pub record WorkedExamples : Type 0 where
   -- Of possible histories too such a block is refused,
   pub repeated_block_is_refused :
       AtEachEvent (ConflictAnswered (four Skipped)) (history repeated_calls repeated_answers) → ⊥
-  -- and what was told as added without being free, or the other way round.
+  -- and what was answered as added without being free, or the other way round.
   pub unadded_is_refused :
       HoldsThroughout (four Retaining) ((net 1 (nullify 1), refused) ∷ []) → ⊥

@@ -13,9 +13,9 @@ use Rattle.batcher_histories.specs.History.{history}
 use Rattle.batcher_histories.specs.FirstVotes.{first_votes}
 use Rattle.batcher_histories.specs.Answers.{network_answer}
 use Rattle.batcher_promises.specs.Promises.{AtEachVote, AtEachEvent, votes_cast}
-use Rattle.batcher_promises.specs.Blocked.{gives_cause, IsBlockedForItself, IsBlockedInEveryMode, IsBlockedExactlyUntilRelease, IsBlockedExactlyIfRetaining, GaveCause}
-use Rattle.batcher_promises.specs.Reported.{evidence_in, ReportsAdded, ReportsEvidence, ReportsContrary, ReportsEachContrary}
-use Rattle.batcher_promises.specs.Examples.Answers.{TinySetting, TinyVote, TinyCall, four, the_round, p, signed, notarize, bad_notarize, nullify, finalize, notarization, nullification, finalization}
+use Rattle.batcher_promises.specs.Blocks.{gives_cause, IsBlockedForItself, IsBlockedInEveryMode, IsBlockedExactlyUntilRelease, IsBlockedExactlyIfRetaining, GaveCause}
+use Rattle.batcher_promises.specs.Reports.{evidence_in, ReportsAdded, ReportsEvidence, ReportsContrary, ReportsEachContrary}
+use Rattle.batcher_promises.specs.Examples.Answers.{TinyConfig, TinyVote, TinyCall, four, the_round, p, signed, notarize, bad_notarize, nullify, finalize, notarization, nullification, finalization}
 use Rattle.batcher_promises.specs.Examples.Answers.{net, own, cert, added, refused, blocked, blocked_and_reported, own_added, answers, played, with_cause}
 
 -- reports of two votes of participant 1
@@ -33,7 +33,7 @@ nullify_and_finalize v =
 abbrev pub Fails : Type 0 → Type 0
 Fails clause = clause → ⊥
 
-module _ (x : TinySetting) where
+module _ (x : TinyConfig) where
   -- of a vote that its signer sends after calls: whether it is blocked, and whether it gives cause
   -- beside the first votes, and beside all that were cast
   abbrev pub block_and_causes : List TinyCall → TinyVote → Bool × Bool × Bool
@@ -59,7 +59,7 @@ pub record BlockExamples : Type 0 where
       answers (four Releasing)
       (net 1 (finalize 1 1) ∷ cert (finalization 1) ∷ net 1 (nullify 1) ∷ [])
       ≡ added (finalize 1 1) ∷ CertificateAnswer false ∷ blocked NullifyAfterFinalize ∷ []
-  -- Until its kind is released a contradiction is blocked, after that only one that facts can tell,
+  -- Until its kind is released a contradiction is blocked, after that only one that facts can show,
   -- though it gives cause all the same; in a retaining round each is.
   pub before_the_release :
       block_and_causes (four Releasing) (net 1 (notarize 1 1) ∷ []) (notarize 1 3)
@@ -83,7 +83,7 @@ pub record BlockExamples : Type 0 where
   pub bad_repeat :
       answers (four Retaining) (net 1 (notarize 1 1) ∷ net 1 (bad_notarize 1 1) ∷ [])
       ≡ added (notarize 1 1) ∷ blocked InvalidSignature ∷ []
-  -- Facts may tell of a vote that was refused, and a repeat of the first one is blocked for it.
+  -- Facts may be of a vote that was refused, and a repeat of the first one is blocked for it.
   -- A retaining round doesn't hold it against the repeat.
   pub repeat_after_a_refused_vote :
       block_and_causes (four Skipped)

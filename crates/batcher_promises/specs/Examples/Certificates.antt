@@ -12,15 +12,15 @@ use Rattle.batcher_types.specs.Meaning.{Meaning, IsLawful}
 use Rattle.batcher_types.specs.Votes.{signer_of, subject_certified}
 use Rattle.batcher_histories.specs.History.{Event}
 use Rattle.batcher_histories.specs.Selection.{is_certified}
-use Rattle.batcher_histories.specs.Standing.{is_valid}
+use Rattle.batcher_histories.specs.Eligible.{is_valid}
 use Rattle.batcher_types.specs.Lists.{count}
 use Rattle.batcher_promises.specs.Promises.{AtEachEvent, AtEachTime}
-use Rattle.batcher_promises.specs.Composed.{usable_votes, NamesBadSigners, GivesSelected, HoldsThen}
-use Rattle.batcher_promises.specs.Reported.{subjects_contradict}
-use Rattle.batcher_promises.specs.Backed.{was_given, gives_kind, votes_behind, GivesBacked, GivesOnce, GivesFixed, NoneContradict, AllNameOneProposal}
-use Rattle.batcher_promises.specs.Prompt.{has_valid_quorum, kinds_due, GivesAtOnce, TakesOne, GivesDespiteBadVotes, LeavesNoneDue}
+use Rattle.batcher_promises.specs.AnswerFacts.{usable_votes, NamesBadSigners, GivesSelected, HoldsThen}
+use Rattle.batcher_promises.specs.Reports.{subjects_contradict}
+use Rattle.batcher_promises.specs.Backing.{was_given, gives_kind, votes_behind, GivesBacked, GivesOnce, GivesFixed, NoneContradict, AllNameOneProposal}
+use Rattle.batcher_promises.specs.CertificateTiming.{has_valid_quorum, kinds_due, GivesAtOnce, TakesOne, GivesDespiteBadVotes, LeavesNoneDue}
 use Rattle.batcher_promises.specs.Honest.{LeavesNoHonestQuorum}
-use Rattle.batcher_promises.specs.Examples.Answers.{TinySetting, TinyCall, TinyAnswer, listing, round_of, four, one_by_one, p, signed, notarize, bad_notarize, nullify, finalize, notarization, nullification, finalization}
+use Rattle.batcher_promises.specs.Examples.Answers.{TinyConfig, TinyCall, TinyAnswer, listing, round_of, four, one_by_one, p, signed, notarize, bad_notarize, nullify, finalize, notarization, nullification, finalization}
 use Rattle.batcher_promises.specs.Examples.Answers.{net, own, cert, lead, construct, added, no_batch, batch, blocked_and_reported, answers_from, answers, played, selects, counts}
 
 -- A lawful scheme that certifies whatever waits, and gives that at once.
@@ -29,14 +29,14 @@ hopeful =
     record (listing 4) { assembled_at_once = λ subject pending verified stream. (Some 0, stream) }
 
 -- retaining rounds of four: of the tiny scheme, of the hopeful one,
-abbrev pub tiny : TinySetting
+abbrev pub tiny : TinyConfig
 tiny = four Retaining
 
-abbrev pub of_hopeful : TinySetting
+abbrev pub of_hopeful : TinyConfig
 of_hopeful = record tiny { meaning = hopeful }
 
 -- and of one that verifies votes as they come
-abbrev pub as_they_come : TinySetting
+abbrev pub as_they_come : TinyConfig
 as_they_come = one_by_one Retaining
 
 -- lists of calls
@@ -74,11 +74,11 @@ abbrev pub three_constructions : List TinyCall
 three_constructions = construct ∷ construct ∷ construct ∷ []
 
 -- what three constructions are answered after these calls
-abbrev pub then_three : TinySetting → List TinyCall → List TinyAnswer
+abbrev pub then_three : TinyConfig → List TinyCall → List TinyAnswer
 then_three x calls = answers_from x (played x calls) three_constructions
 
 -- whether the valid votes of a kind are a quorum, and whether three constructions certify it
-abbrev pub quorum_and_then : TinySetting → List TinyCall → Kind → Bool × Bool
+abbrev pub quorum_and_then : TinyConfig → List TinyCall → Kind → Bool × Bool
 quorum_and_then x calls kind = (
   has_valid_quorum x (played x calls) kind,
   is_certified (played x (calls ++ three_constructions)) kind,
@@ -203,7 +203,7 @@ pub record CertificateExamples : Type 0 where
   pub none_given_beside_it :
       then_three tiny one_bad ≡ batch 3 (2 ∷ []) None true ∷ no_batch ∷ no_batch ∷ []
   -- A batch that gives no certificate of a valid quorum is refused, and so is no batch where a kind
-  -- is due, and one that gives none where a bad vote stands beside a quorum.
+  -- is due, and one that gives none where a bad vote is beside a quorum.
   pub late_is_refused :
       AtEachEvent (GivesAtOnce tiny)
       ((construct, batch 3 [] None false) ∷ played tiny three_notarizes) → ⊥

@@ -11,25 +11,25 @@ use Rattle.batcher_histories.specs.Admissions.{report_of}
 use Rattle.batcher_types.specs.Meaning.{IsLawful}
 use Rattle.batcher_types.specs.Votes.{is_vote_of}
 use Rattle.batcher_histories.specs.Selection.{selected_proposal, is_certified}
-use Rattle.batcher_histories.specs.Standing.{is_counted, is_valid}
+use Rattle.batcher_histories.specs.Eligible.{is_counted, is_valid}
 use Rattle.batcher_promises.specs.Work.{processed_total}
 use Rattle.batcher_histories.specs.History.{Event}
 use Rattle.batcher_promises.specs.Promises.{AtEachVote, AtEachEvent, AtEachTime, votes_cast, gave_cause}
 use Rattle.batcher_promises.specs.Honest.{own_votes_added, OwnAddedAgree, IsAddedWithoutCause, NamesForOwnVotes, CompletesHonestQuorums, times_named, voted_well, honest_voters}
-use Rattle.batcher_promises.specs.Sent.{SendsAdded}
-use Rattle.batcher_promises.specs.Composed.{votes_added}
+use Rattle.batcher_promises.specs.SentVotes.{SendsAdded}
+use Rattle.batcher_promises.specs.AnswerFacts.{votes_added}
 use Rattle.batcher_promises.specs.Flood.{batches_given, constructions_made, others_made, TakesFewConstructions}
-use Rattle.batcher_promises.specs.Examples.Answers.{TinySetting, TinyVote, TinyCall, TinyHistory, listing, is_good, round_of, four, one_by_one}
+use Rattle.batcher_promises.specs.Examples.Answers.{TinyConfig, TinyVote, TinyCall, TinyHistory, listing, is_good, round_of, four, one_by_one}
 use Rattle.batcher_promises.specs.Examples.Answers.{notarize, bad_notarize, nullify, bad_nullify, finalize, notarization, nullification, net, own, lead}
 use Rattle.batcher_promises.specs.Examples.Answers.{construct, cert, own_round}
 use Rattle.batcher_promises.specs.Examples.Answers.{added, refused, blocked, own_added, own_duplicate, batch, no_batch, answers, played, with_cause}
 
 -- All signatures count as the same, though not all attest.
-abbrev pub undiscerning : TinySetting
+abbrev pub undiscerning : TinyConfig
 undiscerning = record (four Retaining) { same_signature = λ a b. true }
 
 -- With one participant, against the laws of schemes others attest too.
-abbrev pub lawless : TinySetting
+abbrev pub lawless : TinyConfig
 lawless =
     record (round_of 1 Retaining) {
       meaning = record (listing 1) { attests = λ subject a. is_good a };
@@ -64,7 +64,7 @@ flood =
     ∷ net 0 (bad_nullify 0) ∷ construct ∷ net 1 (bad_nullify 1) ∷ construct
     ∷ net 2 (bad_nullify 2) ∷ construct ∷ net 3 (bad_nullify 3) ∷ construct ∷ []
 
-module _ (x : TinySetting) where
+module _ (x : TinyConfig) where
   -- who voted well for a kind, how many of these gave no cause, and whether it is certified
   abbrev pub voting : List TinyCall → Kind → List ℕ × ℕ × Bool
   voting calls kind =
@@ -121,7 +121,7 @@ own_after_release = own (notarize 1 1) ∷ cert (notarization 3) ∷ own (notari
 abbrev pub own_signed_anew : List TinyCall
 own_signed_anew = own (nullify 1) ∷ own (bad_nullify 1) ∷ []
 
--- the history of the three nullifies, and events that are told after it, rightly or not
+-- the history of the three nullifies, and events that are given after it, rightly or not
 abbrev pub played_nullifies : TinyHistory
 played_nullifies = played (four Retaining) nullifies
 

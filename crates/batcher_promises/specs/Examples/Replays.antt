@@ -12,12 +12,12 @@ use Rattle.batcher_types.specs.Keys.{participant}
 use Rattle.batcher_types.specs.Votes.{subject_of}
 use Rattle.batcher_types.specs.Attempts.{attempt_of}
 use Rattle.batcher_histories.specs.Admissions.{report_of}
-use Rattle.batcher_votes.specs.Held.{Held}
+use Rattle.batcher_votes.specs.RoundState.{RoundState}
 use Rattle.batcher_histories.specs.Steps.{nothing_held}
 use Rattle.batcher_histories.specs.Runs.{Runs, blocked_senders}
 use Rattle.batcher_promises.specs.Pairs.{AnsweredAlike, IsBeside, BlocksNoMore}
 use Rattle.batcher_promises.specs.Replay.{GoAlike}
-use Rattle.batcher_promises.specs.Examples.Answers.{TinySetting, TinyCall, TinyAnswer, TinyHistory, no_words, compare, listing, four, signed, answers}
+use Rattle.batcher_promises.specs.Examples.Answers.{TinyConfig, TinyCall, TinyAnswer, TinyHistory, no_words, compare, listing, four, signed, answers}
 use Rattle.batcher_promises.specs.Examples.Answers.{notarize, bad_notarize, nullify, notarization, nullification, net, own, cert, forward, missing}
 use Rattle.batcher_promises.specs.Examples.Answers.{added, refused, blocked, own_added}
 
@@ -26,7 +26,7 @@ abbrev pub lacking : List ℕ → TinyAnswer
 lacking participants = MissingAnswer (map participant participants)
 
 -- what a new round holds that retains votes
-abbrev pub new_round : Held ℕ ℕ
+abbrev pub new_round : RoundState ℕ ℕ
 new_round = nothing_held Retaining
 
 abbrev pub no_calls : List TinyCall
@@ -60,7 +60,7 @@ drawn stream =
     (attempt_of drawing (subject_of (nullify 0)) 1 [] (signed 0 0 ∷ []) stream).0.certificate
 
 -- a round in which keys that end in the same digit are one participant's
-abbrev pub by_last_digit : Mode → TinySetting
+abbrev pub by_last_digit : Mode → TinyConfig
 by_last_digit mode =
     record (four mode) { compare_keys = λ a b. compare (a % 10) (b % 10) }
 

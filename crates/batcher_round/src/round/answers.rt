@@ -32,7 +32,7 @@ pub(super) fn blocked<G, D>(reason: BlockReason, report: Option<Activity<G, D>>)
     }
 }
 
-// What is answered to a vote that stood against no other, of which this came.
+// What is answered to a vote that no kept one excludes, of which this came.
 pub(super) fn admission_of<G: Copy, D: Copy>(outcome: Outcome, vote: &Vote<G, D>) -> Admission<G, D>
     ensures { result ≡ admission_of outcome vote.now }
 {
@@ -116,7 +116,7 @@ pub(super) fn opposite_fault(kind: Kind) -> OwnFault
 }
 
 // The proposal that an own vote fixes. A finalize does, since the node finalizes a proposal only
-// once it knows it to be notarized: a quorum stands behind it, as where a certificate is recorded.
+// once it knows it to be notarized: a quorum is behind it, as where a certificate is recorded.
 // A notarize is for what the node has seen of the leader, who may have sent two.
 pub(super) fn fixed_by<G, D: Copy>(vote: &Vote<G, D>) -> Option<Proposal<D>>
     ensures { result ≡ fixed_by vote.now }
@@ -166,7 +166,7 @@ pub(super) fn conflict_reason(kind: Kind) -> BlockReason
 }
 
 // The answer to a vote after a kept one of the other of nullify and finalize.
-pub(super) fn after_opposite<G: Copy, D: Copy>(
+pub(super) fn conflict_with_opposite<G: Copy, D: Copy>(
     earlier: Vote<G, D>,
     vote: Vote<G, D>,
 ) -> Admission<G, D>
@@ -188,7 +188,7 @@ pub(super) fn after_opposite<G: Copy, D: Copy>(
 }
 
 // The same, where the earlier one isn't kept.
-pub(super) fn after_facts<G: Copy, D: Copy>(vote: &Vote<G, D>) -> Admission<G, D>
+pub(super) fn conflict_with_facts<G: Copy, D: Copy>(vote: &Vote<G, D>) -> Admission<G, D>
     ensures { result ≡ admission_after_facts vote.now }
 {
     match vote {
@@ -199,7 +199,10 @@ pub(super) fn after_facts<G: Copy, D: Copy>(vote: &Vote<G, D>) -> Admission<G, D
 }
 
 // The answer to a vote beside the kept one of its kind and signer.
-pub(super) fn beside<G: Copy + Eq, D: Digest>(kept: Vote<G, D>, vote: Vote<G, D>) -> Admission<G, D>
+pub(super) fn compare_with_kept<G: Copy + Eq, D: Digest>(
+    kept: Vote<G, D>,
+    vote: Vote<G, D>,
+) -> Admission<G, D>
     ensures { result ≡ admission_beside D.eq G.eq kept vote }
 {
     match (kept, vote) {

@@ -11,23 +11,23 @@ ghost use Rattle.batcher_types.specs.Lists.{is_some_and};
 ghost use Rattle.batcher_types.specs.Meaning.{Meaning};
 ghost use Rattle.batcher_types.specs.Quorum.{quorum_of};
 ghost use Rattle.batcher_types.specs.Votes.{is_kind, kind_of, signer_of, attestation_of, subject_of, round_in};
-ghost use Rattle.batcher_votes.specs.Selected.{same_selected};
-ghost use Rattle.batcher_votes.specs.Held.{Held, of_kind, SameVerifier};
-ghost use Rattle.batcher_votes.specs.Tracking.{shown, is_known, is_seen, HasRoomToRecord, observed_opposite, kept_vote};
-ghost use Rattle.batcher_votes.specs.Buffering.{selected_in, MayFix};
-ghost use Rattle.batcher_votes.specs.Sound.{IsSound, WaitsWhereKept, HasRoomFor, WhereItReplaces};
+ghost use Rattle.batcher_votes.specs.ProposalStates.{same_selected};
+ghost use Rattle.batcher_votes.specs.RoundState.{RoundState, of_kind, SameVerifier};
+ghost use Rattle.batcher_votes.specs.TrackerSteps.{shown, is_known, is_seen, HasRoomToRecord, observed_opposite, kept_vote};
+ghost use Rattle.batcher_votes.specs.VerifierSteps.{selected_in, MayFix};
+ghost use Rattle.batcher_votes.specs.Soundness.{IsSound, BuffersOnlyKept, HasRoomFor, WhereItReplaces};
 ghost use Rattle.batcher_votes.specs.Verifiers.{IfGiven, BatchCertifies};
-ghost use Rattle.batcher_histories.specs.Setting.{setting};
-ghost use Rattle.batcher_histories.specs.Steps.{nothing_held, missing_in, has_block as has_block_held, objection_by, own_result, admission_by, is_ready_in, restored_with, fault_or_memory, leader_set_answer, is_added, report_by};
+ghost use Rattle.batcher_histories.specs.Config.{config};
+ghost use Rattle.batcher_histories.specs.Steps.{nothing_held, missing_in, has_block as has_block_held, rejection_by, own_result, admission_by, is_ready_in, restored_with, fault_or_memory, leader_set_answer, is_added, report_by};
 ghost use Rattle.batcher_histories.specs.Steps.{AfterOwn, AfterLeader, AfterCertificate, TriesHeld};
-ghost use Rattle.batcher_round.specs.Seen.{observed_like};
-ghost use Rattle.batcher_round.specs.BallotsView.{round_with, SameHeld, Admits, AllOrNothing, GrowsVerifier, GrowsTracker, IsVoteAt};
+ghost use Rattle.batcher_round.specs.Observations.{observed_like};
+ghost use Rattle.batcher_round.specs.BallotsView.{round_with, SameRoundState, Admits, AllOrNothing, GrowsVerifier, GrowsTracker, IsVoteAt};
 
 use crate::round::answers::{
-    after_facts, after_opposite, beside, fixed_by, is_added, is_kept, is_selected_anew,
-    opposite_fault, unopposed_result,
+    compare_with_kept, conflict_with_facts, conflict_with_opposite, fixed_by, is_added, is_kept,
+    is_selected_anew, opposite_fault, unopposed_result,
 };
-use crate::round::{Admission, Judge, OwnFault};
+use crate::round::{Admission, OwnFault, RoundConfigs};
 use batcher_types::messages::{Certificate, Digest, Kind, Place, Proposal, Vote};
 use batcher_types::positions::{self, Participant, quorum};
 use batcher_types::scheme::Scheme;
@@ -78,11 +78,7 @@ impl<S: Scheme<D>, D: Digest> Ballots<S, D> {
         } }
     {
         let participants = scheme.participants().len();
-        let tracker = match mode {
-            Mode::Retaining => VoteTracker::new(alloc, participants, true),
-            Mode::Releasing => VoteTracker::new(alloc, participants, false),
-            Mode::Skipped => VoteTracker::skipped(alloc, participants),
-        };
+        let tracker = VoteTracker::new(alloc, participants, mode);
         let verifier = Verifier::new(alloc, round, scheme, quorum(participants as u32));
         Ballots { tracker, verifier }
     }
@@ -163,23 +159,23 @@ impl<S: Scheme<D>, D: Digest> Ballots<S, D> {
     /// comes here, so its code is kept out of the way of the others.
     #[cold]
     #[inline(never)]
-    pub(super) fn objection(
+    pub(super) fn rejection(
         &self,
         slot: Slot,
         vote: &Vote<S::Signature, D>,
     ) -> Option<Admission<S::Signature, D>>
         requires { slot.place ≡ place_of self.now.tracker.signers (signer_of vote.now) }
         ensures { (m : Meaning D S.PublicKey S.Signature S.Certificate) (number : TheNumber)
-            (mode : TheMode) → result ≡ objection_by
-            (setting m S.PublicKey.cmp S.Signature.eq D.eq number mode)
+            (mode : TheMode) → result ≡ rejection_by
+            (config m S.PublicKey.cmp S.Signature.eq D.eq number mode)
             (observed_opposite self.now.tracker.holds vote.now)
             (observed_like self.now.tracker.holds vote.now) vote.now }
     {
         match self.saw_opposite(slot, vote) {
-            Some(ObservedVote::Retained(earlier)) => Some(after_opposite(earlier, *vote)),
-            Some(ObservedVote::Compacted) => Some(after_facts(vote)),
+            Some(ObservedVote::Retained(earlier)) => Some(conflict_with_opposite(earlier, *vote)),
+            Some(ObservedVote::Compacted) => Some(conflict_with_facts(vote)),
             None => match self.tracker.saw_at(slot.place, vote.kind()) {
-                Some(ObservedVote::Retained(kept)) => Some(beside(kept, *vote)),
+                Some(ObservedVote::Retained(kept)) => Some(compare_with_kept(kept, *vote)),
                 Some(ObservedVote::Compacted) => None,
                 None => None,
             },
@@ -211,15 +207,16 @@ impl<S: Scheme<D>, D: Digest> Ballots<S, D> {
     ) -> Result<Outcome, AllocError>
         requires vote { IsVoteAt (S.meaning self.old.verifier.scheme) self.old slot.place
             vote.now }
-        requires unopposed { objection_by (⟦<S as Judge<D>>⟧.of (round_with self.old))
+        requires unopposed { rejection_by (⟦<S as RoundConfigs<D>>⟧.of (round_with self.old))
             (observed_opposite self.old.tracker.holds vote.now)
             (observed_like self.old.tracker.holds vote.now) vote.now ≡ None }
-        ensures admits { IfOk result (Admits (⟦<S as Judge<D>>⟧.of (round_with self.old)) self.old
+        ensures admits { IfOk result (Admits (⟦<S as RoundConfigs<D>>⟧.of (round_with self.old))
+            self.old
             self.new vote.now) }
         ensures spared { is_known self.old.tracker.holds (signer_of vote.now) ≡ true
             → of_kind self.old.tracker.holds.compacted (kind_of vote.now) ≡ true
             → IsOk result }
-        ensures no_memory { (admission_by (⟦<S as Judge<D>>⟧.of (round_with self.old))
+        ensures no_memory { (admission_by (⟦<S as RoundConfigs<D>>⟧.of (round_with self.old))
             (selected_in self.old.verifier.holds)
             (observed_like self.old.tracker.holds vote.now) vote.now).added ≡ false
             → IsOk result }
@@ -228,13 +225,13 @@ impl<S: Scheme<D>, D: Digest> Ballots<S, D> {
         let kind = vote.kind();
         // Also a vote for another proposal than the selected one, which isn't buffered, asks for
         // room. `needs_memory` says so too.
-        let waits = !self.tracker.is_compacted(kind) && !self.verifier.has_certificate(kind);
-        self.verifier.make_room(kind, false, usize::from(waits))?;
+        let is_open = !self.tracker.is_compacted(kind) && !self.verifier.has_certificate(kind);
+        self.verifier.make_room(kind, false, usize::from(is_open))?;
         let outcome = self
             .tracker
             .record_at(slot.place, vote, self.verifier.proposal())?;
         if is_kept(outcome) {
-            self.verifier.take(vote, false);
+            self.verifier.add_reserved(vote, false);
         }
         Ok(outcome)
     }
@@ -245,13 +242,15 @@ impl<S: Scheme<D>, D: Digest> Ballots<S, D> {
         requires attests { (S.meaning self.old.verifier.scheme).attests (subject_of vote.now)
             (attestation_of vote.now) ≡ true }
         ensures step { IfOk result (λ outcome. AfterOwn
-            (⟦<S as Judge<D>>⟧.of (round_with self.old)) (round_with self.old).holds vote.now
+            (⟦<S as RoundConfigs<D>>⟧.of (round_with self.old)) (round_with self.old).holds vote.now
             outcome (report_by outcome vote.now) (round_with self.new).holds) }
         ensures no_memory { (outcome : Outcome)
-            → own_result (⟦<S as Judge<D>>⟧.of (round_with self.old)) (round_with self.old).holds
+            → own_result (⟦<S as RoundConfigs<D>>⟧.of (round_with self.old))
+            (round_with self.old).holds
             vote.now ≡ Ok outcome → is_added outcome ≡ false → IsOk result }
         ensures fault { IfErr result (λ fault. fault ≡ fault_or_memory (own_result
-            (⟦<S as Judge<D>>⟧.of (round_with self.old)) (round_with self.old).holds vote.now)) }
+            (⟦<S as RoundConfigs<D>>⟧.of (round_with self.old))
+            (round_with self.old).holds vote.now)) }
         ensures all { AllOrNothing result self.old self.new }
     {
         let slot = self.slot(vote.signer());
@@ -265,7 +264,7 @@ impl<S: Scheme<D>, D: Digest> Ballots<S, D> {
         let selected = self.verifier.proposal();
         self.tracker.record_at(slot.place, vote, selected).unwrap();
         if is_kept(outcome) {
-            self.verifier.take(vote, true);
+            self.verifier.add_reserved(vote, true);
         }
         Ok(outcome)
     }
@@ -277,7 +276,7 @@ impl<S: Scheme<D>, D: Digest> Ballots<S, D> {
         vote: &'a Vote<S::Signature, D>,
     ) -> Result<Outcome, OwnFault>
         requires { slot.place ≡ place_of self.now.tracker.signers (signer_of vote.now) }
-        ensures { result ≡ own_result (⟦<S as Judge<D>>⟧.of (round_with self.now))
+        ensures { result ≡ own_result (⟦<S as RoundConfigs<D>>⟧.of (round_with self.now))
             (round_with self.now).holds vote.now }
     {
         if self.saw_opposite(slot, vote).is_some() {
@@ -297,12 +296,12 @@ impl<S: Scheme<D>, D: Digest> Ballots<S, D> {
     /// It takes no memory.
     pub(super) fn set_leader(&mut self, leader: Participant) -> Result<(), LeaderFault>
         ensures answer { result ≡ leader_set_answer self.old.verifier.holds.leader leader }
-        ensures step { OnOk result (AfterLeader (⟦<S as Judge<D>>⟧.of (round_with self.old))
+        ensures step { OnOk result (AfterLeader (⟦<S as RoundConfigs<D>>⟧.of (round_with self.old))
             (round_with self.old).holds leader (round_with self.new).holds) }
         ensures all { AllOrNothing result self.old self.new }
     {
         // Its notarize may have come before the leader was known. The tracker finds it by its
-        // signer, and tells it also where no buffer has it, as once notarizes are certified.
+        // signer, and knows it also where no buffer has it, as once notarizes are certified.
         let notarize = self.tracker.notarize(leader);
         self.verifier.set_leader(leader, notarize.as_ref())
     }
@@ -314,17 +313,17 @@ impl<S: Scheme<D>, D: Digest> Ballots<S, D> {
         certificate: &Certificate<S::Certificate, D>,
     ) -> Result<bool, AllocError>
         ensures step { IfOk result (λ answer. AfterCertificate
-            (⟦<S as Judge<D>>⟧.of (round_with self.old)) (round_with self.old).holds
+            (⟦<S as RoundConfigs<D>>⟧.of (round_with self.old)) (round_with self.old).holds
             certificate.now answer (round_with self.new).holds) }
         ensures no_memory { ((kind : TheKind)
-            → restored_with (⟦<S as Judge<D>>⟧.of (round_with self.old))
+            → restored_with (⟦<S as RoundConfigs<D>>⟧.of (round_with self.old))
             (round_with self.old).holds certificate.now kind ≡ []) → IsOk result }
         ensures all { AllOrNothing result self.old self.new }
     {
         let kind = certificate.kind();
         let proposal = certificate.proposal();
         reserve_to_fix(&mut self.verifier, &self.tracker, proposal, Some(kind))?;
-        self.verifier.record_certificate(kind);
+        self.verifier.complete_kind(kind);
         let changed = fix_proposal(&mut self.verifier, &self.tracker, proposal);
         self.tracker
             .release(kind, self.verifier.proposal().copied());
@@ -339,17 +338,18 @@ impl<S: Scheme<D>, D: Digest> Ballots<S, D> {
         rng: &mut R,
     ) -> Result<Option<Batch<Certificate<S::Certificate, D>>>, AllocError>
         ensures ready { IfOk result (λ given. is_some given
-            ≡ is_ready_in (⟦<S as Judge<D>>⟧.of (round_with self.old)) (round_with self.old).holds
+            ≡ is_ready_in (⟦<S as RoundConfigs<D>>⟧.of (round_with self.old))
+            (round_with self.old).holds
             kind) }
         ensures tries { IfGiven result (λ batch. TriesHeld
-            (⟦<S as Judge<D>>⟧.of (round_with self.old)) (round_with self.old).holds kind
+            (⟦<S as RoundConfigs<D>>⟧.of (round_with self.old)) (round_with self.old).holds kind
             (R.stream rng.old) batch (round_with self.new).holds (R.stream rng.new)) }
         ensures sound { IsSound (S.meaning self.old.verifier.scheme) D.eq self.old.verifier.number
             (quorum_of (length (S.meaning self.old.verifier.scheme).participants))
             self.old.verifier.holds }
-        ensures none { is_ready_in (⟦<S as Judge<D>>⟧.of (round_with self.old))
+        ensures none { is_ready_in (⟦<S as RoundConfigs<D>>⟧.of (round_with self.old))
             (round_with self.old).holds kind ≡ false → (IsOk result)
-            × (SameHeld self.old self.new) × (R.stream rng.new ≡ R.stream rng.old) }
+            × (SameRoundState self.old self.new) × (R.stream rng.new ≡ R.stream rng.old) }
         ensures certifies { IfGiven result (BatchCertifies (S.meaning self.old.verifier.scheme)) }
         ensures all { AllOrNothing result self.old self.new }
     {
@@ -452,8 +452,8 @@ fn fix_proposal<S: Scheme<D>, D: Digest>(
         verifier.new.holds }
     ensures changed { result ≡ not (same_selected D.eq (selected_in verifier.old.holds)
         (selected_in verifier.new.holds)) }
-    ensures within { WaitsWhereKept tracker.now.holds verifier.old.holds
-        → WaitsWhereKept tracker.now.holds verifier.new.holds }
+    ensures within { BuffersOnlyKept tracker.now.holds verifier.old.holds
+        → BuffersOnlyKept tracker.now.holds verifier.new.holds }
     ensures room { (kind : TheKind) → of_kind verifier.old.verified_room kind
         ≤ of_kind verifier.new.verified_room kind }
     ensures same { SameVerifier verifier.old verifier.new }
@@ -463,8 +463,8 @@ fn fix_proposal<S: Scheme<D>, D: Digest>(
     };
     let update = verifier.set_proposal(ProposalState::Certificate(proposal));
     if update.replaced {
-        verifier.restore(Kind::Notarization, tracker.iter_notarizes());
-        verifier.restore(Kind::Finalization, tracker.iter_finalizes());
+        verifier.restore(Kind::Notarization, tracker.iter_kept(Kind::Notarization));
+        verifier.restore(Kind::Finalization, tracker.iter_kept(Kind::Finalization));
     }
     update.changed
 }
@@ -478,7 +478,7 @@ fn missing_among<G: Copy, D: Digest>(
     proposal: &Proposal<D>,
 ) -> Result<Vec<Participant>, AllocError>
     requires { participants < 2 ^ 32 }
-    ensures { IfOk result (λ list. (held : Held G D) → held.tracked ≡ tracker.now.holds
+    ensures { IfOk result (λ list. (held : RoundState G D) → held.tracked ≡ tracker.now.holds
         → list.items ≡ missing_in D.eq held proposal.now participants) }
 {
     let mut missing = Vec::with_capacity(alloc, participants)?;

@@ -1,7 +1,7 @@
 //! Each growth refused once: the call leaves everything as it was, and the same call then
 //! succeeds.
 //!
-//! As they stand these tests refuse nothing. `tools/refuse` runs them with their first request
+//! As they are these tests refuse nothing. `tools/refuse` runs them with their first request
 //! for memory refused, then their second, and so on.
 
 use super::*;

@@ -192,7 +192,7 @@ fn signed_notarize(scheme: &Keyed<true>, signer: u32) -> Notarize<[u8; 32], Dige
     }
 }
 
-fn waits_for_its_leader(
+fn eligible_for_its_leader(
     rt: &impl Abort,
     verifier: &mut TestVerifier,
     scheme: &Keyed<true>,
@@ -212,7 +212,7 @@ fn waits_for_its_leader(
 #[test]
 fn the_leaders_vote_makes_the_others_count(rt: HostRuntime) -> Result<(), Fail> {
     let (mut verifier, scheme) = verifier_of_five(&rt, rt.alloc())?;
-    let done = waits_for_its_leader(&rt, &mut verifier, &scheme);
+    let done = eligible_for_its_leader(&rt, &mut verifier, &scheme);
     drop((verifier, scheme));
     done
 }

@@ -18,7 +18,7 @@ use std::mem;
 // For how many items there is room at first.
 const FIRST_ROOM: usize = 16;
 
-/// `Ok` of where the item of a signer stands, else `Err` of where it would.
+/// `Ok` of where the item of a signer is, else `Err` of where it would be.
 pub type Place = Result<usize, usize>;
 
 /// The first item of each signer below a bound, in ascending order of the signers.
@@ -27,7 +27,7 @@ pub type Place = Result<usize, usize>;
 #[derive(Drop)]
 pub struct AttributableMap<T: Attributable> {
     participants: usize,
-    // What changes an item where it stands shows that its signer stays.
+    // What changes an item where it is shows that its signer stays.
     pub items: Vec<T>,
 }
 
@@ -174,7 +174,7 @@ impl<T: Attributable> AttributableMap<T> {
         &self.items[place]
     }
 
-    /// Puts the item of a signer that has none in its place, which `place` tells. It takes no
+    /// Puts the item of a signer that has none in its place, which `place` gives. It takes no
     /// memory.
     pub fn insert_at(&mut self, place: usize, item: T)
         requires signer { (T.signed_by item).0 < self.old.participants }
@@ -194,9 +194,9 @@ impl<T: Attributable> AttributableMap<T> {
         self.items.get(i)
     }
 
-    /// Where the signer's item stands, else where it would. Items often come in the order of their
+    /// Where the signer's item is, else where it would be. Items often come in the order of their
     /// signers, or in reverse, so the last one and the first are looked at; and once each signer
-    /// has one, its item stands at the signer's own number, so that is looked at next.
+    /// has one, its item is at the signer's own number, so that is looked at next.
     pub fn place(&self, signer: Participant) -> Place
         ensures place { result ≡ place_of (map (λ x. (T.signed_by x).0) self.now.items) signer.0 }
         ensures ascending { IsAscending (λ x. (T.signed_by x).0) self.now.items }
@@ -217,7 +217,7 @@ impl<T: Attributable> AttributableMap<T> {
         }
     }
 
-    /// Where the signer's item stands, else where it would, by how many items are of lower signers.
+    /// Where the signer's item is, else where it would be, by how many items are of lower signers.
     /// Who goes over all signers in their order knows that, and needs no search.
     pub fn place_after(&self, lower: usize, signer: Participant) -> Place
         requires { lower ≡ count (λ s. nat_lt s signer.0)
@@ -255,7 +255,7 @@ impl<T: Attributable> AttributableMap<T> {
         }
     }
 
-    // Whether the signer's item stands at the index.
+    // Whether the signer's item is at the index.
     fn is_at(&self, index: usize, signer: Participant) -> bool
         ensures at { IsTrue result → (index < length self.now.items)
             × ((d : T) → (T.signed_by (slice_index_or self.now.items index d)).0 ≡ signer.0) }
@@ -269,7 +269,7 @@ impl<T: Attributable> AttributableMap<T> {
         }
     }
 
-    // Where the signer's item stands, else where it would, by halves.
+    // Where the signer's item is, else where it would be, by halves.
     fn searched_place(&self, signer: Participant) -> Place
         ensures place { result ≡ place_of (map (λ x. (T.signed_by x).0) self.now.items) signer.0 }
         ensures found { IfOk result

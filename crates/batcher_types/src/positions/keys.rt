@@ -19,7 +19,7 @@ pub enum SetFault {
     /// A key comes twice. Of a list that is too long it isn't asked.
     #[error("duplicate key")]
     Duplicate,
-    /// There are 2^32 keys or more, so that an index of 32 bits couldn't tell them apart.
+    /// There are 2^32 keys or more, so that an index of 32 bits couldn't distinguish them.
     #[error("too many keys")]
     TooMany,
 }

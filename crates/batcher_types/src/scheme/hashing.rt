@@ -1,4 +1,4 @@
-//! What the test schemes hash. The bytes stand in docs/FORMATS.md.
+//! What the test schemes hash. The bytes are in docs/FORMATS.md.
 
 ghost use Rattle.std.specs.Prelude.{◌≡◌, ◌++◌, ◌<◌, ℕ, List, true};
 ghost use Rattle.sha2.specs.Hashers.{Holds256};

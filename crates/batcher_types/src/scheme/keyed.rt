@@ -1,6 +1,6 @@
 //! A scheme whose certificates list their attestations.
 
-ghost use Rattle.std.specs.Prelude.{◌≡◌, ◌++◌, ◌<◌, ◌≤◌, ◌&&◌, true, length, IfOk, IfErr, OnOk};
+ghost use Rattle.std.specs.Prelude.{◌≡◌, ◌++◌, ◌<◌, ◌≤◌, ◌&&◌, true, length, All, IfOk, IfErr, OnOk};
 ghost use Rattle.std.specs.Result.{result_ok};
 ghost use Rattle.std.specs.List.{AllPass, list_all};
 ghost use Rattle.batcher_types.specs.Hashed.{is_signed, is_signed-range, signature_of};
@@ -21,6 +21,21 @@ use std::marker::Model;
 #[derive(Clone, Copy, Debug, PartialEq, Eq, PartialOrd, Ord, Hash)]
 pub struct Name(pub u64);
 
+/// The participants 0 to `count` - 1.
+pub fn names(alloc: Global, count: u32) -> Result<Set<Name>, AllocError>
+    ensures count { IfOk result (λ set. length set ≡ count) }
+    ensures below { IfOk result (All (λ name. name.0 < count)) }
+{
+    let mut names = Vec::new(alloc);
+    for number in 0..count {
+        names.push(Name(u64::from(number)))?;
+    }
+    match Set::new(names) {
+        Ok(set) => Ok(set),
+        Err(_) => unreachable!(),
+    }
+}
+
 /// A list of attestations, as a certificate. Contracts see it as the list.
 #[derive(Clone, Debug, Drop)]
 pub struct AttestationList {
@@ -37,7 +52,7 @@ impl Model for AttestationList {
 }
 
 impl AttestationList {
-    /// A certificate of any list. Only `verify_certificate` tells what it is worth.
+    /// A certificate of any list. Only `verify_certificate` verifies it.
     pub fn new(attestations: Vec<Attestation<[u8; 32]>>) -> Self
         ensures { result ≡ attestations.items }
     {

@@ -9,8 +9,8 @@ use Rattle.batcher_types.specs.Ascending.{IsAscending}
 use Rattle.batcher_types.specs.Lists.{count, is_some_and}
 use Rattle.batcher_types.specs.Ordered.{rec_from_all, rec_weaker}
 use Rattle.batcher_types.specs.Votes.{signer_of, is_of_kind, is_vote_of}
-use Rattle.batcher_votes.specs.Held.{PerKind, of_kind}
-use Rattle.batcher_votes.specs.Tracking.{KeepsEach}
+use Rattle.batcher_votes.specs.RoundState.{PerKind, of_kind}
+use Rattle.batcher_votes.specs.TrackerSteps.{KeepsEach}
 use Rattle.batcher_votes.specs.Entries.{Entry, key_of, part, vote_at, kept_part, kept_among, may_say, Fits, tracked_by}
 use Rattle.batcher_votes.proofs.TrackerLemmas.ShownParts.{Of}
 use Rattle.batcher_votes.proofs.TrackerLemmas.SignerFacts.{kept_numbered, kept_kinded, kept_is, kept_says, no_vote}
@@ -103,7 +103,7 @@ module _ {G D : Type 0} where
         once = λ i. rw (kept_is c votes es kind) (once_among (of_kind c kind) (of_kind votes kind) kind es up i);
       }
 
-  -- what is kept, by the places that may stand
+  -- what is kept, by the places that may be there
   shown_among : (b : Bool) (votes : List (Vote G D)) (kind : Kind) (es : List Entry)
       → AllPass (λ e. may_say b kind votes (key_of e) (part kind e)) es
       → kept_among b votes kind es ≡ filter_map (λ e. vote_at votes (part kind e)) es

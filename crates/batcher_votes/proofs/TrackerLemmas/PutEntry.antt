@@ -1,4 +1,4 @@
--- An item put into an ascending list, in the place of its signer's or where it would stand.
+-- An item put into an ascending list, in the place of its signer's or where it would be.
 use Rattle.std.proofs.Common.{◌≡◌, ◌∙◌, ◌≤◌, ◌<◌, ◌+◌, ℕ, suc, zero, Bool, true, false, cond, nat_eq, nat_le, List, [], ◌∷◌, length, get_or, set, find, Option, Some, None, is_some, map, refl, ap, sym, subst, arith}
 use Rattle.std.proofs.lemmas.List.Elements.{All-set}
 use Rattle.std.specs.List.{All, filter_map}

@@ -1,10 +1,9 @@
 -- What recording a vote changes of what a tracker shows, by its entries and the votes that it keeps.
-use Rattle.std.proofs.Common.{◌≡◌, ◌<◌, ◌∙◌, ◌==◌, ◌+◌, ◌^◌, ℕ, suc, zero, Bool, true, false, not, cond, nat_eq, nat_lt, ◌&&◌, ◌||◌, List, [], ◌∷◌, ◌++◌, length, get_or, set, find, Option, Some, None, Result, Ok, Err, is_some}
+use Rattle.std.proofs.Common.{◌≡◌, ◌<◌, ◌∙◌, ◌+◌, ◌^◌, ℕ, suc, zero, Bool, true, false, not, cond, nat_eq, nat_lt, ◌&&◌, ◌||◌, List, [], ◌∷◌, ◌++◌, length, get_or, set, find, Option, Some, None, Result, Ok, Err, is_some}
 use Rattle.std.proofs.Common.{map, refl, ap, sym, subst, arith, length-append}
-use Rattle.std.proofs.lemmas.Bool.Decides.{nat_tests}
 use Rattle.std.specs.List.{AllByRecursion, AllPass, filter_map, slice_get}
 use Rattle.std.specs.Prelude.{IfErr}
-use Rattle.std.proofs.lemmas.Bool.{and_parts}
+use Rattle.std.proofs.lemmas.Bool.{and_parts, eq-eqb}
 use Rattle.batcher_types.specs.declared.positions.Participant.{Participant}
 use Rattle.batcher_types.specs.declared.messages.Proposal.{Proposal}
 use Rattle.batcher_types.specs.declared.messages.Vote.{Vote}
@@ -19,9 +18,9 @@ use Rattle.batcher_types.specs.Items.{place_of}
 use Rattle.batcher_types.specs.Lists.{is_some_and, exactly_one}
 use Rattle.batcher_types.specs.Ordered.{rec_from_all, all_from_rec, rec_weaker}
 use Rattle.batcher_types.specs.Votes.{kind_of, attestation_of, signer_of, is_kind, is_of_kind, is_vote_of, has_proposals, same_proposal, is_for}
-use Rattle.batcher_votes.specs.Held.{PerKind, of_kind, for_each, Facts, Tracked}
-use Rattle.batcher_votes.specs.Tracking.{from_kept, is_seen, is_known, observed, kept_vote, no_facts, facts_with, facts_of_kept, recorded_facts, RecordsKind, outcome_by, outcome_of}
-use Rattle.batcher_votes.specs.Entries.{Entry, part, with_part, nothing_seen, key_of, seen_in, entry_or_new, put_by, entries_with, is_any, has_place, compared, seen_outcome, facts_seen, facts_part, facts_among, with_vote}
+use Rattle.batcher_votes.specs.RoundState.{PerKind, of_kind, for_each, Facts, TrackerState}
+use Rattle.batcher_votes.specs.TrackerSteps.{from_kept, is_seen, is_known, observed, kept_vote, no_facts, facts_with, facts_of_kept, recorded_facts, RecordsKind, outcome_by, outcome_of}
+use Rattle.batcher_votes.specs.Entries.{Entry, part, with_part, nothing_seen, key_of, seen_in, entry_or_new, put_by, entries_with, is_any, has_index, compared, seen_outcome, facts_seen, facts_part, facts_among, with_vote}
 use Rattle.batcher_votes.specs.Entries.{own_vote, vote_at, kept_part, kept_among, tracked_by, observed_seen, may_say, Fits, IsTracked, tested}
 use Rattle.batcher_types.proofs.AscendingLemmas.{found_key}
 use Rattle.batcher_votes.proofs.TrackerLemmas.ShownParts.{Of, shown_by}
@@ -73,30 +72,30 @@ carried Notarization b h = refl
 carried Nullification b h = let clash = h refl in absurd (cc)
 carried Finalization b h = refl
 
--- What is compared may stand in a kind that is compacted.
-pub compared_stands : {G D : Type 0} (kind : Kind) (votes : List (Vote G D)) (i : ℕ)
+-- What is compared may be there in a kind that is compacted.
+pub compared_represents : {G D : Type 0} (kind : Kind) (votes : List (Vote G D)) (i : ℕ)
     (test : Option Bool) (s : Seen) → (has_proposals kind ≡ false → test ≡ None)
     → may_say true kind votes i s ≡ true → may_say true kind votes i (compared test s) ≡ true
-compared_stands kind votes i None Nothing h before = refl
-compared_stands kind votes i None Uncompared h before = refl
-compared_stands kind votes i None Differs h before = before
-compared_stands kind votes i None Matches h before = before
-compared_stands kind votes i None (Kept p) h before = refl
-compared_stands kind votes i (Some true) s h before = carried kind true h
-compared_stands kind votes i (Some false) Nothing h before = carried kind false h
-compared_stands kind votes i (Some false) Uncompared h before = carried kind false h
-compared_stands kind votes i (Some false) Differs h before = carried kind false h
-compared_stands kind votes i (Some false) Matches h before = carried kind false h
-compared_stands kind votes i (Some false) (Kept p) h before = carried kind false h
+compared_represents kind votes i None Nothing h before = refl
+compared_represents kind votes i None Uncompared h before = refl
+compared_represents kind votes i None Differs h before = before
+compared_represents kind votes i None Matches h before = before
+compared_represents kind votes i None (Kept p) h before = refl
+compared_represents kind votes i (Some true) s h before = carried kind true h
+compared_represents kind votes i (Some false) Nothing h before = carried kind false h
+compared_represents kind votes i (Some false) Uncompared h before = carried kind false h
+compared_represents kind votes i (Some false) Differs h before = carried kind false h
+compared_represents kind votes i (Some false) Matches h before = carried kind false h
+compared_represents kind votes i (Some false) (Kept p) h before = carried kind false h
 
--- what may stand in a kind that is compacted has no place
-pub no_place : {G D : Type 0} (kind : Kind) (votes : List (Vote G D)) (i : ℕ) (s : Seen)
-    → may_say true kind votes i s ≡ true → has_place s ≡ false
-no_place kind votes i Nothing h = refl
-no_place kind votes i Uncompared h = refl
-no_place kind votes i Differs h = refl
-no_place kind votes i Matches h = refl
-no_place kind votes i (Kept p) h = absurd (cc)
+-- what may be there in a kind that is compacted has no place
+pub no_index : {G D : Type 0} (kind : Kind) (votes : List (Vote G D)) (i : ℕ) (s : Seen)
+    → may_say true kind votes i s ≡ true → has_index s ≡ false
+no_index kind votes i Nothing h = refl
+no_index kind votes i Uncompared h = refl
+no_index kind votes i Differs h = refl
+no_index kind votes i Matches h = refl
+no_index kind votes i (Kept p) h = absurd (cc)
 
 -- An entry of signer i that says this of kind k, and of the others what its signer's did, is put
 -- among the entries.
@@ -152,7 +151,7 @@ is_put_by es i k next up =
       numbered None is = refl
       numbered (Some old) is = found_key key_of es i.0 old is
 
--- The signer's entry, changed where it stands, or inserted where there is none.
+-- The signer's entry, changed where it is, or inserted where there is none.
 pub changed_at : (es : List Entry) (i : Participant) (k : Kind) (next : Seen) (j : ℕ) (d : Entry)
     → IsAscending key_of es → place_of (map key_of es) i.0 ≡ Ok j
     → set es j (with_part k next (get_or es j d)) ≡ entries_with i k next es
@@ -192,13 +191,14 @@ filter_map-same_each f g (e ∷ es) h = let rest = filter_map-same_each f g es h
 
 module _ {G D : Type 0} where
   -- one more vote behind those at the places that are said
-  more_stands : (b : Bool) (kind : Kind) (votes : List (Vote G D)) (v : Vote G D) (i : ℕ) (s : Seen)
+  more_represents : (b : Bool) (kind : Kind) (votes : List (Vote G D)) (v : Vote G D) (i : ℕ)
+      (s : Seen)
       → may_say b kind votes i s ≡ true → may_say b kind (votes ++ v ∷ []) i s ≡ true
-  more_stands b kind votes v i Nothing h = h
-  more_stands b kind votes v i Uncompared h = h
-  more_stands b kind votes v i Differs h = h
-  more_stands b kind votes v i Matches h = h
-  more_stands b kind votes v i (Kept p) h =
+  more_represents b kind votes v i Nothing h = h
+  more_represents b kind votes v i Uncompared h = h
+  more_represents b kind votes v i Differs h = h
+  more_represents b kind votes v i Matches h = h
+  more_represents b kind votes v i (Kept p) h =
       let own = (and_parts (not b) (is_some_and (slice_get votes p) (is_vote_of kind i)) h).1 in
       rw (some_before votes (v ∷ []) p (is_vote_of kind i) (slice_get votes p) refl own) h
 
@@ -287,20 +287,20 @@ module _ (es : List Entry) (i : ℕ) (k : Kind) (next : Seen) (e : Entry) (es' :
   other_facts true kind other = filter_map-put_same key_of (facts_part kind) es e es' o put.is_put (facts_as kind o refl (other_part kind other))
   other_facts false kind other = refl
 
-  -- the old entry may stand
-  pub stands_before : {G D : Type 0} → (b : Bool) (votes : List (Vote G D)) (kind : Kind)
+  -- the old entry may be there
+  pub represents_before : {G D : Type 0} → (b : Bool) (votes : List (Vote G D)) (kind : Kind)
       → AllPass (λ x. may_say b kind votes (key_of x) (part kind x)) es
       → may_say b kind votes i (seen_in kind o) ≡ true
-  stands_before b votes kind each =
-      stands_of o refl (of_old key_of (λ x. may_say b kind votes (key_of x) (part kind x) ≡ true) es e es' o put.is_put each) where
-        stands_of : (o' : Option Entry) → o ≡ o'
+  represents_before b votes kind each =
+      represents_of o refl (of_old key_of (λ x. may_say b kind votes (key_of x) (part kind x) ≡ true) es e es' o put.is_put each) where
+        represents_of : (o' : Option Entry) → o ≡ o'
             → Of o' (λ x. may_say b kind votes (key_of x) (part kind x) ≡ true)
             → may_say b kind votes i (seen_in kind o') ≡ true
-        stands_of None is h = refl
-        stands_of (Some old) is h = subst (λ n. may_say b kind votes n (part kind old) ≡ true) (old_number old is) h
+        represents_of None is h = refl
+        represents_of (Some old) is h = subst (λ n. may_say b kind votes n (part kind old) ≡ true) (old_number old is) h
 
   passes_as : (kind : Kind) (o' : Option Entry)
-      → passes key_of (λ x. has_place (part kind x)) o' ≡ has_place (seen_in kind o')
+      → passes key_of (λ x. has_index (part kind x)) o' ≡ has_index (seen_in kind o')
   passes_as kind None = refl
   passes_as kind (Some x) = refl
 
@@ -310,13 +310,13 @@ module _ (es : List Entry) (i : ℕ) (k : Kind) (next : Seen) (e : Entry) (es' :
       → Fits b kind votes es → Fits b kind votes es'
   other_fits b votes kind other fits =
       let same = other_part kind other in
-      let stands : may_say b kind votes (key_of e) (part kind e) ≡ true = rw (same, put.number) (stands_before b votes kind fits.each) in
-      let counts = count-put key_of (λ x. has_place (part kind x)) es e es' o put.is_put in
+      let represents : may_say b kind votes (key_of e) (part kind e) ≡ true = rw (same, put.number) (represents_before b votes kind fits.each) in
+      let counts = count-put key_of (λ x. has_index (part kind x)) es e es' o put.is_put in
       let before = passes_as kind o in
-      let after : has_place (part kind e) ≡ has_place (seen_in kind o) = ap has_place same in
+      let after : has_index (part kind e) ≡ has_index (seen_in kind o) = ap has_index same in
       record {
-        each = All-put key_of (λ x. may_say b kind votes (key_of x) (part kind x) ≡ true) es e es' o put.is_put stands fits.each;
-        counted = fits.counted ∙ same_count (has_place (seen_in kind o)) (rw (before, after) at counts);
+        each = All-put key_of (λ x. may_say b kind votes (key_of x) (part kind x) ≡ true) es e es' o put.is_put represents fits.each;
+        counted = fits.counted ∙ same_count (has_index (seen_in kind o)) (rw (before, after) at counts);
       } where
         same_count : {m n : ℕ} (b : Bool) → cond b 1 0 + m ≡ cond b 1 0 + n → n ≡ m
         same_count b h = omega (arith, h)
@@ -327,12 +327,12 @@ module _ (es : List Entry) (i : ℕ) (k : Kind) (next : Seen) (e : Entry) (es' :
       → is_kind k kind ≡ true → Fits true kind votes es → Fits true kind votes es'
   compared_fits votes kind test is none_carried own fits =
       let same = own_part kind own ∙ is in
-      let before = stands_before true votes kind fits.each in
+      let before = represents_before true votes kind fits.each in
       let after : may_say true kind votes (key_of e) (part kind e) ≡ true =
-      rw (same, put.number) (compared_stands kind votes i test (seen_in kind o) none_carried before) in
-      let old_none = passes_as kind o ∙ no_place kind votes i (seen_in kind o) before in
-      let new_none = no_place kind votes (key_of e) (part kind e) after in
-      let counts = count-put key_of (λ x. has_place (part kind x)) es e es' o put.is_put in
+      rw (same, put.number) (compared_represents kind votes i test (seen_in kind o) none_carried before) in
+      let old_none = passes_as kind o ∙ no_index kind votes i (seen_in kind o) before in
+      let new_none = no_index kind votes (key_of e) (part kind e) after in
+      let counts = count-put key_of (λ x. has_index (part kind x)) es e es' o put.is_put in
       let equal = rw (old_none, new_none) at counts in
       record {
         each = All-put key_of (λ x. may_say true kind votes (key_of x) (part kind x) ≡ true) es e es' o put.is_put after fits.each;
@@ -342,22 +342,22 @@ module _ (es : List Entry) (i : ℕ) (k : Kind) (next : Seen) (e : Entry) (es' :
   -- the vote is kept behind the others of its kind
   kept_fits : {G D : Type 0} → (votes : List (Vote G D)) (kind : Kind) (v : Vote G D)
       → next ≡ Kept (length votes)
-      → is_kind k kind ≡ true → is_vote_of kind i v ≡ true → has_place (seen_in kind o) ≡ false
+      → is_kind k kind ≡ true → is_vote_of kind i v ≡ true → has_index (seen_in kind o) ≡ false
       → Fits false kind votes es → Fits false kind (votes ++ v ∷ []) es'
   kept_fits {G = G} {D = D} votes kind v is own mine none fits =
       let same = own_part kind own ∙ is in
       let more : List (Vote G D) = votes ++ v ∷ [] in
       let after : may_say false kind more (key_of e) (part kind e) ≡ true = rw (same, put.number, slice_get_last votes v) mine in
       let old_none = passes_as kind o ∙ none in
-      let new_some : has_place (part kind e) ≡ true = ap has_place same in
-      let counts = count-put key_of (λ x. has_place (part kind x)) es e es' o put.is_put in
+      let new_some : has_index (part kind e) ≡ true = ap has_index same in
+      let counts = count-put key_of (λ x. has_index (part kind x)) es e es' o put.is_put in
       let equal = rw (old_none, new_some) at counts in
       record {
         each =
             All-put key_of (λ x. may_say false kind more (key_of x) (part kind x) ≡ true) es e es' o put.is_put after
             (all_from_rec (λ x. may_say false kind more (key_of x) (part kind x) ≡ true) es
             (rec_weaker (λ x. may_say false kind votes (key_of x) (part kind x) ≡ true) (λ x. may_say false kind more (key_of x) (part kind x) ≡ true)
-            (λ x h. more_stands false kind votes v (key_of x) (part kind x) h) es
+            (λ x h. more_represents false kind votes v (key_of x) (part kind x) h) es
             (rec_from_all (λ x. may_say false kind votes (key_of x) (part kind x) ≡ true) es fits.each)));
         counted = omega (arith, equal, length-append votes (v ∷ []), fits.counted);
       }
@@ -371,10 +371,10 @@ other_of true = refl
 other_of false = refl
 
 none_shown : {G D : Type 0} → (votes : List (Vote G D)) (kind : Kind) (o : Option Entry)
-    → has_place (seen_in kind o) ≡ false → shown_by (kept_part votes kind) o ≡ None
+    → has_index (seen_in kind o) ≡ false → shown_by (kept_part votes kind) o ≡ None
 none_shown votes kind None none = refl
 none_shown votes kind (Some e) none = none_at (part kind e) none where
-  none_at : (s : Seen) → has_place s ≡ false → own_vote kind (key_of e) (vote_at votes s) ≡ None
+  none_at : (s : Seen) → has_index s ≡ false → own_vote kind (key_of e) (vote_at votes s) ≡ None
   none_at Nothing none = refl
   none_at Uncompared none = refl
   none_at Differs none = refl
@@ -397,7 +397,7 @@ module _ {G D : Type 0} (same : D → D → Bool) where
   none_tested selected (NullifyVote v) none = refl
   none_tested selected (FinalizeVote v) none = absurd (cc)
 
-  -- what is said of a signer's votes tells what comes of one more
+  -- what is said of a signer's votes determines what comes of one more
   outcome_says : (selected : Option (Proposal D)) (vote : Vote G D) (votes : List (Vote G D))
       (b : Bool)
       (i : ℕ) (s : Seen) → may_say b (kind_of vote) votes i s ≡ true
@@ -436,9 +436,9 @@ module _ {G D : Type 0} where
       (observed_by (of_kind votes kind) (of_kind c kind) kind) found ∙ nothing_by (of_kind votes kind) (of_kind c kind) kind
   observed_found c votes es kind i (Some e) up each found =
       let number : key_of e ≡ i = found_key key_of es i e found in
-      let stands = found_all es each found in
+      let represents = found_all es each found in
       observed_is c votes es kind i up ∙ ap (observed_by (of_kind votes kind) (of_kind c kind) kind) found
-      ∙ observed_says (of_kind votes kind) (of_kind c kind) kind e stands ∙ ap (λ n. observed_seen n (of_kind votes kind) (part kind e)) number where
+      ∙ observed_says (of_kind votes kind) (of_kind c kind) kind e represents ∙ ap (λ n. observed_seen n (of_kind votes kind) (part kind e)) number where
         found_all : (es : List Entry)
             → AllPass (λ e. may_say (of_kind c kind) kind (of_kind votes kind) (key_of e)
             (part kind e)) es
@@ -469,10 +469,10 @@ module _ {G D : Type 0} where
                   → may_say b kind (of_kind votes kind) (key_of e) (part kind e) ≡ true
                   → find (is_vote_of kind i) (kept_among b (of_kind votes kind) kind es)
                   ≡ vote_at (of_kind votes kind) (part kind e)
-              by_entry true stands = sym (no_vote (of_kind votes kind) kind (key_of e) (part kind e) stands)
-              by_entry false stands =
+              by_entry true represents = sym (no_vote (of_kind votes kind) kind (key_of e) (part kind e) represents)
+              by_entry false represents =
                   kept_found (of_kind votes kind) kind i es up ∙ ap (shown_by (kept_part (of_kind votes kind) kind)) found
-                  ∙ kept_says (of_kind votes kind) false kind (key_of e) (part kind e) stands
+                  ∙ kept_says (of_kind votes kind) false kind (key_of e) (part kind e) represents
 
   -- whether the signer's vote is kept
   pub has_kept_vote : (c : PerKind Bool) (votes : PerKind (List (Vote G D))) (es : List Entry)
@@ -480,11 +480,11 @@ module _ {G D : Type 0} where
       → AllPass (λ e. may_say (of_kind c kind) kind (of_kind votes kind) (key_of e)
       (part kind e)) es
       → find (λ e. nat_eq (key_of e) i) es ≡ o
-      → has_place (seen_in kind o) ≡ is_some (kept_vote (tracked_by c votes es) kind i)
+      → has_index (seen_in kind o) ≡ is_some (kept_vote (tracked_by c votes es) kind i)
   has_kept_vote c votes es kind i o up each found =
       by_found o found ∙ ap is_some (sym (kept_vote_found c votes es kind i o up each found)) where
         by_seen : (b : Bool) (i : ℕ) (s : Seen) → may_say b kind (of_kind votes kind) i s ≡ true
-            → has_place s ≡ is_some (vote_at (of_kind votes kind) s)
+            → has_index s ≡ is_some (vote_at (of_kind votes kind) s)
         by_seen b i Nothing h = refl
         by_seen b i Uncompared h = refl
         by_seen b i Differs h = refl
@@ -496,7 +496,7 @@ module _ {G D : Type 0} where
           there (Some v) h = refl
 
         by_found : (o : Option Entry) → find (λ e. nat_eq (key_of e) i) es ≡ o
-            → has_place (seen_in kind o) ≡ is_some (vote_at (of_kind votes kind) (seen_in kind o))
+            → has_index (seen_in kind o) ≡ is_some (vote_at (of_kind votes kind) (seen_in kind o))
         by_found None found = refl
         by_found (Some e) found =
             by_seen (of_kind c kind) (key_of e) (part kind e)
@@ -543,7 +543,7 @@ module _ {G D : Type 0} where
       let never = unknown c votes es i up (place_absent key_of es i j (sym is)) in
       let clash : true ≡ false = sym known ∙ never in absurd (cc)
 
-  pub seen_known : (held : Tracked G D) (kind : Kind) (i : ℕ)
+  pub seen_known : (held : TrackerState G D) (kind : Kind) (i : ℕ)
       → is_seen (observed held kind i) ≡ true
       → is_known held i ≡ true
   seen_known held Notarization i seen = rw seen
@@ -663,13 +663,13 @@ module _ {G D : Type 0} (same : D → D → Bool) (c : PerKind Bool) (votes : Pe
   -- behind the other votes of its kind
   module _ (off : of_kind c (kind_of vote) ≡ false)
       (is : next ≡ Kept (length (of_kind votes (kind_of vote))))
-      (none : has_place (seen_in (kind_of vote) o) ≡ false)
+      (none : has_index (seen_in (kind_of vote) o) ≡ false)
       (fits : (kind : Kind) → Fits (of_kind c kind) kind (of_kind votes kind) es) where
     open_own : (kind : Kind) → is_of_kind kind vote ≡ true → of_kind c kind ≡ false
     open_own kind own = ap (of_kind c) (sym (own_kind vote kind own)) ∙ off
 
-    none_own : (kind : Kind) → is_of_kind kind vote ≡ true → has_place (seen_in kind o) ≡ false
-    none_own kind own = ap (λ k. has_place (seen_in k o)) (sym (own_kind vote kind own)) ∙ none
+    none_own : (kind : Kind) → is_of_kind kind vote ≡ true → has_index (seen_in kind o) ≡ false
+    none_own kind own = ap (λ k. has_index (seen_in k o)) (sym (own_kind vote kind own)) ∙ none
 
     next_own : (kind : Kind) → is_of_kind kind vote ≡ true
         → next ≡ Kept (length (of_kind votes kind))
@@ -677,9 +677,7 @@ module _ {G D : Type 0} (same : D → D → Bool) (c : PerKind Bool) (votes : Pe
 
     mine : (kind : Kind) → is_of_kind kind vote ≡ true
         → is_vote_of kind (signer_of vote) vote ≡ true
-    mine kind own = rw own (itself (signer_of vote)) where
-      itself : (n : ℕ) → (n == n) ≡ true
-      itself n = grind (arith, nat_tests)
+    mine kind own = rw own (eq-eqb (signer_of vote) (signer_of vote) refl)
 
     shows_own : (kind : Kind) → is_of_kind kind vote ≡ true
         → kept_part (of_kind votes kind ++ vote ∷ []) kind e ≡ Some vote
@@ -759,22 +757,22 @@ module _ {G D : Type 0} (same : D → D → Bool) (c : PerKind Bool) (votes : Pe
   outcome_found participants in_range =
       rw (in_range, observed_found c votes es (kind_of vote) (signer_of vote) o up (fits (kind_of vote)).each found)
       (outcome_says same selected vote (of_kind votes (kind_of vote)) (of_kind c (kind_of vote)) (signer_of vote) (seen_in (kind_of vote) o)
-      (stands_found (kind_of vote) o found)) where
-        stands_found : (kind : Kind) (o : Option Entry)
+      (represents_found (kind_of vote) o found)) where
+        represents_found : (kind : Kind) (o : Option Entry)
             → find (λ x. nat_eq (key_of x) (signer_of vote)) es ≡ o
             → may_say (of_kind c kind) kind (of_kind votes kind) (signer_of vote) (seen_in kind o)
             ≡ true
-        stands_found kind None found = refl
-        stands_found kind (Some e) found =
+        represents_found kind None found = refl
+        represents_found kind (Some e) found =
             subst (λ n. may_say (of_kind c kind) kind (of_kind votes kind) n (part kind e) ≡ true) (found_key key_of es (signer_of vote) e found)
             (found_passes key_of (λ e. may_say (of_kind c kind) kind (of_kind votes kind) (key_of e) (part kind e) ≡ true) es (signer_of vote) e
             (rec_from_all (λ e. may_say (of_kind c kind) kind (of_kind votes kind) (key_of e) (part kind e) ≡ true) es (fits kind).each) found)
 
-  stands_here : (kind : Kind) (o : Option Entry)
+  represents_here : (kind : Kind) (o : Option Entry)
       → find (λ x. nat_eq (key_of x) (signer_of vote)) es ≡ o
       → may_say (of_kind c kind) kind (of_kind votes kind) (signer_of vote) (seen_in kind o) ≡ true
-  stands_here kind None found = refl
-  stands_here kind (Some e) found =
+  represents_here kind None found = refl
+  represents_here kind (Some e) found =
       subst (λ n. may_say (of_kind c kind) kind (of_kind votes kind) n (part kind e) ≡ true) (found_key key_of es (signer_of vote) e found)
       (found_passes key_of (λ e. may_say (of_kind c kind) kind (of_kind votes kind) (key_of e) (part kind e) ≡ true) es (signer_of vote) e
       (rec_from_all (λ e. may_say (of_kind c kind) kind (of_kind votes kind) (key_of e) (part kind e) ≡ true) es (fits kind).each) found)
@@ -786,10 +784,10 @@ module _ {G D : Type 0} (same : D → D → Bool) (c : PerKind Bool) (votes : Pe
   outcome_here =
       rw (observed_found c votes es (kind_of vote) (signer_of vote) o up (fits (kind_of vote)).each found)
       (outcome_says same selected vote (of_kind votes (kind_of vote)) (of_kind c (kind_of vote)) (signer_of vote) (seen_in (kind_of vote) o)
-      (stands_here (kind_of vote) o found))
+      (represents_here (kind_of vote) o found))
 
   place_open : (b : Bool) (kind : Kind) (its : List (Vote G D)) (i : ℕ) (s : Seen)
-      → has_place s ≡ true
+      → has_index s ≡ true
       → may_say b kind its i s ≡ true
       → (b ≡ false) × (is_seen (observed_seen i its s) ≡ true)
   place_open b kind its i Nothing has h = absurd (cc)
@@ -804,7 +802,7 @@ module _ {G D : Type 0} (same : D → D → Bool) (c : PerKind Bool) (votes : Pe
     there (Some v) h = refl
 
   -- Where one is kept already, nothing changes.
-  pub recorded_none : has_place (seen_in (kind_of vote) o) ≡ true → (kind : Kind)
+  pub recorded_none : has_index (seen_in (kind_of vote) o) ≡ true → (kind : Kind)
       → RecordsKind same (tracked_by c votes es) (tracked_by c votes es) selected true vote kind
   recorded_none has kind =
       record {
@@ -819,7 +817,7 @@ module _ {G D : Type 0} (same : D → D → Bool) (c : PerKind Bool) (votes : Pe
             (is_seen (observed_seen (signer_of vote) (of_kind votes kind) (seen_in kind o)) ≡ true)
         open_here own =
             place_open (of_kind c kind) kind (of_kind votes kind) (signer_of vote) (seen_in kind o)
-            (ap (λ k. has_place (seen_in k o)) (sym (own_kind vote kind own)) ∙ has) (stands_here kind o found)
+            (ap (λ k. has_index (seen_in k o)) (sym (own_kind vote kind own)) ∙ has) (represents_here kind o found)
 
         same_kept : (own : Bool) → is_of_kind kind vote ≡ own
             → kept_among (of_kind c kind) (of_kind votes kind) kind es
@@ -840,13 +838,13 @@ module _ {G D : Type 0} (same : D → D → Bool) (c : PerKind Bool) (votes : Pe
         same_facts false is = refl
 
   -- A vote that was seen and isn't kept is of a kind that is compacted.
-  pub seen_compacted : has_place (seen_in (kind_of vote) o) ≡ false
+  pub seen_compacted : has_index (seen_in (kind_of vote) o) ≡ false
       → is_seen (observed (tracked_by c votes es) (kind_of vote) (signer_of vote)) ≡ true
       → of_kind c (kind_of vote) ≡ true
   seen_compacted none seen =
-      facts_there (of_kind c (kind_of vote)) (seen_in (kind_of vote) o) none (stands_here (kind_of vote) o found)
+      facts_there (of_kind c (kind_of vote)) (seen_in (kind_of vote) o) none (represents_here (kind_of vote) o found)
       (ap is_seen (sym (observed_found c votes es (kind_of vote) (signer_of vote) o up (fits (kind_of vote)).each found)) ∙ seen) where
-        facts_there : (b : Bool) (s : Seen) → has_place s ≡ false
+        facts_there : (b : Bool) (s : Seen) → has_index s ≡ false
             → may_say b (kind_of vote) (of_kind votes (kind_of vote)) (signer_of vote) s ≡ true
             → is_seen (observed_seen (signer_of vote) (of_kind votes (kind_of vote)) s) ≡ true
             → b ≡ true
@@ -857,12 +855,12 @@ module _ {G D : Type 0} (same : D → D → Bool) (c : PerKind Bool) (votes : Pe
         facts_there b (Kept p) none h seen = absurd (cc)
 
   -- a vote of which one is kept is a duplicate
-  pub outcome_kept : has_place (seen_in (kind_of vote) o) ≡ true → (participants : ℕ)
+  pub outcome_kept : has_index (seen_in (kind_of vote) o) ≡ true → (participants : ℕ)
       → nat_lt (signer_of vote) participants ≡ true
       → Duplicate true ≡ outcome_of same participants (tracked_by c votes es) selected vote
   outcome_kept has participants in_range =
       kept_outcome (seen_in (kind_of vote) o) has ∙ outcome_found participants in_range where
-        kept_outcome : (s : Seen) → has_place s ≡ true
+        kept_outcome : (s : Seen) → has_index s ≡ true
             → Duplicate true ≡ seen_outcome (of_kind c (kind_of vote)) (tested same selected vote) s
         kept_outcome Nothing has = absurd (cc)
         kept_outcome Uncompared has = absurd (cc)
@@ -870,7 +868,7 @@ module _ {G D : Type 0} (same : D → D → Bool) (c : PerKind Bool) (votes : Pe
         kept_outcome Matches has = absurd (cc)
         kept_outcome (Kept p) has = refl
 
-  nothing_there : (b : Bool) (s : Seen) → b ≡ false → has_place s ≡ false
+  nothing_there : (b : Bool) (s : Seen) → b ≡ false → has_index s ≡ false
       → may_say b (kind_of vote) (of_kind votes (kind_of vote)) (signer_of vote) s ≡ true
       → s ≡ Nothing
   nothing_there b Nothing off none h = refl
@@ -881,11 +879,11 @@ module _ {G D : Type 0} (same : D → D → Bool) (c : PerKind Bool) (votes : Pe
 
   -- A vote of a kind that isn't compacted, of which none is kept, is the first.
   pub outcome_first : of_kind c (kind_of vote) ≡ false
-      → has_place (seen_in (kind_of vote) o) ≡ false
+      → has_index (seen_in (kind_of vote) o) ≡ false
       → (participants : ℕ) → nat_lt (signer_of vote) participants ≡ true
       → Added true ≡ outcome_of same participants (tracked_by c votes es) selected vote
   outcome_first off none participants in_range =
-      let nothing = nothing_there (of_kind c (kind_of vote)) (seen_in (kind_of vote) o) off none (stands_here (kind_of vote) o found) in
+      let nothing = nothing_there (of_kind c (kind_of vote)) (seen_in (kind_of vote) o) off none (represents_here (kind_of vote) o found) in
       ap (λ b. Added (not b)) (sym off)
       ∙ ap (seen_outcome (of_kind c (kind_of vote)) (tested same selected vote)) (sym nothing)
       ∙ outcome_found participants in_range
@@ -921,7 +919,7 @@ module _ {G D : Type 0} (same : D → D → Bool) (c : PerKind Bool) (votes : Pe
 
     pub recorded_full : (votes' : PerKind (List (Vote G D))) (es' : List Entry)
         → votes' ≡ with_vote vote votes → es' ≡ full_entries → of_kind c (kind_of vote) ≡ false
-        → has_place (seen_in (kind_of vote) its_entry) ≡ false
+        → has_index (seen_in (kind_of vote) its_entry) ≡ false
         → ((kind : Kind) → Fits (of_kind c kind) kind (of_kind votes kind) es) → (kind : Kind)
         → RecordsKind same (tracked_by c votes es) (tracked_by c votes' es') selected true vote kind
     recorded_full votes' es' kept left off none fits kind =
@@ -930,7 +928,7 @@ module _ {G D : Type 0} (same : D → D → Bool) (c : PerKind Bool) (votes : Pe
         none fits kind)
 
     pub tracked_full : of_kind c (kind_of vote) ≡ false
-        → has_place (seen_in (kind_of vote) its_entry) ≡ false → (participants : ℕ)
+        → has_index (seen_in (kind_of vote) its_entry) ≡ false → (participants : ℕ)
         → IsTracked participants c votes es
         → IsTracked participants c (with_vote vote votes) full_entries
     tracked_full off none participants tracked =

@@ -13,13 +13,13 @@ use Rattle.batcher_types.specs.Ordered.{rec_from_all, all_from_rec, rec_weaker}
 use Rattle.batcher_types.specs.Votes.{is_kind, is_vote_of, has_proposals, kind_of}
 use Rattle.batcher_types.proofs.KindLemmas.{is_kind-true}
 use Rattle.batcher_types.proofs.ListLemmas.{and-true}
-use Rattle.batcher_votes.specs.Held.{PerKind, of_kind}
-use Rattle.batcher_votes.specs.Tracking.{no_facts, facts_with, facts_of_kept, ReleasesKind, SameTracked}
-use Rattle.batcher_votes.specs.Entries.{Entry, with_mark, part, key_of, has_place, compared, facts_seen, facts_part, facts_among, without, own_vote, vote_at, kept_part, kept_among, tracked_by, may_say, Fits}
+use Rattle.batcher_votes.specs.RoundState.{PerKind, of_kind}
+use Rattle.batcher_votes.specs.TrackerSteps.{no_facts, facts_with, facts_of_kept, ReleasesKind, SameTrackerState}
+use Rattle.batcher_votes.specs.Entries.{Entry, with_mark, part, key_of, has_index, compared, facts_seen, facts_part, facts_among, without, own_vote, vote_at, kept_part, kept_among, tracked_by, may_say, Fits}
 use Rattle.batcher_votes.specs.Entries.{tested, tested_at, seen_released, entry_released}
 use Rattle.batcher_votes.proofs.TrackerLemmas.ShownParts.{made_of, filter_map-map_same}
 use Rattle.batcher_votes.proofs.TrackerLemmas.SignerFacts.{signed, kept_is, facts_is}
-use Rattle.batcher_votes.proofs.TrackerLemmas.RecordVote.{compared_facts, compared_stands, facts_with_vote, none_tested, part_with, key_with}
+use Rattle.batcher_votes.proofs.TrackerLemmas.RecordVote.{compared_facts, compared_represents, facts_with_vote, none_tested, part_with, key_with}
 
 of_kind-with_mark : (released : Kind) (c : PerKind Bool) (kind : Kind)
     → of_kind (with_mark released c) kind ≡ (is_kind released kind || of_kind c kind)
@@ -73,14 +73,14 @@ of_kind-without Finalization votes Notarization = refl
 of_kind-without Finalization votes Nullification = refl
 of_kind-without Finalization votes Finalization = refl
 
-compared_nothing : (test : Option Bool) → has_place (compared test Nothing) ≡ false
+compared_nothing : (test : Option Bool) → has_index (compared test Nothing) ≡ false
 compared_nothing None = refl
 compared_nothing (Some true) = refl
 compared_nothing (Some false) = refl
 
 module _ {G D : Type 0} (same : D → D → Bool) (selected : Option (Proposal D)) where
   none_left : (votes : List (Vote G D)) (s : Seen)
-      → has_place (seen_released same selected votes s) ≡ false
+      → has_index (seen_released same selected votes s) ≡ false
   none_left votes Nothing = refl
   none_left votes Uncompared = refl
   none_left votes Differs = refl
@@ -115,15 +115,15 @@ module _ {G D : Type 0} (same : D → D → Bool) (selected : Option (Proposal D
       let is = is_kind-true (kind_of v) kind (and_parts (is_kind (kind_of v) kind) _ own).0 in
       none_tested same selected v (ap has_proposals is ∙ none)
 
-  seen_stands : (kind : Kind) (votes : List (Vote G D)) (i : ℕ) (s : Seen)
+  seen_represents : (kind : Kind) (votes : List (Vote G D)) (i : ℕ) (s : Seen)
       → may_say false kind votes i s ≡ true
       → may_say {G = G} {D = D} true kind [] i (seen_released same selected votes s) ≡ true
-  seen_stands kind votes i Nothing h = refl
-  seen_stands kind votes i Uncompared h = absurd (cc)
-  seen_stands kind votes i Differs h = absurd (cc)
-  seen_stands kind votes i Matches h = absurd (cc)
-  seen_stands kind votes i (Kept p) h =
-      compared_stands {G = G} {D = D} kind [] i (tested_at same selected (slice_get votes p)) Nothing (none_carried kind i (slice_get votes p) h) refl
+  seen_represents kind votes i Nothing h = refl
+  seen_represents kind votes i Uncompared h = absurd (cc)
+  seen_represents kind votes i Differs h = absurd (cc)
+  seen_represents kind votes i Matches h = absurd (cc)
+  seen_represents kind votes i (Kept p) h =
+      compared_represents {G = G} {D = D} kind [] i (tested_at same selected (slice_get votes p)) Nothing (none_carried kind i (slice_get votes p) h) refl
 
   module _ (released : Kind) (votes : List (Vote G D)) where
     abbrev pub after : Entry → Entry
@@ -157,17 +157,18 @@ module _ {G D : Type 0} (same : D → D → Bool) (selected : Option (Proposal D
     facts_own : (kind : Kind) → is_kind released kind ≡ true → (e : Entry)
         → may_say false kind votes (key_of e) (part kind e) ≡ true
         → facts_part kind (after e) ≡ made_of (facts_of_kept same selected) (kept_part votes kind e)
-    facts_own kind own e stands = rw (own_after kind own e, key_after e) (seen_shows kind votes (key_of e) (part kind e) stands)
+    facts_own kind own e represents = rw (own_after kind own e, key_after e) (seen_shows kind votes (key_of e) (part kind e) represents)
 
-    stands_own : (kind : Kind) → is_kind released kind ≡ true → (e : Entry)
+    represents_own : (kind : Kind) → is_kind released kind ≡ true → (e : Entry)
         → may_say false kind votes (key_of e) (part kind e) ≡ true
         → may_say {G = G} {D = D} true kind [] (key_of (after e)) (part kind (after e)) ≡ true
-    stands_own kind own e stands = rw (own_after kind own e, key_after e) (seen_stands kind votes (key_of e) (part kind e) stands)
+    represents_own kind own e represents = rw (own_after kind own e, key_after e) (seen_represents kind votes (key_of e) (part kind e) represents)
 
-    stands_beside : (b : Bool) (kind : Kind) (its : List (Vote G D)) → is_kind released kind ≡ false
+    represents_beside : (b : Bool) (kind : Kind) (its : List (Vote G D)) → is_kind released kind
+        ≡ false
         → (e : Entry) → may_say b kind its (key_of e) (part kind e) ≡ true
         → may_say b kind its (key_of (after e)) (part kind (after e)) ≡ true
-    stands_beside b kind its other e stands = rw (other_after kind other e, key_after e) stands
+    represents_beside b kind its other e represents = rw (other_after kind other e, key_after e) represents
 
     fits_beside : (b : Bool) (kind : Kind) (its : List (Vote G D)) (es : List Entry)
         → is_kind released kind ≡ false → Fits b kind its es → Fits b kind its (map after es)
@@ -176,9 +177,9 @@ module _ {G D : Type 0} (same : D → D → Bool) (selected : Option (Proposal D
           each =
               all_from_rec (λ e. may_say b kind its (key_of e) (part kind e) ≡ true) (map after es)
               (all-map (λ e. may_say b kind its (key_of e) (part kind e) ≡ true) (λ e. may_say b kind its (key_of e) (part kind e) ≡ true) after
-              (stands_beside b kind its other) es (rec_from_all (λ e. may_say b kind its (key_of e) (part kind e) ≡ true) es fits.each));
+              (represents_beside b kind its other) es (rec_from_all (λ e. may_say b kind its (key_of e) (part kind e) ≡ true) es fits.each));
           counted =
-              fits.counted ∙ sym (count-map_same (λ e. has_place (part kind e)) after (λ e. ap has_place (other_after kind other e)) es);
+              fits.counted ∙ sym (count-map_same (λ e. has_index (part kind e)) after (λ e. ap has_index (other_after kind other e)) es);
         }
 
     fits_own : (kind : Kind) (es : List Entry) → is_kind released kind ≡ true
@@ -189,10 +190,10 @@ module _ {G D : Type 0} (same : D → D → Bool) (selected : Option (Proposal D
               all_from_rec (λ e. may_say {G = G} {D = D} true kind [] (key_of e) (part kind e) ≡ true) (map after es)
               (all-map (λ e. may_say false kind votes (key_of e) (part kind e) ≡ true)
               (λ e. may_say {G = G} {D = D} true kind [] (key_of e) (part kind e) ≡ true) after
-              (stands_own kind own) es (rec_from_all (λ e. may_say false kind votes (key_of e) (part kind e) ≡ true) es fits.each));
+              (represents_own kind own) es (rec_from_all (λ e. may_say false kind votes (key_of e) (part kind e) ≡ true) es fits.each));
           counted =
-              sym (count-map_none (λ e. has_place (part kind e)) after
-              (λ e. ap has_place (own_after kind own e) ∙ none_left votes (part kind e)) es);
+              sym (count-map_none (λ e. has_index (part kind e)) after
+              (λ e. ap has_index (own_after kind own e) ∙ none_left votes (part kind e)) es);
         }
 
     facts_all : (kind : Kind) (es : List Entry) → is_kind released kind ≡ true
@@ -282,7 +283,7 @@ module _ {G D : Type 0} (same : D → D → Bool) (c c' : PerKind Bool)
 
   -- the kinds that aren't released
   pub released_beside : (kind : Kind) → is_kind released kind ≡ false
-      → SameTracked (tracked_by c votes es) (tracked_by c' votes' es') kind
+      → SameTrackerState (tracked_by c votes es) (tracked_by c' votes' es') kind
   released_beside kind other =
       let it : of_kind c' kind ≡ of_kind c kind = mark kind ∙ ap (λ own. own || of_kind c kind) other in
       let votes_same : of_kind votes' kind ≡ of_kind votes kind = left kind ∙ ap (λ own. cond own [] (of_kind votes kind)) other in

@@ -11,8 +11,8 @@ use Rattle.batcher_votes.specs.declared.votes.entry.Seen.TheVariants.{Nothing, U
 use Rattle.batcher_types.specs.Ascending.{IsAscending}
 use Rattle.batcher_types.specs.Lists.{is_some_and}
 use Rattle.batcher_types.specs.Votes.{kind_of, signer_of, is_kind, is_of_kind, is_vote_of}
-use Rattle.batcher_votes.specs.Held.{PerKind, of_kind, Facts}
-use Rattle.batcher_votes.specs.Tracking.{Observed, unseen, from_kept, from_facts, observed, is_known}
+use Rattle.batcher_votes.specs.RoundState.{PerKind, of_kind, Facts}
+use Rattle.batcher_votes.specs.TrackerSteps.{Observed, unseen, from_kept, from_facts, observed, is_known}
 use Rattle.batcher_votes.specs.Entries.{Entry, part, key_of, facts_seen, facts_part, facts_among, own_vote, vote_at, kept_part, kept_among, tracked_by, observed_seen, may_say}
 use Rattle.batcher_votes.proofs.TrackerLemmas.ShownParts.{Of, shown_by, find-filter_map}
 
@@ -117,7 +117,7 @@ module _ {G D : Type 0} where
     observed_among true kind k es up = ap from_facts (facts_found kind k es up)
     observed_among false kind k es up = ap from_kept (kept_found kind k es up)
 
-    -- An entry that may stand shows the vote at its place.
+    -- An entry that may be there shows the vote at its place.
     own_same : (kind : Kind) (i : ℕ) (o : Option (Vote G D))
         → is_some_and o (is_vote_of kind i) ≡ true
         → own_vote kind i o ≡ o

@@ -9,7 +9,7 @@ use Rattle.batcher_types.specs.Quorum.{quorum_of}
 use Rattle.batcher_types.specs.Lists.{EachOnce}
 use Rattle.batcher_types.specs.Attestations.{index_of_signer, signers, failing}
 use Rattle.batcher_types.specs.Meaning.{Meaning, MayTry, IsLawful}
-use Rattle.batcher_types.specs.Attempts.{Tried, checked, one_by_one, at_once, attempt_of}
+use Rattle.batcher_types.specs.Attempts.{AttemptResult, checked, one_by_one, at_once, attempt_of}
 use Rattle.batcher_votes.proofs.VerifierLemmas.CheckedQuorum.{IsQuorum-checked, IsQuorum-valid, AllPass-valid, once_checked}
 use Rattle.batcher_types.specs.declared.messages.Attestation.{Attestation}
 use Rattle.batcher_types.specs.declared.messages.Subject.{Subject}
@@ -30,7 +30,7 @@ none_fail test [] none = AllPass-nil test
 none_fail test (a ∷ xs) none = all_of test a xs (test a) refl none (none_fail test xs)
 
 -- What is true of what an attempt gives.
-pub record IsFine {D K G C : Type 0} (m : Meaning D K G C) (subject : Subject D) (t : Tried G C) :
+pub record IsFine {D K G C : Type 0} (m : Meaning D K G C) (subject : Subject D) (t : AttemptResult G C) :
     Type 0 where
   pub attested : AllPass (m.attests subject) t.verified
   pub once : EachOnce index_of_signer t.verified
@@ -43,7 +43,7 @@ module _ {D K G C : Type 0} (m : Meaning D K G C) (lawful : IsLawful m) (subject
     (q : ℕ) (v p : List (Attestation G)) (some : 1 ≤ length m.participants)
     (enough : quorum_of (length m.participants) ≤ q) (once : EachOnce index_of_signer (v ++ p))
     (attested : AllPass (m.attests subject) v) where
-  fine_some : (t : Tried G C) (c : C) → t.certificate ≡ Some c → t.verified ≡ []
+  fine_some : (t : AttemptResult G C) (c : C) → t.certificate ≡ Some c → t.verified ≡ []
       → m.certifies subject c ≡ true → (t.fallback ≡ true → t.invalid ≢ []) → IsFine m subject t
   fine_some t c e left h names =
       record {
@@ -55,7 +55,7 @@ module _ {D K G C : Type 0} (m : Meaning D K G C) (lawful : IsLawful m) (subject
         certifies = rw e h;
       }
 
-  fine_none : (t : Tried G C) → t.certificate ≡ None → t.verified ≡ v
+  fine_none : (t : AttemptResult G C) → t.certificate ≡ None → t.verified ≡ v
       ++ filter (m.attests subject) (checked q v p) → (t.fallback ≡ true → t.invalid ≢ [])
       → IsFine m subject t
   fine_none t e left names =

@@ -26,15 +26,15 @@ use Rattle.batcher_types.specs.Lists.{count, EachOnce}
 use Rattle.batcher_types.specs.Attestations.{index_of_signer}
 use Rattle.batcher_types.specs.Meaning.{Meaning, IsLawful}
 use Rattle.batcher_types.specs.Votes.{is_kind, is_of_kind, signer_of, subject_of, attestation_of, proposal_in, same_subject, subject_certified, content_of}
-use Rattle.batcher_votes.specs.Selected.{proposal_of}
-use Rattle.batcher_votes.specs.Held.{of_kind, Buffered}
-use Rattle.batcher_types.specs.Attempts.{Tried, attempt_of}
+use Rattle.batcher_votes.specs.ProposalStates.{proposal_of}
+use Rattle.batcher_votes.specs.RoundState.{of_kind, VerifierState}
+use Rattle.batcher_types.specs.Attempts.{AttemptResult, attempt_of}
 use Rattle.batcher_types.proofs.CountLemmas.{count-map}
 use Rattle.batcher_types.proofs.KindLemmas.{is_kind-true, is_kind-refl}
 use Rattle.batcher_types.proofs.VoteLemmas.{same_subject-true, same_subject-refl}
 use Rattle.batcher_types.proofs.OptionLemmas.{given, is_some-option_map, is_some-false}
-use Rattle.batcher_votes.specs.Buffering.{attestations_of, vote_for, subject_from, first_proposal, is_enough, is_ready, CompletesKind, certificate_for, subject_tried, batch_of, TriesKind, SameBuffered}
-use Rattle.batcher_votes.specs.Sound.{IsSound, IsSoundKind, attests_itself, is_about, may_stand}
+use Rattle.batcher_votes.specs.VerifierSteps.{attestations_of, vote_for, subject_from, first_proposal, is_enough, is_ready, CompletesKind, certificate_for, subject_tried, batch_of, TriesKind, SameVerifierState}
+use Rattle.batcher_votes.specs.Soundness.{IsSound, IsSoundKind, attests_itself, is_about, may_be_buffered}
 use Rattle.batcher_votes.proofs.VerifierLemmas.Changes.{Absorbs}
 use Rattle.batcher_votes.specs.Verifiers.{subject_ready, certifies_itself, BatchCertifies, NamesSomebody}
 use Rattle.batcher_votes.proofs.VerifierLemmas.Runs.{vote_again, attestation_again, subject_again}
@@ -43,7 +43,7 @@ use Rattle.batcher_votes.proofs.VerifierLemmas.AttemptLaws.{IsFine, fine}
 module _ {D : Type 0} (same : D → D → Bool) (identical : (a b : D) → same a b ≡ true → a ≡ b) where
   module _ {G : Type 0} (number : Round) (subject : Subject D) where
     about_of : (proposal : Option (Proposal D)) (kind : Kind) (v : Vote G D)
-        → may_stand same number proposal kind v ≡ true → subject_from kind number proposal
+        → may_be_buffered same number proposal kind v ≡ true → subject_from kind number proposal
         ≡ Some subject → subject_of v ≡ subject
     about_of proposal kind v h e =
         let about : is_about same (subject_from kind number proposal) (subject_of v)
@@ -51,10 +51,11 @@ module _ {D : Type 0} (same : D → D → Bool) (identical : (a b : D) → same 
         let there : is_about same (Some subject) (subject_of v) ≡ true = subst (λ o. is_about same o (subject_of v) ≡ true) e about in
         sym (same_subject-true same identical subject (subject_of v) there)
 
-    -- the subject is known, so all that may stand are about it
+    -- the subject is known, so all that may be there are about it
     pub known : (proposal : Option (Proposal D)) (kind : Kind) (xs : List (Vote G D))
         → subject_from kind number proposal ≡ Some subject
-        → AllPass (may_stand same number proposal kind) xs → All (λ v. subject_of v ≡ subject) xs
+        → AllPass (may_be_buffered same number proposal kind) xs
+        → All (λ v. subject_of v ≡ subject) xs
     known proposal kind xs e h = λ k d below. about_of proposal kind _ (h k d below) e
 
     all_alike : (s : Subject D) (xs : List (Vote G D)) → s ≡ subject
@@ -92,21 +93,21 @@ module _ {D : Type 0} (same : D → D → Bool) (identical : (a b : D) → same 
         → is_enough same batchable q kind proposal verified pending ≡ true
         → subject_from kind number (cond (is_none proposal) (first_proposal verified) proposal)
         ≡ Some subject
-        → AllPass (may_stand same number proposal kind) verified
+        → AllPass (may_be_buffered same number proposal kind) verified
         → All (λ v. subject_of v ≡ subject) verified
     ready_about batchable q (Some p) kind verified pending h e stand = known (Some p) kind verified e stand
     ready_about batchable q None Nullification verified pending h e stand = known None Nullification verified e stand
     ready_about batchable q None Notarization [] pending h e stand = All-nil (λ v. subject_of v ≡ subject)
     ready_about batchable q None Finalization [] pending h e stand = All-nil (λ v. subject_of v ≡ subject)
     ready_about batchable q None Notarization (x ∷ xs) pending h e stand =
-        alike_notarizes x xs ((and_parts _ _ (All-head (λ v. may_stand same number None Notarization v ≡ true) x xs stand)).0) e ((and_parts _ _ h).1)
+        alike_notarizes x xs ((and_parts _ _ (All-head (λ v. may_be_buffered same number None Notarization v ≡ true) x xs stand)).0) e ((and_parts _ _ h).1)
     ready_about batchable q None Finalization (x ∷ xs) pending h e stand =
-        alike_finalizes x xs ((and_parts _ _ (All-head (λ v. may_stand same number None Finalization v ≡ true) x xs stand)).0) e ((and_parts _ _ h).1)
+        alike_finalizes x xs ((and_parts _ _ (All-head (λ v. may_be_buffered same number None Finalization v ≡ true) x xs stand)).0) e ((and_parts _ _ h).1)
 
     pub verified_about :
-        (batchable : Bool) (q : ℕ) (held : Buffered G D) (kind : Kind)
+        (batchable : Bool) (q : ℕ) (held : VerifierState G D) (kind : Kind)
         → subject_ready same batchable q held number kind ≡ Some subject
-        → AllPass (may_stand same number (proposal_of held.selection) kind)
+        → AllPass (may_be_buffered same number (proposal_of held.selection) kind)
         (of_kind held.verified kind) → All (λ v. subject_of v ≡ subject)
         (of_kind held.verified kind)
     verified_about batchable q held kind ready stand =
@@ -191,10 +192,10 @@ module _ {D : Type 0} (same : D → D → Bool) (reflexive : (d : D) → same d 
       {G : Type 0} (number : Round) (proposal other : Option (Proposal D)) (kind : Kind)
       (subject : Subject D) → subject_from kind number (cond (is_none proposal) other proposal)
       ≡ Some subject
-      → (ones : List (Attestation G)) → AllPass (may_stand same number proposal kind)
+      → (ones : List (Attestation G)) → AllPass (may_be_buffered same number proposal kind)
       (map (vote_for subject) ones)
   stand_tried number proposal other kind subject e ones =
-      all_of_map (may_stand same number proposal kind) (vote_for subject) ones
+      all_of_map (may_be_buffered same number proposal kind) (vote_for subject) ones
       (λ a. and_from (is_of_kind kind (vote_for subject a)) (is_about same (subject_from kind number proposal) (subject_of (vote_for subject a)))
       (of_its_kind kind number (cond (is_none proposal) other proposal) subject a e)
       (subst (λ s. is_about same (subject_from kind number proposal) s ≡ true) (sym (subject_again subject a))
@@ -215,7 +216,8 @@ module _ {D K G C : Type 0} (m : Meaning D K G C) (same : D → D → Bool)
       (attest_tried subject ones (All-tail (λ x. m.attests subject x ≡ true) a ones h))
 
   sound_tried :
-      (old new : Buffered G D) (kind : Kind) (subject : Subject D) (outcome : Tried G C)
+      (old new : VerifierState G D) (kind : Kind) (subject : Subject D)
+      (outcome : AttemptResult G C)
       → subject_tried old number kind ≡ Some subject → IsFine m subject outcome → new.selection
       ≡ old.selection
       → of_kind new.certified kind ≡ is_some outcome.certificate → of_kind new.pending kind ≡ []
@@ -223,7 +225,7 @@ module _ {D K G C : Type 0} (m : Meaning D K G C) (same : D → D → Bool)
       → IsSoundKind m same number new kind
   sound_tried old new kind subject outcome e fine sel certified pending verified =
       record {
-        pending = rw pending (All-nil (λ v. may_stand same number (proposal_of new.selection) kind v ≡ true));
+        pending = rw pending (All-nil (λ v. may_be_buffered same number (proposal_of new.selection) kind v ≡ true));
         verified =
             rw (verified, sel) (stand_tried same reflexive number (proposal_of old.selection) (first_proposal (of_kind old.verified kind)) kind subject e
             outcome.verified);
@@ -233,8 +235,8 @@ module _ {D K G C : Type 0} (m : Meaning D K G C) (same : D → D → Bool)
         none_verified = λ done. verified ∙ ap (λ ones. map (vote_for subject) ones) (fine.emptied (sym certified ∙ done));
       }
 
-  sound_same : (old new : Buffered G D) (kind : Kind) → new.selection ≡ old.selection
-      → SameBuffered old new kind → IsSoundKind m same number old kind
+  sound_same : (old new : VerifierState G D) (kind : Kind) → new.selection ≡ old.selection
+      → SameVerifierState old new kind → IsSoundKind m same number old kind
       → IsSoundKind m same number new kind
   sound_same old new kind sel b s =
       record {
@@ -246,8 +248,10 @@ module _ {D K G C : Type 0} (m : Meaning D K G C) (same : D → D → Bool)
         none_verified = λ done. b.verified ∙ s.none_verified (sym b.certified ∙ done);
       }
 
-  this_or_other : (old new : Buffered G D) (tried kind : Kind) (b : Bool) → is_kind tried kind ≡ b
-      → (is_kind tried kind ≡ false → SameBuffered old new kind) → new.selection ≡ old.selection
+  this_or_other : (old new : VerifierState G D) (tried kind : Kind) (b : Bool) → is_kind tried kind
+      ≡ b
+      → (is_kind tried kind ≡ false → SameVerifierState old new kind) → new.selection
+      ≡ old.selection
       → IsSoundKind m same number old kind → IsSoundKind m same number new tried
       → IsSoundKind m same number new kind
   this_or_other old new tried kind true e others sel s this = subst (λ k. IsSoundKind m same number new k) (is_kind-true tried kind e) this
@@ -255,7 +259,7 @@ module _ {D K G C : Type 0} (m : Meaning D K G C) (same : D → D → Bool)
 
   -- what an attempt leaves is sound
   pub sound_tries :
-      (q : ℕ) (old new : Buffered G D) (tried : Kind) (before after : Stream)
+      (q : ℕ) (old new : VerifierState G D) (tried : Kind) (before after : Stream)
       (batch : Batch (Certificate C D)) → IsSound m same number q old
       → (t : TriesKind m number q old tried before batch after new) → IsFine m t.subject t.outcome
       → IsSound m same number q new
@@ -315,7 +319,7 @@ module _ {G D : Type 0} (same : D → D → Bool) (number : Round) where
   some_subject :
       (batchable certified : Bool) (q : ℕ) (proposal : Option (Proposal D)) (kind : Kind)
       (verified pending : List (Vote G D)) → nat_le q 0 ≡ false
-      → AllPass (may_stand same number proposal kind) verified
+      → AllPass (may_be_buffered same number proposal kind) verified
       → is_some (cond (not certified && is_enough same batchable q kind proposal verified pending)
       (subject_from kind number (cond (is_none proposal) (first_proposal verified) proposal))
       None) ≡ (not certified && is_enough same batchable q kind proposal verified pending)
@@ -326,13 +330,13 @@ module _ {G D : Type 0} (same : D → D → Bool) (number : Round) where
   some_subject batchable certified q None Notarization [] pending more stand = rw (none_reached certified true (nat_le q 0) more)
   some_subject batchable certified q None Finalization [] pending more stand = rw (none_reached certified true (nat_le q 0) more)
   some_subject batchable certified q None Notarization (x ∷ xs) pending more stand =
-      some_notarize x _ ((and_parts _ _ (All-head (λ v. may_stand same number None Notarization v ≡ true) x xs stand)).0)
+      some_notarize x _ ((and_parts _ _ (All-head (λ v. may_be_buffered same number None Notarization v ≡ true) x xs stand)).0)
   some_subject batchable certified q None Finalization (x ∷ xs) pending more stand =
-      some_finalize x _ ((and_parts _ _ (All-head (λ v. may_stand same number None Finalization v ≡ true) x xs stand)).0)
+      some_finalize x _ ((and_parts _ _ (All-head (λ v. may_be_buffered same number None Finalization v ≡ true) x xs stand)).0)
 
   -- a kind that is ready has something to try
   pub ready_some :
-      {K C : Type 0} (m : Meaning D K G C) (q : ℕ) (held : Buffered G D) (kind : Kind)
+      {K C : Type 0} (m : Meaning D K G C) (q : ℕ) (held : VerifierState G D) (kind : Kind)
       → IsSound m same number q held → is_some
       (subject_ready same m.batchable q held number kind)
       ≡ is_ready same m.batchable q held kind
@@ -357,9 +361,9 @@ either_true true b c e h = h
 either_true false b c e h = absurd (cc)
 
 module _ {D K G C : Type 0} (m : Meaning D K G C) (same : D → D → Bool) (number : Round) (q : ℕ)
-    (old new : Buffered G D) (kind : Kind) (subject : Subject D)
+    (old new : VerifierState G D) (kind : Kind) (subject : Subject D)
     (ready : subject_ready same m.batchable q old number kind ≡ Some subject)
-    (before after : Stream) (batch : Batch (Certificate C D)) (t : Tried G C)
+    (before after : Stream) (batch : Batch (Certificate C D)) (t : AttemptResult G C)
     (attempted : (t, after) ≡ attempt_of m subject q (attestations_of (of_kind old.verified kind))
     (attestations_of (of_kind old.pending kind)) before) (batch_is : batch ≡ batch_of subject t)
   where
@@ -420,10 +424,10 @@ module _ {D K G C : Type 0} (m : Meaning D K G C) (same : D → D → Bool) (num
 -- what an attempt gives is fine, ones an equation of both
 pub fine_attempt :
     {D K G C : Type 0} (m : Meaning D K G C) (lawful : IsLawful m) (same : D → D → Bool)
-    (number : Round) (q : ℕ) (old : Buffered G D) (kind : Kind) (subject : Subject D)
+    (number : Round) (q : ℕ) (old : VerifierState G D) (kind : Kind) (subject : Subject D)
     → IsSound m same number q old → All (λ v. subject_of v ≡ subject)
     (of_kind old.verified kind)
-    → (before after : Stream) (t : Tried G C) → (t, after)
+    → (before after : Stream) (t : AttemptResult G C) → (t, after)
     ≡ attempt_of m subject q (attestations_of (of_kind old.verified kind))
     (attestations_of (of_kind old.pending kind)) before → IsFine m subject t
 fine_attempt m lawful same number q old kind subject s about before after t attempted =
@@ -435,8 +439,8 @@ fine_attempt m lawful same number q old kind subject s about before after t atte
 
 -- What a construction answers and leaves.
 pub record Constructs {D K G C : Type 0} (m : Meaning D K G C) (same : D → D → Bool)
-    (number : Round) (q : ℕ) (old : Buffered G D) (kind : Kind) (before : Stream)
-    (batch : Batch (Certificate C D)) (after : Stream) (new : Buffered G D) : Type 0 where
+    (number : Round) (q : ℕ) (old : VerifierState G D) (kind : Kind) (before : Stream)
+    (batch : Batch (Certificate C D)) (after : Stream) (new : VerifierState G D) : Type 0 where
   pub tries : TriesKind m number q old kind before batch after new
   pub certifies : BatchCertifies m batch
   pub names : NamesSomebody batch
@@ -452,13 +456,13 @@ certificate_is (FinalizationCertificate it) subject content e f = rw (← e, ←
 
 module _ {D K G C : Type 0} (m : Meaning D K G C) (lawful : IsLawful m) (same : D → D → Bool)
     (identical : (a b : D) → same a b ≡ true → a ≡ b) (reflexive : (a : D) → same a a ≡ true)
-    (number : Round) (q : ℕ) (old new : Buffered G D) (sound : IsSound m same number q old)
+    (number : Round) (q : ℕ) (old new : VerifierState G D) (sound : IsSound m same number q old)
     (kind : Kind) (subject : Subject D)
     (ready : subject_ready same m.batchable q old number kind ≡ Some subject)
     (before after : Stream) (processed : ℕ) (invalid : List Participant) (certificate : Option C)
     (fallback : Bool) (joining : List (Attestation G)) where
   -- what an attempt gave, by its parts
-  abbrev pub gave : Tried G C
+  abbrev pub gave : AttemptResult G C
   gave =
       record {
         processed = processed;

@@ -1,11 +1,11 @@
 -- A proposal that is fixed stays so, and no other takes its place.
-use Rattle.std.proofs.Common.{◌≡◌, ◌∙◌, Bool, true, false, Option, Some, None, is_some, refl, sym, ap}
+use Rattle.std.proofs.Common.{◌≡◌, ◌∙◌, true, Option, Some, None, is_some, refl, sym, ap}
 use Rattle.std.proofs.lemmas.Option.{none-some}
 use Rattle.std.specs.Option.{option_map}
 use Rattle.batcher_types.specs.declared.positions.Round.{Round}
 use Rattle.batcher_types.specs.declared.messages.Proposal.{Proposal}
 use Rattle.batcher_types.specs.declared.messages.Subject.{Subject}
-use Rattle.batcher_types.specs.declared.messages.Subject.TheVariants.{Notarize as NotarizeSubject, Nullify as NullifySubject, Finalize as FinalizeSubject}
+use Rattle.batcher_types.specs.declared.messages.Subject.TheVariants.{Finalize as FinalizeSubject}
 use Rattle.batcher_types.specs.declared.messages.Certificate.{Certificate}
 use Rattle.batcher_types.specs.declared.messages.Certificate.TheVariants.{Notarization as NotarizationCertificate, Nullification as NullificationCertificate, Finalization as FinalizationCertificate}
 use Rattle.batcher_types.specs.declared.messages.Kind.{Kind}
@@ -13,8 +13,9 @@ use Rattle.batcher_types.specs.declared.messages.Kind.TheVariants.{Notarization,
 use Rattle.batcher_votes.specs.declared.verifier.ProposalState.{ProposalState}
 use Rattle.batcher_votes.specs.declared.verifier.ProposalState.TheVariants.{Unknown, Leader as LeadersProposal, Certificate as FixedProposal}
 use Rattle.batcher_types.specs.Votes.{is_kind, proposal_in, kind_certified, subject_certified}
-use Rattle.batcher_votes.specs.Selected.{is_fixed, selects, fixes, replaces}
-use Rattle.batcher_votes.specs.Buffering.{subject_from, certificate_for}
+use Rattle.batcher_votes.specs.ProposalStates.{is_fixed, selects, fixes}
+use Rattle.batcher_votes.specs.VerifierSteps.{subject_from, certificate_for}
+use Rattle.batcher_votes.proofs.VerifierLemmas.Certificates.{made_about}
 
 module _ {D : Type 0} where
   pub selects_fixed : (state : ProposalState D) (o : Option (Proposal D)) → is_fixed state ≡ true
@@ -54,20 +55,6 @@ module _ {D : Type 0} where
       ap (λ s. is_some (proposal_in s)) (sym same)
 
   module _ {C : Type 0} where
-    certified_subject : (subject : Subject D) (content : C)
-        → subject_certified (certificate_for subject content) ≡ subject
-    certified_subject (NotarizeSubject p) content = refl
-    certified_subject (NullifySubject r) content = refl
-    certified_subject (FinalizeSubject p) content = refl
-
-    made_of : (subject : Subject D) (o : Option C) (certificate : Certificate C D)
-        → option_map (certificate_for subject) o ≡ Some certificate → subject_certified certificate
-        ≡ subject
-    made_of subject None certificate h = absurd (none-some certificate h)
-    made_of subject (Some content) certificate h =
-        let same : certificate_for subject content ≡ certificate = cc in
-        ap subject_certified (sym same) ∙ certified_subject subject content
-
     -- what is made of an attempt at a finalization is for a proposal
     pub made_for : (tried : Kind) (number : Round) (o : Option (Proposal D)) (subject : Subject D)
         (given : Option C) (certificate : Certificate C D) → subject_from tried number o
@@ -77,4 +64,4 @@ module _ {D : Type 0} where
     made_for Notarization number o subject given certificate about made h = absurd (cc)
     made_for Nullification number o subject given certificate about made h = absurd (cc)
     made_for Finalization number o subject given certificate about made h =
-        ap (λ s. is_some (proposal_in s)) (made_of subject given certificate made) ∙ subject_for number o subject about
+        ap (λ s. is_some (proposal_in s)) (made_about subject given certificate made) ∙ subject_for number o subject about

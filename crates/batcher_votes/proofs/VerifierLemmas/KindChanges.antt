@@ -7,13 +7,13 @@ use Rattle.batcher_types.specs.declared.messages.Subject.{Subject}
 use Rattle.batcher_types.specs.declared.messages.Vote.{Vote}
 use Rattle.batcher_types.specs.declared.messages.Kind.{Kind}
 use Rattle.batcher_types.specs.declared.messages.Kind.TheVariants.{Notarization, Nullification, Finalization}
-use Rattle.batcher_types.specs.Votes.{is_kind, kind_of, is_of_kind, waits}
+use Rattle.batcher_types.specs.Votes.{is_kind, kind_of, is_of_kind, is_eligible}
 use Rattle.batcher_types.proofs.KindLemmas.{each_kind, is_kind-true, is_kind-refl}
 use Rattle.batcher_votes.specs.declared.verifier.ProposalState.{ProposalState}
 use Rattle.batcher_votes.specs.declared.verifier.certification.Certification.{Certification}
-use Rattle.batcher_votes.specs.Held.{PerKind, of_kind, Buffered}
+use Rattle.batcher_votes.specs.RoundState.{PerKind, of_kind, VerifierState}
 use Rattle.batcher_votes.specs.Kinds.{with_kind}
-use Rattle.batcher_votes.specs.Buffering.{SameBuffered, CompletesKind, vote_for}
+use Rattle.batcher_votes.specs.VerifierSteps.{SameVerifierState, CompletesKind, vote_for}
 use Rattle.batcher_votes.specs.Certifications.{map_kinds, is_complete, pending_of, verified_of, held_by}
 use Rattle.batcher_votes.proofs.VerifierLemmas.Changes.{Places, Restores, Absorbs, Retains}
 
@@ -58,13 +58,13 @@ module _ {X Y : Type 0} (f : X → Y) (all : PerKind X) where
 
 module _ {G D : Type 0} (leader : Option Participant) (selection : ProposalState D)
     (kinds : PerKind (Certification G D)) (kind : Kind) (one : Certification G D) where
-  abbrev pub old : Buffered G D
+  abbrev pub old : VerifierState G D
   old = held_by leader selection kinds
 
-  abbrev pub new : Buffered G D
+  abbrev pub new : VerifierState G D
   new = held_by leader selection (with_kind kinds kind one)
 
-  same_elsewhere : (other : Kind) → is_kind kind other ≡ false → SameBuffered old new other
+  same_elsewhere : (other : Kind) → is_kind kind other ≡ false → SameVerifierState old new other
   same_elsewhere other e =
       record {
         certified = mapped_other is_complete kinds kind one other e;
@@ -83,7 +83,7 @@ module _ {G D : Type 0} (leader : Option Participant) (selection : ProposalState
       ≡ pending_of (of_kind kinds kind) → verified_of one ≡ verified_of (of_kind kinds kind) → new
       ≡ old
   holds_same c p v =
-      let made : PerKind Bool → PerKind (List (Vote G D)) → PerKind (List (Vote G D)) → Buffered G D
+      let made : PerKind Bool → PerKind (List (Vote G D)) → PerKind (List (Vote G D)) → VerifierState G D
       = λ cs ps vs. record { leader = leader; selection = selection; certified = cs; pending = ps; verified = vs } in
       ap (λ cs. made cs (map_kinds pending_of (with_kind kinds kind one)) (map_kinds verified_of (with_kind kinds kind one)))
       (mapped_same is_complete kinds kind one c)
@@ -110,7 +110,7 @@ module _ {G D : Type 0} (leader : Option Participant) (selection : ProposalState
   pub restores : (same : D → D → Bool) (p : Proposal D) (votes : List (Vote G D))
       → is_complete one ≡ is_complete (of_kind kinds kind) → pending_of one
       ≡ pending_of (of_kind kinds kind)
-      ++ cond (is_complete (of_kind kinds kind)) [] (filter (waits same (Some p)) votes)
+      ++ cond (is_complete (of_kind kinds kind)) [] (filter (is_eligible same (Some p)) votes)
       → verified_of one ≡ verified_of (of_kind kinds kind) → Restores same old kind p votes new
   restores same p votes c e v =
       record {
@@ -120,7 +120,7 @@ module _ {G D : Type 0} (leader : Option Participant) (selection : ProposalState
         certified = by_own is_complete (λ b. b) c;
         pending =
             rw (of_mapped is_complete kinds kind)
-            (by_own pending_of (λ xs. xs ++ cond (is_complete (of_kind kinds kind)) [] (filter (waits same (Some p)) votes)) e);
+            (by_own pending_of (λ xs. xs ++ cond (is_complete (of_kind kinds kind)) [] (filter (is_eligible same (Some p)) votes)) e);
         verified = by_own verified_of (λ xs. xs) v;
       }
 
@@ -171,7 +171,7 @@ module _ {G D : Type 0} (leader : Option Participant) (selection : ProposalState
 module _ {G D : Type 0} (leader : Option Participant) (selection : ProposalState D)
     (kinds : PerKind (Certification G D)) (same : D → D → Bool) (p : Proposal D) where
   abbrev pub kept : List (Vote G D) → List (Vote G D)
-  kept votes = filter (waits same (Some p)) votes
+  kept votes = filter (is_eligible same (Some p)) votes
 
   -- Votes for other proposals go, of the kinds whose votes carry one.
   pub retains : (a b : Certification G D) → is_complete a ≡ is_complete kinds.notarize

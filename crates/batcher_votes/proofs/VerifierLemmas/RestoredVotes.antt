@@ -15,22 +15,22 @@ use Rattle.batcher_votes.specs.declared.verifier.ProposalState.TheVariants.{Unkn
 use Rattle.batcher_types.specs.Lawful.{filter_all}
 use Rattle.batcher_types.specs.Lists.{count, EachOnce}
 use Rattle.batcher_types.specs.Meaning.{Meaning}
-use Rattle.batcher_types.specs.Votes.{is_kind, is_of_kind, has_proposals, signer_of, same_proposal, waits}
+use Rattle.batcher_types.specs.Votes.{is_kind, is_of_kind, has_proposals, signer_of, same_proposal, is_eligible}
 use Rattle.batcher_types.proofs.CountLemmas.{count-append, count-filter_le}
 use Rattle.batcher_types.proofs.KindLemmas.{each_kind, is_kind-true}
 use Rattle.batcher_types.proofs.VoteLemmas.{same_proposal-true, same_proposal-refl}
 use Rattle.batcher_types.proofs.ListLemmas.{AllPass-nil, AllPass-weaker, and-true}
-use Rattle.batcher_votes.specs.Selected.{proposal_of, updated, same_selected, replaces}
-use Rattle.batcher_votes.specs.Held.{of_kind, Tracked, Buffered}
-use Rattle.batcher_votes.specs.Tracking.{KeepsEach, kept_vote}
-use Rattle.batcher_votes.specs.Buffering.{Buffers, SetsProposal, FixesProposal, still_waiting}
-use Rattle.batcher_votes.specs.Sound.{IsSound, IsSoundKind, may_stand, WaitsWhereKept}
+use Rattle.batcher_votes.specs.ProposalStates.{proposal_of, updated, same_selected, replaces}
+use Rattle.batcher_votes.specs.RoundState.{of_kind, TrackerState, VerifierState}
+use Rattle.batcher_votes.specs.TrackerSteps.{KeepsEach, kept_vote}
+use Rattle.batcher_votes.specs.VerifierSteps.{Buffers, SetsProposal, FixesProposal, still_eligible}
+use Rattle.batcher_votes.specs.Soundness.{IsSound, IsSoundKind, may_be_buffered, BuffersOnlyKept}
 use Rattle.batcher_votes.proofs.VerifierLemmas.Changes.{IsTidy, Restores}
-use Rattle.batcher_votes.proofs.VerifierLemmas.WaitingVotes.{all_left, still_selected}
+use Rattle.batcher_votes.proofs.VerifierLemmas.EligibleVotes.{all_left, still_selected}
 use Rattle.batcher_votes.proofs.VerifierLemmas.Soundness.{sound_buffers, sound_left}
 
 -- through calls that put votes at the ends of the buffers and drop those that no longer wait
-module _ {G D : Type 0} (same : D → D → Bool) (old new : Buffered G D) (kind : Kind)
+module _ {G D : Type 0} (same : D → D → Bool) (old new : VerifierState G D) (kind : Kind)
     (to_pending to_verified : List (Vote G D))
     (step : Buffers same old new kind to_pending to_verified) where
   fewer : (test : Vote G D → Bool) (b : Bool) (keeps : Vote G D → Bool) (xs : List (Vote G D))
@@ -43,7 +43,7 @@ module _ {G D : Type 0} (same : D → D → Bool) (old new : Buffered G D) (kind
       ≤ count test (of_kind old.verified kind ++ of_kind old.pending kind) +
       (count test to_verified + count test to_pending)
   count_buffers test =
-      let keeps : Vote G D → Bool = waits same (proposal_of new.selection) in
+      let keeps : Vote G D → Bool = is_eligible same (proposal_of new.selection) in
       let done = of_kind new.certified kind in
       omega (
         arith,
@@ -57,12 +57,12 @@ module _ {G D : Type 0} (same : D → D → Bool) (old new : Buffered G D) (kind
         count-append test (of_kind old.pending kind) to_pending,
       )
 
-module _ {G D : Type 0} (same : D → D → Bool) (old new : Buffered G D) (restored : Kind)
+module _ {G D : Type 0} (same : D → D → Bool) (old new : VerifierState G D) (restored : Kind)
     (p : Proposal D) (votes : List (Vote G D)) (r : Restores same old restored p votes new)
     (selected : proposal_of old.selection ≡ Some p) (tidy : (kind : Kind) → IsTidy same old kind)
   where
     abbrev pub fits : Vote G D → Bool
-    fits = waits same (Some p)
+    fits = is_eligible same (Some p)
 
     joined : (certified : Bool) (xs : List (Vote G D)) → (certified ≡ true → xs ≡ [])
         → AllPass fits xs → xs ++ cond certified [] (filter fits votes)
@@ -81,11 +81,12 @@ module _ {G D : Type 0} (same : D → D → Bool) (old new : Buffered G D) (rest
           certified = r.certified;
           pending =
               rw (r.selection, selected, r.certified, r.pending)
-              (joined c (of_kind old.pending restored) t.none_pending (subst (λ s. AllPass (waits same s) (of_kind old.pending restored)) selected t.pending));
+              (joined c (of_kind old.pending restored) t.none_pending (subst
+              (λ s. AllPass (is_eligible same s) (of_kind old.pending restored)) selected t.pending));
           verified =
               rw (r.selection, selected, r.certified, r.verified)
               (all_left fits c (of_kind old.verified restored) t.none_verified
-              (subst (λ s. AllPass (waits same s) (of_kind old.verified restored)) selected t.verified));
+              (subst (λ s. AllPass (is_eligible same s) (of_kind old.verified restored)) selected t.verified));
         }
 
     other : (kind : Kind) → is_kind restored kind ≡ false → Joins kind []
@@ -97,11 +98,12 @@ module _ {G D : Type 0} (same : D → D → Bool) (old new : Buffered G D) (rest
           certified = o.certified;
           pending =
               rw (r.selection, selected, o.certified, o.pending)
-              (all_left fits c (of_kind old.pending kind) t.none_pending (subst (λ s. AllPass (waits same s) (of_kind old.pending kind)) selected t.pending));
+              (all_left fits c (of_kind old.pending kind) t.none_pending
+              (subst (λ s. AllPass (is_eligible same s) (of_kind old.pending kind)) selected t.pending));
           verified =
               rw (r.selection, selected, o.certified, o.verified)
               (all_left fits c (of_kind old.verified kind) t.none_verified
-              (subst (λ s. AllPass (waits same s) (of_kind old.verified kind)) selected t.verified));
+              (subst (λ s. AllPass (is_eligible same s) (of_kind old.verified kind)) selected t.verified));
         }
 
     by_kind : (kind : Kind) (b : Bool) → is_kind restored kind ≡ b → Joins kind (cond b votes [])
@@ -114,12 +116,12 @@ module _ {G D : Type 0} (same : D → D → Bool) (old new : Buffered G D) (rest
 
 module _ {D K G C : Type 0} (m : Meaning D K G C) (same : D → D → Bool) (number : Round) where
   loosely : (kind : Kind) → has_proposals kind ≡ true → (v : Vote G D) → is_of_kind kind v ≡ true
-      → may_stand same number None kind v ≡ true
+      → may_be_buffered same number None kind v ≡ true
   loosely Notarization h v e = rw e
   loosely Nullification h v e = absurd (cc)
   loosely Finalization h v e = rw e
 
-  module _ (old new : Buffered G D) (kind : Kind) (votes : List (Vote G D))
+  module _ (old new : VerifierState G D) (kind : Kind) (votes : List (Vote G D))
       (proposals : has_proposals kind ≡ true) (kinds : AllPass (is_of_kind kind) votes)
       (once : EachOnce signer_of votes)
       (none : (of_kind old.pending kind ≡ []) × (of_kind old.verified kind ≡ [])) where
@@ -127,7 +129,7 @@ module _ {D K G C : Type 0} (m : Meaning D K G C) (same : D → D → Bool) (num
         → IsSoundKind m same number new kind
     sound_own s b =
         sound_buffers m same number old new kind votes [] s b
-        (AllPass-weaker (is_of_kind kind) (may_stand same number None kind) (loosely kind proposals) votes kinds) (AllPass-nil _) (AllPass-nil _)
+        (AllPass-weaker (is_of_kind kind) (may_be_buffered same number None kind) (loosely kind proposals) votes kinds) (AllPass-nil _) (AllPass-nil _)
         (rw (none.0, none.1) once)
 
     sound_by : (other : Kind) (b : Bool) → is_kind kind other ≡ b
@@ -160,29 +162,32 @@ module _ {D : Type 0} (same : D → D → Bool) (identical : (a b : D) → same 
 module _ {G D : Type 0} (same : D → D → Bool) (identical : (a b : D) → same a b ≡ true → a ≡ b)
     (reflexive : (a : D) → same a a ≡ true) (number : Round) where
   gone : (p q : Proposal D) (kind : Kind) → same_proposal same p q ≡ false → has_proposals kind
-      ≡ true → (v : Vote G D) → may_stand same number (Some p) kind v ≡ true → waits same (Some q) v
+      ≡ true → (v : Vote G D) → may_be_buffered same number (Some p) kind v ≡ true
+      → is_eligible same (Some q) v
       ≡ false
-  gone p q Notarization differ h (NotarizeVote v) stands = apart same identical reflexive p q v.proposal (same_proposal same q v.proposal) differ stands refl
-  gone p q Notarization differ h (NullifyVote v) stands = absurd (cc)
-  gone p q Notarization differ h (FinalizeVote v) stands = absurd (cc)
-  gone p q Nullification differ h v stands = absurd (cc)
-  gone p q Finalization differ h (NotarizeVote v) stands = absurd (cc)
-  gone p q Finalization differ h (NullifyVote v) stands = absurd (cc)
-  gone p q Finalization differ h (FinalizeVote v) stands = apart same identical reflexive p q v.proposal (same_proposal same q v.proposal) differ stands refl
+  gone p q Notarization differ h (NotarizeVote v) represents = apart same identical reflexive p q v.proposal
+      (same_proposal same q v.proposal) differ represents refl
+  gone p q Notarization differ h (NullifyVote v) represents = absurd (cc)
+  gone p q Notarization differ h (FinalizeVote v) represents = absurd (cc)
+  gone p q Nullification differ h v represents = absurd (cc)
+  gone p q Finalization differ h (NotarizeVote v) represents = absurd (cc)
+  gone p q Finalization differ h (NullifyVote v) represents = absurd (cc)
+  gone p q Finalization differ h (FinalizeVote v) represents = apart same identical reflexive p q v.proposal
+      (same_proposal same q v.proposal) differ represents refl
 
   all_gone : (p q : Proposal D) (kind : Kind) → same_proposal same p q ≡ false → has_proposals kind
-      ≡ true → (xs : List (Vote G D)) → AllPass (may_stand same number (Some p) kind) xs
-      → filter (waits same (Some q)) xs ≡ []
+      ≡ true → (xs : List (Vote G D)) → AllPass (may_be_buffered same number (Some p) kind) xs
+      → filter (is_eligible same (Some q)) xs ≡ []
   all_gone p q kind differ h [] stand = refl
   all_gone p q kind differ h (v ∷ xs) stand =
-      rw (gone p q kind differ h v (All-head (λ x. may_stand same number (Some p) kind x ≡ true) v xs stand))
-      (all_gone p q kind differ h xs (All-tail (λ x. may_stand same number (Some p) kind x ≡ true) v xs stand))
+      rw (gone p q kind differ h v (All-head (λ x. may_be_buffered same number (Some p) kind x ≡ true) v xs stand))
+      (all_gone p q kind differ h xs (All-tail (λ x. may_be_buffered same number (Some p) kind x ≡ true) v xs stand))
 
   emptied : (before after : Option (Proposal D)) (kind : Kind)
       → (not (same_selected same before after) && is_some before) ≡ true → is_some after ≡ true
       → has_proposals kind ≡ true → (certified : Bool) (xs : List (Vote G D))
-      → AllPass (may_stand same number before kind) xs
-      → cond certified [] (filter (waits same after) (xs ++ [])) ≡ []
+      → AllPass (may_be_buffered same number before kind) xs
+      → cond certified [] (filter (is_eligible same after) (xs ++ [])) ≡ []
   emptied before after kind replaced some h true xs stand = refl
   emptied None None kind replaced some h false xs stand = absurd (cc)
   emptied None (Some q) kind replaced some h false xs stand = absurd (cc)
@@ -191,12 +196,13 @@ module _ {G D : Type 0} (same : D → D → Bool) (identical : (a b : D) → sam
 
   -- Where a proposal took another's place, no vote with a proposal waits.
   pub none_wait :
-      (old new : Buffered G D) (next : ProposalState D) (kind : Kind)
+      (old new : VerifierState G D) (next : ProposalState D) (kind : Kind)
       → SetsProposal same old (updated old.selection next) new
       → (not (same_selected same (proposal_of old.selection) (proposal_of new.selection))
       && is_some (proposal_of old.selection)) ≡ true → has_proposals kind ≡ true
-      → AllPass (may_stand same number (proposal_of old.selection) kind) (of_kind old.pending kind)
-      → AllPass (may_stand same number (proposal_of old.selection) kind)
+      → AllPass (may_be_buffered same number (proposal_of old.selection) kind)
+      (of_kind old.pending kind)
+      → AllPass (may_be_buffered same number (proposal_of old.selection) kind)
       (of_kind old.verified kind)
       → (of_kind new.pending kind ≡ []) × (of_kind new.verified kind ≡ [])
   none_wait old new next kind sets replaced h pending verified =
@@ -240,8 +246,8 @@ module _ {D : Type 0} (same : D → D → Bool) where
       {G : Type 0} (p : Proposal D) (before after : Bool) (selected : Option (Proposal D))
       (votes kept : List (Vote G D)) (n m : ℕ) → after ≡ before → selected ≡ Some p → votes
       ≡ kept → n ≤ m
-      → (before ≡ false → length (filter (waits same (Some p)) kept) ≤ n) → after ≡ false
-      → length (filter (waits same selected) votes) ≤ m
+      → (before ≡ false → length (filter (is_eligible same (Some p)) kept) ≤ n) → after ≡ false
+      → length (filter (is_eligible same selected) votes) ≤ m
   room_after p before after selected votes kept n m e f h le room none = rw (f, h) (omega (arith, le, room (sym e ∙ none)))
 
 -- By the steps of the code: the proposal is set, and the votes of both kinds are restored.
@@ -261,39 +267,39 @@ module _ {G D : Type 0} (same : D → D → Bool) where
       ) refl
 
   -- votes that join after others
-  buffers_then : (a b c : Buffered G D) (kind : Kind) (xs ys : List (Vote G D)) → c.selection
+  buffers_then : (a b c : VerifierState G D) (kind : Kind) (xs ys : List (Vote G D)) → c.selection
       ≡ b.selection → Buffers same a b kind xs [] → Buffers same b c kind ys []
       → Buffers same a c kind (xs ++ ys) []
   buffers_then a b c kind xs ys e f h =
       record {
         certified = h.certified ∙ f.certified;
         pending =
-            h.pending ∙ ap (λ zs. still_waiting same c kind (zs ++ ys)) (f.pending ∙ still kind (of_kind a.pending kind ++ xs))
-            ∙ thru (of_kind c.certified kind) (waits same (proposal_of c.selection)) (of_kind a.pending kind) xs ys;
+            h.pending ∙ ap (λ zs. still_eligible same c kind (zs ++ ys)) (f.pending ∙ still kind (of_kind a.pending kind ++ xs))
+            ∙ thru (of_kind c.certified kind) (is_eligible same (proposal_of c.selection)) (of_kind a.pending kind) xs ys;
         verified =
-            h.verified ∙ ap (λ zs. still_waiting same c kind (zs ++ [])) (f.verified ∙ still kind (of_kind a.verified kind ++ []))
-            ∙ thru (of_kind c.certified kind) (waits same (proposal_of c.selection)) (of_kind a.verified kind) [] [];
+            h.verified ∙ ap (λ zs. still_eligible same c kind (zs ++ [])) (f.verified ∙ still kind (of_kind a.verified kind ++ []))
+            ∙ thru (of_kind c.certified kind) (is_eligible same (proposal_of c.selection)) (of_kind a.verified kind) [] [];
       } where
-        still : (k : Kind) (zs : List (Vote G D)) → still_waiting same b kind zs
-            ≡ still_waiting same c kind zs
+        still : (k : Kind) (zs : List (Vote G D)) → still_eligible same b kind zs
+            ≡ still_eligible same c kind zs
         still k zs =
-            ap (λ d. cond d [] (filter (waits same (proposal_of b.selection)) zs)) (sym h.certified)
-            ∙ ap (λ s. cond (of_kind c.certified kind) [] (filter (waits same (proposal_of s)) zs)) (sym e)
+            ap (λ d. cond d [] (filter (is_eligible same (proposal_of b.selection)) zs)) (sym h.certified)
+            ∙ ap (λ s. cond (of_kind c.certified kind) [] (filter (is_eligible same (proposal_of s)) zs)) (sym e)
 
   nothing_left : (certified : Bool) (test : Vote G D → Bool) → cond certified [] (filter test [])
       ≡ []
   nothing_left true test = refl
   nothing_left false test = refl
 
-  pub none_came : (a b : Buffered G D) (kind : Kind) → Buffers same a b kind [] []
+  pub none_came : (a b : VerifierState G D) (kind : Kind) → Buffers same a b kind [] []
       → (of_kind a.pending kind ≡ []) × (of_kind a.verified kind ≡ [])
       → (of_kind b.pending kind ≡ []) × (of_kind b.verified kind ≡ [])
   none_came a b kind h none = (
-    h.pending ∙ ap (λ zs. still_waiting same b kind (zs ++ [])) none.0 ∙ nothing_left (of_kind b.certified kind) (waits same (proposal_of b.selection)),
-    h.verified ∙ ap (λ zs. still_waiting same b kind (zs ++ [])) none.1 ∙ nothing_left (of_kind b.certified kind) (waits same (proposal_of b.selection)),
+    h.pending ∙ ap (λ zs. still_eligible same b kind (zs ++ [])) none.0 ∙ nothing_left (of_kind b.certified kind) (is_eligible same (proposal_of b.selection)),
+    h.verified ∙ ap (λ zs. still_eligible same b kind (zs ++ [])) none.1 ∙ nothing_left (of_kind b.certified kind) (is_eligible same (proposal_of b.selection)),
   )
 
-  module _ (tracked : Tracked G D) (old mid : Buffered G D) (p : Proposal D)
+  module _ (tracked : TrackerState G D) (old mid : VerifierState G D) (p : Proposal D)
       (sets : SetsProposal same old (updated old.selection (FixedProposal p)) mid) where
     -- where no other proposal was selected
     pub fixes_alone : replaces same old.selection p ≡ false
@@ -306,10 +312,10 @@ module _ {G D : Type 0} (same : D → D → Bool) where
               λ kind. subst (λ b. Buffers same old mid kind (cond (b && has_proposals kind) (of_kind tracked.kept kind) []) []) (sym e) (sets.buffers kind);
         }
 
-    pub within_alone : WaitsWhereKept tracked old → WaitsWhereKept tracked mid
+    pub within_alone : BuffersOnlyKept tracked old → BuffersOnlyKept tracked mid
     within_alone within kind i = omega (arith, within kind i, count_buffers same old mid kind [] [] (sets.buffers kind) (λ v. signer_of v == i))
 
-    module _ (first second : Buffered G D) (replaced : replaces same old.selection p ≡ true)
+    module _ (first second : VerifierState G D) (replaced : replaces same old.selection p ≡ true)
         (notarizes finalizes : List (Vote G D)) (n : notarizes ≡ tracked.kept.notarize)
         (f : finalizes ≡ tracked.kept.finalize)
         (leader_first : first.leader ≡ mid.leader) (selection_first : first.selection ≡ mid.selection)
@@ -339,7 +345,7 @@ module _ {G D : Type 0} (same : D → D → Bool) where
 
       module _ (none : (kind : Kind) → has_proposals kind ≡ true → (of_kind mid.pending kind ≡ [])
           × (of_kind mid.verified kind ≡ [])) (keeps_notarizes : KeepsEach tracked Notarization)
-          (keeps_finalizes : KeepsEach tracked Finalization) (within : WaitsWhereKept tracked old)
+          (keeps_finalizes : KeepsEach tracked Finalization) (within : BuffersOnlyKept tracked old)
         where
           none_counted : (kind : Kind) (i : ℕ) → has_proposals kind ≡ true
               → count (λ v. signer_of v == i)
@@ -349,7 +355,7 @@ module _ {G D : Type 0} (same : D → D → Bool) where
               ap (λ zs. count (λ v. signer_of v == i) (zs ++ of_kind mid.pending kind)) ((none kind h).1)
               ∙ ap (λ zs. count (λ v. signer_of v == i) zs) ((none kind h).0)
 
-          pub within_both : WaitsWhereKept tracked second
+          pub within_both : BuffersOnlyKept tracked second
           within_both kind i =
               each_kind (λ k. count (λ v. signer_of v == i) (of_kind second.verified k ++ of_kind second.pending k)
               ≤ cond (is_some (kept_vote tracked k i)) 1 0)
@@ -381,13 +387,13 @@ module _ {G D : Type 0} (same : D → D → Bool) where
               kind
 
 -- no signer has two votes of a kind that are kept
-pub once_kept : {G D : Type 0} (held : Tracked G D) (kind : Kind) (votes : List (Vote G D))
+pub once_kept : {G D : Type 0} (held : TrackerState G D) (kind : Kind) (votes : List (Vote G D))
     → KeepsEach held kind → votes ≡ of_kind held.kept kind → EachOnce signer_of votes
 once_kept held kind votes keeps e i = rw e (at_most_one (is_some (kept_vote held kind i)) (keeps.once i)) where
   at_most_one : {n : ℕ} (b : Bool) → n ≤ cond b 1 0 → n ≤ 1
   at_most_one true h = h
   at_most_one false h = omega (arith, h)
 
-pub kinds_kept : {G D : Type 0} (held : Tracked G D) (kind : Kind) (votes : List (Vote G D))
+pub kinds_kept : {G D : Type 0} (held : TrackerState G D) (kind : Kind) (votes : List (Vote G D))
     → KeepsEach held kind → votes ≡ of_kind held.kept kind → AllPass (is_of_kind kind) votes
 kinds_kept held kind votes keeps e = rw e keeps.kinds

@@ -12,10 +12,10 @@ use Rattle.batcher_types.specs.declared.messages.Subject.{Subject}
 use Rattle.batcher_types.specs.declared.messages.Subject.TheVariants.{Notarize as NotarizeSubject, Nullify as NullifySubject, Finalize as FinalizeSubject}
 use Rattle.batcher_types.specs.declared.messages.Vote.{Vote}
 use Rattle.batcher_types.specs.declared.messages.Vote.TheVariants.{Notarize as NotarizeVote, Nullify as NullifyVote, Finalize as FinalizeVote}
-use Rattle.batcher_votes.specs.Buffering.{vote_for, attestations_of, have_one_subject}
-use Rattle.batcher_types.specs.Votes.{subject_of, attestation_of, signer_of, same_subject, waits}
+use Rattle.batcher_votes.specs.VerifierSteps.{vote_for, attestations_of, have_one_subject}
+use Rattle.batcher_types.specs.Votes.{subject_of, attestation_of, signer_of, same_subject, is_eligible}
 use Rattle.batcher_votes.specs.declared.verifier.buffer.Run.{Run}
-use Rattle.batcher_votes.specs.Waiting.{votes_from, may_wait, one_subject, one_subject_in, spread, fitting}
+use Rattle.batcher_votes.specs.BufferView.{votes_from, may_be_eligible, one_subject, one_subject_in, subjects_of_runs, retained_attestations}
 
 -- a vote is that of its subject and attestation
 pub vote_again : {G D : Type 0} (v : Vote G D) → vote_for (subject_of v) (attestation_of v) ≡ v
@@ -36,7 +36,7 @@ subject_again (NullifySubject r) a = refl
 subject_again (FinalizeSubject p) a = refl
 
 pub waits_again : {G D : Type 0} (same : D → D → Bool) (p : Proposal D) (s : Subject D)
-    (a : Attestation G) → waits same (Some p) (vote_for s a) ≡ may_wait same p s
+    (a : Attestation G) → is_eligible same (Some p) (vote_for s a) ≡ may_be_eligible same p s
 waits_again same p (NotarizeSubject q) a = refl
 waits_again same p (NullifySubject r) a = refl
 waits_again same p (FinalizeSubject q) a = refl
@@ -121,16 +121,17 @@ module _ {G D : Type 0} (same : D → D → Bool) where
 
 -- Runs, and the votes of them.
 length-spread_run : {D : Type 0} (s : Subject D) (n : ℕ) (runs : List (Run D))
-    → length (replicate n s ++ spread runs) ≡ n + length (spread runs)
-length-spread_run s n runs = length-append (replicate n s) (spread runs) ∙ ap (λ k. k + length (spread runs)) (length-replicate n s)
+    → length (replicate n s ++ subjects_of_runs runs) ≡ n + length (subjects_of_runs runs)
+length-spread_run s n runs = length-append (replicate n s) (subjects_of_runs runs) ∙ ap (λ k. k + length (subjects_of_runs runs)) (length-replicate n s)
 
-pub spread-append : {D : Type 0} (runs : List (Run D)) (run : Run D) → spread (runs ++ run ∷ [])
-    ≡ spread runs ++ (run.subject ∷ replicate run.more run.subject)
-spread-append [] run = ap (λ xs. run.subject ∷ xs) (append-nil (replicate run.more run.subject))
-spread-append (r ∷ runs) run =
+pub subjects_of_runs-append : {D : Type 0} (runs : List (Run D)) (run : Run D)
+    → subjects_of_runs (runs ++ run ∷ [])
+    ≡ subjects_of_runs runs ++ (run.subject ∷ replicate run.more run.subject)
+subjects_of_runs-append [] run = ap (λ xs. run.subject ∷ xs) (append-nil (replicate run.more run.subject))
+subjects_of_runs-append (r ∷ runs) run =
     ap (λ xs. r.subject ∷ xs)
-    (ap (λ xs. replicate r.more r.subject ++ xs) (spread-append runs run)
-    ∙ sym (append_assoc (replicate r.more r.subject) (spread runs) (run.subject ∷ replicate run.more run.subject)))
+    (ap (λ xs. replicate r.more r.subject ++ xs) (subjects_of_runs-append runs run)
+    ∙ sym (append_assoc (replicate r.more r.subject) (subjects_of_runs runs) (run.subject ∷ replicate run.more run.subject)))
 
 one_more : {X : Type 0} (n : ℕ) (x : X) → replicate (suc n) x ++ []
     ≡ (replicate n x ++ []) ++ x ∷ []
@@ -138,22 +139,23 @@ one_more zero x = refl
 one_more (suc n) x = ap (λ xs. x ∷ xs) (one_more n x)
 
 -- the last run has one vote more
-pub spread-grow : {D : Type 0} (runs : List (Run D)) (n : ℕ) (run : Run D) (subject : Subject D)
+pub subjects_of_runs-grow : {D : Type 0} (runs : List (Run D)) (n : ℕ) (run : Run D)
+    (subject : Subject D)
     → length runs ≡ n + 1 → run ≡ get_or runs n run → run.subject ≡ subject
-    → spread (set runs n (record { subject = run.subject; more = run.more + 1 }))
-    ≡ spread runs ++ subject ∷ []
-spread-grow [] n run subject long here is = absurd (omega arith)
-spread-grow (r ∷ []) zero run subject long here is =
+    → subjects_of_runs (set runs n (record { subject = run.subject; more = run.more + 1 }))
+    ≡ subjects_of_runs runs ++ subject ∷ []
+subjects_of_runs-grow [] n run subject long here is = absurd (omega arith)
+subjects_of_runs-grow (r ∷ []) zero run subject long here is =
     let grown = ap (λ k. replicate k run.subject ++ []) (add-one run.more) ∙ one_more run.more run.subject in
-    let whole : spread (set (run ∷ []) 0 (record { subject = run.subject; more = run.more + 1 })) ≡ spread (run ∷ []) ++ run.subject ∷ []
+    let whole : subjects_of_runs (set (run ∷ []) 0 (record { subject = run.subject; more = run.more + 1 })) ≡ subjects_of_runs (run ∷ []) ++ run.subject ∷ []
     = ap (λ xs. run.subject ∷ xs) grown in
-    subst (λ t. spread (set (t ∷ []) 0 (record { subject = run.subject; more = run.more + 1 })) ≡ spread (t ∷ []) ++ subject ∷ []) here
-    (subst (λ u. spread (set (run ∷ []) 0 (record { subject = run.subject; more = run.more + 1 })) ≡ spread (run ∷ []) ++ u ∷ []) is whole)
-spread-grow (r ∷ (t ∷ runs)) zero run subject long here is = absurd (omega arith)
-spread-grow (r ∷ runs) (suc n) run subject long here is =
+    subst (λ t. subjects_of_runs (set (t ∷ []) 0 (record { subject = run.subject; more = run.more + 1 })) ≡ subjects_of_runs (t ∷ []) ++ subject ∷ []) here
+    (subst (λ u. subjects_of_runs (set (run ∷ []) 0 (record { subject = run.subject; more = run.more + 1 })) ≡ subjects_of_runs (run ∷ []) ++ u ∷ []) is whole)
+subjects_of_runs-grow (r ∷ (t ∷ runs)) zero run subject long here is = absurd (omega arith)
+subjects_of_runs-grow (r ∷ runs) (suc n) run subject long here is =
     ap (λ xs. r.subject ∷ xs)
-    (ap (λ xs. replicate r.more r.subject ++ xs) (spread-grow runs n run subject (omega arith) here is)
-    ∙ sym (append_assoc (replicate r.more r.subject) (spread runs) (subject ∷ [])))
+    (ap (λ xs. replicate r.more r.subject ++ xs) (subjects_of_runs-grow runs n run subject (omega arith) here is)
+    ∙ sym (append_assoc (replicate r.more r.subject) (subjects_of_runs runs) (subject ∷ [])))
 
 module _ {D : Type 0} (same : D → D → Bool) where
   all-replicate : (s t : Subject D) (n : ℕ) (others : List (Subject D)) → same_subject same s t
@@ -169,21 +171,22 @@ module _ {D : Type 0} (same : D → D → Bool) where
   mutual_all s t n others true e = all-replicate s t n others e
   mutual_all s t n others false e = refl
 
-  all-spread : (s : Subject D) (runs : List (Run D))
-      → list_all (λ u. same_subject same s u) (spread runs)
+  all-subjects_of_runs : (s : Subject D) (runs : List (Run D))
+      → list_all (λ u. same_subject same s u) (subjects_of_runs runs)
       ≡ list_all (λ run. same_subject same s run.subject) runs
-  all-spread s [] = refl
-  all-spread s (r ∷ runs) =
-      mutual_all s r.subject r.more (spread runs) (same_subject same s r.subject) refl
-      ∙ ap (λ b. same_subject same s r.subject && b) (all-spread s runs)
+  all-subjects_of_runs s [] = refl
+  all-subjects_of_runs s (r ∷ runs) =
+      mutual_all s r.subject r.more (subjects_of_runs runs) (same_subject same s r.subject) refl
+      ∙ ap (λ b. same_subject same s r.subject && b) (all-subjects_of_runs s runs)
 
   -- all votes have one subject where all runs have
-  pub one-spread : ((s : Subject D) → same_subject same s s ≡ true) → (runs : List (Run D))
-      → one_subject_in same runs ≡ one_subject same (spread runs)
-  one-spread itself [] = refl
-  one-spread itself (first ∷ others) =
+  pub one-subjects_of_runs : ((s : Subject D) → same_subject same s s ≡ true)
+      → (runs : List (Run D))
+      → one_subject_in same runs ≡ one_subject same (subjects_of_runs runs)
+  one-subjects_of_runs itself [] = refl
+  one-subjects_of_runs itself (first ∷ others) =
       let s = first.subject in
-      sym (all-replicate s s first.more (spread others) (itself s) ∙ all-spread s others)
+      sym (all-replicate s s first.more (subjects_of_runs others) (itself s) ∙ all-subjects_of_runs s others)
 
 -- a run joins as many attestations
 pub run_joins : {G D : Type 0} (subjects : List (Subject D))
@@ -200,7 +203,7 @@ pub as_many : {X : Type 0} (x : X) (count : ℕ) → 1 ≤ count → x ∷ repli
 as_many x zero some = absurd (omega arith)
 as_many x (suc n) some = let same : suc n - 1 ≡ n = omega arith in ap (λ k. x ∷ replicate k x) same
 
--- what stands in one place is one
+-- what is in one place is one
 pub same_item : {X : Type 0} (xs : List X) (i : ℕ) (x y : X) → i < length xs → x ≡ get_or xs i x → y
     ≡ get_or xs i y → x ≡ y
 same_item [] i x y below at_x at_y = absurd (omega arith)
@@ -208,12 +211,12 @@ same_item (z ∷ xs) zero x y below at_x at_y = at_x ∙ sym at_y
 same_item (z ∷ xs) (suc i) x y below at_x at_y = same_item xs i x y (omega arith) at_x at_y
 
 -- whether a run's votes wait where the proposal is selected
-abbrev pub waits_run : {D : Type 0} → (D → D → Bool) → Proposal D → Run D → Bool
-waits_run same p run = may_wait same p run.subject
+abbrev pub eligible_run : {D : Type 0} → (D → D → Bool) → Proposal D → Run D → Bool
+eligible_run same p run = may_be_eligible same p run.subject
 
 module _ {G D : Type 0} (same : D → D → Bool) (p : Proposal D) where
-  filter-run : (s : Subject D) (xs : List (Attestation G)) (b : Bool) → may_wait same p s ≡ b
-      → filter (waits same (Some p)) (map (vote_for s) xs) ≡ cond b (map (vote_for s) xs) []
+  filter-run : (s : Subject D) (xs : List (Attestation G)) (b : Bool) → may_be_eligible same p s ≡ b
+      → filter (is_eligible same (Some p)) (map (vote_for s) xs) ≡ cond b (map (vote_for s) xs) []
   filter-run s [] true e = refl
   filter-run s [] false e = refl
   filter-run s (a ∷ xs) true e = rw (waits_again same p s a ∙ e) (ap (λ votes. vote_for s a ∷ votes) (filter-run s xs true e))
@@ -232,81 +235,88 @@ module _ {G D : Type 0} (same : D → D → Bool) (p : Proposal D) where
       (ap (λ k. votes_from (replicate k s) xs) (sym long) ∙ repeat-from s xs)
 
   by_run : (run : Run D) (runs kept : List (Run D)) (xs ys left : List (Attestation G)) (b : Bool)
-      → may_wait same p run.subject ≡ b → length xs ≡ suc run.more
-      → votes_from (spread kept) left ≡ filter (waits same (Some p)) (votes_from (spread runs) ys)
-      → votes_from (spread (cond b (run ∷ kept) kept)) (cond b xs [] ++ left)
-      ≡ filter (waits same (Some p))
-      (votes_from (run.subject ∷ (replicate run.more run.subject ++ spread runs)) (xs ++ ys))
+      → may_be_eligible same p run.subject ≡ b → length xs ≡ suc run.more
+      → votes_from (subjects_of_runs kept) left
+      ≡ filter (is_eligible same (Some p)) (votes_from (subjects_of_runs runs) ys)
+      → votes_from (subjects_of_runs (cond b (run ∷ kept) kept)) (cond b xs [] ++ left)
+      ≡ filter (is_eligible same (Some p))
+      (votes_from (run.subject ∷ (replicate run.more run.subject ++ subjects_of_runs runs))
+      (xs ++ ys))
   by_run run runs kept xs ys left true e long others =
       rw (
-        split_run run (spread runs) xs ys long,
-        filter-append (waits same (Some p)) (map (vote_for run.subject) xs) (votes_from (spread runs) ys),
+        split_run run (subjects_of_runs runs) xs ys long,
+        filter-append (is_eligible same (Some p)) (map (vote_for run.subject) xs) (votes_from (subjects_of_runs runs) ys),
         filter-run run.subject xs true e,
-        split_run run (spread kept) xs left long,
+        split_run run (subjects_of_runs kept) xs left long,
         others,
       ) refl
   by_run run runs kept xs ys left false e long others =
       rw (
-        split_run run (spread runs) xs ys long,
-        filter-append (waits same (Some p)) (map (vote_for run.subject) xs) (votes_from (spread runs) ys),
+        split_run run (subjects_of_runs runs) xs ys long,
+        filter-append (is_eligible same (Some p)) (map (vote_for run.subject) xs) (votes_from (subjects_of_runs runs) ys),
         filter-run run.subject xs false e,
       ) others
 
   -- the runs that wait, with their attestations, are the votes that wait
-  pub fitting_votes : (runs : List (Run D)) (xs : List (Attestation G)) → length (spread runs)
-      ≡ length xs → votes_from (spread (filter (waits_run same p) runs)) (fitting same p runs xs)
-      ≡ filter (waits same (Some p)) (votes_from (spread runs) xs)
+  pub fitting_votes : (runs : List (Run D)) (xs : List (Attestation G))
+      → length (subjects_of_runs runs)
+      ≡ length xs → votes_from (subjects_of_runs (filter (eligible_run same p) runs))
+      (retained_attestations same p runs xs)
+      ≡ filter (is_eligible same (Some p)) (votes_from (subjects_of_runs runs) xs)
   fitting_votes [] xs long = refl
   fitting_votes (run ∷ runs) xs long =
       let n = suc run.more in
-      let counts : n + length (spread runs) ≡ length xs = sym (length-spread_run run.subject n runs) ∙ long in
+      let counts : n + length (subjects_of_runs runs) ≡ length xs = sym (length-spread_run run.subject n runs) ∙ long in
       let front : length (take n xs) ≡ n = length-take-le n xs (omega (arith, counts)) in
-      let behind : length (spread runs) ≡ length (drop n xs) = omega (arith, counts, length-drop n xs) in
-      subst (λ ys. votes_from (spread (filter (waits_run same p) (run ∷ runs))) (fitting same p (run ∷ runs) xs)
-      ≡ filter (waits same (Some p)) (votes_from (spread (run ∷ runs)) ys))
+      let behind : length (subjects_of_runs runs) ≡ length (drop n xs) = omega (arith, counts, length-drop n xs) in
+      subst (λ ys. votes_from (subjects_of_runs (filter (eligible_run same p) (run ∷ runs))) (retained_attestations same p (run ∷ runs) xs)
+      ≡ filter (is_eligible same (Some p)) (votes_from (subjects_of_runs (run ∷ runs)) ys))
       (take-append-drop n xs)
-      (by_run run runs (filter (waits_run same p) runs) (take n xs) (drop n xs) (fitting same p runs (drop n xs)) (waits_run same p run) refl front
+      (by_run run runs (filter (eligible_run same p) runs) (take n xs) (drop n xs) (retained_attestations same p runs (drop n xs))
+      (eligible_run same p run) refl front
       (fitting_votes runs (drop n xs) behind))
 
   -- how many attestations of the runs that wait there are
-  pub length-fitting : (runs : List (Run D)) (xs : List (Attestation G)) → length (spread runs)
-      ≡ length xs → length (spread (filter (waits_run same p) runs))
-      ≡ length (fitting same p runs xs)
-  length-fitting [] xs long = refl
-  length-fitting (run ∷ runs) xs long =
+  pub length-retained_attestations : (runs : List (Run D)) (xs : List (Attestation G))
+      → length (subjects_of_runs runs)
+      ≡ length xs → length (subjects_of_runs (filter (eligible_run same p) runs))
+      ≡ length (retained_attestations same p runs xs)
+  length-retained_attestations [] xs long = refl
+  length-retained_attestations (run ∷ runs) xs long =
       let n = suc run.more in
-      let counts : n + length (spread runs) ≡ length xs = sym (length-spread_run run.subject n runs) ∙ long in
+      let counts : n + length (subjects_of_runs runs) ≡ length xs = sym (length-spread_run run.subject n runs) ∙ long in
       let front : length (take n xs) ≡ n = length-take-le n xs (omega (arith, counts)) in
-      let behind : length (spread runs) ≡ length (drop n xs) = omega (arith, counts, length-drop n xs) in
-      either (waits_run same p run) (length-fitting runs (drop n xs) behind) front where
+      let behind : length (subjects_of_runs runs) ≡ length (drop n xs) = omega (arith, counts, length-drop n xs) in
+      either (eligible_run same p run) (length-retained_attestations runs (drop n xs) behind) front where
         either : (b : Bool)
-            → length (spread (filter (waits_run same p) runs))
-            ≡ length (fitting same p runs (drop (suc run.more) xs))
+            → length (subjects_of_runs (filter (eligible_run same p) runs))
+            ≡ length (retained_attestations same p runs (drop (suc run.more) xs))
             → length (take (suc run.more) xs) ≡ suc run.more
-            → length (spread (cond b (run ∷ filter (waits_run same p) runs)
-            (filter (waits_run same p) runs)))
+            → length (subjects_of_runs (cond b (run ∷ filter (eligible_run same p) runs)
+            (filter (eligible_run same p) runs)))
             ≡ length (cond b (take (suc run.more) xs) []
-            ++ fitting same p runs (drop (suc run.more) xs))
+            ++ retained_attestations same p runs (drop (suc run.more) xs))
         either true others front =
-            length-spread_run run.subject (suc run.more) (filter (waits_run same p) runs)
+            length-spread_run run.subject (suc run.more) (filter (eligible_run same p) runs)
             ∙ (ap (λ k. suc run.more + k) others
-            ∙ sym (length-append (take (suc run.more) xs) (fitting same p runs (drop (suc run.more) xs))
-            ∙ ap (λ k. k + length (fitting same p runs (drop (suc run.more) xs))) front))
+            ∙ sym (length-append (take (suc run.more) xs) (retained_attestations same p runs (drop (suc run.more) xs))
+            ∙ ap (λ k. k + length (retained_attestations same p runs (drop (suc run.more) xs))) front))
         either false others front = others
 
   -- A loop has moved the attestations of the runs that wait, among the first ones, to the front.
   pub record Moved (runs : List (Run D)) (old new : List (Attestation G)) (kept start i : ℕ) :
       Type 0 where
-    pub all : take kept new ++ fitting same p (drop i runs) (drop start new)
-        ≡ fitting same p runs old
+    pub all : take kept new ++ retained_attestations same p (drop i runs) (drop start new)
+        ≡ retained_attestations same p runs old
     pub behind : kept ≤ start
-    pub rest : start + length (spread (drop i runs)) ≡ length new
+    pub rest : start + length (subjects_of_runs (drop i runs)) ≡ length new
     pub long : length new ≡ length old
 
-  pub moved_start : (runs : List (Run D)) (xs : List (Attestation G)) → length (spread runs)
+  pub moved_start : (runs : List (Run D)) (xs : List (Attestation G))
+      → length (subjects_of_runs runs)
       ≡ length xs → Moved runs xs xs 0 0 0
   moved_start runs xs long =
-      let whole : 0 + length (spread runs) ≡ length xs = omega (arith, long) in
+      let whole : 0 + length (subjects_of_runs runs) ≡ length xs = omega (arith, long) in
       record { all = refl; behind = omega arith; rest = whole; long = refl }
 
   module _ {runs : List (Run D)} {old new : List (Attestation G)} {kept start i : ℕ} (run : Run D)
@@ -317,38 +327,41 @@ module _ {G D : Type 0} (same : D → D → Bool) (p : Proposal D) where
 
     pub fits_in : start + (run.more + 1) ≤ length new
     fits_in =
-        let counts = ap (λ rs. length (spread rs)) next ∙ ap suc (length-spread_run run.subject run.more (drop (i + 1) runs)) in
+        let counts = ap (λ rs. length (subjects_of_runs rs)) next ∙ ap suc (length-spread_run run.subject run.more (drop (i + 1) runs)) in
         omega (arith, h.rest, counts)
 
     rest_next : (end : ℕ) → end ≡ start + (run.more + 1)
-        → end + length (spread (drop (i + 1) runs)) ≡ length new
+        → end + length (subjects_of_runs (drop (i + 1) runs)) ≡ length new
     rest_next end e =
-        let counts = ap (λ rs. length (spread rs)) next ∙ ap suc (length-spread_run run.subject run.more (drop (i + 1) runs)) in
+        let counts = ap (λ rs. length (subjects_of_runs rs)) next ∙ ap suc (length-spread_run run.subject run.more (drop (i + 1) runs)) in
         omega (arith, h.rest, counts)
 
     after_run : (end : ℕ) → end ≡ start + (run.more + 1) → drop (run.more + 1) (drop start new)
         ≡ drop end new
     after_run end e = drop-drop (run.more + 1) start new ∙ ap (λ k. drop k new) (sym e)
 
-    by_next : (b : Bool) → may_wait same p run.subject ≡ b → (end : ℕ) → end
+    by_next : (b : Bool) → may_be_eligible same p run.subject ≡ b → (end : ℕ) → end
         ≡ start + (run.more + 1)
-        → fitting same p (drop i runs) (drop start new)
+        → retained_attestations same p (drop i runs) (drop start new)
         ≡ cond b (take (run.more + 1) (drop start new)) []
-        ++ fitting same p (drop (i + 1) runs) (drop end new)
+        ++ retained_attestations same p (drop (i + 1) runs) (drop end new)
     by_next b is end e =
         let n = add-one run.more in
-        ap (λ rs. fitting same p rs (drop start new)) next
-        ∙ (ap (λ k. cond (may_wait same p run.subject) (take k (drop start new)) [] ++ fitting same p (drop (i + 1) runs) (drop k (drop start new))) (sym n)
-        ∙ (ap (λ c. cond c (take (run.more + 1) (drop start new)) [] ++ fitting same p (drop (i + 1) runs) (drop (run.more + 1) (drop start new))) is
-        ∙ ap (λ ys. cond b (take (run.more + 1) (drop start new)) [] ++ fitting same p (drop (i + 1) runs) ys) (after_run end e)))
+        ap (λ rs. retained_attestations same p rs (drop start new)) next
+        ∙ (ap (λ k. cond (may_be_eligible same p run.subject) (take k (drop start new)) [] ++ retained_attestations same p (drop (i + 1) runs)
+        (drop k (drop start new))) (sym n)
+        ∙ (ap (λ c. cond c (take (run.more + 1) (drop start new)) [] ++ retained_attestations same p (drop (i + 1) runs) (drop (run.more + 1) (drop start new)))
+        is
+        ∙ ap (λ ys. cond b (take (run.more + 1) (drop start new)) [] ++ retained_attestations same p (drop (i + 1) runs) ys) (after_run end e)))
 
-    taken_run : (end : ℕ) → end ≡ start + (run.more + 1) → may_wait same p run.subject ≡ true
-        → fitting same p (drop i runs) (drop start new)
+    taken_run : (end : ℕ) → end ≡ start + (run.more + 1) → may_be_eligible same p run.subject ≡ true
+        → retained_attestations same p (drop i runs) (drop start new)
         ≡ take (run.more + 1) (drop start new)
-        ++ fitting same p (drop (i + 1) runs) (drop end new)
+        ++ retained_attestations same p (drop (i + 1) runs) (drop end new)
     taken_run end e passes = by_next true passes end e
 
-    pub moved_no : (end : ℕ) → end ≡ start + (run.more + 1) → may_wait same p run.subject ≡ false
+    pub moved_no : (end : ℕ) → end ≡ start + (run.more + 1) → may_be_eligible same p run.subject
+        ≡ false
         → Moved runs old new kept end (i + 1)
     moved_no end e fails =
         record {
@@ -360,7 +373,7 @@ module _ {G D : Type 0} (same : D → D → Bool) (p : Proposal D) where
 
     pub moved_yes : (end : ℕ) (moved : List (Attestation G)) → end ≡ start + (run.more + 1)
         → moved ≡ paste new kept (drop start new) (end - start)
-        → may_wait same p run.subject ≡ true
+        → may_be_eligible same p run.subject ≡ true
         → Moved runs old moved (kept + (run.more + 1)) end (i + 1)
     moved_yes end moved e is passes =
         let n = run.more + 1 in
@@ -380,9 +393,9 @@ module _ {G D : Type 0} (same : D → D → Bool) (p : Proposal D) where
         let size : length moved ≡ length new = ap length pasted ∙ length-paste new kept (drop start new) n (omega (arith, h.behind, room)) source in
         record {
           all =
-              ap (λ xs. xs ++ fitting same p (drop (i + 1) runs) (drop end moved)) taken
-              ∙ (append_assoc (take kept new) (take n (drop start new)) (fitting same p (drop (i + 1) runs) (drop end moved))
-              ∙ (ap (λ ys. take kept new ++ (take n (drop start new) ++ fitting same p (drop (i + 1) runs) ys)) left
+              ap (λ xs. xs ++ retained_attestations same p (drop (i + 1) runs) (drop end moved)) taken
+              ∙ (append_assoc (take kept new) (take n (drop start new)) (retained_attestations same p (drop (i + 1) runs) (drop end moved))
+              ∙ (ap (λ ys. take kept new ++ (take n (drop start new) ++ retained_attestations same p (drop (i + 1) runs) ys)) left
               ∙ (ap (λ ys. take kept new ++ ys) (sym (taken_run end e passes)) ∙ h.all)));
           behind = omega (arith, h.behind, e);
           rest = rest_next end e ∙ sym size;

@@ -15,17 +15,17 @@ use Rattle.batcher_types.specs.Lawful.{filter_all}
 use Rattle.batcher_types.specs.Lists.{count, EachOnce}
 use Rattle.batcher_types.specs.Quorum.{quorum_of}
 use Rattle.batcher_types.specs.Meaning.{Meaning}
-use Rattle.batcher_types.specs.Votes.{is_kind, kind_of, is_of_kind, is_vote_of, signer_of, waits}
+use Rattle.batcher_types.specs.Votes.{is_kind, kind_of, is_of_kind, is_vote_of, signer_of, is_eligible}
 use Rattle.batcher_types.proofs.CountLemmas.{count-append, count-filter_le, once_fewer, once_none, count_none}
 use Rattle.batcher_types.proofs.KindLemmas.{is_kind-true, each_kind}
 use Rattle.batcher_types.proofs.ListLemmas.{AllPass-nil, AllPass-weaker}
-use Rattle.batcher_votes.specs.Selected.{proposal_of}
-use Rattle.batcher_votes.specs.Held.{of_kind, Buffered}
-use Rattle.batcher_votes.specs.Buffering.{Buffers, is_buffered, nothing_buffered, CompletesKind, SetsProposal}
-use Rattle.batcher_votes.specs.Sound.{IsSound, IsSoundKind, attests_itself, may_stand}
+use Rattle.batcher_votes.specs.ProposalStates.{proposal_of}
+use Rattle.batcher_votes.specs.RoundState.{of_kind, VerifierState}
+use Rattle.batcher_votes.specs.VerifierSteps.{Buffers, is_buffered, nothing_buffered, CompletesKind, SetsProposal}
+use Rattle.batcher_votes.specs.Soundness.{IsSound, IsSoundKind, attests_itself, may_be_buffered}
 use Rattle.batcher_votes.proofs.VerifierLemmas.Changes.{IsTidy, Places}
 use Rattle.batcher_votes.specs.Verifiers.{is_of_round}
-use Rattle.batcher_votes.proofs.VerifierLemmas.WaitingVotes.{placed_buffers}
+use Rattle.batcher_votes.proofs.VerifierLemmas.EligibleVotes.{placed_buffers}
 
 all_left : {X : Type 0} (p : X → Bool) (b : Bool) (xs : List X) → AllPass p xs
     → AllPass p (cond b [] xs)
@@ -38,66 +38,68 @@ fewer_left test p true xs = omega arith
 fewer_left test p false xs = count-filter_le test p xs
 
 module _ {G D : Type 0} (same : D → D → Bool) (number : Round) where
-  -- a vote that may stand and waits with what is selected may stand then
-  pub stands_again : (before after : Option (Proposal D)) (kind : Kind) (v : Vote G D)
-      → may_stand same number before kind v ≡ true → waits same after v ≡ true
-      → may_stand same number after kind v ≡ true
-  stands_again before None Notarization (NotarizeVote v) h w = refl
-  stands_again before (Some p) Notarization (NotarizeVote v) h w = w
-  stands_again before after Notarization (NullifyVote v) h w = absurd (cc)
-  stands_again before after Notarization (FinalizeVote v) h w = absurd (cc)
-  stands_again before after Nullification (NotarizeVote v) h w = absurd (cc)
-  stands_again before after Nullification (NullifyVote v) h w = h
-  stands_again before after Nullification (FinalizeVote v) h w = absurd (cc)
-  stands_again before after Finalization (NotarizeVote v) h w = absurd (cc)
-  stands_again before after Finalization (NullifyVote v) h w = absurd (cc)
-  stands_again before None Finalization (FinalizeVote v) h w = refl
-  stands_again before (Some p) Finalization (FinalizeVote v) h w = w
+  -- a vote that may be buffered and is eligible with what is selected may be buffered then
+  pub represents_again : (before after : Option (Proposal D)) (kind : Kind) (v : Vote G D)
+      → may_be_buffered same number before kind v ≡ true → is_eligible same after v ≡ true
+      → may_be_buffered same number after kind v ≡ true
+  represents_again before None Notarization (NotarizeVote v) h w = refl
+  represents_again before (Some p) Notarization (NotarizeVote v) h w = w
+  represents_again before after Notarization (NullifyVote v) h w = absurd (cc)
+  represents_again before after Notarization (FinalizeVote v) h w = absurd (cc)
+  represents_again before after Nullification (NotarizeVote v) h w = absurd (cc)
+  represents_again before after Nullification (NullifyVote v) h w = h
+  represents_again before after Nullification (FinalizeVote v) h w = absurd (cc)
+  represents_again before after Finalization (NotarizeVote v) h w = absurd (cc)
+  represents_again before after Finalization (NullifyVote v) h w = absurd (cc)
+  represents_again before None Finalization (FinalizeVote v) h w = refl
+  represents_again before (Some p) Finalization (FinalizeVote v) h w = w
 
-  pub stands_waits : (selected : Option (Proposal D)) (kind : Kind) (v : Vote G D)
-      → may_stand same number selected kind v ≡ true → waits same selected v ≡ true
-  stands_waits None kind v h = refl
-  stands_waits (Some p) Notarization (NotarizeVote v) h = h
-  stands_waits (Some p) Notarization (NullifyVote v) h = absurd (cc)
-  stands_waits (Some p) Notarization (FinalizeVote v) h = absurd (cc)
-  stands_waits (Some p) Nullification (NotarizeVote v) h = absurd (cc)
-  stands_waits (Some p) Nullification (NullifyVote v) h = refl
-  stands_waits (Some p) Nullification (FinalizeVote v) h = absurd (cc)
-  stands_waits (Some p) Finalization (NotarizeVote v) h = absurd (cc)
-  stands_waits (Some p) Finalization (NullifyVote v) h = absurd (cc)
-  stands_waits (Some p) Finalization (FinalizeVote v) h = h
+  pub represents_eligible : (selected : Option (Proposal D)) (kind : Kind) (v : Vote G D)
+      → may_be_buffered same number selected kind v ≡ true → is_eligible same selected v ≡ true
+  represents_eligible None kind v h = refl
+  represents_eligible (Some p) Notarization (NotarizeVote v) h = h
+  represents_eligible (Some p) Notarization (NullifyVote v) h = absurd (cc)
+  represents_eligible (Some p) Notarization (FinalizeVote v) h = absurd (cc)
+  represents_eligible (Some p) Nullification (NotarizeVote v) h = absurd (cc)
+  represents_eligible (Some p) Nullification (NullifyVote v) h = refl
+  represents_eligible (Some p) Nullification (FinalizeVote v) h = absurd (cc)
+  represents_eligible (Some p) Finalization (NotarizeVote v) h = absurd (cc)
+  represents_eligible (Some p) Finalization (NullifyVote v) h = absurd (cc)
+  represents_eligible (Some p) Finalization (FinalizeVote v) h = h
 
-  -- a new vote of the round may stand while no proposal is selected
-  pub stands_first : (v : Vote G D) → is_of_round number v ≡ true
-      → may_stand same number None (kind_of v) v ≡ true
-  stands_first (NotarizeVote v) h = refl
-  stands_first (NullifyVote v) h = h
-  stands_first (FinalizeVote v) h = refl
+  -- a new vote of the round may be there while no proposal is selected
+  pub represents_first : (v : Vote G D) → is_of_round number v ≡ true
+      → may_be_buffered same number None (kind_of v) v ≡ true
+  represents_first (NotarizeVote v) h = refl
+  represents_first (NullifyVote v) h = h
+  represents_first (FinalizeVote v) h = refl
 
   still_stand : (before after : Option (Proposal D)) (kind : Kind) (certified : Bool)
-      (xs : List (Vote G D)) → AllPass (may_stand same number before kind) xs
-      → AllPass (may_stand same number after kind)
-      (cond certified [] (filter (waits same after) xs))
+      (xs : List (Vote G D)) → AllPass (may_be_buffered same number before kind) xs
+      → AllPass (may_be_buffered same number after kind)
+      (cond certified [] (filter (is_eligible same after) xs))
   still_stand before after kind certified xs h =
-      all_left (may_stand same number after kind) certified (filter (waits same after) xs)
-      (λ k d below. stands_again before after kind _ (All-filter (waits same after) (λ v. may_stand same number before kind v ≡ true) xs h k d below)
-      (filter_passes (waits same after) xs k d below))
+      all_left (may_be_buffered same number after kind) certified (filter (is_eligible same after) xs)
+      (λ k d below. represents_again before after kind _ (All-filter (is_eligible same after)
+      (λ v. may_be_buffered same number before kind v ≡ true) xs h k d below)
+      (filter_passes (is_eligible same after) xs k d below))
 
   stand_loosely : (selected : Option (Proposal D)) (kind : Kind) (xs : List (Vote G D))
-      → AllPass (may_stand same number selected kind) xs
-      → AllPass (may_stand same number None kind) xs
+      → AllPass (may_be_buffered same number selected kind) xs
+      → AllPass (may_be_buffered same number None kind) xs
   stand_loosely selected kind xs h =
-      AllPass-weaker (may_stand same number selected kind) (may_stand same number None kind) (λ v s. stands_again selected None kind v s refl) xs h
+      AllPass-weaker (may_be_buffered same number selected kind) (may_be_buffered same number None kind)
+      (λ v s. represents_again selected None kind v s refl) xs h
 
   -- by the signer alone, as all are of the kind
   pub any_of : (selected : Option (Proposal D)) (kind : Kind) (i : ℕ) (xs : List (Vote G D))
-      → AllPass (may_stand same number selected kind) xs → list_any (λ v. signer_of v == i) xs
+      → AllPass (may_be_buffered same number selected kind) xs → list_any (λ v. signer_of v == i) xs
       ≡ list_any (is_vote_of kind i) xs
   any_of selected kind i [] h = refl
   any_of selected kind i (x ∷ xs) h =
-      let of_this : is_of_kind kind x ≡ true = (and_parts _ _ (All-head (λ v. may_stand same number selected kind v ≡ true) x xs h)).0 in
+      let of_this : is_of_kind kind x ≡ true = (and_parts _ _ (All-head (λ v. may_be_buffered same number selected kind v ≡ true) x xs h)).0 in
       let here : (signer_of x == i) ≡ is_vote_of kind i x = ap (λ b. b && (signer_of x == i)) (sym of_this) in
-      let others = any_of selected kind i xs (All-tail (λ v. may_stand same number selected kind v ≡ true) x xs h) in
+      let others = any_of selected kind i xs (All-tail (λ v. may_be_buffered same number selected kind v ≡ true) x xs h) in
       ap (λ b. b || list_any (λ v. signer_of v == i) xs) here ∙ ap (λ b. is_vote_of kind i x || b) others
 
 at_most : (n i a c : ℕ) (b : Bool) → (n == i) ≡ b → a + c ≤ 1 → (n ≡ i → (a ≡ 0) × (c ≡ 0))
@@ -109,26 +111,26 @@ at_most n i a c true e h none =
 at_most n i a c false e h none = omega arith
 
 module _ {D K G C : Type 0} (m : Meaning D K G C) (same : D → D → Bool) (number : Round) where
-  pub tidy_from : (held : Buffered G D) (kind : Kind) → IsSoundKind m same number held kind
+  pub tidy_from : (held : VerifierState G D) (kind : Kind) → IsSoundKind m same number held kind
       → IsTidy same held kind
   tidy_from held kind s =
       record {
         pending =
-            AllPass-weaker (may_stand same number (proposal_of held.selection) kind) (waits same (proposal_of held.selection))
-            (stands_waits same number (proposal_of held.selection) kind) (of_kind held.pending kind) s.pending;
+            AllPass-weaker (may_be_buffered same number (proposal_of held.selection) kind) (is_eligible same (proposal_of held.selection))
+            (represents_eligible same number (proposal_of held.selection) kind) (of_kind held.pending kind) s.pending;
         verified =
-            AllPass-weaker (may_stand same number (proposal_of held.selection) kind) (waits same (proposal_of held.selection))
-            (stands_waits same number (proposal_of held.selection) kind) (of_kind held.verified kind) s.verified;
+            AllPass-weaker (may_be_buffered same number (proposal_of held.selection) kind) (is_eligible same (proposal_of held.selection))
+            (represents_eligible same number (proposal_of held.selection) kind) (of_kind held.verified kind) s.verified;
         none_pending = s.none_pending;
         none_verified = s.none_verified;
       }
 
   -- a kind, where votes join the ends of its buffers and those that no longer wait go
   pub sound_buffers :
-      (old new : Buffered G D) (kind : Kind) (to_pending to_verified : List (Vote G D))
+      (old new : VerifierState G D) (kind : Kind) (to_pending to_verified : List (Vote G D))
       → IsSoundKind m same number old kind → Buffers same old new kind to_pending to_verified
-      → AllPass (may_stand same number None kind) to_pending
-      → AllPass (may_stand same number None kind) to_verified
+      → AllPass (may_be_buffered same number None kind) to_pending
+      → AllPass (may_be_buffered same number None kind) to_verified
       → AllPass (attests_itself m same number) to_verified
       → EachOnce signer_of ((of_kind old.verified kind ++ to_verified)
       ++ (of_kind old.pending kind ++ to_pending))
@@ -136,7 +138,7 @@ module _ {D K G C : Type 0} (m : Meaning D K G C) (same : D → D → Bool) (num
   sound_buffers old new kind to_pending to_verified s b p v a once =
       let before = proposal_of old.selection in
       let after = proposal_of new.selection in
-      let stand = may_stand same number None kind in
+      let stand = may_be_buffered same number None kind in
       let pendings = of_kind old.pending kind ++ to_pending in
       let verifieds = of_kind old.verified kind ++ to_verified in
       let certified = of_kind new.certified kind in
@@ -150,28 +152,28 @@ module _ {D K G C : Type 0} (m : Meaning D K G C) (same : D → D → Bool) (num
             (All-append (λ x. stand x ≡ true) (of_kind old.verified kind) to_verified
             (stand_loosely same number before kind (of_kind old.verified kind) s.verified) v));
         attested =
-            rw b.verified (all_left (attests_itself m same number) certified (filter (waits same after) verifieds)
-            (All-filter (waits same after) (λ x. attests_itself m same number x ≡ true) verifieds
+            rw b.verified (all_left (attests_itself m same number) certified (filter (is_eligible same after) verifieds)
+            (All-filter (is_eligible same after) (λ x. attests_itself m same number x ≡ true) verifieds
             (All-append (λ x. attests_itself m same number x ≡ true) (of_kind old.verified kind) to_verified s.attested a)));
         once =
             rw (b.pending, b.verified) (once_fewer signer_of (verifieds ++ pendings)
-            (cond certified [] (filter (waits same after) verifieds) ++ cond certified [] (filter (waits same after) pendings))
+            (cond certified [] (filter (is_eligible same after) verifieds) ++ cond certified [] (filter (is_eligible same after) pendings))
             (λ test. omega (
               arith,
               count-append test verifieds pendings,
-              count-append test (cond certified [] (filter (waits same after) verifieds))
-                  (cond certified [] (filter (waits same after) pendings)),
-              fewer_left test (waits same after) certified verifieds,
+              count-append test (cond certified [] (filter (is_eligible same after) verifieds))
+                  (cond certified [] (filter (is_eligible same after) pendings)),
+              fewer_left test (is_eligible same after) certified verifieds,
               fewer_left test
-                  (waits same after) certified pendings,
+                  (is_eligible same after) certified pendings,
             ))
             once);
-        none_pending = λ done. b.pending ∙ ap (λ c. cond c [] (filter (waits same after) pendings)) done;
-        none_verified = λ done. b.verified ∙ ap (λ c. cond c [] (filter (waits same after) verifieds)) done;
+        none_pending = λ done. b.pending ∙ ap (λ c. cond c [] (filter (is_eligible same after) pendings)) done;
+        none_verified = λ done. b.verified ∙ ap (λ c. cond c [] (filter (is_eligible same after) verifieds)) done;
       }
 
   -- where no vote joins
-  pub sound_left : (old new : Buffered G D) (kind : Kind) → IsSoundKind m same number old kind
+  pub sound_left : (old new : VerifierState G D) (kind : Kind) → IsSoundKind m same number old kind
       → Buffers same old new kind [] [] → IsSoundKind m same number new kind
   sound_left old new kind s b =
       sound_buffers old new kind [] [] s b (AllPass-nil _) (AllPass-nil _) (AllPass-nil _)
@@ -221,7 +223,7 @@ module _ {D K G C : Type 0} (m : Meaning D K G C) (same : D → D → Bool) (num
 
   -- a kind of which nothing changes, or of which a certificate is there
   sound_completed :
-      (old new : Buffered G D) (kind : Kind) (b : Bool) → IsSoundKind m same number old kind
+      (old new : VerifierState G D) (kind : Kind) (b : Bool) → IsSoundKind m same number old kind
       → new.selection ≡ old.selection → of_kind new.certified kind
       ≡ (b || of_kind old.certified kind)
       → of_kind new.pending kind ≡ cond b [] (of_kind old.pending kind) → of_kind new.verified kind
@@ -246,7 +248,7 @@ module _ {D K G C : Type 0} (m : Meaning D K G C) (same : D → D → Bool) (num
         none_verified = λ done. v ∙ s.none_verified (sym c ∙ done);
       }
 
-  pub sound_completes : (q : ℕ) (old new : Buffered G D) (completed : Kind)
+  pub sound_completes : (q : ℕ) (old new : VerifierState G D) (completed : Kind)
       → IsSound m same number q old → CompletesKind same old completed new
       → IsSound m same number q new
   sound_completes q old new completed s c =
@@ -306,7 +308,7 @@ module _ {D K G C : Type 0} (m : Meaning D K G C) (same : D → D → Bool) (num
         count-append t pending (vote ∷ []),
       )
 
-  none_by : (held : Buffered G D) (kind : Kind) (i : ℕ) → IsSoundKind m same number held kind
+  none_by : (held : VerifierState G D) (kind : Kind) (i : ℕ) → IsSoundKind m same number held kind
       → is_buffered held kind i ≡ false
       → (count (λ v. signer_of v == i) (of_kind held.verified kind) ≡ 0)
       × (count (λ v. signer_of v == i) (of_kind held.pending kind) ≡ 0)
@@ -317,7 +319,7 @@ module _ {D K G C : Type 0} (m : Meaning D K G C) (same : D → D → Bool) (num
         count_none (λ v. signer_of v == i) (of_kind held.pending kind) (any_of same number sel kind i (of_kind held.pending kind) s.pending ∙ parts.1),
       )
 
-  pub buffered_by : (held : Buffered G D) (kind : Kind) (i : ℕ)
+  pub buffered_by : (held : VerifierState G D) (kind : Kind) (i : ℕ)
       → IsSoundKind m same number held kind
       → (list_any (λ v. signer_of v == i) (of_kind held.verified kind)
       || list_any (λ v. signer_of v == i) (of_kind held.pending kind)) ≡ is_buffered held kind i
@@ -326,13 +328,13 @@ module _ {D K G C : Type 0} (m : Meaning D K G C) (same : D → D → Bool) (num
       rw (any_of same number sel kind i (of_kind held.verified kind) s.verified, any_of same number sel kind i (of_kind held.pending kind) s.pending)
 
   -- What `add` asks of a vote.
-  pub record MayJoin (held : Buffered G D) (vote : Vote G D) (is_verified : Bool) : Type 0 where
+  pub record MayJoin (held : VerifierState G D) (vote : Vote G D) (is_verified : Bool) : Type 0 where
     pub attests : is_verified ≡ true → attests_itself m same number vote ≡ true
     pub of_round : is_of_round number vote ≡ true
     pub fresh : is_buffered held (kind_of vote) (signer_of vote) ≡ false
 
   -- The vote joins those that wait.
-  sound_joins : (q : ℕ) (old new : Buffered G D) (vote : Vote G D) (is_verified : Bool)
+  sound_joins : (q : ℕ) (old new : VerifierState G D) (vote : Vote G D) (is_verified : Bool)
       → IsSound m same number q old → MayJoin old vote is_verified
       → ((kind : Kind) → Buffers same old new kind
       (cond (is_of_kind kind vote && not is_verified) (vote ∷ []) [])
@@ -344,12 +346,13 @@ module _ {D K G C : Type 0} (m : Meaning D K G C) (same : D → D → Bool) (num
         enough = s.enough;
         kinds = λ kind.
             let fits = is_of_kind kind vote in
-            let stands : fits ≡ true → may_stand same number None kind vote ≡ true
-            = λ e. subst (λ k. may_stand same number None k vote ≡ true) (is_kind-true (kind_of vote) kind e) (stands_first same number vote may.of_round) in
+            let represents : fits ≡ true → may_be_buffered same number None kind vote ≡ true
+            = λ e. subst (λ k. may_be_buffered same number None k vote ≡ true) (is_kind-true (kind_of vote) kind e)
+            (represents_first same number vote may.of_round) in
             sound_buffers old new kind (cond (fits && not is_verified) (vote ∷ []) []) (cond (fits && is_verified) (vote ∷ []) []) (s.kinds kind)
             (buffers kind)
-            (joins_none (fits && not is_verified) (may_stand same number None kind) vote (λ e. stands (and_parts fits (not is_verified) e).0))
-            (joins_none (fits && is_verified) (may_stand same number None kind) vote (λ e. stands (and_parts fits is_verified e).0))
+            (joins_none (fits && not is_verified) (may_be_buffered same number None kind) vote (λ e. represents (and_parts fits (not is_verified) e).0))
+            (joins_none (fits && is_verified) (may_be_buffered same number None kind) vote (λ e. represents (and_parts fits is_verified e).0))
             (joins_none (fits && is_verified) (attests_itself m same number) vote (λ e. may.attests (and_parts fits is_verified e).1))
             (once_more fits is_verified (of_kind old.verified kind) (of_kind old.pending kind) vote (s.kinds kind).once
             (λ e. none_by old kind (signer_of vote) (s.kinds kind)
@@ -374,11 +377,12 @@ module _ {D K G C : Type 0} (m : Meaning D K G C) (same : D → D → Bool) (num
         not_this (keeps x) x (filter keeps xs) parts.0 (none_kept xs parts.1)
 
   -- who has no vote in the buffers has none where votes went
-  fresh_still : (old mid : Buffered G D) (kind : Kind) (i : ℕ) → Buffers same old mid kind [] []
+  fresh_still : (old mid : VerifierState G D) (kind : Kind) (i : ℕ)
+      → Buffers same old mid kind [] []
       → is_buffered old kind i ≡ false → is_buffered mid kind i ≡ false
   fresh_still old mid kind i b h =
       let test = is_vote_of kind i in
-      let keeps = waits same (proposal_of mid.selection) in
+      let keeps = is_eligible same (proposal_of mid.selection) in
       let parts = or_parts (list_any test (of_kind old.verified kind)) (list_any test (of_kind old.pending kind)) h in
       rw (
         b.verified,
@@ -388,10 +392,11 @@ module _ {D K G C : Type 0} (m : Meaning D K G C) (same : D → D → Bool) (num
       )
 
   -- The proposal is selected first, and the vote placed then.
-  pub sound_placed : (q : ℕ) (old mid new : Buffered G D) (vote : Vote G D) (is_verified : Bool)
+  pub sound_placed : (q : ℕ) (old mid new : VerifierState G D) (vote : Vote G D)
+      (is_verified : Bool)
       → IsSound m same number q mid → MayJoin old vote is_verified
       → ((kind : Kind) → Buffers same old mid kind [] []) → Places mid vote is_verified new
-      → waits same (proposal_of mid.selection) vote ≡ true → IsSound m same number q new
+      → is_eligible same (proposal_of mid.selection) vote ≡ true → IsSound m same number q new
   sound_placed q old mid new vote is_verified s may sets places fits =
       sound_joins q mid new vote is_verified s
       (record {
@@ -401,7 +406,7 @@ module _ {D K G C : Type 0} (m : Meaning D K G C) (same : D → D → Bool) (num
       })
       (placed_buffers same mid new vote is_verified places fits (λ kind. tidy_from mid kind (s.kinds kind)))
 
-  pub sound_sets : (q : ℕ) (old new : Buffered G D) (selection : ProposalState D)
+  pub sound_sets : (q : ℕ) (old new : VerifierState G D) (selection : ProposalState D)
       → IsSound m same number q old → SetsProposal same old selection new
       → IsSound m same number q new
   sound_sets q old new selection s sets =
@@ -414,15 +419,16 @@ module _ {D K G C : Type 0} (m : Meaning D K G C) (same : D → D → Bool) (num
 
 -- nullifies are for no proposal
 nullifies_wait : {G D : Type 0} (same : D → D → Bool) (number : Round) (o : Option (Proposal D))
-    (p : Proposal D) (v : Vote G D) → may_stand same number o Nullification v ≡ true
-    → waits same (Some p) v ≡ true
+    (p : Proposal D) (v : Vote G D) → may_be_buffered same number o Nullification v ≡ true
+    → is_eligible same (Some p) v ≡ true
 nullifies_wait same number o p (NotarizeVote v) h = absurd (cc)
 nullifies_wait same number o p (NullifyVote v) h = refl
 nullifies_wait same number o p (FinalizeVote v) h = absurd (cc)
 
 pub nullifies_stay : {G D : Type 0} (same : D → D → Bool) (number : Round) (o : Option (Proposal D))
-    (p : Proposal D) (xs : List (Vote G D)) → AllPass (may_stand same number o Nullification) xs
-    → filter (waits same (Some p)) xs ≡ xs
+    (p : Proposal D) (xs : List (Vote G D)) → AllPass
+    (may_be_buffered same number o Nullification) xs
+    → filter (is_eligible same (Some p)) xs ≡ xs
 nullifies_stay same number o p xs pass =
-    filter_all (waits same (Some p)) xs
-    (AllPass-weaker (may_stand same number o Nullification) (waits same (Some p)) (nullifies_wait same number o p) xs pass)
+    filter_all (is_eligible same (Some p)) xs
+    (AllPass-weaker (may_be_buffered same number o Nullification) (is_eligible same (Some p)) (nullifies_wait same number o p) xs pass)

@@ -2,9 +2,9 @@
 
 ghost use Rattle.std.specs.Prelude.{◌≡◌, ◌+◌, ◌-◌, ◌≤◌, ◌<◌, ◌==◌, ◌++◌, ◌∷◌, [], Some, length, filter, map, replicate, take, OnOk, vec_len, vec_capacity};
 ghost use Rattle.std.specs.List.{list_all, list_any};
-ghost use Rattle.batcher_types.specs.Votes.{signer_of, subject_of, same_subject, waits};
-ghost use Rattle.batcher_votes.specs.Buffering.{attestations_of, first_proposal, have_one_subject, vote_for};
-ghost use Rattle.batcher_votes.specs.Waiting.{may_wait, one_subject_in, spread, fitting};
+ghost use Rattle.batcher_types.specs.Votes.{signer_of, subject_of, same_subject, is_eligible};
+ghost use Rattle.batcher_votes.specs.VerifierSteps.{attestations_of, first_proposal, have_one_subject, vote_for};
+ghost use Rattle.batcher_votes.specs.BufferView.{may_be_eligible, one_subject_in, subjects_of_runs, retained_attestations};
 
 use crate::votes::KeptVotes;
 use batcher_types::messages::{Attestation, Digest, Proposal, Subject, Vote, make_room_below};
@@ -19,9 +19,9 @@ pub(crate) struct Run<D> {
     pub(crate) more: usize,
 }
 
-/// Votes in the order in which they came. Their attestations stand by themselves, so that they are
-/// lent to a scheme as one slice and none is copied. Votes in a row have one subject as a rule, so
-/// it is kept once for each run of them.
+/// Votes in the order in which they came. Their attestations are kept by themselves, so that they
+/// are lent to a scheme as one slice and none is copied. Votes in a row have one subject as a rule,
+/// so it is kept once for each run of them.
 #[derive(Drop)]
 pub(crate) struct Buffer<G, D> {
     runs: Vec<Run<D>>,
@@ -30,12 +30,12 @@ pub(crate) struct Buffer<G, D> {
 
 impl<G, D> Model for Buffer<G, D> {
     ghost use Rattle.std.specs.Prelude.{◌≡◌, ◌-◌, cond, length, min, nat_lt, vec_len, vec_capacity};
-    ghost use Rattle.batcher_votes.specs.Waiting.{Waiting, votes_from, spread};
+    ghost use Rattle.batcher_votes.specs.BufferView.{BufferView, votes_from, subjects_of_runs};
 
-    ghost Value = { Waiting G D };
+    ghost Value = { BufferView G D };
 
     ghost view = { λ b. record {
-      votes = votes_from (spread b.runs.items) b.attestations.items;
+      votes = votes_from (subjects_of_runs b.runs.items) b.attestations.items;
       room = min
           (vec_capacity b.runs - vec_len b.runs)
           (vec_capacity b.attestations - vec_len b.attestations);
@@ -43,7 +43,7 @@ impl<G, D> Model for Buffer<G, D> {
           (vec_capacity b.attestations - vec_len b.attestations) 0;
     } };
 
-    ghost invariant = { λ b. length (spread b.runs.items) ≡ length b.attestations.items };
+    ghost invariant = { λ b. length (subjects_of_runs b.runs.items) ≡ length b.attestations.items };
 }
 
 impl<G: Copy, D: Digest> Buffer<G, D> {
@@ -138,18 +138,18 @@ impl<G: Copy, D: Digest> Buffer<G, D> {
             return;
         }
         push_run(&mut self.runs, subject, count);
-        let _ = self.attestations.extend_from_slice(attestations);
+        self.attestations.extend_from_slice(attestations).unwrap();
     }
 
     /// Takes those of the votes that wait with the proposal to the end, in their order. With the
     /// room that it asks for it takes no memory.
     pub(crate) fn restore(&mut self, mut votes: KeptVotes<'_, G, D>, proposal: &Proposal<D>)
-        requires { length (filter (waits D.eq (Some proposal.now)) votes) ≤ self.old.room }
+        requires { length (filter (is_eligible D.eq (Some proposal.now)) votes) ≤ self.old.room }
         ensures { self.new.votes ≡ self.old.votes
-            ++ filter (waits D.eq (Some proposal.now)) votes.entry }
+            ++ filter (is_eligible D.eq (Some proposal.now)) votes.entry }
     {
         while let Some(vote) = votes.next() {
-            if vote.waits_with(proposal) {
+            if vote.eligible_with(proposal) {
                 self.push(&vote);
             }
         }
@@ -157,16 +157,17 @@ impl<G: Copy, D: Digest> Buffer<G, D> {
 
     /// Drops the votes for other proposals. The others keep their order, and the room stays.
     pub(crate) fn retain(&mut self, proposal: &Proposal<D>)
-        ensures votes { self.new.votes ≡ filter (waits D.eq (Some proposal.now)) self.old.votes }
+        ensures votes { self.new.votes ≡ filter
+            (is_eligible D.eq (Some proposal.now)) self.old.votes }
         ensures room { self.old.room ≤ self.new.room }
     {
-        let kept = keep(
+        let kept = retain_attestations(
             self.runs.as_slice(),
             self.attestations.as_mut_slice(),
             proposal,
         );
         self.attestations.truncate(kept);
-        let runs = keep_runs(self.runs.as_mut_slice(), proposal);
+        let runs = retain_runs(self.runs.as_mut_slice(), proposal);
         self.runs.truncate(runs);
     }
 
@@ -197,7 +198,9 @@ fn are_same<D: Digest>(one: &Subject<D>, other: &Subject<D>) -> bool
         (Subject::Notarize { proposal: p }, Subject::Notarize { proposal: q }) => *p == *q,
         (Subject::Nullify { round: r }, Subject::Nullify { round: s }) => *r == *s,
         (Subject::Finalize { proposal: p }, Subject::Finalize { proposal: q }) => *p == *q,
-        _ => false,
+        (Subject::Notarize { .. }, Subject::Nullify { .. } | Subject::Finalize { .. })
+        | (Subject::Nullify { .. }, Subject::Notarize { .. } | Subject::Finalize { .. })
+        | (Subject::Finalize { .. }, Subject::Notarize { .. } | Subject::Nullify { .. }) => false,
     }
 }
 
@@ -209,14 +212,17 @@ fn is_about<G, D: Digest>(subject: &Subject<D>, vote: &Vote<G, D>) -> bool
         (Subject::Notarize { proposal: p }, Vote::Notarize(vote)) => *p == vote.proposal,
         (Subject::Nullify { round: r }, Vote::Nullify(vote)) => *r == vote.round,
         (Subject::Finalize { proposal: p }, Vote::Finalize(vote)) => *p == vote.proposal,
-        _ => false,
+        (Subject::Notarize { .. }, Vote::Nullify(_) | Vote::Finalize(_))
+        | (Subject::Nullify { .. }, Vote::Notarize(_) | Vote::Finalize(_))
+        | (Subject::Finalize { .. }, Vote::Notarize(_) | Vote::Nullify(_)) => false,
     }
 }
 
 // Takes the vote's subject to the end, to the last run where it has the same.
 fn push_subject<G: Copy, D: Digest>(runs: &mut Vec<Run<D>>, vote: &Vote<G, D>)
     requires { 1 ≤ vec_capacity runs.old - vec_len runs.old }
-    ensures subjects { spread runs.new.items ≡ spread runs.old.items ++ subject_of vote.now ∷ [] }
+    ensures subjects { subjects_of_runs runs.new.items
+        ≡ subjects_of_runs runs.old.items ++ subject_of vote.now ∷ [] }
     ensures room { vec_capacity runs.old - vec_len runs.old
         ≤ vec_capacity runs.new - vec_len runs.new + 1 }
 {
@@ -234,7 +240,8 @@ fn push_subject<G: Copy, D: Digest>(runs: &mut Vec<Run<D>>, vote: &Vote<G, D>)
 #[inline(never)]
 fn begin_run<G: Copy, D: Digest>(runs: &mut Vec<Run<D>>, vote: &Vote<G, D>)
     requires { 1 ≤ vec_capacity runs.old - vec_len runs.old }
-    ensures subjects { spread runs.new.items ≡ spread runs.old.items ++ subject_of vote.now ∷ [] }
+    ensures subjects { subjects_of_runs runs.new.items
+        ≡ subjects_of_runs runs.old.items ++ subject_of vote.now ∷ [] }
     ensures room { vec_capacity runs.old - vec_len runs.old
         ≤ vec_capacity runs.new - vec_len runs.new + 1 }
 {
@@ -245,12 +252,13 @@ fn begin_run<G: Copy, D: Digest>(runs: &mut Vec<Run<D>>, vote: &Vote<G, D>)
 fn push_run<D: Digest>(runs: &mut Vec<Run<D>>, subject: Subject<D>, count: usize)
     requires room { 1 ≤ vec_capacity runs.old - vec_len runs.old }
     requires some { 1 ≤ count }
-    ensures subjects { spread runs.new.items ≡ spread runs.old.items ++ replicate count subject }
+    ensures subjects { subjects_of_runs runs.new.items
+        ≡ subjects_of_runs runs.old.items ++ replicate count subject }
     ensures room { vec_capacity runs.old - vec_len runs.old
         ≤ vec_capacity runs.new - vec_len runs.new + 1 }
 {
     let more = count - 1;
-    let _ = runs.push(Run { subject, more });
+    runs.push_reserved(Run { subject, more });
 }
 
 // Whether all runs have the first one's subject.
@@ -277,7 +285,7 @@ fn all_same<D: Digest>(subject: &Subject<D>, runs: &[Run<D>]) -> bool
 
 // Whether votes with the subject wait where the proposal is selected.
 fn fits<D: Digest>(subject: Subject<D>, proposal: &Proposal<D>) -> bool
-    ensures { result ≡ may_wait D.eq proposal.now subject }
+    ensures { result ≡ may_be_eligible D.eq proposal.now subject }
 {
     match subject {
         Subject::Notarize { proposal: other } => *proposal == other,
@@ -288,14 +296,14 @@ fn fits<D: Digest>(subject: Subject<D>, proposal: &Proposal<D>) -> bool
 
 // Moves the attestations of the runs that wait with the proposal to the front, each run at once,
 // and answers how many they are.
-fn keep<G: Copy, D: Digest>(
+fn retain_attestations<G: Copy, D: Digest>(
     runs: &[Run<D>],
     attestations: &mut [Attestation<G>],
     proposal: &Proposal<D>,
 ) -> usize
-    requires { length (spread runs.now) ≡ length attestations.old }
+    requires { length (subjects_of_runs runs.now) ≡ length attestations.old }
     ensures within { result ≤ length attestations.old }
-    ensures votes { take result attestations.new ≡ fitting D.eq proposal.now runs.now
+    ensures votes { take result attestations.new ≡ retained_attestations D.eq proposal.now runs.now
         attestations.old }
 {
     let mut kept = 0;
@@ -312,10 +320,10 @@ fn keep<G: Copy, D: Digest>(
 }
 
 // Moves the runs that wait with the proposal to the front, and answers how many they are.
-fn keep_runs<D: Digest>(runs: &mut [Run<D>], proposal: &Proposal<D>) -> usize
+fn retain_runs<D: Digest>(runs: &mut [Run<D>], proposal: &Proposal<D>) -> usize
     ensures within { result ≤ length runs.old }
     ensures runs { take result runs.new
-        ≡ filter (λ run. may_wait D.eq proposal.now run.subject) runs.old }
+        ≡ filter (λ run. may_be_eligible D.eq proposal.now run.subject) runs.old }
 {
     let mut kept = 0;
     for i in 0..runs.len() {

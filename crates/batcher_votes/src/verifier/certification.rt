@@ -2,8 +2,8 @@
 
 ghost use Rattle.std.specs.Prelude.{◌≡◌, ◌+◌, ◌≤◌, ◌&&◌, ◌||◌, ◌==◌, ◌++◌, ◌∷◌, [], not, cond, true, false, length, filter, map, nat_le, nat_lt, Some, OnOk, IsOk};
 ghost use Rattle.std.specs.List.{list_any};
-ghost use Rattle.batcher_types.specs.Votes.{signer_of, waits};
-ghost use Rattle.batcher_votes.specs.Buffering.{attestations_of, first_proposal, have_one_subject, vote_for};
+ghost use Rattle.batcher_types.specs.Votes.{signer_of, is_eligible};
+ghost use Rattle.batcher_votes.specs.VerifierSteps.{attestations_of, first_proposal, have_one_subject, vote_for};
 ghost use Rattle.batcher_votes.specs.Certifications.{is_complete, pending_of, verified_of, pending_room, verified_room, room_for_run};
 
 use crate::verifier::buffer::Buffer;
@@ -172,9 +172,10 @@ impl<G: Copy, D: Digest> Certification<G, D> {
     }
 
     /// Takes the vote to the end of one of the buffers, in which there is room, unless a
-    /// certificate is there. It is inlined, as `push` is, since nearly every vote comes here.
+    /// certificate is there. It is inlined, as `push` of a buffer is, since nearly every
+    /// vote comes here.
     #[inline(always)]
-    pub(crate) fn place(&mut self, vote: &Vote<G, D>, verified: bool)
+    pub(crate) fn push(&mut self, vote: &Vote<G, D>, verified: bool)
         requires { is_complete self.old ≡ false
             → 1 ≤ cond verified (verified_room self.old) (pending_room self.old) }
         ensures complete { is_complete self.new ≡ is_complete self.old }
@@ -206,9 +207,9 @@ impl<G: Copy, D: Digest> Certification<G, D> {
     pub(crate) fn retain(&mut self, proposal: &Proposal<D>)
         ensures complete { is_complete self.new ≡ is_complete self.old }
         ensures pending { pending_of self.new
-            ≡ filter (waits D.eq (Some proposal.now)) (pending_of self.old) }
+            ≡ filter (is_eligible D.eq (Some proposal.now)) (pending_of self.old) }
         ensures verified { verified_of self.new
-            ≡ filter (waits D.eq (Some proposal.now)) (verified_of self.old) }
+            ≡ filter (is_eligible D.eq (Some proposal.now)) (verified_of self.old) }
         ensures pending_room { pending_room self.old ≤ pending_room self.new }
         ensures verified_room { verified_room self.old ≤ verified_room self.new }
     {
@@ -225,11 +226,11 @@ impl<G: Copy, D: Digest> Certification<G, D> {
     /// certificate is there.
     pub(crate) fn restore(&mut self, votes: KeptVotes<'_, G, D>, proposal: &Proposal<D>)
         requires { is_complete self.old ≡ false
-            → length (filter (waits D.eq (Some proposal.now)) votes) ≤ pending_room self.old }
+            → length (filter (is_eligible D.eq (Some proposal.now)) votes) ≤ pending_room self.old }
         ensures complete { is_complete self.new ≡ is_complete self.old }
         ensures pending { pending_of self.new ≡ pending_of self.old
             ++ cond (is_complete self.old) []
-            (filter (waits D.eq (Some proposal.now)) votes.entry) }
+            (filter (is_eligible D.eq (Some proposal.now)) votes.entry) }
         ensures verified { verified_of self.new ≡ verified_of self.old }
         ensures verified_room { verified_room self.old ≤ verified_room self.new }
     {

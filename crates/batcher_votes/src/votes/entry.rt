@@ -23,11 +23,11 @@ pub(crate) enum Seen {
     /// Some were seen, and none is kept. One is for the selected proposal, so its signer has that
     /// proposal's block.
     Matches,
-    /// The first one is kept: it stands at this place among the kept votes of its kind.
+    /// The first one is kept: it has this index among the kept votes of its kind.
     Kept(u32),
 }
 
-// What is known of a signer's votes of a kind, but for the place of the one that is kept.
+// What is known of a signer's votes of a kind, but for the index of the one that is kept.
 #[derive(Clone, Copy)]
 enum Mark {
     Nothing,
@@ -40,14 +40,14 @@ enum Mark {
 /// What is known of a signer, by kind.
 ///
 /// It is small, since it is moved where a signer's entry comes before others, and all that is left
-/// of votes that are released. So of each kind a mark takes one byte, and a place stands apart from
-/// it, which is read where the mark says that a vote is kept.
+/// of votes that are released. So of each kind a mark takes one byte, and an index is kept apart
+/// from it, which is read where the mark says that a vote is kept.
 #[derive(Drop)]
 pub(crate) struct Entry {
     signer: Participant,
-    notarize_place: u32,
-    nullify_place: u32,
-    finalize_place: u32,
+    notarize_index: u32,
+    nullify_index: u32,
+    finalize_index: u32,
     notarize: Mark,
     nullify: Mark,
     finalize: Mark,
@@ -60,9 +60,9 @@ impl Model for Entry {
 
     ghost view = { λ entry. record {
       signer = entry.signer;
-      notarize = seen_by entry.notarize entry.notarize_place;
-      nullify = seen_by entry.nullify entry.nullify_place;
-      finalize = seen_by entry.finalize entry.finalize_place;
+      notarize = seen_by entry.notarize entry.notarize_index;
+      nullify = seen_by entry.nullify entry.nullify_index;
+      finalize = seen_by entry.finalize entry.finalize_index;
     } };
 }
 
@@ -75,22 +75,22 @@ impl Attributable for Entry {
 }
 
 impl Seen {
-    ghost use Rattle.batcher_votes.specs.Entries.{is_any, has_place, compared, seen_by, seen_outcome};
+    ghost use Rattle.batcher_votes.specs.Entries.{is_any, has_index, compared, seen_by, seen_outcome};
 
-    // What a mark says, with the place of the vote that is kept.
-    fn by(mark: Mark, place: u32) -> Self
-        ensures { result ≡ seen_by mark place }
+    // What a mark says, with the index of the vote that is kept.
+    fn by(mark: Mark, index: u32) -> Self
+        ensures { result ≡ seen_by mark index }
     {
         match mark {
             Mark::Nothing => Seen::Nothing,
             Mark::Uncompared => Seen::Uncompared,
             Mark::Differs => Seen::Differs,
             Mark::Matches => Seen::Matches,
-            Mark::Kept => Seen::Kept(place),
+            Mark::Kept => Seen::Kept(index),
         }
     }
 
-    // Its mark, and the place of the vote that is kept, or 0 where none is.
+    // Its mark, and the index of the vote that is kept, or 0 where none is.
     fn parts(self) -> (Mark, u32)
         ensures { seen_by result.0 result.1 ≡ self }
     {
@@ -99,7 +99,7 @@ impl Seen {
             Seen::Uncompared => (Mark::Uncompared, 0),
             Seen::Differs => (Mark::Differs, 0),
             Seen::Matches => (Mark::Matches, 0),
-            Seen::Kept(place) => (Mark::Kept, place),
+            Seen::Kept(index) => (Mark::Kept, index),
         }
     }
 
@@ -112,7 +112,7 @@ impl Seen {
 
     /// Whether the first vote is kept.
     pub(crate) fn is_kept(self) -> bool
-        ensures { result ≡ has_place self }
+        ensures { result ≡ has_index self }
     {
         matches!(self, Seen::Kept(_))
     }
@@ -142,7 +142,9 @@ impl Seen {
             (Seen::Kept(_), _) => Outcome::Duplicate { retained: true },
             (Seen::Differs, Some(true)) => Outcome::Conflicting,
             (Seen::Matches, Some(false)) => Outcome::Conflicting,
-            _ => Outcome::Duplicate { retained: false },
+            (Seen::Uncompared, _)
+            | (Seen::Differs, None | Some(false))
+            | (Seen::Matches, None | Some(true)) => Outcome::Duplicate { retained: false },
         }
     }
 }
@@ -157,7 +159,7 @@ pub(crate) fn is_selected<D: Digest>(
 {
     match (proposal, selected) {
         (Some(proposal), Some(selected)) => Some(*selected == *proposal),
-        _ => None,
+        (None, _) | (Some(_), None) => None,
     }
 }
 
@@ -170,9 +172,9 @@ impl Entry {
     {
         Entry {
             signer,
-            notarize_place: 0,
-            nullify_place: 0,
-            finalize_place: 0,
+            notarize_index: 0,
+            nullify_index: 0,
+            finalize_index: 0,
             notarize: Mark::Nothing,
             nullify: Mark::Nothing,
             finalize: Mark::Nothing,
@@ -184,9 +186,9 @@ impl Entry {
         ensures { result ≡ part kind self.now }
     {
         match kind {
-            Kind::Notarization => Seen::by(self.notarize, self.notarize_place),
-            Kind::Nullification => Seen::by(self.nullify, self.nullify_place),
-            Kind::Finalization => Seen::by(self.finalize, self.finalize_place),
+            Kind::Notarization => Seen::by(self.notarize, self.notarize_index),
+            Kind::Nullification => Seen::by(self.nullify, self.nullify_index),
+            Kind::Finalization => Seen::by(self.finalize, self.finalize_index),
         }
     }
 
@@ -194,19 +196,19 @@ impl Entry {
     pub(crate) fn set(&mut self, kind: Kind, seen: Seen)
         ensures { self.new ≡ with_part kind seen self.old }
     {
-        let (mark, place) = seen.parts();
+        let (mark, index) = seen.parts();
         match kind {
             Kind::Notarization => {
                 self.notarize = mark;
-                self.notarize_place = place;
+                self.notarize_index = index;
             }
             Kind::Nullification => {
                 self.nullify = mark;
-                self.nullify_place = place;
+                self.nullify_index = index;
             }
             Kind::Finalization => {
                 self.finalize = mark;
-                self.finalize_place = place;
+                self.finalize_index = index;
             }
         }
     }

@@ -3,8 +3,8 @@
 ghost use Rattle.std.specs.Prelude.{ℕ, ◌≡◌, ◌≤◌, [], false, length, IsOk, OnOk};
 ghost use Rattle.std.specs.Option.{option_copied, option_map};
 ghost use Rattle.batcher_types.specs.Lists.{is_some_and};
-ghost use Rattle.batcher_types.specs.Votes.{kind_of, waits};
-ghost use Rattle.batcher_votes.specs.Held.{of_kind, for_each};
+ghost use Rattle.batcher_types.specs.Votes.{kind_of, is_eligible};
+ghost use Rattle.batcher_votes.specs.RoundState.{of_kind, for_each};
 
 use crate::votes::ObservedVote;
 use crate::votes::entry::{Seen, is_selected};
@@ -23,7 +23,7 @@ pub(crate) struct KeptLists<G: Copy, D: Copy> {
 
 impl<G: Copy, D: Digest> KeptLists<G, D> {
     ghost use Rattle.batcher_votes.specs.Entries.{votes_in, room_in, with_vote, without, vote_at, proposal_at, observed_seen, seen_released};
-    ghost use Rattle.batcher_votes.specs.Tracking.{shown, is_seen_for};
+    ghost use Rattle.batcher_votes.specs.TrackerSteps.{shown, is_seen_for};
     ghost use Rattle.batcher_types.specs.declared.messages.Vote.TheVariants.{Notarize as NotarizeVote};
 
     /// No votes. They take no memory.
@@ -48,27 +48,27 @@ impl<G: Copy, D: Digest> KeptLists<G, D> {
         }
     }
 
-    /// The vote of a kind, where what is known of its signer tells its place.
+    /// The vote of a kind, where what is known of its signer has its index.
     pub(crate) fn vote(&self, kind: Kind, seen: Seen) -> Option<Vote<G, D>>
         ensures { result ≡ vote_at (of_kind (votes_in self.now) kind) seen }
     {
-        let Seen::Kept(place) = seen else {
+        let Seen::Kept(index) = seen else {
             return None;
         };
-        let place = place as usize;
+        let index = index as usize;
         match kind {
-            Kind::Notarization => Some(Vote::Notarize(*self.notarizes.get(place)?)),
-            Kind::Nullification => Some(Vote::Nullify(*self.nullifies.get(place)?)),
-            Kind::Finalization => Some(Vote::Finalize(*self.finalizes.get(place)?)),
+            Kind::Notarization => Some(Vote::Notarize(*self.notarizes.get(index)?)),
+            Kind::Nullification => Some(Vote::Nullify(*self.nullifies.get(index)?)),
+            Kind::Finalization => Some(Vote::Finalize(*self.finalizes.get(index)?)),
         }
     }
 
-    /// The notarize, where what is known of its signer tells its place.
+    /// The notarize, where what is known of its signer has its index.
     pub(crate) fn notarize(&self, seen: Seen) -> Option<Notarize<G, D>>
         ensures { option_map NotarizeVote result ≡ vote_at (votes_in self.now).notarize seen }
     {
         match seen {
-            Seen::Kept(place) => self.notarizes.get(place as usize).copied(),
+            Seen::Kept(index) => self.notarizes.get(index as usize).copied(),
             Seen::Nothing | Seen::Uncompared | Seen::Differs | Seen::Matches => None,
         }
     }
@@ -78,14 +78,14 @@ impl<G: Copy, D: Digest> KeptLists<G, D> {
         ensures { option_copied result
             ≡ proposal_at (vote_at (of_kind (votes_in self.now) kind) seen) }
     {
-        let Seen::Kept(place) = seen else {
+        let Seen::Kept(index) = seen else {
             return None;
         };
-        let place = place as usize;
+        let index = index as usize;
         match kind {
-            Kind::Notarization => Some(&self.notarizes.get(place)?.proposal),
+            Kind::Notarization => Some(&self.notarizes.get(index)?.proposal),
             Kind::Nullification => None,
-            Kind::Finalization => Some(&self.finalizes.get(place)?.proposal),
+            Kind::Finalization => Some(&self.finalizes.get(index)?.proposal),
         }
     }
 
@@ -109,7 +109,8 @@ impl<G: Copy, D: Digest> KeptLists<G, D> {
     {
         match seen {
             Seen::Matches => true,
-            _ => match self.proposal(kind, seen) {
+            Seen::Nothing | Seen::Uncompared | Seen::Differs => false,
+            Seen::Kept(_) => match self.proposal(kind, seen) {
                 Some(kept) => *proposal == *kept,
                 None => false,
             },
@@ -119,10 +120,10 @@ impl<G: Copy, D: Digest> KeptLists<G, D> {
     /// Whether a vote of the kind is kept that waits with the proposal.
     pub(crate) fn keeps_for(&self, kind: Kind, seen: Seen, proposal: &Proposal<D>) -> bool
         ensures { result ≡ is_some_and (vote_at (of_kind (votes_in self.now) kind) seen)
-            (waits D.eq (Some proposal.now)) }
+            (is_eligible D.eq (Some proposal.now)) }
     {
         match self.vote(kind, seen) {
-            Some(vote) => vote.waits_with(proposal),
+            Some(vote) => vote.eligible_with(proposal),
             None => false,
         }
     }

@@ -1,4 +1,4 @@
-use Rattle.std.proofs.Common.{◌∙◌, Err, ap, refl, sym, rules, arith}
+use Rattle.std.proofs.Common.{◌∙◌, Err, ap, sym, rules, arith}
 use Rattle.std.proofs.lemmas.Grind.{common_steps}
 use Rattle.batcher_c.proofs.nodes.cast_vote.Goals as goal
 

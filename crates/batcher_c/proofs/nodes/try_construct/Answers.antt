@@ -1,4 +1,4 @@
-use Rattle.std.proofs.Common.{◌∙◌, Ok, ap, refl, sym, rules, arith}
+use Rattle.std.proofs.Common.{Ok, ap, rules}
 use Rattle.batcher_c.proofs.nodes.try_construct.Goals as goal
 
 pub returns-in-Ok-Rests : goal.returns-in-Ok-Rests

@@ -1,14 +1,14 @@
 use Rattle.std.proofs.Common.{⊎_elim}
-use Rattle.batcher_node.specs.Nodes.{judge_node}
+use Rattle.batcher_node.specs.Nodes.{node_config}
 use Rattle.batcher_node.proofs.SendingKept.{keeps_known, keeps_unheard, keeps_heard, still_unblocked}
 use Rattle.batcher_example.proofs.exchange.cast_and_send.Goals as goal
 
 pub returns-in_err-receive_vote-in-ToSend-clause-keeps :
     goal.returns-in_err-receive_vote-in-ToSend-clause-keeps
 returns-in_err-receive_vote-in-ToSend-clause-keeps g c = λ h.
-    let x = judge_node g.S.Scheme.meaning g.S.PublicKey.Ord.cmp
+    let x = node_config g.S.Scheme.meaning g.S.PublicKey.Ord.cmp
     g.S.Signature.PartialEq.eq g.D.PartialEq.eq c.args.own.now in
-    let y = judge_node g.S.Scheme.meaning g.S.PublicKey.Ord.cmp
+    let y = node_config g.S.Scheme.meaning g.S.PublicKey.Ord.cmp
     g.S.Signature.PartialEq.eq g.D.PartialEq.eq c.args.other.now in
     rw c.in_err-receive_vote-in-ToSend.ensures.refused
     (keeps_unheard x y c.args.own.now c.cast_vote.new.self c.args.other.now c.args.other.now
@@ -17,9 +17,9 @@ returns-in_err-receive_vote-in-ToSend-clause-keeps g c = λ h.
 pub returns-in_ok-receive_vote-in-ToSend-clause-keeps :
     goal.returns-in_ok-receive_vote-in-ToSend-clause-keeps
 returns-in_ok-receive_vote-in-ToSend-clause-keeps g c = λ h.
-    let x = judge_node g.S.Scheme.meaning g.S.PublicKey.Ord.cmp
+    let x = node_config g.S.Scheme.meaning g.S.PublicKey.Ord.cmp
     g.S.Signature.PartialEq.eq g.D.PartialEq.eq c.args.own.now in
-    let y = judge_node g.S.Scheme.meaning g.S.PublicKey.Ord.cmp
+    let y = node_config g.S.Scheme.meaning g.S.PublicKey.Ord.cmp
     g.S.Signature.PartialEq.eq g.D.PartialEq.eq c.args.other.now in
     keeps_heard x y c.args.own.now c.cast_vote.new.self c.args.other.now c.receive_vote.new.self
     c.args.vote c.in-ToSend.field-0 c.args.key c.in_ok-receive_vote-in-ToSend.field-0
@@ -38,9 +38,9 @@ returns-in_ok-receive_vote-in-ToSend-clause-not_blocked g c = λ alike within h.
 
 pub returns-in-Known-clause-keeps : goal.returns-in-Known-clause-keeps
 returns-in-Known-clause-keeps g c = λ h.
-    let x = judge_node g.S.Scheme.meaning g.S.PublicKey.Ord.cmp
+    let x = node_config g.S.Scheme.meaning g.S.PublicKey.Ord.cmp
     g.S.Signature.PartialEq.eq g.D.PartialEq.eq c.args.own.now in
-    let y = judge_node g.S.Scheme.meaning g.S.PublicKey.Ord.cmp
+    let y = node_config g.S.Scheme.meaning g.S.PublicKey.Ord.cmp
     g.S.Signature.PartialEq.eq g.D.PartialEq.eq c.args.other.now in
     ⊎_elim
     (λ known. keeps_known x y c.args.own.now c.cast_vote.new.self c.args.other.now c.args.other.now

@@ -1,19 +1,19 @@
 use Rattle.batcher_node.proofs.Answering.{rests_if_unchanged}
 use Rattle.batcher_node.proofs.Promising.{node_promised}
 use Rattle.batcher_node.specs.Windows.{numbered}
-use Rattle.batcher_node.specs.Events.{told}
-use Rattle.batcher_node.specs.Stands.{mode_of}
-use Rattle.batcher_node.specs.Nodes.{judge_node}
+use Rattle.batcher_node.specs.Events.{view_history}
+use Rattle.batcher_node.specs.Represents.{mode_of}
+use Rattle.batcher_node.specs.Nodes.{node_config}
 use Rattle.batcher_node.proofs.theorems.nodes_keep_their_promises.Goals as goal
 
 pub returns-clause-promised : goal.returns-clause-promised
 returns-clause-promised g c = λ node some past h.
-    let x = judge_node g.S.Scheme.meaning g.S.PublicKey.Ord.cmp
+    let x = node_config g.S.Scheme.meaning g.S.PublicKey.Ord.cmp
     g.S.Signature.PartialEq.eq g.D.PartialEq.eq node in
     node_promised x
     (λ before view possible.
     c.possible_histories_are_promised.ensures node.scheme (numbered node.epoch view)
-    (mode_of x before view) some (told view before) possible)
+    (mode_of x before view) some (view_history view before) possible)
     some past h.answered h.possible
 
 pub returns-clause-complete : goal.returns-clause-complete

@@ -1,32 +1,32 @@
 use Rattle.std.proofs.Common.{◌≤◌, ◌<◌, ◌∙◌, ℕ, length, sym, subst, arith}
-use Rattle.batcher_node.specs.Nodes.{judge_node}
+use Rattle.batcher_node.specs.Nodes.{node_config}
 use Rattle.batcher_node.proofs.SendingBlocks.{no_cause_in}
 use Rattle.batcher_node.proofs.SendingCertificates.{held_certify}
 use Rattle.batcher_node.proofs.theorems.senders_of_votes_to_send_are_never_blocked.Goals as goal
 
 pub returns-clause-not_blocked : goal.returns-clause-not_blocked
-returns-clause-not_blocked g c = λ own other alike sent heard stands other_stands i within sends.
-    let judged = judge_node g.S.Scheme.meaning g.S.PublicKey.Ord.cmp
+returns-clause-not_blocked g c = λ own other alike sent heard represents other_represents i within sends.
+    let config_by = node_config g.S.Scheme.meaning g.S.PublicKey.Ord.cmp
     g.S.Signature.PartialEq.eq g.D.PartialEq.eq in
-    let x = judged own in
-    let y = judged other in
+    let x = config_by own in
+    let y = config_by other in
     let promised = c.nodes_keep_their_promises.ensures.promised in
     let there = subst (λ m. i < length m.participants) (sym alike) within in
     let some = some_of _ i within in
-    other_stands.blocked_are i there
-    ∙ no_cause_in x y alike sent stands.answered stands.possible
-    (promised own some sent stands).each_view
+    other_represents.blocked_are i there
+    ∙ no_cause_in x y alike sent represents.answered represents.possible
+    (promised own some sent represents).each_view
     (λ number mode. c.senders_of_added_give_no_cause.ensures other.scheme number mode)
     i sends.own_are_signed heard sends.heard_only
-    (promised other (some_of _ i there) heard other_stands).blocked_for_cause
+    (promised other (some_of _ i there) heard other_represents).blocked_for_cause
   where
     some_of : (n i : ℕ) → i < n → 1 ≤ n
     some_of n i within = omega (arith, within)
 
 pub returns-clause-held_certify : goal.returns-clause-held_certify
-returns-clause-held_certify g c = λ node some past stands.
-    let x = judge_node g.S.Scheme.meaning g.S.PublicKey.Ord.cmp
+returns-clause-held_certify g c = λ node some past represents.
+    let x = node_config g.S.Scheme.meaning g.S.PublicKey.Ord.cmp
     g.S.Signature.PartialEq.eq g.D.PartialEq.eq node in
-    let promised = c.nodes_keep_their_promises.ensures.promised node some past stands in
-    held_certify x past past stands.answered
+    let promised = c.nodes_keep_their_promises.ensures.promised node some past represents in
+    held_certify x past past represents.answered
     (λ view. (promised.each_view view).promises.certificates_verify)

@@ -1,5 +1,4 @@
-use Rattle.std.proofs.lemmas.Result.{IfOk-weaker}
-use Rattle.batcher_node_session.proofs.Results.{if_err}
+use Rattle.std.proofs.lemmas.Result.{IfOk-weaker, IfErr-weaker}
 use Rattle.batcher_node_session.proofs.Seeing.{cast_seen, wherever_seen}
 use Rattle.batcher_node_session.proofs.calls.cast_vote.Goals as goal
 
@@ -10,4 +9,4 @@ returns-clause-meets g c =
 
 pub returns-clause-named : goal.returns-clause-named
 returns-clause-named g c =
-    if_err _ (λ fault. wherever_seen _ _ c.args.node.now _) c.cast_vote.ensures.named
+    IfErr-weaker _ _ _ (λ fault. wherever_seen _ _ c.args.node.now _) c.cast_vote.ensures.named

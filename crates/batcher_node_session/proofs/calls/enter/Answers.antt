@@ -1,10 +1,10 @@
-use Rattle.batcher_node_session.proofs.Results.{on_ok}
 use Rattle.batcher_node_session.proofs.Seeing.{meets_seen, led_seen, none_seen}
 use Rattle.batcher_node_session.proofs.calls.enter.Goals as goal
+use Rattle.std.proofs.lemmas.Result.{on_ok_weaker}
 
 pub returns-clause-meets : goal.returns-clause-meets
 returns-clause-meets g c =
-    on_ok _ (meets_seen _ _ c.args.node.now c.enter.new.self _) c.enter.ensures.meets
+    on_ok_weaker _ (meets_seen _ _ c.args.node.now c.enter.new.self _) c.enter.ensures.meets
 
 pub returns-clause-led : goal.returns-clause-led
 returns-clause-led g c = λ is. led_seen _ c.args.node.now _ _ (c.enter.ensures.led is)

@@ -1,5 +1,5 @@
 use Rattle.std.proofs.Common.{rules}
-use Rattle.batcher_node.proofs.Telling.{if_some}
+use Rattle.batcher_node.proofs.Calling.{if_some}
 use Rattle.batcher_node_session.proofs.Seeing.{meets_seen, next_seen, rests_seen}
 use Rattle.batcher_node_session.proofs.constructing.construct.Goals as goal
 

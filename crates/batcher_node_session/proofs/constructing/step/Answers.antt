@@ -1,5 +1,5 @@
 use Rattle.std.proofs.Common.{arith, refl}
-use Rattle.batcher_node_session.proofs.Seeing.{next_seen, rests_seen, stands_seen}
+use Rattle.batcher_node_session.proofs.Seeing.{next_seen, rests_seen, represents_seen}
 use Rattle.batcher_node_session.proofs.constructing.step.Goals as goal
 
 pub returns-in_default-clause-rests : goal.returns-in_default-clause-rests
@@ -11,7 +11,7 @@ returns-in_default-clause-complete g c = λ is.
     let kept = c.promises.ensures in (
       record {
         past = kept.past;
-        stands = stands_seen _ _ c.args.node.now kept.past kept.stands;
+        represents = represents_seen _ _ c.args.node.now kept.past kept.represents;
       },
       kept.complete_at_rest c.in_default.ensures.none,
     )

@@ -1,6 +1,6 @@
 use Rattle.std.proofs.Common.{◌∙◌, Some, ap, refl, sym}
 use Rattle.std.specs.Prelude.{option_and_then}
-use Rattle.batcher_node.proofs.Telling.{if_some}
+use Rattle.batcher_node.proofs.Calling.{if_some}
 use Rattle.batcher_session.specs.Steps.{asked_by}
 use Rattle.batcher_node_session.proofs.Next.{asks_next, no_round}
 use Rattle.batcher_node_session.proofs.constructing.wanted.Goals as goal

@@ -5,7 +5,7 @@ use Rattle.batcher_run.proofs.run.answer_certificate.Goals as goal
 pub returns-in-Ok : goal.returns-in-Ok
 returns-in-Ok g c = record {
   steps = λ stream. (c.in-Ok.ensures.step, refl);
-  meets = λ past stands. named _ (c.in-Ok.ensures.meets past stands);
+  meets = λ past represents. named _ (c.in-Ok.ensures.meets past represents);
   same = c.record_certificate.ensures.same;
 }
 
@@ -14,6 +14,6 @@ returns-in-Err g c =
     let stays = ap (λ r. r.holds) c.in-Err.ensures.refused in
     record {
       steps = λ stream. (stays, refl);
-      meets = λ past stands. (stays, c.in-Err.ensures.needed past stands);
+      meets = λ past represents. (stays, c.in-Err.ensures.needed past represents);
       same = c.record_certificate.ensures.same;
     }

@@ -5,11 +5,11 @@ use Rattle.batcher_run.proofs.run.answer_missing.Goals as goal
 pub returns-in-Ok : goal.returns-in-Ok
 returns-in-Ok g c = record {
   steps = λ stream. (c.in-Ok.ensures.held, (refl, refl));
-  meets = λ past stands. named _ (c.in-Ok.ensures.meets past stands);
+  meets = λ past represents. named _ (c.in-Ok.ensures.meets past represents);
 }
 
 pub returns-in-Err : goal.returns-in-Err
 returns-in-Err g c = record {
   steps = λ stream. (refl, refl);
-  meets = λ past stands. (refl, refl);
+  meets = λ past represents. (refl, refl);
 }

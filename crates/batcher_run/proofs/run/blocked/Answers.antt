@@ -6,7 +6,7 @@ use Rattle.std.proofs.lemmas.List.Filters.{dedup_is, All-dedup}
 use Rattle.std.proofs.lemmas.List.Kept.{IsStrictlySortedBy-dedup}
 use Rattle.std.proofs.lemmas.List.Sorted.{list_any-IsPermutation, All-permutation}
 use Rattle.batcher_histories.specs.History.{history}
-use Rattle.batcher_promises.specs.Blocked.{GaveCause}
+use Rattle.batcher_promises.specs.Blocks.{GaveCause}
 use Rattle.batcher_run.proofs.run.blocked.Goals as goal
 
 twice_or : (a b : Bool) → (a || b) ≡ (a || (a || b))

@@ -1,9 +1,9 @@
 use Rattle.std.proofs.Common.{subst, ◌≡◌, ◌∙◌, ◌++◌, ◌∷◌, ◌+◌, [], refl, sym, ap, take, arith, length-append}
 use Rattle.std.proofs.lemmas.Grind.{common_steps}
 use Rattle.std.proofs.lemmas.List.{take_more}
-use Rattle.batcher_histories.specs.Setting.{setting}
+use Rattle.batcher_histories.specs.Config.{config}
 use Rattle.batcher_histories.specs.History.{history}
-use Rattle.batcher_histories.proofs.History.Laws.{HasLaws}
+use Rattle.batcher_histories.proofs.History.Laws.{laws_by}
 use Rattle.batcher_promises.proofs.Runs.Going.{Goes, goes_first, goes_more, goes_to}
 use Rattle.batcher_run.proofs.run.run.Goals as goal
 
@@ -14,7 +14,7 @@ step-requires g c =
 pub loop-call-init : goal.loop-call-init
 loop-call-init g c =
     let round = c.args.round in
-    let x = setting (g.S.Scheme.meaning round.scheme) g.S.PublicKey.Ord.cmp g.S.Signature.PartialEq.eq g.D.PartialEq.eq round.number round.mode in
+    let x = config (g.S.Scheme.meaning round.scheme) g.S.PublicKey.Ord.cmp g.S.Signature.PartialEq.eq g.D.PartialEq.eq round.number round.mode in
     let stream = g.R.Rng.stream c.args.rng.now in
     record {
       goes = rw c.in-Ok.ensures.items (subst (λ held. Goes x stream [] [] held stream) (sym c.requires.fresh) (goes_first x stream));
@@ -28,14 +28,14 @@ loop-call-init g c =
 pub loop-call-preserved : goal.loop-call-preserved
 loop-call-preserved g c =
     let round = c.args.round in
-    let x = setting (g.S.Scheme.meaning round.scheme) g.S.PublicKey.Ord.cmp g.S.Signature.PartialEq.eq g.D.PartialEq.eq round.number round.mode in
+    let x = config (g.S.Scheme.meaning round.scheme) g.S.PublicKey.Ord.cmp g.S.Signature.PartialEq.eq g.D.PartialEq.eq round.number round.mode in
     let calls = take c.loop-call.call-index c.args.calls.now in
     let answers = c.loop-call.answers.items in
     let more : take (c.loop-call.call-index + 1) c.args.calls.now ≡ calls ++ c.call-item.result ∷ []
     = take_more c.args.calls.now c.loop-call.call-index c.call-item.result (omega arith) ∙ ap (λ y. calls ++ y ∷ []) (sym c.call-item.is) in
     let stepped = rw (c.loop-call.invariant.scheme, c.loop-call.invariant.number, c.loop-call.invariant.mode) at c.step.ensures.steps in
     let met = (rw (c.loop-call.invariant.scheme, c.loop-call.invariant.number, c.loop-call.invariant.mode) at c.step.ensures.meets) (history calls answers)
-    c.loop-call.invariant.goes.stands in
+    c.loop-call.invariant.goes.represents in
     record {
       goes =
           rw (more, c.push_reserved.ensures.items)
@@ -52,13 +52,8 @@ loop-call-preserved g c =
 pub returns-after-loop-call-clause-ran : goal.returns-after-loop-call-clause-ran
 returns-after-loop-call-clause-ran g c =
     let round = c.args.round in
-    let x = setting (g.S.Scheme.meaning round.scheme) g.S.PublicKey.Ord.cmp g.S.Signature.PartialEq.eq g.D.PartialEq.eq round.number round.mode in
-    let laws : HasLaws x = record {
-      scheme = g.met.S.Scheme.lawful round.scheme;
-      some_participant = c.number.ensures.participants;
-      digests_equal = g.met.D.Digest.identical;
-      digests_same = g.met.D.Eq.laws.refl;
-    } in
+    let x = config (g.S.Scheme.meaning round.scheme) g.S.PublicKey.Ord.cmp g.S.Signature.PartialEq.eq g.D.PartialEq.eq round.number round.mode in
+    let laws = laws_by x (g.met.S.Scheme.lawful round.scheme) c.number.ensures.participants g.met.D.Digest.identical g.met.D.Eq.laws.refl in
     let all : take c.loop-call.call-index c.args.calls.now ≡ c.args.calls.now = grind (arith, common_steps) in
     goes_to x laws (g.R.Rng.stream c.args.rng.now) c.args.calls.now c.loop-call.answers.items c.loop-call.round.holds (g.R.Rng.stream c.loop-call.rng)
     (rw all at c.loop-call.invariant.goes)

@@ -1,11 +1,11 @@
 use Rattle.std.proofs.Common.{◌≡◌, ◌≤◌, length, take, vec_capacity}
-use Rattle.batcher_histories.specs.Setting.{setting}
+use Rattle.batcher_histories.specs.Config.{config}
 use Rattle.batcher_promises.proofs.Runs.Going.{Goes}
 use Rattle.batcher_run.proofs.run.run.Given as goal
 
 abbrev pub invariant-loop-call : goal.invariant-loop-call
 invariant-loop-call g l = record {
-  goes : Goes (setting (g.S.Scheme.meaning l.initial.round.scheme) g.S.PublicKey.Ord.cmp
+  goes : Goes (config (g.S.Scheme.meaning l.initial.round.scheme) g.S.PublicKey.Ord.cmp
       g.S.Signature.PartialEq.eq g.D.PartialEq.eq l.initial.round.number l.initial.round.mode)
       (g.R.Rng.stream l.initial.rng) (take l.call-index l.calls) l.answers.items l.round.holds
       (g.R.Rng.stream l.rng);

@@ -25,7 +25,7 @@ returns-in-Certificate g c = record {
 
 pub returns-in-Leader-clause-meets : goal.returns-in-Leader-clause-meets
 returns-in-Leader-clause-meets g c =
-    rw c.in-Leader.is (λ past stands. (c.set_leader.ensures.meets past stands, c.set_leader.ensures.named past stands))
+    rw c.in-Leader.is (λ past represents. (c.set_leader.ensures.meets past represents, c.set_leader.ensures.named past represents))
 
 pub returns-in-Construct : goal.returns-in-Construct
 returns-in-Construct g c = record {
@@ -37,7 +37,7 @@ returns-in-Construct g c = record {
 pub returns-in-Forward : goal.returns-in-Forward
 returns-in-Forward g c = record {
   steps = rw c.in-Forward.is (c.try_forward_proposal.ensures.answer, (c.try_forward_proposal.ensures.holds, refl));
-  meets = rw c.in-Forward.is (λ past stands. named _ (c.try_forward_proposal.ensures.meets past stands));
+  meets = rw c.in-Forward.is (λ past represents. named _ (c.try_forward_proposal.ensures.meets past represents));
   same = c.try_forward_proposal.ensures.same;
 }
 

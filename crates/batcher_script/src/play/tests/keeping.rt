@@ -115,7 +115,7 @@ fn skipped_compares_with_the_selected(rt: HostRuntime) -> Result<(), Fail> {
     Ok(plays(&rt, rt.alloc(), &SKIPPED)?)
 }
 
-/// Bad votes are told in the order in which they were restored.
+/// Bad votes are named in the order in which they were restored.
 const ORDERED: [(&str, &str); 13] = [
     (
         "round 0 1 4 releasing keyed",

@@ -1,7 +1,7 @@
 //! A call that is refused for memory changes nothing: the others are answered as in a run that
 //! never had it.
 //!
-//! As they stand these tests refuse nothing. `tools/refuse` runs them with their first request
+//! As they are these tests refuse nothing. `tools/refuse` runs them with their first request
 //! for memory refused, then their second, and so on.
 
 use super::pairs::told;

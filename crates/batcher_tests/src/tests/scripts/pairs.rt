@@ -1,4 +1,4 @@
-//! Two rounds that take the calls of one script: what a releasing round can't tell of votes that it
+//! Two rounds that take the calls of one script: what a releasing round can't know of votes that it
 //! keeps as facts alone, and where both stop.
 
 ghost use Rattle.std.specs.Prelude.{◌≡◌, true};
@@ -9,8 +9,8 @@ use super::printed;
 use batcher::messages::Sha256Digest;
 use batcher::round::Round;
 use batcher::run::{Answer, PairRan, run_pair};
-use batcher::scheme::{Counter, Keyed};
-use batcher_reader::calls::{TestScheme, calls_of, names};
+use batcher::scheme::{Counter, Keyed, names};
+use batcher_reader::calls::{TestScheme, calls_of};
 use batcher_reader::script::{Command, Opening, Script};
 use std::alloc::{AllocError, Global};
 use std::process::Abort;

@@ -1,6 +1,6 @@
 use Rattle.std.proofs.Common.{◌≡◌, ◌++◌, take, drop, map}
 use Rattle.std.specs.Option.{option_copied}
-use Rattle.batcher_votes.specs.Held.{of_kind}
+use Rattle.batcher_votes.specs.RoundState.{of_kind}
 use Rattle.batcher_votes.specs.Entries.{entry_released, votes_in}
 use Rattle.batcher_votes.proofs.votes.release_each.Given as goal
 

@@ -2,10 +2,10 @@ use Rattle.std.proofs.Common.{◌≡◌, ◌∙◌, ◌++◌, ◌∷◌, ◌+◌
 use Rattle.std.proofs.lemmas.Grind.{common_steps}
 use Rattle.std.proofs.lemmas.List.{take_more, length-take-le}
 use Rattle.batcher_votes.specs.declared.votes.Mode.TheVariants.{Retaining, Releasing}
-use Rattle.batcher_histories.specs.Setting.{setting}
+use Rattle.batcher_histories.specs.Config.{config}
 use Rattle.batcher_histories.specs.History.{history}
 use Rattle.batcher_promises.specs.Pairs.{in_mode}
-use Rattle.batcher_histories.proofs.History.Laws.{HasLaws}
+use Rattle.batcher_histories.proofs.History.Laws.{laws_by}
 use Rattle.batcher_promises.proofs.Pairs.Runs.{Takes, pair_first, pair_more, pair_ends, pair_stops, pair_stops_later}
 use Rattle.batcher.proofs.run.pair.step_both.Goals as goal
 
@@ -21,7 +21,7 @@ step-answer-requires-in-loop-call g c =
 pub loop-call-init : goal.loop-call-init
 loop-call-init g c =
     let start = c.args.retaining.now in
-    let x = setting (g.S.Scheme.meaning start.scheme) g.S.PublicKey.Ord.cmp g.S.Signature.PartialEq.eq g.D.PartialEq.eq start.number Retaining in
+    let x = config (g.S.Scheme.meaning start.scheme) g.S.PublicKey.Ord.cmp g.S.Signature.PartialEq.eq g.D.PartialEq.eq start.number Retaining in
     let stream = g.R.Rng.stream c.args.rng_a.now in
     record {
       goes =
@@ -39,16 +39,16 @@ loop-call-init g c =
 pub loop-call-preserved : goal.loop-call-preserved
 loop-call-preserved g c =
     let start = c.args.retaining.now in
-    let x = setting (g.S.Scheme.meaning start.scheme) g.S.PublicKey.Ord.cmp g.S.Signature.PartialEq.eq g.D.PartialEq.eq start.number Retaining in
+    let x = config (g.S.Scheme.meaning start.scheme) g.S.PublicKey.Ord.cmp g.S.Signature.PartialEq.eq g.D.PartialEq.eq start.number Retaining in
     let i = c.loop-call.invariant in
     let calls = take c.loop-call.call-index c.args.calls.now in
     let retained = c.loop-call.retained.items in
     let released = c.loop-call.released.items in
     let more : take (c.loop-call.call-index + 1) c.args.calls.now ≡ calls ++ c.call-item.result ∷ []
     = take_more c.args.calls.now c.loop-call.call-index c.call-item.result (omega arith) ∙ ap (λ y. calls ++ y ∷ []) (sym c.call-item.is) in
-    let met = (rw (i.scheme, i.number, i.mode) at c.step-answer.ensures.meets) (history calls retained) i.goes.retains.stands in
+    let met = (rw (i.scheme, i.number, i.mode) at c.step-answer.ensures.meets) (history calls retained) i.goes.retains.represents in
     let met_released = (rw (i.scheme_released, i.number_released, i.mode_released) at c.step-answer-in-loop-call.ensures.meets) (history calls released)
-    i.goes.releases.stands in
+    i.goes.releases.represents in
     let takes : Takes (in_mode x Retaining) (history calls retained) c.loop-call.retaining.holds (g.R.Rng.stream c.loop-call.rng_a) c.call-item.result
     c.step-answer.result c.step-answer.new.round.holds (g.R.Rng.stream c.step-answer.new.rng)
     = record { steps = rw (i.scheme, i.number, i.mode) at c.step-answer.ensures.steps; meets = met.0; answered = met.1 } in
@@ -83,13 +83,8 @@ loop-call-preserved g c =
 pub returns-then-is_refused-clause-ran : goal.returns-then-is_refused-clause-ran
 returns-then-is_refused-clause-ran g c =
     let start = c.args.retaining.now in
-    let x = setting (g.S.Scheme.meaning start.scheme) g.S.PublicKey.Ord.cmp g.S.Signature.PartialEq.eq g.D.PartialEq.eq start.number Retaining in
-    let laws : HasLaws x = record {
-      scheme = g.met.S.Scheme.lawful start.scheme;
-      some_participant = c.number.ensures.participants;
-      digests_equal = g.met.D.Digest.identical;
-      digests_same = g.met.D.Eq.laws.refl;
-    } in
+    let x = config (g.S.Scheme.meaning start.scheme) g.S.PublicKey.Ord.cmp g.S.Signature.PartialEq.eq g.D.PartialEq.eq start.number Retaining in
+    let laws = laws_by x (g.met.S.Scheme.lawful start.scheme) c.number.ensures.participants g.met.D.Digest.identical g.met.D.Eq.laws.refl in
     let i = c.loop-call.invariant in
     let calls = take c.loop-call.call-index c.args.calls.now in
     let retained = c.loop-call.retained.items in
@@ -97,12 +92,12 @@ returns-then-is_refused-clause-ran g c =
     let more : take (c.loop-call.call-index + 1) c.args.calls.now ≡ calls ++ c.call-item.result ∷ []
     = take_more c.args.calls.now c.loop-call.call-index c.call-item.result (omega arith) ∙ ap (λ y. calls ++ y ∷ []) (sym c.call-item.is) in
     let told : length calls ≡ c.loop-call.call-index = length-take-le c.loop-call.call-index c.args.calls.now (omega arith) in
-    let place : c.len-place.result ≡ c.loop-call.call-index = omega (arith, c.len-place.ensures, c.loop-call.released.ok.0, i.goes.released_on.0, told) in
-    let met = (rw (i.scheme, i.number, i.mode) at c.step-answer.ensures.meets) (history calls retained) i.goes.retains.stands in
+    let index : c.len-index.result ≡ c.loop-call.call-index = omega (arith, c.len-index.ensures, c.loop-call.released.ok.0, i.goes.released_on.0, told) in
+    let met = (rw (i.scheme, i.number, i.mode) at c.step-answer.ensures.meets) (history calls retained) i.goes.retains.represents in
     let takes : Takes (in_mode x Retaining) (history calls retained) c.loop-call.retaining.holds (g.R.Rng.stream c.loop-call.rng_a) c.call-item.result
     c.step-answer.result c.step-answer.new.round.holds (g.R.Rng.stream c.step-answer.new.rng)
     = record { steps = rw (i.scheme, i.number, i.mode) at c.step-answer.ensures.steps; meets = met.0; answered = met.1 } in
-    rw (place, c.push_reserved.ensures.items)
+    rw (index, c.push_reserved.ensures.items)
     (pair_stops x laws (g.R.Rng.stream c.args.rng_a.now) c.args.calls.now calls retained released c.loop-call.retaining.holds c.loop-call.releasing.holds
     (g.R.Rng.stream c.loop-call.rng_a) (g.R.Rng.stream c.loop-call.rng_b) i.goes c.loop-call.call-index c.call-item.result (omega arith) refl more told
     c.step-answer.result c.step-answer.new.round.holds (g.R.Rng.stream c.step-answer.new.rng) takes
@@ -111,13 +106,8 @@ returns-then-is_refused-clause-ran g c =
 pub returns-then-is_refused-2-clause-ran : goal.returns-then-is_refused-2-clause-ran
 returns-then-is_refused-2-clause-ran g c =
     let start = c.args.retaining.now in
-    let x = setting (g.S.Scheme.meaning start.scheme) g.S.PublicKey.Ord.cmp g.S.Signature.PartialEq.eq g.D.PartialEq.eq start.number Retaining in
-    let laws : HasLaws x = record {
-      scheme = g.met.S.Scheme.lawful start.scheme;
-      some_participant = c.number.ensures.participants;
-      digests_equal = g.met.D.Digest.identical;
-      digests_same = g.met.D.Eq.laws.refl;
-    } in
+    let x = config (g.S.Scheme.meaning start.scheme) g.S.PublicKey.Ord.cmp g.S.Signature.PartialEq.eq g.D.PartialEq.eq start.number Retaining in
+    let laws = laws_by x (g.met.S.Scheme.lawful start.scheme) c.number.ensures.participants g.met.D.Digest.identical g.met.D.Eq.laws.refl in
     let i = c.loop-call.invariant in
     let calls = take c.loop-call.call-index c.args.calls.now in
     let retained = c.loop-call.retained.items in
@@ -125,13 +115,13 @@ returns-then-is_refused-2-clause-ran g c =
     let more : take (c.loop-call.call-index + 1) c.args.calls.now ≡ calls ++ c.call-item.result ∷ []
     = take_more c.args.calls.now c.loop-call.call-index c.call-item.result (omega arith) ∙ ap (λ y. calls ++ y ∷ []) (sym c.call-item.is) in
     let told : length calls ≡ c.loop-call.call-index = length-take-le c.loop-call.call-index c.args.calls.now (omega arith) in
-    let place : c.len-place.result ≡ c.loop-call.call-index = omega (arith, c.len-place.ensures, c.loop-call.released.ok.0, i.goes.released_on.0, told) in
-    let met = (rw (i.scheme, i.number, i.mode) at c.step-answer.ensures.meets) (history calls retained) i.goes.retains.stands in
+    let index : c.len-index.result ≡ c.loop-call.call-index = omega (arith, c.len-index.ensures, c.loop-call.released.ok.0, i.goes.released_on.0, told) in
+    let met = (rw (i.scheme, i.number, i.mode) at c.step-answer.ensures.meets) (history calls retained) i.goes.retains.represents in
     let takes : Takes (in_mode x Retaining) (history calls retained) c.loop-call.retaining.holds (g.R.Rng.stream c.loop-call.rng_a) c.call-item.result
     c.step-answer.result c.step-answer.new.round.holds (g.R.Rng.stream c.step-answer.new.rng)
     = record { steps = rw (i.scheme, i.number, i.mode) at c.step-answer.ensures.steps; meets = met.0; answered = met.1 } in
     let met_released = (rw (i.scheme_released, i.number_released, i.mode_released) at c.step-answer-in-loop-call.ensures.meets) (history calls released)
-    i.goes.releases.stands in
+    i.goes.releases.represents in
     let taken : Takes (in_mode x Releasing) (history calls released) c.loop-call.releasing.holds (g.R.Rng.stream c.loop-call.rng_b) c.call-item.result
     c.step-answer-in-loop-call.result c.step-answer-in-loop-call.new.round.holds (g.R.Rng.stream c.step-answer-in-loop-call.new.rng)
     =
@@ -141,7 +131,7 @@ returns-then-is_refused-2-clause-ran g c =
       meets = met_released.0;
       answered = met_released.1;
     } in
-    rw (place, c.push_reserved.ensures.items, c.push_reserved-in-loop-call.ensures.items)
+    rw (index, c.push_reserved.ensures.items, c.push_reserved-in-loop-call.ensures.items)
     (pair_stops_later x laws (g.R.Rng.stream c.args.rng_a.now) c.args.calls.now calls retained released c.loop-call.retaining.holds c.loop-call.releasing.holds
     (g.R.Rng.stream c.loop-call.rng_a) (g.R.Rng.stream c.loop-call.rng_b) i.goes c.loop-call.call-index c.call-item.result (omega arith) refl more told
     c.step-answer.result c.step-answer-in-loop-call.result c.step-answer.new.round.holds c.step-answer-in-loop-call.new.round.holds
@@ -151,13 +141,8 @@ returns-then-is_refused-2-clause-ran g c =
 pub returns-clause-ran : goal.returns-clause-ran
 returns-clause-ran g c =
     let start = c.args.retaining.now in
-    let x = setting (g.S.Scheme.meaning start.scheme) g.S.PublicKey.Ord.cmp g.S.Signature.PartialEq.eq g.D.PartialEq.eq start.number Retaining in
-    let laws : HasLaws x = record {
-      scheme = g.met.S.Scheme.lawful start.scheme;
-      some_participant = c.number.ensures.participants;
-      digests_equal = g.met.D.Digest.identical;
-      digests_same = g.met.D.Eq.laws.refl;
-    } in
+    let x = config (g.S.Scheme.meaning start.scheme) g.S.PublicKey.Ord.cmp g.S.Signature.PartialEq.eq g.D.PartialEq.eq start.number Retaining in
+    let laws = laws_by x (g.met.S.Scheme.lawful start.scheme) c.number.ensures.participants g.met.D.Digest.identical g.met.D.Eq.laws.refl in
     let i = c.loop-call.invariant in
     let calls = take c.loop-call.call-index c.args.calls.now in
     let retained = c.loop-call.retained.items in

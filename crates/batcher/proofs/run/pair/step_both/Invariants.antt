@@ -1,12 +1,12 @@
 use Rattle.std.proofs.Common.{◌≡◌, ◌≤◌, length, take, vec_capacity}
 use Rattle.batcher_votes.specs.declared.votes.Mode.TheVariants.{Retaining, Releasing}
-use Rattle.batcher_histories.specs.Setting.{setting}
+use Rattle.batcher_histories.specs.Config.{config}
 use Rattle.batcher_promises.proofs.Pairs.Runs.{PairGoes}
 use Rattle.batcher.proofs.run.pair.step_both.Given as goal
 
 abbrev pub invariant-loop-call : goal.invariant-loop-call
 invariant-loop-call g l = record {
-  goes : PairGoes (setting (g.S.Scheme.meaning l.initial.retaining.scheme) g.S.PublicKey.Ord.cmp
+  goes : PairGoes (config (g.S.Scheme.meaning l.initial.retaining.scheme) g.S.PublicKey.Ord.cmp
       g.S.Signature.PartialEq.eq g.D.PartialEq.eq l.initial.retaining.number Retaining)
       (g.R.Rng.stream l.initial.rng_a) (take l.call-index l.calls) l.retained.items l.released.items
       l.retaining.holds l.releasing.holds (g.R.Rng.stream l.rng_a) (g.R.Rng.stream l.rng_b);

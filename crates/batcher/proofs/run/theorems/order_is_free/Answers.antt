@@ -1,11 +1,11 @@
-use Rattle.batcher_histories.specs.Setting.{setting}
+use Rattle.batcher_histories.specs.Config.{config}
 use Rattle.batcher_histories.proofs.History.Laws.{HasLaws}
 use Rattle.batcher_promises.proofs.Order.Free.{order_is_free}
 use Rattle.batcher.proofs.run.theorems.order_is_free.Goals as goal
 
 pub returns : goal.returns
 returns g c = λ scheme number mode some.
-    let x = setting (g.S.Scheme.meaning scheme) g.S.PublicKey.Ord.cmp g.S.Signature.PartialEq.eq g.D.PartialEq.eq number mode in
+    let x = config (g.S.Scheme.meaning scheme) g.S.PublicKey.Ord.cmp g.S.Signature.PartialEq.eq g.D.PartialEq.eq number mode in
     let laws : HasLaws x =
     record {
       scheme = g.met.S.Scheme.lawful scheme;

@@ -1,11 +1,11 @@
-use Rattle.batcher_histories.specs.Setting.{setting}
+use Rattle.batcher_histories.specs.Config.{config}
 use Rattle.batcher_histories.proofs.History.Laws.{HasLaws}
 use Rattle.batcher_promises.proofs.Runs.Going.{is_promised}
 use Rattle.batcher.proofs.run.theorems.possible_histories_are_promised.Goals as goal
 
 pub returns : goal.returns
 returns g c = λ scheme number mode some.
-    let x = setting (g.S.Scheme.meaning scheme) g.S.PublicKey.Ord.cmp g.S.Signature.PartialEq.eq
+    let x = config (g.S.Scheme.meaning scheme) g.S.PublicKey.Ord.cmp g.S.Signature.PartialEq.eq
     g.D.PartialEq.eq number mode in
     let laws : HasLaws x =
     record {

@@ -1,9 +1,9 @@
-use Rattle.batcher_histories.specs.Setting.{setting}
+use Rattle.batcher_histories.specs.Config.{config}
 use Rattle.batcher_promises.proofs.Blocks.Sent.{senders_of_added}
 use Rattle.batcher.proofs.run.theorems.senders_of_added_give_no_cause.Goals as goal
 
 pub returns : goal.returns
 returns g c = λ scheme number mode.
     senders_of_added
-    (setting (g.S.Scheme.meaning scheme) g.S.PublicKey.Ord.cmp g.S.Signature.PartialEq.eq g.D.PartialEq.eq number mode)
+    (config (g.S.Scheme.meaning scheme) g.S.PublicKey.Ord.cmp g.S.Signature.PartialEq.eq g.D.PartialEq.eq number mode)
     g.met.D.Eq.laws.refl g.met.S.Signature.Eq.laws.refl

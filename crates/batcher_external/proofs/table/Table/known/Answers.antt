@@ -1,5 +1,5 @@
 use Rattle.std.proofs.Common.{rules, ◌≡◌, ◌∙◌, ◌++◌, Some, None, sym}
-use Rattle.batcher_external.specs.Known.{known_in, numbered}
+use Rattle.batcher_external.specs.KnownAttestations.{known_in, numbered}
 use Rattle.batcher_external.proofs.Tables.{run_known, others_known, known_agrees}
 use Rattle.batcher_external.proofs.table.Table.known.Goals as goal
 

@@ -1,11 +1,12 @@
 use Rattle.std.proofs.Common.{rules, ◌≡◌, ◌∙◌, Some, sym, refl}
-use Rattle.batcher_external.specs.Known.{known_in}
-use Rattle.batcher_external.proofs.Tables.{pushed_known, pushed_others, seen_known, unseen_known, same_others, on_ok}
+use Rattle.std.proofs.lemmas.Result.{on_ok_weaker}
+use Rattle.batcher_external.specs.KnownAttestations.{known_in}
+use Rattle.batcher_external.proofs.Tables.{pushed_known, pushed_others, seen_known, unseen_known, same_others}
 use Rattle.batcher_external.proofs.table.Table.record.Goals as goal
 
 pub returns-then-is_below-clause-recorded : goal.returns-then-is_below-clause-recorded
 returns-then-is_below-clause-recorded g c =
-    on_ok c.push.result
+    on_ok_weaker c.push.result
     (λ longer. pushed_known c.args.self.now.run.verdicts.items c.push.new.self.verdicts.items
     c.new.result c.args.self.now.others.entries longer c.args.number c.args.attests c.new.ensures.0
     c.new.ensures.1 (c.if-is_below.ensures refl))
@@ -13,7 +14,7 @@ returns-then-is_below-clause-recorded g c =
 
 pub returns-then-is_below-clause-others : goal.returns-then-is_below-clause-others
 returns-then-is_below-clause-others g c =
-    on_ok c.push.result
+    on_ok_weaker c.push.result
     (λ longer. λ other differs. pushed_others c.args.self.now.run.verdicts.items
     c.push.new.self.verdicts.items c.new.result c.args.self.now.others.entries longer c.args.number
     other c.new.ensures.0 differs)

@@ -1,9 +1,9 @@
 use Rattle.std.proofs.Common.{◌∙◌, sym, refl}
-use Rattle.batcher_external.specs.Known.{is_unknown_in}
+use Rattle.batcher_external.specs.KnownAttestations.{is_unknown_in}
 use Rattle.batcher_external.specs.Tables.{entries_of}
 use Rattle.batcher_external.proofs.Filtered.{takes_it, leaves_it}
 use Rattle.batcher_external.proofs.verdicts.Verdicts.unknown_among.Goals as goal
-use Rattle.batcher_external.proofs.verdicts.Verdicts.unknown_among.Goals.{then-is_unknown+in_ok-push, else-is_unknown}
+use Rattle.batcher_external.proofs.verdicts.Verdicts.unknown_among.Goals.{then-is_unknown+in_ok-add, else-is_unknown}
 
 pub loop-attestation-preserved : goal.loop-attestation-preserved
 loop-attestation-preserved g c =
@@ -13,10 +13,10 @@ loop-attestation-preserved g c =
     let so_far = c.loop-attestation.invariant.found in
     record {
       found = elim c.if-is_unknown.branch [
-        | then-is_unknown+in_ok-push w ↦
+        | then-is_unknown+in_ok-add w ↦
             takes_it test _ _ _ before _ below so_far
             (sym c.is_unknown.ensures ∙ w.if-is_unknown.true)
-            (rw w.unknown-is w.in_ok-push.ensures.items)
+            (rw w.unknown-is w.in_ok-add.ensures.added)
         | else-is_unknown w ↦
             leaves_it test _ _ _ before _ below so_far
             (sym c.is_unknown.ensures ∙ w.if-is_unknown.false) (rw w.unknown-is refl)

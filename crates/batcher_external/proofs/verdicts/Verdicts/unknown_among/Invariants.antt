@@ -1,5 +1,5 @@
 use Rattle.std.proofs.Common.{◌≡◌, filter, take}
-use Rattle.batcher_external.specs.Known.{is_unknown_in}
+use Rattle.batcher_external.specs.KnownAttestations.{is_unknown_in}
 use Rattle.batcher_external.specs.Tables.{entries_of}
 use Rattle.batcher_external.proofs.verdicts.Verdicts.unknown_among.Given as goal
 

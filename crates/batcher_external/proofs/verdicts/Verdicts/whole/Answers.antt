@@ -1,6 +1,6 @@
 use Rattle.std.proofs.Common.{rules, ◌≡◌, ◌∙◌, ◌++◌, Some, true, false, sym}
 use Rattle.std.specs.Cmp.Lexicographic.{pointwise}
-use Rattle.batcher_external.specs.Known.{same_attestation}
+use Rattle.batcher_external.specs.KnownAttestations.{same_attestation}
 use Rattle.batcher_external.proofs.Wholes.{decided}
 use Rattle.batcher_external.proofs.verdicts.Verdicts.whole.Goals as goal
 

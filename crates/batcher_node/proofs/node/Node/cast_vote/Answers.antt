@@ -1,9 +1,9 @@
 use Rattle.std.proofs.Common.{◌∷◌, ◌∙◌, sym, refl, rules, ap, subst}
 use Rattle.batcher.specs.answers.OwnFault.TheVariants.{OutOfMemory as OutOfMemoryFault}
-use Rattle.batcher.specs.Judged.{judge}
-use Rattle.batcher_node.specs.Stands.{IsNode}
+use Rattle.batcher.specs.RoundContracts.{round_config}
+use Rattle.batcher_node.specs.Represents.{IsNode}
 use Rattle.batcher_node.specs.Events.{vote_cast}
-use Rattle.batcher_node.proofs.Telling.{err_known, err_fact, if_ok, own_refused, none_named}
+use Rattle.batcher_node.proofs.Calling.{err_known, err_fact, if_ok, own_refused, none_named}
 use Rattle.batcher_node.proofs.Answering.{not_far, own_told, own_named, cast_told}
 use Rattle.batcher_node.proofs.Tending.{still_tended}
 use Rattle.batcher_node.proofs.node.Node.cast_vote.Goals as goal
@@ -18,8 +18,8 @@ returns-clause-meets g c =
     c.in_ok-answer.answer.0 c.in_ok-answer.answer.1 _
     c.self.invariant.tended
     (rw (← number) (sym c.contains.ensures ∙ c.if-not-contains.false))
-    (rw (← number) (if_ok _ _ _ c.in_ok-answer.was c.in_ok-tell.ensures.tells))
-    (ap (λ r. r.window) c.tell.ensures.same) refl))
+    (rw (← number) (if_ok _ _ _ c.in_ok-answer.was c.in_ok-call.ensures.makes_call))
+    (ap (λ r. r.window) c.call.ensures.same) refl))
 
 pub returns-in_err-answer-clause-named : goal.returns-in_err-answer-clause-named
 returns-in_err-answer-clause-named g c =
@@ -28,22 +28,22 @@ returns-in_err-answer-clause-named g c =
     (err_known _ _ (λ past. own_named g.S.Scheme.meaning g.S.PublicKey.Ord.cmp
     g.S.Signature.PartialEq.eq g.D.PartialEq.eq past _ c.args.self.now c.args.vote _ _ c.self.invariant.tended
     (rw (← number) (sym c.contains.ensures ∙ c.if-not-contains.false))
-    (rw (← number) (own_refused (judge g.S.Scheme.meaning g.S.PublicKey.Ord.cmp
+    (rw (← number) (own_refused (round_config g.S.Scheme.meaning g.S.PublicKey.Ord.cmp
     g.S.Signature.PartialEq.eq g.D.PartialEq.eq) c.args.vote _ _ _
-    (err_fact _ _ c.in_ok-tell.ensures.named _ c.in_err-answer.was))))
+    (err_fact _ _ c.in_ok-call.ensures.named _ c.in_err-answer.was))))
     _ c.from_residual-in_err-answer.ensures.1)
 
-pub returns-in_err-tell-clause-named : goal.returns-in_err-tell-clause-named
-returns-in_err-tell-clause-named g c =
+pub returns-in_err-call-clause-named : goal.returns-in_err-call-clause-named
+returns-in_err-call-clause-named g c =
     let number = c.round-number.ensures in
     rw (← c.self.view_is)
     (err_known _ OutOfMemoryFault (λ past. own_named g.S.Scheme.meaning g.S.PublicKey.Ord.cmp
     g.S.Signature.PartialEq.eq g.D.PartialEq.eq past _ c.args.self.now c.args.vote _ _
     c.self.invariant.tended
     (rw (← number) (sym c.contains.ensures ∙ c.if-not-contains.false))
-    (rw (← number) (none_named (judge g.S.Scheme.meaning g.S.PublicKey.Ord.cmp
+    (rw (← number) (none_named (round_config g.S.Scheme.meaning g.S.PublicKey.Ord.cmp
     g.S.Signature.PartialEq.eq g.D.PartialEq.eq) c.args.vote _ OutOfMemoryFault
-    c.in_err-tell.ensures.needed refl))) _ c.from_residual.ensures.1)
+    c.in_err-call.ensures.needed refl))) _ c.from_residual.ensures.1)
 
 pub invariant_of-self-2 : goal.invariant_of-self-2
 invariant_of-self-2 g c =
@@ -57,21 +57,21 @@ invariant_of-self-2 g c =
       window = r.window;
       rounds = r.slots.entries;
       blocked = c.self.inside.blocked.items;
-    })) (sym c.tell.ensures.same)
+    })) (sym c.call.ensures.same)
     (record {
       tended =
           still_tended _ _ _ _ _ _ _ c.self.invariant.tended _ _ _ _
           (not_far c.self.inside.rounds.epoch c.self.inside.rounds.window c.round-number.result
-          (sym c.contains.ensures ∙ c.if-not-contains.false)) (if_ok _ _ _ c.in_ok-answer.was c.in_ok-tell.ensures.tells);
+          (sym c.contains.ensures ∙ c.if-not-contains.false)) (if_ok _ _ _ c.in_ok-answer.was c.in_ok-call.ensures.makes_call);
       each = search rules;
       history =
           record {
             past = vote_cast c.args.vote c.in_ok-answer.answer.0 c.in_ok-answer.answer.1 ∷ h.past;
-            stands =
+            represents =
                 own_told g.S.Scheme.meaning g.S.PublicKey.Ord.cmp g.S.Signature.PartialEq.eq
                 g.D.PartialEq.eq h.past _ _ c.args.vote
                 c.in_ok-answer.answer.0 c.in_ok-answer.answer.1 _ c.self.invariant.tended
                 (rw (← number) (sym c.contains.ensures ∙ c.if-not-contains.false))
-                (rw (← number) (if_ok _ _ _ c.in_ok-answer.was c.in_ok-tell.ensures.tells)) refl refl h.stands;
+                (rw (← number) (if_ok _ _ _ c.in_ok-answer.was c.in_ok-call.ensures.makes_call)) refl refl h.represents;
           };
     })

@@ -1,9 +1,9 @@
 use Rattle.std.proofs.Common.{◌∷◌, refl, arith, rules, sym, ap, subst, ◌∙◌}
-use Rattle.batcher.specs.Judged.{judge}
-use Rattle.batcher_node.specs.Stands.{IsNode}
+use Rattle.batcher.specs.RoundContracts.{round_config}
+use Rattle.batcher_node.specs.Represents.{IsNode}
 use Rattle.batcher_node.specs.Windows.{entered}
 use Rattle.batcher_node.specs.Events.{view_entered}
-use Rattle.batcher_node.proofs.Telling.{err_fact, if_ok, led_refused}
+use Rattle.batcher_node.proofs.Calling.{err_fact, if_ok, led_refused}
 use Rattle.batcher_node.proofs.Answering.{entered_told}
 use Rattle.batcher_node.proofs.node.Node.enter.Goals as goal
 
@@ -12,15 +12,15 @@ returns-clause-meets g c = λ past.
     rw (← c.self.view_is)
     (entered_told g.S.Scheme.meaning g.S.PublicKey.Ord.cmp
     g.S.Signature.PartialEq.eq g.D.PartialEq.eq past _ _ c.args.view.0 c.args.leader _
-    c.self.invariant.tended (omega arith) (if_ok _ _ _ c.in_ok-branch.was c.in_ok-tell.ensures.tells)
-    (c.enter.ensures ∙ ap (λ r. entered r.window c.args.view.0) c.tell.ensures.same) refl)
+    c.self.invariant.tended (omega arith) (if_ok _ _ _ c.in_ok-branch.was c.in_ok-call.ensures.makes_call)
+    (c.enter.ensures ∙ ap (λ r. entered r.window c.args.view.0) c.call.ensures.same) refl)
 
 pub returns-in_err-branch-clause-led : goal.returns-in_err-branch-clause-led
 returns-in_err-branch-clause-led g c = λ is.
     rw (← c.self.view_is)
-    (led_refused (judge g.S.Scheme.meaning g.S.PublicKey.Ord.cmp
+    (led_refused (round_config g.S.Scheme.meaning g.S.PublicKey.Ord.cmp
     g.S.Signature.PartialEq.eq g.D.PartialEq.eq) _ _ c.args.leader _ refl
-    (err_fact _ _ c.in_ok-tell.ensures.named _ c.in_err-branch.was))
+    (err_fact _ _ c.in_ok-call.ensures.named _ c.in_err-branch.was))
 
 pub invariant_of-self-2 : goal.invariant_of-self-2
 invariant_of-self-2 g c =
@@ -33,17 +33,17 @@ invariant_of-self-2 g c =
       window = entered r.window c.args.view.0;
       rounds = r.slots.entries;
       blocked = c.self.inside.blocked.items;
-    })) (sym c.tell.ensures.same)
+    })) (sym c.call.ensures.same)
     (record {
       tended = search rules;
       each = search rules;
       history =
           record {
             past = view_entered c.args.view.0 c.args.leader ∷ h.past;
-            stands =
+            represents =
                 entered_told g.S.Scheme.meaning g.S.PublicKey.Ord.cmp g.S.Signature.PartialEq.eq
                 g.D.PartialEq.eq h.past _ _ c.args.view.0 c.args.leader _
-                c.self.invariant.tended (omega arith) (if_ok _ _ _ c.in_ok-branch.was c.in_ok-tell.ensures.tells)
-                refl refl h.stands;
+                c.self.invariant.tended (omega arith) (if_ok _ _ _ c.in_ok-branch.was c.in_ok-call.ensures.makes_call)
+                refl refl h.represents;
           };
     }))

@@ -1,5 +1,5 @@
 use Rattle.std.proofs.Common.{◌∷◌, refl, rules, sym, subst}
-use Rattle.batcher_node.specs.Stands.{IsNode}
+use Rattle.batcher_node.specs.Represents.{IsNode}
 use Rattle.batcher_node.specs.Events.{view_finalized}
 use Rattle.batcher_node.proofs.Answering.{finalized_told}
 use Rattle.batcher_node.proofs.node.Node.finalize.Goals as goal
@@ -29,9 +29,9 @@ invariant_of-self g c =
       history =
           record {
             past = view_finalized c.args.view.0 ∷ h.past;
-            stands =
+            represents =
                 finalized_told g.S.Scheme.meaning g.S.PublicKey.Ord.cmp g.S.Signature.PartialEq.eq
                 g.D.PartialEq.eq h.past _ _ c.args.view.0
-                c.finalize.ensures.window refl c.finalize.ensures.kept h.stands;
+                c.finalize.ensures.window refl c.finalize.ensures.kept h.represents;
           };
     })

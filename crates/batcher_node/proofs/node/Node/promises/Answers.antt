@@ -9,10 +9,10 @@ returns g c =
     rw (← c.self.view_is)
     (record {
       past = h.past;
-      stands = h.stands;
-      promised = kept.promised _ some h.past h.stands;
+      represents = h.represents;
+      promised = kept.promised _ some h.past h.represents;
       blocked_gave_cause =
-          each_gave_cause _ h.past _ c.self.invariant.each h.stands
-          (kept.promised _ some h.past h.stands).blocked_for_cause;
-      complete_at_rest = kept.complete _ some h.past h.stands;
+          each_gave_cause _ h.past _ c.self.invariant.each h.represents
+          (kept.promised _ some h.past h.represents).blocked_for_cause;
+      complete_at_rest = kept.complete _ some h.past h.represents;
     })

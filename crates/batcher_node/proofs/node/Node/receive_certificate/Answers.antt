@@ -1,9 +1,9 @@
 use Rattle.std.proofs.Common.{◌∷◌, ◌∙◌, sym, refl, rules, ap, subst}
-use Rattle.batcher_node.specs.Stands.{IsNode}
+use Rattle.batcher_node.specs.Represents.{IsNode}
 use Rattle.batcher_node.specs.declared.answers.Receipt.TheVariants.{Answered}
 use Rattle.batcher_node.specs.declared.answers.Verdict.TheVariants.{Recorded, Forged}
 use Rattle.batcher_node.specs.Events.{certificate_came}
-use Rattle.batcher_node.proofs.Telling.{if_ok}
+use Rattle.batcher_node.proofs.Calling.{if_ok}
 use Rattle.batcher_node.proofs.Answering.{not_far, certified_there, certificate_told, certificate_forged}
 use Rattle.batcher_node.proofs.Tending.{still_tended}
 use Rattle.batcher_node.proofs.node.Node.receive_certificate.Goals as goal
@@ -24,8 +24,8 @@ returns-clause-meets g c = λ past.
     (not_far c.self.inside.rounds.epoch c.self.inside.rounds.window c.round-number.result
     (sym c.contains.ensures ∙ c.if-not-contains.false)) c.has_certificate.ensures h))
     (sym c.verifies.ensures ∙ c.if-not-verifies.false)
-    (rw (← number) (if_ok _ _ _ c.in_ok-changed.was c.in_ok-tell.ensures.tells))
-    (ap (λ r. r.window) c.tell.ensures.same) refl)
+    (rw (← number) (if_ok _ _ _ c.in_ok-changed.was c.in_ok-call.ensures.makes_call))
+    (ap (λ r. r.window) c.call.ensures.same) refl)
 
 pub invariant_of-self-2 : goal.invariant_of-self-2
 invariant_of-self-2 g c =
@@ -39,33 +39,33 @@ invariant_of-self-2 g c =
       window = r.window;
       rounds = r.slots.entries;
       blocked = c.self.inside.blocked.items;
-    })) (sym c.tell.ensures.same)
+    })) (sym c.call.ensures.same)
     (record {
       tended =
           still_tended _ _ _ _ _ _ _ c.self.invariant.tended _ _ _ _
           (not_far c.self.inside.rounds.epoch c.self.inside.rounds.window c.round-number.result
           (sym c.contains.ensures ∙ c.if-not-contains.false))
-          (if_ok _ _ _ c.in_ok-changed.was c.in_ok-tell.ensures.tells);
+          (if_ok _ _ _ c.in_ok-changed.was c.in_ok-call.ensures.makes_call);
       each = search rules;
       history =
           record {
             past =
                 certificate_came c.args.peer c.args.certificate.now
                 (Answered (Recorded c.in_ok-changed.changed)) ∷ h.past;
-            stands =
+            represents =
                 certificate_told g.S.Scheme.meaning g.S.PublicKey.Ord.cmp
                 g.S.Signature.PartialEq.eq g.D.PartialEq.eq h.past _ _ c.args.peer
                 c.args.certificate.now c.in_ok-changed.changed _ c.in-Some.sender
                 c.self.invariant.tended (search rules) (search rules) (search rules)
                 (rw (← number) (sym c.contains.ensures ∙ c.if-not-contains.false))
-                (λ stood. sym c.if-has_certificate.false ∙ rw (← c.kind.ensures, ← number)
+                (λ eligible. sym c.if-has_certificate.false ∙ rw (← c.kind.ensures, ← number)
                 (certified_there g.S.Scheme.meaning g.S.PublicKey.Ord.cmp
                 g.S.Signature.PartialEq.eq g.D.PartialEq.eq h.past _ c.args.self.now _ _ _ _
                 c.self.invariant.tended
                 (not_far c.self.inside.rounds.epoch c.self.inside.rounds.window c.round-number.result
-                (sym c.contains.ensures ∙ c.if-not-contains.false)) c.has_certificate.ensures stood))
+                (sym c.contains.ensures ∙ c.if-not-contains.false)) c.has_certificate.ensures eligible))
                 (sym c.verifies.ensures ∙ c.if-not-verifies.false)
-                (rw (← number) (if_ok _ _ _ c.in_ok-changed.was c.in_ok-tell.ensures.tells)) refl refl h.stands;
+                (rw (← number) (if_ok _ _ _ c.in_ok-changed.was c.in_ok-call.ensures.makes_call)) refl refl h.represents;
           };
     })
 
@@ -79,19 +79,19 @@ invariant_of-self g c =
       history =
           record {
             past = certificate_came c.args.peer c.args.certificate.now (Answered Forged) ∷ h.past;
-            stands =
+            represents =
                 certificate_forged g.S.Scheme.meaning g.S.PublicKey.Ord.cmp
                 g.S.Signature.PartialEq.eq g.D.PartialEq.eq h.past _ _ c.args.peer
                 c.args.certificate.now c.in-Some.sender
                 (search rules) (search rules) (search rules)
                 (rw (← number) (sym c.contains.ensures ∙ c.if-not-contains.false))
-                (λ stood. sym c.if-has_certificate.false ∙ rw (← c.kind.ensures, ← number)
+                (λ eligible. sym c.if-has_certificate.false ∙ rw (← c.kind.ensures, ← number)
                 (certified_there g.S.Scheme.meaning g.S.PublicKey.Ord.cmp
                 g.S.Signature.PartialEq.eq g.D.PartialEq.eq h.past _ c.args.self.now _ _ _ _
                 c.self.invariant.tended
                 (not_far c.self.inside.rounds.epoch c.self.inside.rounds.window c.round-number.result
-                (sym c.contains.ensures ∙ c.if-not-contains.false)) c.has_certificate.ensures stood))
+                (sym c.contains.ensures ∙ c.if-not-contains.false)) c.has_certificate.ensures eligible))
                 (sym c.verifies.ensures ∙ c.if-not-verifies.true)
-                refl refl (λ i within. c.block.ensures.blocks i (search rules)) h.stands;
+                refl refl (λ i within. c.block.ensures.blocks i (search rules)) h.represents;
           };
     }

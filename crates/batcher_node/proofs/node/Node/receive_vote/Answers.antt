@@ -1,8 +1,8 @@
 use Rattle.std.proofs.Common.{◌∷◌, ◌∙◌, sym, refl, rules, ap, subst}
-use Rattle.batcher_node.specs.Stands.{IsNode}
+use Rattle.batcher_node.specs.Represents.{IsNode}
 use Rattle.batcher_node.specs.declared.answers.Receipt.TheVariants.{Answered}
 use Rattle.batcher_node.specs.Events.{vote_came}
-use Rattle.batcher_node.proofs.Telling.{if_ok}
+use Rattle.batcher_node.proofs.Calling.{if_ok}
 use Rattle.batcher_node.proofs.Answering.{not_far, vote_told}
 use Rattle.batcher_node.proofs.Tending.{still_tended}
 use Rattle.batcher_node.proofs.node.Node.receive_vote.Goals as goal
@@ -15,8 +15,8 @@ returns-clause-meets g c = λ past.
     g.D.PartialEq.eq past _ _ c.args.peer c.args.vote c.in_ok-admission.admission _ _
     c.self.invariant.tended (search rules) (search rules) (search rules)
     (rw (← number) (sym c.contains.ensures ∙ c.if-not-contains.false))
-    (rw (← number) (if_ok _ _ _ c.in_ok-admission.was c.in_ok-tell.ensures.tells))
-    (ap (λ r. r.window) c.tell.ensures.same)
+    (rw (← number) (if_ok _ _ _ c.in_ok-admission.was c.in_ok-call.ensures.makes_call))
+    (ap (λ r. r.window) c.call.ensures.same)
     (λ i within. c.block_for_vote.ensures.blocks i (search rules)))
 
 pub invariant_of-self-2 : goal.invariant_of-self-2
@@ -31,24 +31,24 @@ invariant_of-self-2 g c =
       window = r.window;
       rounds = r.slots.entries;
       blocked = c.block_for_vote.new.blocked.items;
-    })) (sym c.tell.ensures.same)
+    })) (sym c.call.ensures.same)
     (record {
       tended =
           still_tended _ _ _ _ _ _ _ c.self.invariant.tended _ _ _ _
           (not_far c.self.inside.rounds.epoch c.self.inside.rounds.window c.round-number.result
           (sym c.contains.ensures ∙ c.if-not-contains.false))
-          (if_ok _ _ _ c.in_ok-admission.was c.in_ok-tell.ensures.tells);
+          (if_ok _ _ _ c.in_ok-admission.was c.in_ok-call.ensures.makes_call);
       each = search rules;
       history =
           record {
             past = vote_came c.args.peer c.args.vote (Answered c.in_ok-admission.admission) ∷ h.past;
-            stands =
+            represents =
                 vote_told g.S.Scheme.meaning g.S.PublicKey.Ord.cmp g.S.Signature.PartialEq.eq
                 g.D.PartialEq.eq h.past _ _ c.args.peer c.args.vote
                 c.in_ok-admission.admission _ _ c.self.invariant.tended
                 (search rules) (search rules) (search rules)
                 (rw (← number) (sym c.contains.ensures ∙ c.if-not-contains.false))
-                (rw (← number) (if_ok _ _ _ c.in_ok-admission.was c.in_ok-tell.ensures.tells)) refl
-                (λ i within. c.block_for_vote.ensures.blocks i (search rules)) h.stands;
+                (rw (← number) (if_ok _ _ _ c.in_ok-admission.was c.in_ok-call.ensures.makes_call)) refl
+                (λ i within. c.block_for_vote.ensures.blocks i (search rules)) h.represents;
           };
     })

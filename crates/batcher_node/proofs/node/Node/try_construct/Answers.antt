@@ -1,7 +1,7 @@
 use Rattle.std.proofs.Common.{◌∷◌, refl, rules, sym, ap, subst}
-use Rattle.batcher_node.specs.Stands.{IsNode}
+use Rattle.batcher_node.specs.Represents.{IsNode}
 use Rattle.batcher_node.specs.Events.{constructed}
-use Rattle.batcher_node.proofs.Telling.{if_some}
+use Rattle.batcher_node.proofs.Calling.{if_some}
 use Rattle.batcher_node.proofs.Answering.{construction_told}
 use Rattle.batcher_node.proofs.node.Node.try_construct.Goals as goal
 
@@ -36,15 +36,15 @@ invariant_of-self-2 g c =
       history =
           record {
             past = constructed c.in-Some.number c.in-Some-2.batch ∷ h.past;
-            stands =
+            represents =
                 construction_told g.S.Scheme.meaning g.S.PublicKey.Ord.cmp g.S.Signature.PartialEq.eq
                 g.D.PartialEq.eq h.past _ _ _ _ _
                 c.self.invariant.tended (search rules) (search rules) (search rules) refl
-                (λ i within. c.block_named.ensures.blocks i (search rules)) h.stands;
+                (λ i within. c.block_named.ensures.blocks i (search rules)) h.represents;
           };
     })
 
 pub returns-in_default-clause-complete : goal.returns-in_default-clause-complete
 returns-in_default-clause-complete g c = λ is.
     let kept = c.promises.ensures in
-    (record { past = kept.past; stands = kept.stands }, kept.complete_at_rest (search rules))
+    (record { past = kept.past; represents = kept.represents }, kept.complete_at_rest (search rules))

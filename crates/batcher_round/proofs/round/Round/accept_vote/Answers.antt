@@ -1,11 +1,10 @@
 use Rattle.std.proofs.Common.{◌≡◌, subst, rules}
 use Rattle.std.specs.Prelude.{IfErr}
-use Rattle.batcher_votes.specs.Held.{Held}
-use Rattle.batcher_histories.specs.Setting.{setting}
+use Rattle.batcher_histories.specs.Config.{config}
 use Rattle.batcher_histories.specs.Steps.{fault_or_memory}
-use Rattle.batcher_histories.proofs.History.Laws.{HasLaws}
-use Rattle.batcher_histories.proofs.Shown.Named.{own_same}
-use Rattle.batcher_histories.proofs.Follow.Own.{own_follows}
+use Rattle.batcher_histories.proofs.History.Laws.{laws_by}
+use Rattle.batcher_histories.proofs.KnownLemmas.Named.{own_same}
+use Rattle.batcher_histories.proofs.Simulation.Own.{own_simulates}
 use Rattle.batcher_histories.proofs.Memory.Needed.{own_needed}
 use Rattle.batcher_round.proofs.InRound.{own_in_round}
 use Rattle.batcher_round.proofs.OwnVotes.{held_by}
@@ -15,7 +14,7 @@ pub returns-clause-step : goal.returns-clause-step
 returns-clause-step g c =
     let b = c.self.inside in
     let v = b.ballots.verifier in
-    let x = setting (g.S.Scheme.meaning v.scheme) g.S.PublicKey.Ord.cmp g.S.Signature.PartialEq.eq g.D.PartialEq.eq v.number b.ballots.tracker.mode in
+    let x = config (g.S.Scheme.meaning v.scheme) g.S.PublicKey.Ord.cmp g.S.Signature.PartialEq.eq g.D.PartialEq.eq v.number b.ballots.tracker.mode in
     let after = c.accept.new.self in
     rw (← c.self.view_is, c.report_by.ensures)
     (own_in_round x b.forwarded (held_by b.ballots.tracker v.holds) (held_by after.tracker after.verifier.holds) c.args.vote c.in_ok-outcome.outcome _
@@ -23,19 +22,11 @@ returns-clause-step g c =
 
 pub returns-clause-meets : goal.returns-clause-meets
 returns-clause-meets g c =
-    let b = c.self.inside in
-    let v = b.ballots.verifier in
-    let x = setting (g.S.Scheme.meaning v.scheme) g.S.PublicKey.Ord.cmp g.S.Signature.PartialEq.eq g.D.PartialEq.eq v.number b.ballots.tracker.mode in
-    let laws : HasLaws x = record {
-      scheme = g.met.S.Scheme.lawful v.scheme;
-      some_participant = c.self.invariant;
-      digests_equal = g.met.D.Digest.identical;
-      digests_same = g.met.D.Eq.laws.refl;
-    } in
-    let held : Held g.row.S-Signature.Denot g.row.D.Denot = record { tracked = b.ballots.tracker.holds; buffered = v.holds; forwarded = b.forwarded } in
     let step = rw (← c.self.view_is) at (returns-clause-step g c) in
     let allowed = rw (← c.self.view_is) at c.requires in
-    rw (← c.self.view_is) (λ past stands. own_follows x laws past held c.args.vote _ _ _ stands (allowed.belongs, allowed.attests) step)
+    rw (← c.self.view_is) (λ past represents.
+    own_simulates _ (laws_by _ (g.met.S.Scheme.lawful _) c.self.invariant g.met.D.Digest.identical g.met.D.Eq.laws.refl) past _
+    c.args.vote _ _ _ represents (allowed.belongs, allowed.attests) step)
 
 pub returns-in_err-outcome-clause-fault : goal.returns-in_err-outcome-clause-fault
 returns-in_err-outcome-clause-fault g c = search rules
@@ -43,7 +34,8 @@ returns-in_err-outcome-clause-fault g c = search rules
 pub returns-in_err-outcome-clause-named : goal.returns-in_err-outcome-clause-named
 returns-in_err-outcome-clause-named g c =
     let fault = rw (← c.self.view_is) at (returns-in_err-outcome-clause-fault g c) in
-    rw (← c.self.view_is) (λ past stands. subst (λ r. IfErr c.from_residual.result (λ fault. fault ≡ fault_or_memory r)) (own_same _ past _ c.args.vote stands)
+    rw (← c.self.view_is) (λ past represents. subst (λ r. IfErr c.from_residual.result (λ fault. fault ≡ fault_or_memory r))
+    (own_same _ past _ c.args.vote represents)
     fault)
 
 pub returns-in_err-outcome-clause-no_memory : goal.returns-in_err-outcome-clause-no_memory
@@ -51,10 +43,6 @@ returns-in_err-outcome-clause-no_memory g c = search rules
 
 pub returns-in_err-outcome-clause-needed : goal.returns-in_err-outcome-clause-needed
 returns-in_err-outcome-clause-needed g c =
-    let b = c.self.inside in
-    let v = b.ballots.verifier in
-    let x = setting (g.S.Scheme.meaning v.scheme) g.S.PublicKey.Ord.cmp g.S.Signature.PartialEq.eq g.D.PartialEq.eq v.number b.ballots.tracker.mode in
-    let held : Held g.row.S-Signature.Denot g.row.D.Denot = record { tracked = b.ballots.tracker.holds; buffered = v.holds; forwarded = b.forwarded } in
     let fault = rw (← c.self.view_is) at (returns-in_err-outcome-clause-fault g c) in
     let no_memory = rw (← c.self.view_is) at (returns-in_err-outcome-clause-no_memory g c) in
-    rw (← c.self.view_is) (λ past stands. own_needed x past held c.args.vote _ stands fault no_memory)
+    rw (← c.self.view_is) (λ past represents. own_needed _ past _ c.args.vote _ represents fault no_memory)

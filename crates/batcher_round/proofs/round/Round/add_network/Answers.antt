@@ -2,13 +2,13 @@ use Rattle.std.proofs.Common.{None, rules, ◌==◌, ◌≡◌, ◌&&◌, ◌∙
 use Rattle.std.specs.Prelude.{MatchBool}
 use Rattle.std.proofs.lemmas.Bool.{not-true}
 use Rattle.batcher_types.specs.Votes.{kind_of}
-use Rattle.batcher_votes.specs.Held.{of_kind, Held}
-use Rattle.batcher_votes.specs.Buffering.{selected_in, AddsVote}
-use Rattle.batcher_histories.specs.Setting.{setting, sender_in}
+use Rattle.batcher_votes.specs.RoundState.{of_kind, RoundState}
+use Rattle.batcher_votes.specs.VerifierSteps.{selected_in, AddsVote}
+use Rattle.batcher_histories.specs.Config.{config, sender_in}
 use Rattle.batcher_histories.specs.Admissions.{block_for, mismatch_reason, admission_of}
-use Rattle.batcher_histories.proofs.Right.Admission.{first_added, first_unopposed, mismatched, objected, same_number, unopposed_admission, unopposed_after}
-use Rattle.batcher_histories.proofs.History.Laws.{HasLaws}
-use Rattle.batcher_histories.proofs.Follow.Network.{network_follows}
+use Rattle.batcher_histories.proofs.Correctness.Admission.{first_added, first_unopposed, mismatched, objected, same_number, unopposed_admission, unopposed_after}
+use Rattle.batcher_histories.proofs.History.Laws.{laws_by}
+use Rattle.batcher_histories.proofs.Simulation.Network.{network_simulates}
 use Rattle.batcher_histories.proofs.Memory.Needed.{network_needed}
 use Rattle.batcher_round.proofs.round.Round.add_network.Goals as goal
 
@@ -17,19 +17,11 @@ returns-in_default-clause-step g c = search rules
 
 pub returns-in_default-clause-meets : goal.returns-in_default-clause-meets
 returns-in_default-clause-meets g c =
-    let b = c.self.inside in
-    let v = b.ballots.verifier in
-    let x = setting (g.S.Scheme.meaning v.scheme) g.S.PublicKey.Ord.cmp g.S.Signature.PartialEq.eq g.D.PartialEq.eq v.number b.ballots.tracker.mode in
-    let laws : HasLaws x = record {
-      scheme = g.met.S.Scheme.lawful b.ballots.verifier.scheme;
-      some_participant = c.self.invariant;
-      digests_equal = g.met.D.Digest.identical;
-      digests_same = g.met.D.Eq.laws.refl;
-    } in
-    let held : Held g.row.S-Signature.Denot g.row.D.Denot = record { tracked = b.ballots.tracker.holds; buffered = v.holds; forwarded = b.forwarded } in
     let step = rw (← c.self.view_is) at (returns-in_default-clause-step g c) in
     let allowed = rw (← c.self.view_is) at c.requires in
-    rw (← c.self.view_is) (λ past stands. network_follows x laws past held c.args.sender c.args.vote _ _ stands allowed step)
+    rw (← c.self.view_is) (λ past represents.
+    network_simulates _ (laws_by _ (g.met.S.Scheme.lawful _) c.self.invariant g.met.D.Digest.identical g.met.D.Eq.laws.refl) past _
+    c.args.sender c.args.vote _ _ represents allowed step)
 
 pub returns-then-ne-clause-step : goal.returns-then-ne-clause-step
 returns-then-ne-clause-step g c =
@@ -43,19 +35,11 @@ returns-then-ne-clause-step g c =
 
 pub returns-then-ne-clause-meets : goal.returns-then-ne-clause-meets
 returns-then-ne-clause-meets g c =
-    let b = c.self.inside in
-    let v = b.ballots.verifier in
-    let x = setting (g.S.Scheme.meaning v.scheme) g.S.PublicKey.Ord.cmp g.S.Signature.PartialEq.eq g.D.PartialEq.eq v.number b.ballots.tracker.mode in
-    let laws : HasLaws x = record {
-      scheme = g.met.S.Scheme.lawful b.ballots.verifier.scheme;
-      some_participant = c.self.invariant;
-      digests_equal = g.met.D.Digest.identical;
-      digests_same = g.met.D.Eq.laws.refl;
-    } in
-    let held : Held g.row.S-Signature.Denot g.row.D.Denot = record { tracked = b.ballots.tracker.holds; buffered = v.holds; forwarded = b.forwarded } in
     let step = rw (← c.self.view_is) at (returns-then-ne-clause-step g c) in
     let allowed = rw (← c.self.view_is) at c.requires in
-    rw (← c.self.view_is) (λ past stands. network_follows x laws past held c.args.sender c.args.vote _ _ stands allowed step)
+    rw (← c.self.view_is) (λ past represents.
+    network_simulates _ (laws_by _ (g.met.S.Scheme.lawful _) c.self.invariant g.met.D.Digest.identical g.met.D.Eq.laws.refl) past _
+    c.args.sender c.args.vote _ _ represents allowed step)
 
 pub returns-then-is_first-clause-step : goal.returns-then-is_first-clause-step
 returns-then-is_first-clause-step g c =
@@ -63,70 +47,54 @@ returns-then-is_first-clause-step g c =
     c.participants-participants.ensures ∙ ap (λ v. (g.S.Scheme.meaning v.scheme).participants) c.verifier.ensures.verifier in
     let b = c.self.inside in
     let v = b.ballots.verifier in
-    let x = setting (g.S.Scheme.meaning v.scheme) g.S.PublicKey.Ord.cmp g.S.Signature.PartialEq.eq g.D.PartialEq.eq v.number b.ballots.tracker.mode in
-    let held : Held g.row.S-Signature.Denot g.row.D.Denot = record { tracked = b.ballots.tracker.holds; buffered = v.holds; forwarded = b.forwarded } in
+    let x = config (g.S.Scheme.meaning v.scheme) g.S.PublicKey.Ord.cmp g.S.Signature.PartialEq.eq g.D.PartialEq.eq v.number b.ballots.tracker.mode in
+    let held : RoundState g.row.S-Signature.Denot g.row.D.Denot = record { tracked = b.ballots.tracker.holds; buffered = v.holds; forwarded = b.forwarded } in
     let sent : sender_in x c.args.sender ≡ Some c.in-Some.index = rw (← keys, ← c.in-Some.is) (sym c.index_near.ensures.index) in
     let own = same_number c.in-Some.index.0 c.signer-signer.result.0 (sym c.ne.ensures ∙ c.if-ne.false) ∙ ap (λ p. p.0) c.signer-signer.ensures in
     let none = first_unopposed x held c.args.vote (sym c.is_first.ensures ∙ c.if-is_first.true) in
-    let new : Held g.row.S-Signature.Denot g.row.D.Denot = record
+    let new : RoundState g.row.S-Signature.Denot g.row.D.Denot = record
     { tracked = c.admit.new.self.tracker.holds; buffered = c.admit.new.self.verifier.holds; forwarded = b.forwarded } in
     let selected = selected_in b.ballots.verifier.holds in
     let vote = c.args.vote in
     let outcome = c.in_ok-admit.field-0 in
     let answered : admission_of outcome vote ≡ c.added.result =
     c.in_ok-admit.ensures.admits.0 ∙ first_added x held vote (sym c.is_first.ensures ∙ c.if-is_first.true) selected ∙ sym c.added.ensures in
-    let waits : MatchBool (c.added.result.added && not (of_kind b.ballots.tracker.holds.compacted (kind_of vote)))
+    let is_eligible : MatchBool (c.added.result.added && not (of_kind b.ballots.tracker.holds.compacted (kind_of vote)))
     (AddsVote x.same_digest b.ballots.verifier.holds vote false new.buffered) (new.buffered ≡ b.ballots.verifier.holds) =
     subst (λ answer. MatchBool (answer.added && not (of_kind b.ballots.tracker.holds.compacted (kind_of vote)))
     (AddsVote x.same_digest b.ballots.verifier.holds vote false new.buffered) (new.buffered ≡ b.ballots.verifier.holds)) answered
     c.in_ok-admit.ensures.admits.2 in
     rw (← c.self.view_is)
     (unopposed_after x held c.args.sender c.in-Some.index vote sent own none new c.added.result
-    (sym answered ∙ c.in_ok-admit.ensures.admits.0) c.in_ok-admit.ensures.admits.1 waits refl)
+    (sym answered ∙ c.in_ok-admit.ensures.admits.0) c.in_ok-admit.ensures.admits.1 is_eligible refl)
 
 pub returns-then-is_first-clause-meets : goal.returns-then-is_first-clause-meets
 returns-then-is_first-clause-meets g c =
-    let b = c.self.inside in
-    let v = b.ballots.verifier in
-    let x = setting (g.S.Scheme.meaning v.scheme) g.S.PublicKey.Ord.cmp g.S.Signature.PartialEq.eq g.D.PartialEq.eq v.number b.ballots.tracker.mode in
-    let laws : HasLaws x = record {
-      scheme = g.met.S.Scheme.lawful b.ballots.verifier.scheme;
-      some_participant = c.self.invariant;
-      digests_equal = g.met.D.Digest.identical;
-      digests_same = g.met.D.Eq.laws.refl;
-    } in
-    let held : Held g.row.S-Signature.Denot g.row.D.Denot = record { tracked = b.ballots.tracker.holds; buffered = v.holds; forwarded = b.forwarded } in
     let step = rw (← c.self.view_is) at (returns-then-is_first-clause-step g c) in
     let allowed = rw (← c.self.view_is) at c.requires in
-    rw (← c.self.view_is) (λ past stands. network_follows x laws past held c.args.sender c.args.vote _ _ stands allowed step)
+    rw (← c.self.view_is) (λ past represents.
+    network_simulates _ (laws_by _ (g.met.S.Scheme.lawful _) c.self.invariant g.met.D.Digest.identical g.met.D.Eq.laws.refl) past _
+    c.args.sender c.args.vote _ _ represents allowed step)
 
-pub returns-in-Some-objection-clause-step : goal.returns-in-Some-objection-clause-step
-returns-in-Some-objection-clause-step g c =
+pub returns-in-Some-rejection-clause-step : goal.returns-in-Some-rejection-clause-step
+returns-in-Some-rejection-clause-step g c =
     let keys : c.participants-participants.result.now ≡ (g.S.Scheme.meaning c.self.inside.ballots.verifier.scheme).participants =
     c.participants-participants.ensures ∙ ap (λ v. (g.S.Scheme.meaning v.scheme).participants) c.verifier.ensures.verifier in
     let b = c.self.inside in
-    let h = c.objection.ensures (g.S.Scheme.meaning b.ballots.verifier.scheme) b.ballots.verifier.number b.ballots.tracker.mode in
+    let h = c.rejection.ensures (g.S.Scheme.meaning b.ballots.verifier.scheme) b.ballots.verifier.number b.ballots.tracker.mode in
     let own = same_number c.in-Some.index.0 c.signer-signer.result.0 (sym c.ne.ensures ∙ c.if-ne.false) ∙ ap (λ p. p.0) c.signer-signer.ensures in
     rw (← c.self.view_is)
-    (objected _ _ c.args.sender c.in-Some.index c.args.vote c.in-Some-objection.answer
+    (objected _ _ c.args.sender c.in-Some.index c.args.vote c.in-Some-rejection.answer
     (rw (← keys, ← c.in-Some.is) (sym c.index_near.ensures.index)) own
-    (rw (← c.in-Some-objection.is) (sym h)))
+    (rw (← c.in-Some-rejection.is) (sym h)))
 
-pub returns-in-Some-objection-clause-meets : goal.returns-in-Some-objection-clause-meets
-returns-in-Some-objection-clause-meets g c =
-    let b = c.self.inside in
-    let v = b.ballots.verifier in
-    let x = setting (g.S.Scheme.meaning v.scheme) g.S.PublicKey.Ord.cmp g.S.Signature.PartialEq.eq g.D.PartialEq.eq v.number b.ballots.tracker.mode in
-    let laws : HasLaws x = record {
-      scheme = g.met.S.Scheme.lawful b.ballots.verifier.scheme;
-      some_participant = c.self.invariant;
-      digests_equal = g.met.D.Digest.identical;
-      digests_same = g.met.D.Eq.laws.refl;
-    } in
-    let held : Held g.row.S-Signature.Denot g.row.D.Denot = record { tracked = b.ballots.tracker.holds; buffered = v.holds; forwarded = b.forwarded } in
-    let step = rw (← c.self.view_is) at (returns-in-Some-objection-clause-step g c) in
+pub returns-in-Some-rejection-clause-meets : goal.returns-in-Some-rejection-clause-meets
+returns-in-Some-rejection-clause-meets g c =
+    let step = rw (← c.self.view_is) at (returns-in-Some-rejection-clause-step g c) in
     let allowed = rw (← c.self.view_is) at c.requires in
-    rw (← c.self.view_is) (λ past stands. network_follows x laws past held c.args.sender c.args.vote _ _ stands allowed step)
+    rw (← c.self.view_is) (λ past represents.
+    network_simulates _ (laws_by _ (g.met.S.Scheme.lawful _) c.self.invariant g.met.D.Digest.identical g.met.D.Eq.laws.refl) past _
+    c.args.sender c.args.vote _ _ represents allowed step)
 
 pub returns-in_ok-outcome-in-None-clause-step : goal.returns-in_ok-outcome-in-None-clause-step
 returns-in_ok-outcome-in-None-clause-step g c =
@@ -134,17 +102,17 @@ returns-in_ok-outcome-in-None-clause-step g c =
     c.participants-participants.ensures ∙ ap (λ v. (g.S.Scheme.meaning v.scheme).participants) c.verifier.ensures.verifier in
     let b = c.self.inside in
     let v = b.ballots.verifier in
-    let x = setting (g.S.Scheme.meaning v.scheme) g.S.PublicKey.Ord.cmp g.S.Signature.PartialEq.eq g.D.PartialEq.eq v.number b.ballots.tracker.mode in
-    let held : Held g.row.S-Signature.Denot g.row.D.Denot = record { tracked = b.ballots.tracker.holds; buffered = v.holds; forwarded = b.forwarded } in
+    let x = config (g.S.Scheme.meaning v.scheme) g.S.PublicKey.Ord.cmp g.S.Signature.PartialEq.eq g.D.PartialEq.eq v.number b.ballots.tracker.mode in
+    let held : RoundState g.row.S-Signature.Denot g.row.D.Denot = record { tracked = b.ballots.tracker.holds; buffered = v.holds; forwarded = b.forwarded } in
     let sent : sender_in x c.args.sender ≡ Some c.in-Some.index = rw (← keys, ← c.in-Some.is) (sym c.index_near.ensures.index) in
     let own = same_number c.in-Some.index.0 c.signer-signer.result.0 (sym c.ne.ensures ∙ c.if-ne.false) ∙ ap (λ p. p.0) c.signer-signer.ensures in
-    let none = sym (c.objection.ensures (g.S.Scheme.meaning b.ballots.verifier.scheme) b.ballots.verifier.number b.ballots.tracker.mode) ∙ c.in-None.is in
-    let new : Held g.row.S-Signature.Denot g.row.D.Denot = record
+    let none = sym (c.rejection.ensures (g.S.Scheme.meaning b.ballots.verifier.scheme) b.ballots.verifier.number b.ballots.tracker.mode) ∙ c.in-None.is in
+    let new : RoundState g.row.S-Signature.Denot g.row.D.Denot = record
     { tracked = c.admit-in-None.new.self.tracker.holds; buffered = c.admit-in-None.new.self.verifier.holds; forwarded = b.forwarded } in
     let vote = c.args.vote in
     let outcome = c.in_ok-outcome-in-None.outcome in
     let answered : admission_of outcome vote ≡ c.admission_of.result = sym c.admission_of.ensures in
-    let waits : MatchBool (c.admission_of.result.added && not (of_kind b.ballots.tracker.holds.compacted (kind_of vote)))
+    let is_eligible : MatchBool (c.admission_of.result.added && not (of_kind b.ballots.tracker.holds.compacted (kind_of vote)))
     (AddsVote x.same_digest b.ballots.verifier.holds vote false new.buffered) (new.buffered ≡ b.ballots.verifier.holds) =
     subst (λ answer. MatchBool (answer.added && not (of_kind b.ballots.tracker.holds.compacted (kind_of vote)))
     (AddsVote x.same_digest b.ballots.verifier.holds vote false new.buffered) (new.buffered ≡ b.ballots.verifier.holds)) answered
@@ -152,23 +120,15 @@ returns-in_ok-outcome-in-None-clause-step g c =
     rw (← c.self.view_is)
     (unopposed_after x held c.args.sender c.in-Some.index vote sent own none new c.admission_of.result
     (sym answered ∙ c.in_ok-outcome-in-None.ensures.admits.0)
-    c.in_ok-outcome-in-None.ensures.admits.1 waits refl)
+    c.in_ok-outcome-in-None.ensures.admits.1 is_eligible refl)
 
 pub returns-in_ok-outcome-in-None-clause-meets : goal.returns-in_ok-outcome-in-None-clause-meets
 returns-in_ok-outcome-in-None-clause-meets g c =
-    let b = c.self.inside in
-    let v = b.ballots.verifier in
-    let x = setting (g.S.Scheme.meaning v.scheme) g.S.PublicKey.Ord.cmp g.S.Signature.PartialEq.eq g.D.PartialEq.eq v.number b.ballots.tracker.mode in
-    let laws : HasLaws x = record {
-      scheme = g.met.S.Scheme.lawful b.ballots.verifier.scheme;
-      some_participant = c.self.invariant;
-      digests_equal = g.met.D.Digest.identical;
-      digests_same = g.met.D.Eq.laws.refl;
-    } in
-    let held : Held g.row.S-Signature.Denot g.row.D.Denot = record { tracked = b.ballots.tracker.holds; buffered = v.holds; forwarded = b.forwarded } in
     let step = rw (← c.self.view_is) at (returns-in_ok-outcome-in-None-clause-step g c) in
     let allowed = rw (← c.self.view_is) at c.requires in
-    rw (← c.self.view_is) (λ past stands. network_follows x laws past held c.args.sender c.args.vote _ _ stands allowed step)
+    rw (← c.self.view_is) (λ past represents.
+    network_simulates _ (laws_by _ (g.met.S.Scheme.lawful _) c.self.invariant g.met.D.Digest.identical g.met.D.Eq.laws.refl) past _
+    c.args.sender c.args.vote _ _ represents allowed step)
 
 pub returns-in_err-admit-clause-no_memory : goal.returns-in_err-admit-clause-no_memory
 returns-in_err-admit-clause-no_memory g c = search rules
@@ -177,11 +137,11 @@ pub returns-in_err-admit-clause-needed : goal.returns-in_err-admit-clause-needed
 returns-in_err-admit-clause-needed g c =
     let b = c.self.inside in
     let v = b.ballots.verifier in
-    let x = setting (g.S.Scheme.meaning v.scheme) g.S.PublicKey.Ord.cmp g.S.Signature.PartialEq.eq g.D.PartialEq.eq v.number b.ballots.tracker.mode in
-    let held : Held g.row.S-Signature.Denot g.row.D.Denot = record { tracked = b.ballots.tracker.holds; buffered = v.holds; forwarded = b.forwarded } in
+    let x = config (g.S.Scheme.meaning v.scheme) g.S.PublicKey.Ord.cmp g.S.Signature.PartialEq.eq g.D.PartialEq.eq v.number b.ballots.tracker.mode in
+    let held : RoundState g.row.S-Signature.Denot g.row.D.Denot = record { tracked = b.ballots.tracker.holds; buffered = v.holds; forwarded = b.forwarded } in
     let no_memory = rw (← c.self.view_is) at (returns-in_err-admit-clause-no_memory g c) in
     rw (← c.self.view_is)
-    (λ past stands. network_needed x past held c.args.sender c.args.vote c.from_residual.result stands no_memory
+    (λ past represents. network_needed x past held c.args.sender c.args.vote c.from_residual.result represents no_memory
     (λ known full. let wrong : false ≡ true = c.in_err-admit.ensures.spared known full in absurd (cc)))
 
 pub returns-in_err-outcome-in-None-clause-no_memory :
@@ -191,11 +151,11 @@ returns-in_err-outcome-in-None-clause-no_memory g c =
     c.participants-participants.ensures ∙ ap (λ v. (g.S.Scheme.meaning v.scheme).participants) c.verifier.ensures.verifier in
     let b = c.self.inside in
     let v = b.ballots.verifier in
-    let x = setting (g.S.Scheme.meaning v.scheme) g.S.PublicKey.Ord.cmp g.S.Signature.PartialEq.eq g.D.PartialEq.eq v.number b.ballots.tracker.mode in
-    let held : Held g.row.S-Signature.Denot g.row.D.Denot = record { tracked = b.ballots.tracker.holds; buffered = v.holds; forwarded = b.forwarded } in
+    let x = config (g.S.Scheme.meaning v.scheme) g.S.PublicKey.Ord.cmp g.S.Signature.PartialEq.eq g.D.PartialEq.eq v.number b.ballots.tracker.mode in
+    let held : RoundState g.row.S-Signature.Denot g.row.D.Denot = record { tracked = b.ballots.tracker.holds; buffered = v.holds; forwarded = b.forwarded } in
     let sent : sender_in x c.args.sender ≡ Some c.in-Some.index = rw (← keys, ← c.in-Some.is) (sym c.index_near.ensures.index) in
     let own = same_number c.in-Some.index.0 c.signer-signer.result.0 (sym c.ne.ensures ∙ c.if-ne.false) ∙ ap (λ p. p.0) c.signer-signer.ensures in
-    let none = sym (c.objection.ensures (g.S.Scheme.meaning b.ballots.verifier.scheme) b.ballots.verifier.number b.ballots.tracker.mode) ∙ c.in-None.is in
+    let none = sym (c.rejection.ensures (g.S.Scheme.meaning b.ballots.verifier.scheme) b.ballots.verifier.number b.ballots.tracker.mode) ∙ c.in-None.is in
     rw (← c.self.view_is)
     (λ not_added.
     let wrong : false ≡ true = c.in_err-outcome-in-None.ensures.no_memory
@@ -206,9 +166,9 @@ pub returns-in_err-outcome-in-None-clause-needed : goal.returns-in_err-outcome-i
 returns-in_err-outcome-in-None-clause-needed g c =
     let b = c.self.inside in
     let v = b.ballots.verifier in
-    let x = setting (g.S.Scheme.meaning v.scheme) g.S.PublicKey.Ord.cmp g.S.Signature.PartialEq.eq g.D.PartialEq.eq v.number b.ballots.tracker.mode in
-    let held : Held g.row.S-Signature.Denot g.row.D.Denot = record { tracked = b.ballots.tracker.holds; buffered = v.holds; forwarded = b.forwarded } in
+    let x = config (g.S.Scheme.meaning v.scheme) g.S.PublicKey.Ord.cmp g.S.Signature.PartialEq.eq g.D.PartialEq.eq v.number b.ballots.tracker.mode in
+    let held : RoundState g.row.S-Signature.Denot g.row.D.Denot = record { tracked = b.ballots.tracker.holds; buffered = v.holds; forwarded = b.forwarded } in
     let no_memory = rw (← c.self.view_is) at (returns-in_err-outcome-in-None-clause-no_memory g c) in
     rw (← c.self.view_is)
-    (λ past stands. network_needed x past held c.args.sender c.args.vote c.from_residual-in_err-outcome-in-None.result stands no_memory
+    (λ past represents. network_needed x past held c.args.sender c.args.vote c.from_residual-in_err-outcome-in-None.result represents no_memory
     (λ known full. let wrong : false ≡ true = c.in_err-outcome-in-None.ensures.spared known full in absurd (cc)))

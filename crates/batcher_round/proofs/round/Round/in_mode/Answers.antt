@@ -1,13 +1,13 @@
 use Rattle.std.proofs.Common.{[], ap, sym, subst}
-use Rattle.batcher_histories.proofs.Shown.AtFirst.{fresh_stands}
-use Rattle.batcher_histories.specs.Judged.{judge}
-use Rattle.batcher_histories.specs.Stands.{Stands}
+use Rattle.batcher_histories.proofs.KnownLemmas.AtFirst.{fresh_represents}
+use Rattle.batcher_histories.specs.RoundContracts.{round_config}
+use Rattle.batcher_histories.specs.Represents.{Represents}
 use Rattle.batcher_round.proofs.round.Round.in_mode.Goals as goal
 
 pub invariant_of-result : goal.invariant_of-result
 invariant_of-result g c = rw (ap (λ r. r.scheme) c.new.ensures) c.requires
 
-pub returns-clause-stands : goal.returns-clause-stands
-returns-clause-stands g c =
-    subst (λ r. Stands (judge g.S.Scheme.meaning g.S.PublicKey.Ord.cmp g.S.Signature.PartialEq.eq g.D.PartialEq.eq r) [] r.holds) (sym c.new.ensures)
-    (fresh_stands _)
+pub returns-clause-represents : goal.returns-clause-represents
+returns-clause-represents g c =
+    subst (λ r. Represents (round_config g.S.Scheme.meaning g.S.PublicKey.Ord.cmp g.S.Signature.PartialEq.eq g.D.PartialEq.eq r) [] r.holds) (sym c.new.ensures)
+    (fresh_represents _)

@@ -1,16 +1,15 @@
-use Rattle.std.proofs.Common.{rules, true, false, ◌≡◌, ◌∙◌, ap, subst, sym, IfSome, Option, Some, is_some}
+use Rattle.std.proofs.Common.{rules, true, false, ◌≡◌, ◌∙◌, ap, subst, sym, IfSome, Some, is_some}
 use Rattle.std.specs.Prelude.{Result, Ok, Err, IfOk}
 use Rattle.batcher_types.specs.declared.messages.Kind.TheVariants.{Nullification, Finalization}
-use Rattle.batcher_votes.specs.Held.{Held, RoundView}
+use Rattle.batcher_votes.specs.RoundState.{RoundState}
 use Rattle.batcher_votes.specs.Verifiers.{IfGiven, certifies_itself}
-use Rattle.batcher_histories.specs.Judged.{judge}
-use Rattle.batcher_histories.specs.Setting.{Setting}
+use Rattle.batcher_histories.specs.RoundContracts.{round_config}
 use Rattle.batcher_histories.specs.declared.calls.Call.TheVariants.{Construct as ConstructCall}
 use Rattle.batcher_histories.specs.declared.answers.Answer.TheVariants.{Construct as ConstructAnswer}
 use Rattle.batcher_histories.specs.Steps.{AfterConstruct, TriesHeld, is_ready_in}
-use Rattle.batcher_histories.specs.Stands.{Follows}
-use Rattle.batcher_histories.proofs.History.Laws.{HasLaws}
-use Rattle.batcher_histories.proofs.Follow.Construct.{construct_follows}
+use Rattle.batcher_histories.specs.Represents.{Simulates}
+use Rattle.batcher_histories.proofs.History.Laws.{laws_by}
+use Rattle.batcher_histories.proofs.Simulation.Construct.{construct_simulates}
 use Rattle.batcher_histories.proofs.Memory.Needed.{construct_needed}
 use Rattle.batcher_round.specs.BallotsView.{round_with}
 use Rattle.batcher_round.proofs.Construction.{same_round, notarization_tried, nullification_tried, finalization_tried}
@@ -37,8 +36,7 @@ returns-clause-certifies g c = search rules
 pub returns-in-Some-clause-step : goal.returns-in-Some-clause-step
 returns-in-Some-clause-step g c =
     let b = c.self.inside in
-    let v = b.ballots.verifier in
-    let x = judge g.S.Scheme.meaning g.S.PublicKey.Ord.cmp g.S.Signature.PartialEq.eq g.D.PartialEq.eq (round_with b.ballots) in
+    let x = round_config g.S.Scheme.meaning g.S.PublicKey.Ord.cmp g.S.Signature.PartialEq.eq g.D.PartialEq.eq (round_with b.ballots) in
     let old = (round_with b.ballots).holds in
     let s = g.R.Rng.stream c.args.rng.now in
     let one = c.construct.new.self in
@@ -50,8 +48,7 @@ returns-in-Some-clause-step g c =
 pub returns-in-Some-2-clause-step : goal.returns-in-Some-2-clause-step
 returns-in-Some-2-clause-step g c =
     let b = c.self.inside in
-    let v = b.ballots.verifier in
-    let x = judge g.S.Scheme.meaning g.S.PublicKey.Ord.cmp g.S.Signature.PartialEq.eq g.D.PartialEq.eq (round_with b.ballots) in
+    let x = round_config g.S.Scheme.meaning g.S.PublicKey.Ord.cmp g.S.Signature.PartialEq.eq g.D.PartialEq.eq (round_with b.ballots) in
     let old = (round_with b.ballots).holds in
     let s = g.R.Rng.stream c.args.rng.now in
     let one = c.construct.new.self in
@@ -61,21 +58,20 @@ returns-in-Some-2-clause-step g c =
     let new = (round_with c.construct-2.new.self).holds in
     let t = g.R.Rng.stream c.construct-2.new.rng in
     let ready : is_ready_in x old Nullification ≡ true =
-    subst (λ r. is_ready_in (judge g.S.Scheme.meaning g.S.PublicKey.Ord.cmp g.S.Signature.PartialEq.eq g.D.PartialEq.eq r)
+    subst (λ r. is_ready_in (round_config g.S.Scheme.meaning g.S.PublicKey.Ord.cmp g.S.Signature.PartialEq.eq g.D.PartialEq.eq r)
     r.holds Nullification ≡ true) same_one
     (sym c.in_ok-batch-2.ensures.ready ∙ ap is_some c.in-Some-2.is) in
     let tries_one = rw c.in-Some-2.is at c.in_ok-batch-2.ensures.tries in
     let tries : TriesHeld x old Nullification s c.in-Some-2.batch new t =
     subst (λ z. TriesHeld x old Nullification z c.in-Some-2.batch new t) idle.2
-    (subst (λ r. TriesHeld (judge g.S.Scheme.meaning g.S.PublicKey.Ord.cmp g.S.Signature.PartialEq.eq g.D.PartialEq.eq r)
+    (subst (λ r. TriesHeld (round_config g.S.Scheme.meaning g.S.PublicKey.Ord.cmp g.S.Signature.PartialEq.eq g.D.PartialEq.eq r)
     r.holds Nullification (g.R.Rng.stream c.construct.new.rng) c.in-Some-2.batch new t) same_one tries_one) in
     rw (← c.self.view_is) (nullification_tried x old new s t b.forwarded c.in-Some-2.batch no_first ready tries)
 
 pub returns-clause-step : goal.returns-clause-step
 returns-clause-step g c =
     let b = c.self.inside in
-    let v = b.ballots.verifier in
-    let x = judge g.S.Scheme.meaning g.S.PublicKey.Ord.cmp g.S.Signature.PartialEq.eq g.D.PartialEq.eq (round_with b.ballots) in
+    let x = round_config g.S.Scheme.meaning g.S.PublicKey.Ord.cmp g.S.Signature.PartialEq.eq g.D.PartialEq.eq (round_with b.ballots) in
     let old = (round_with b.ballots).holds in
     let s = g.R.Rng.stream c.args.rng.now in
     let one = c.construct.new.self in
@@ -91,59 +87,40 @@ returns-clause-step g c =
     let t = g.R.Rng.stream c.construct-3.new.rng in
     let result = c.construct-3.result in
     let not_second : is_ready_in x old Nullification ≡ false =
-    subst (λ r. is_ready_in (judge g.S.Scheme.meaning g.S.PublicKey.Ord.cmp g.S.Signature.PartialEq.eq g.D.PartialEq.eq r)
+    subst (λ r. is_ready_in (round_config g.S.Scheme.meaning g.S.PublicKey.Ord.cmp g.S.Signature.PartialEq.eq g.D.PartialEq.eq r)
     r.holds Nullification ≡ false) same_one no_second in
     let stream = idle_two.2 ∙ idle.2 in
     let ready : IfOk result (λ given. is_some given ≡ is_ready_in x old Finalization) =
-    subst (λ r. IfOk result (λ given. is_some given ≡ is_ready_in (judge g.S.Scheme.meaning g.S.PublicKey.Ord.cmp g.S.Signature.PartialEq.eq g.D.PartialEq.eq r)
+    subst (λ r. IfOk result (λ given. is_some given ≡ is_ready_in (round_config g.S.Scheme.meaning g.S.PublicKey.Ord.cmp g.S.Signature.PartialEq.eq
+    g.D.PartialEq.eq r)
     r.holds Finalization)) same_two c.construct-3.ensures.ready in
     let tries : IfGiven result (λ batch. TriesHeld x old Finalization s batch new t) =
     subst (λ z. IfGiven result (λ batch. TriesHeld x old Finalization z batch new t)) stream
-    (subst (λ r. IfGiven result (λ batch. TriesHeld (judge g.S.Scheme.meaning g.S.PublicKey.Ord.cmp g.S.Signature.PartialEq.eq g.D.PartialEq.eq r)
+    (subst (λ r. IfGiven result (λ batch. TriesHeld (round_config g.S.Scheme.meaning g.S.PublicKey.Ord.cmp g.S.Signature.PartialEq.eq g.D.PartialEq.eq r)
     r.holds Finalization (g.R.Rng.stream c.construct-2.new.rng) batch new t)) same_two
     c.construct-3.ensures.tries) in
     let none : is_ready_in x old Finalization ≡ false → (new ≡ old) × (t ≡ s) = λ h.
     let last = c.construct-3.ensures.none
-    (subst (λ r. is_ready_in (judge g.S.Scheme.meaning g.S.PublicKey.Ord.cmp g.S.Signature.PartialEq.eq g.D.PartialEq.eq r)
+    (subst (λ r. is_ready_in (round_config g.S.Scheme.meaning g.S.PublicKey.Ord.cmp g.S.Signature.PartialEq.eq g.D.PartialEq.eq r)
     r.holds Finalization ≡ false) (sym same_two) h) in
     (ap (λ r. r.holds) (same_round two c.construct-3.new.self last.1 (c.construct-3.ensures.all.0, c.construct-3.ensures.all.1) ∙ same_two), last.2 ∙ stream) in
     rw (← c.self.view_is) (finalization_tried x old new s t b.forwarded result no_first not_second ready tries none)
 
 pub returns-in-Some-clause-meets : goal.returns-in-Some-clause-meets
 returns-in-Some-clause-meets g c =
-    let b = c.self.inside in
-    let v = b.ballots.verifier in
-    let x = judge g.S.Scheme.meaning g.S.PublicKey.Ord.cmp g.S.Signature.PartialEq.eq g.D.PartialEq.eq (round_with b.ballots) in
-    let old = (round_with b.ballots).holds in
-    let s = g.R.Rng.stream c.args.rng.now in
-    let laws : HasLaws x = record {
-      scheme = g.met.S.Scheme.lawful v.scheme;
-      some_participant = c.self.invariant;
-      digests_equal = g.met.D.Digest.identical;
-      digests_same = g.met.D.Eq.laws.refl;
-    } in
-    let held : Held g.row.S-Signature.Denot g.row.D.Denot = record { tracked = b.ballots.tracker.holds; buffered = v.holds; forwarded = b.forwarded } in
     let step = rw (← c.self.view_is) at (returns-in-Some-clause-step g c) in
     let certifies = rw (← c.self.view_is) at (returns-in-Some-clause-certifies g c) in
-    rw (← c.self.view_is) (λ past stands. construct_follows x laws past held s _ (Some c.in-Some.batch) _ stands c.in_ok-batch.ensures.sound certifies step)
+    rw (← c.self.view_is) (λ past represents.
+    construct_simulates _ (laws_by _ (g.met.S.Scheme.lawful _) c.self.invariant g.met.D.Digest.identical g.met.D.Eq.laws.refl) past _ _ _
+    (Some c.in-Some.batch) _ represents c.in_ok-batch.ensures.sound certifies step)
 
 pub returns-in-Some-2-clause-meets : goal.returns-in-Some-2-clause-meets
 returns-in-Some-2-clause-meets g c =
-    let b = c.self.inside in
-    let v = b.ballots.verifier in
-    let x = judge g.S.Scheme.meaning g.S.PublicKey.Ord.cmp g.S.Signature.PartialEq.eq g.D.PartialEq.eq (round_with b.ballots) in
-    let old = (round_with b.ballots).holds in
-    let s = g.R.Rng.stream c.args.rng.now in
-    let laws : HasLaws x = record {
-      scheme = g.met.S.Scheme.lawful v.scheme;
-      some_participant = c.self.invariant;
-      digests_equal = g.met.D.Digest.identical;
-      digests_same = g.met.D.Eq.laws.refl;
-    } in
-    let held : Held g.row.S-Signature.Denot g.row.D.Denot = record { tracked = b.ballots.tracker.holds; buffered = v.holds; forwarded = b.forwarded } in
     let step = rw (← c.self.view_is) at (returns-in-Some-2-clause-step g c) in
     let certifies = rw (← c.self.view_is) at (returns-in-Some-2-clause-certifies g c) in
-    rw (← c.self.view_is) (λ past stands. construct_follows x laws past held s _ (Some c.in-Some-2.batch) _ stands c.in_ok-batch.ensures.sound certifies step)
+    rw (← c.self.view_is) (λ past represents.
+    construct_simulates _ (laws_by _ (g.met.S.Scheme.lawful _) c.self.invariant g.met.D.Digest.identical g.met.D.Eq.laws.refl) past _ _ _
+    (Some c.in-Some-2.batch) _ represents c.in_ok-batch.ensures.sound certifies step)
 
 both_ok : {X Y : Type 0} (r : Result X Y) (P Q R : X → Type 0) → ((v : X) → P v → Q v → R v)
     → IfOk r P → IfOk r Q → IfOk r R
@@ -154,69 +131,44 @@ pub returns-clause-meets : goal.returns-clause-meets
 returns-clause-meets g c =
     let b = c.self.inside in
     let v = b.ballots.verifier in
-    let x = judge g.S.Scheme.meaning g.S.PublicKey.Ord.cmp g.S.Signature.PartialEq.eq g.D.PartialEq.eq (round_with b.ballots) in
-    let old = (round_with b.ballots).holds in
+    let x = round_config g.S.Scheme.meaning g.S.PublicKey.Ord.cmp g.S.Signature.PartialEq.eq g.D.PartialEq.eq (round_with b.ballots) in
     let s = g.R.Rng.stream c.args.rng.now in
-    let laws : HasLaws x = record {
-      scheme = g.met.S.Scheme.lawful v.scheme;
-      some_participant = c.self.invariant;
-      digests_equal = g.met.D.Digest.identical;
-      digests_same = g.met.D.Eq.laws.refl;
-    } in
-    let held : Held g.row.S-Signature.Denot g.row.D.Denot = record { tracked = b.ballots.tracker.holds; buffered = v.holds; forwarded = b.forwarded } in
+    let laws = laws_by x (g.met.S.Scheme.lawful v.scheme) c.self.invariant g.met.D.Digest.identical g.met.D.Eq.laws.refl in
+    let held : RoundState g.row.S-Signature.Denot g.row.D.Denot = record { tracked = b.ballots.tracker.holds; buffered = v.holds; forwarded = b.forwarded } in
     let after = c.construct-3.new.self in
-    let new : Held g.row.S-Signature.Denot g.row.D.Denot = record { tracked = after.tracker.holds; buffered = after.verifier.holds; forwarded = b.forwarded } in
+    let new : RoundState g.row.S-Signature.Denot g.row.D.Denot = record {
+      tracked = after.tracker.holds;
+      buffered = after.verifier.holds;
+      forwarded =
+          b.forwarded;
+    } in
     let t = g.R.Rng.stream c.construct-3.new.rng in
     let step = rw (← c.self.view_is) at (returns-clause-step g c) in
     let certifies = rw (← c.self.view_is) at (returns-clause-certifies g c) in
     rw (← c.self.view_is)
-    (λ past stands.
+    (λ past represents.
     both_ok c.construct-3.result (λ answer. AfterConstruct x held s answer new t)
     (λ answer. IfSome answer (λ batch. IfSome batch.certificate (λ certificate. certifies_itself x.meaning certificate ≡ true)))
-    (λ answer. Follows x past held (ConstructCall, ConstructAnswer answer) new)
-    (λ answer step certifies. construct_follows x laws past held s t answer new stands c.in_ok-batch.ensures.sound certifies step) step certifies)
+    (λ answer. Simulates x past held (ConstructCall, ConstructAnswer answer) new)
+    (λ answer step certifies. construct_simulates x laws past held s t answer new represents c.in_ok-batch.ensures.sound certifies step) step certifies)
 
 pub returns-in_err-batch-clause-needed : goal.returns-in_err-batch-clause-needed
 returns-in_err-batch-clause-needed g c =
-    let b = c.self.inside in
-    let v = b.ballots.verifier in
-    let x = judge g.S.Scheme.meaning g.S.PublicKey.Ord.cmp g.S.Signature.PartialEq.eq g.D.PartialEq.eq (round_with b.ballots) in
-    let laws : HasLaws x = record {
-      scheme = g.met.S.Scheme.lawful v.scheme;
-      some_participant = c.self.invariant;
-      digests_equal = g.met.D.Digest.identical;
-      digests_same = g.met.D.Eq.laws.refl;
-    } in
-    let held : Held g.row.S-Signature.Denot g.row.D.Denot = record { tracked = b.ballots.tracker.holds; buffered = v.holds; forwarded = b.forwarded } in
     let no_memory = rw (← c.self.view_is) at (returns-in_err-batch-clause-no_memory g c) in
-    rw (← c.self.view_is) (λ past stands. construct_needed x laws past held c.from_residual.result stands no_memory)
+    rw (← c.self.view_is) (λ past represents.
+    construct_needed _ (laws_by _ (g.met.S.Scheme.lawful _) c.self.invariant g.met.D.Digest.identical g.met.D.Eq.laws.refl) past _
+    c.from_residual.result represents no_memory)
 
 pub returns-in_err-batch-2-clause-needed : goal.returns-in_err-batch-2-clause-needed
 returns-in_err-batch-2-clause-needed g c =
-    let b = c.self.inside in
-    let v = b.ballots.verifier in
-    let x = judge g.S.Scheme.meaning g.S.PublicKey.Ord.cmp g.S.Signature.PartialEq.eq g.D.PartialEq.eq (round_with b.ballots) in
-    let laws : HasLaws x = record {
-      scheme = g.met.S.Scheme.lawful v.scheme;
-      some_participant = c.self.invariant;
-      digests_equal = g.met.D.Digest.identical;
-      digests_same = g.met.D.Eq.laws.refl;
-    } in
-    let held : Held g.row.S-Signature.Denot g.row.D.Denot = record { tracked = b.ballots.tracker.holds; buffered = v.holds; forwarded = b.forwarded } in
     let no_memory = rw (← c.self.view_is) at (returns-in_err-batch-2-clause-no_memory g c) in
-    rw (← c.self.view_is) (λ past stands. construct_needed x laws past held c.from_residual-in_err-batch-2.result stands no_memory)
+    rw (← c.self.view_is) (λ past represents.
+    construct_needed _ (laws_by _ (g.met.S.Scheme.lawful _) c.self.invariant g.met.D.Digest.identical g.met.D.Eq.laws.refl) past _
+    c.from_residual-in_err-batch-2.result represents no_memory)
 
 pub returns-clause-needed : goal.returns-clause-needed
 returns-clause-needed g c =
-    let b = c.self.inside in
-    let v = b.ballots.verifier in
-    let x = judge g.S.Scheme.meaning g.S.PublicKey.Ord.cmp g.S.Signature.PartialEq.eq g.D.PartialEq.eq (round_with b.ballots) in
-    let laws : HasLaws x = record {
-      scheme = g.met.S.Scheme.lawful v.scheme;
-      some_participant = c.self.invariant;
-      digests_equal = g.met.D.Digest.identical;
-      digests_same = g.met.D.Eq.laws.refl;
-    } in
-    let held : Held g.row.S-Signature.Denot g.row.D.Denot = record { tracked = b.ballots.tracker.holds; buffered = v.holds; forwarded = b.forwarded } in
     let no_memory = rw (← c.self.view_is) at (returns-clause-no_memory g c) in
-    rw (← c.self.view_is) (λ past stands. construct_needed x laws past held c.construct-3.result stands no_memory)
+    rw (← c.self.view_is) (λ past represents.
+    construct_needed _ (laws_by _ (g.met.S.Scheme.lawful _) c.self.invariant g.met.D.Digest.identical g.met.D.Eq.laws.refl) past _
+    c.construct-3.result represents no_memory)

@@ -1,11 +1,11 @@
-use Rattle.std.proofs.Common.{◌≡◌, ◌∙◌, Bool, true, false, not, is_some, rules, ap, sym, refl, arith}
+use Rattle.std.proofs.Common.{◌≡◌, ◌∙◌, Bool, true, false, not, is_some, ap, sym, refl, arith}
 use Rattle.batcher_types.specs.declared.messages.Proposal.{Proposal}
-use Rattle.batcher_types.specs.Votes.{same_proposal}
 use Rattle.batcher_types.specs.declared.messages.Kind.TheVariants.{Notarization, Finalization}
+use Rattle.batcher_types.proofs.VoteLemmas.{same_proposal-refl}
 use Rattle.batcher_votes.specs.declared.verifier.ProposalState.{ProposalState}
 use Rattle.batcher_votes.specs.declared.verifier.ProposalState.TheVariants.{Unknown, Leader as LeadersProposal, Certificate as FixedProposal}
-use Rattle.batcher_votes.specs.Selected.{proposal_of, updated, same_selected, replaces}
-use Rattle.batcher_votes.specs.Held.{of_kind}
+use Rattle.batcher_votes.specs.ProposalStates.{proposal_of, updated, same_selected, replaces}
+use Rattle.batcher_votes.specs.RoundState.{of_kind}
 use Rattle.batcher_votes.proofs.VerifierLemmas.RestoredVotes.{replaced_by, fixed_now, room_after, none_came, fixes_alone, within_alone, fixes_both, within_both, once_kept, kinds_kept}
 use Rattle.batcher_round.proofs.round.ballots.fix_proposal.Goals as goal
 
@@ -16,14 +16,11 @@ some_fixed (LeadersProposal q) p = refl
 some_fixed (FixedProposal q) p = refl
 
 module _ {D : Type 0} (same : D → D → Bool) (reflexive : (a : D) → same a a ≡ true) where
-  same_self : (p : Proposal D) → same_proposal same p p ≡ true
-  same_self p = let payload = reflexive p.payload in search rules
-
   unchanged : (s : ProposalState D) → false
       ≡ not (same_selected same (proposal_of s) (proposal_of s))
   unchanged Unknown = refl
-  unchanged (LeadersProposal p) = ap not (sym (same_self p))
-  unchanged (FixedProposal p) = ap not (sym (same_self p))
+  unchanged (LeadersProposal p) = ap not (sym (same_proposal-refl same reflexive p))
+  unchanged (FixedProposal p) = ap not (sym (same_proposal-refl same reflexive p))
 
 pub restore-requires-clause-proposals : goal.restore-requires-clause-proposals
 restore-requires-clause-proposals g c = refl
@@ -33,10 +30,10 @@ restore-requires-clause-selected g c =
     ap (λ s. is_some (proposal_of s)) c.set_proposal-update.ensures.sets.selection_is ∙ some_fixed c.args.verifier.now.holds.selection c.in-Some.proposal
 
 pub restore-requires-clause-kinds : goal.restore-requires-clause-kinds
-restore-requires-clause-kinds g c = kinds_kept c.args.tracker.now.holds Notarization _ c.iter_notarizes.ensures.each c.iter_notarizes.ensures.votes
+restore-requires-clause-kinds g c = kinds_kept c.args.tracker.now.holds Notarization _ c.iter_kept.ensures.each c.iter_kept.ensures.votes
 
 pub restore-requires-clause-once : goal.restore-requires-clause-once
-restore-requires-clause-once g c = once_kept c.args.tracker.now.holds Notarization _ c.iter_notarizes.ensures.each c.iter_notarizes.ensures.votes
+restore-requires-clause-once g c = once_kept c.args.tracker.now.holds Notarization _ c.iter_kept.ensures.each c.iter_kept.ensures.votes
 
 pub restore-requires-clause-none_wait : goal.restore-requires-clause-none_wait
 restore-requires-clause-none_wait g c = c.set_proposal-update.ensures.none_wait c.if-update.true Notarization refl
@@ -52,7 +49,7 @@ restore-requires-clause-room g c =
     room_after same c.in-Some.proposal (of_kind old.certified Notarization) _ (proposal_of u.new.self.holds.selection) _
     (of_kind c.args.tracker.now.holds.kept Notarization) (of_kind c.args.verifier.now.pending_room Notarization) _
     (u.ensures.sets.buffers Notarization).certified (ap proposal_of u.ensures.sets.selection_is ∙ fixed_now same old.selection c.in-Some.proposal replaced)
-    c.iter_notarizes.ensures.votes
+    c.iter_kept.ensures.votes
     (u.ensures.room.pending Notarization) (c.requires c.in-Some.proposal c.in-Some.is replaced Notarization refl)
 
 pub restore-requires-then-update-clause-proposals :
@@ -65,10 +62,12 @@ restore-requires-then-update-clause-selected g c =
     ∙ some_fixed c.args.verifier.now.holds.selection c.in-Some.proposal
 
 pub restore-requires-then-update-clause-kinds : goal.restore-requires-then-update-clause-kinds
-restore-requires-then-update-clause-kinds g c = kinds_kept c.args.tracker.now.holds Finalization _ c.iter_finalizes.ensures.each c.iter_finalizes.ensures.votes
+restore-requires-then-update-clause-kinds g c = kinds_kept c.args.tracker.now.holds Finalization _ c.iter_kept-then-update.ensures.each
+    c.iter_kept-then-update.ensures.votes
 
 pub restore-requires-then-update-clause-once : goal.restore-requires-then-update-clause-once
-restore-requires-then-update-clause-once g c = once_kept c.args.tracker.now.holds Finalization _ c.iter_finalizes.ensures.each c.iter_finalizes.ensures.votes
+restore-requires-then-update-clause-once g c = once_kept c.args.tracker.now.holds Finalization _ c.iter_kept-then-update.ensures.each
+    c.iter_kept-then-update.ensures.votes
 
 pub restore-requires-then-update-clause-none_wait :
     goal.restore-requires-then-update-clause-none_wait
@@ -88,7 +87,7 @@ restore-requires-then-update-clause-room g c =
     (of_kind c.args.tracker.now.holds.kept Finalization) (of_kind c.args.verifier.now.pending_room Finalization) _
     ((c.restore.ensures.buffers Finalization).certified ∙ (u.ensures.sets.buffers Finalization).certified)
     (ap proposal_of (c.restore.ensures.selection ∙ u.ensures.sets.selection_is) ∙ fixed_now same old.selection c.in-Some.proposal replaced)
-    c.iter_finalizes.ensures.votes
+    c.iter_kept-then-update.ensures.votes
     (omega (arith, u.ensures.room.pending Finalization, c.restore.ensures.room.pending Finalization refl))
     (c.requires c.in-Some.proposal c.in-Some.is replaced Finalization refl)
 
@@ -105,7 +104,7 @@ returns-then-update-clause-fixes g c =
     rw c.in-Some.is
     (fixes_both same c.args.tracker.now.holds old u.new.self.holds c.in-Some.proposal u.ensures.sets c.restore.new.self.holds
     c.restore-then-update.new.self.holds
-    replaced _ _ c.iter_notarizes.ensures.votes c.iter_finalizes.ensures.votes
+    replaced _ _ c.iter_kept.ensures.votes c.iter_kept-then-update.ensures.votes
     r.leader r.selection r.buffers s.leader s.selection s.buffers)
 
 pub returns-else-update-clause-fixes : goal.returns-else-update-clause-fixes
@@ -130,9 +129,9 @@ returns-then-update-clause-within g c =
     let s = c.restore-then-update.ensures in
     λ within. within_both same c.args.tracker.now.holds old u.new.self.holds c.in-Some.proposal u.ensures.sets c.restore.new.self.holds
     c.restore-then-update.new.self.holds
-    replaced _ _ c.iter_notarizes.ensures.votes c.iter_finalizes.ensures.votes
-    r.leader r.selection r.buffers s.leader s.selection s.buffers (u.ensures.none_wait c.if-update.true) c.iter_notarizes.ensures.each
-    c.iter_finalizes.ensures.each within
+    replaced _ _ c.iter_kept.ensures.votes c.iter_kept-then-update.ensures.votes
+    r.leader r.selection r.buffers s.leader s.selection s.buffers (u.ensures.none_wait c.if-update.true) c.iter_kept.ensures.each
+    c.iter_kept-then-update.ensures.each within
 
 pub returns-else-update-clause-within : goal.returns-else-update-clause-within
 returns-else-update-clause-within g c =

@@ -2,10 +2,10 @@ use Rattle.std.proofs.Common.{◌≡◌, ◌∙◌, ◌+◌, ◌≤◌, ◌||◌
 use Rattle.batcher_types.specs.declared.messages.Kind.TheVariants.{Notarization, Finalization}
 use Rattle.batcher_types.specs.Lists.{count}
 use Rattle.batcher_types.proofs.PlaceLemmas.{none_below}
-use Rattle.batcher_votes.specs.Held.{Held}
-use Rattle.batcher_votes.specs.Tracking.{is_seen_for, observed}
+use Rattle.batcher_votes.specs.RoundState.{RoundState}
+use Rattle.batcher_votes.specs.TrackerSteps.{is_seen_for, observed}
 use Rattle.batcher_histories.specs.Steps.{has_block}
-use Rattle.batcher_histories.proofs.Right.Missing.{missing_one, missing_none}
+use Rattle.batcher_histories.proofs.Correctness.Missing.{missing_one, missing_none}
 use Rattle.batcher_round.proofs.round.ballots.missing_among.Goals as goal
 use Rattle.batcher_round.proofs.round.ballots.missing_among.Goals.{then-is_ok, else-is_ok, then-not-has_block_at, else-not-has_block_at}
 
@@ -27,7 +27,7 @@ loop-index-preserved g c =
     let next = subst (λ n. count (λ s. nat_lt s (n + 1)) signers ≡ c.loop-index.lower + cond (is_ok c.place_after-place.result) 1 0)
     c.from_usize-participant.ensures c.place_after-place.ensures.next in
     let seen = c.has_block_at.ensures i.0 c.place_after-place.ensures.place in
-    let block : (held : Held g.row.G.Denot g.row.D.Denot) → held.tracked ≡ c.args.tracker.now.holds
+    let block : (held : RoundState g.row.G.Denot g.row.D.Denot) → held.tracked ≡ c.args.tracker.now.holds
     → has_block same held i.0 p ≡ c.has_block_at.result = λ held is.
     ap (λ t. is_seen_for same p (observed t Notarization i.0) || is_seen_for same p (observed t Finalization i.0)) is ∙ sym seen in
     let lower : c.if-is_ok.lower ≡ count (λ s. nat_lt s (c.loop-index.index + 1)) signers = elim c.if-is_ok.branch [

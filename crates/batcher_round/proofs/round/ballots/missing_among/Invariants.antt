@@ -1,12 +1,12 @@
 use Rattle.std.proofs.Common.{◌≡◌, ◌≤◌, length, nat_lt, vec_capacity}
 use Rattle.batcher_types.specs.Lists.{count}
-use Rattle.batcher_votes.specs.Held.{Held}
+use Rattle.batcher_votes.specs.RoundState.{RoundState}
 use Rattle.batcher_histories.specs.Steps.{missing_in}
 use Rattle.batcher_round.proofs.round.ballots.missing_among.Given as goal
 
 abbrev pub invariant-loop-index : goal.invariant-loop-index
 invariant-loop-index g l = record {
-  found : (held : Held g.row.G.Denot g.row.D.Denot) → held.tracked ≡ l.tracker.holds
+  found : (held : RoundState g.row.G.Denot g.row.D.Denot) → held.tracked ≡ l.tracker.holds
       → l.missing.items ≡ missing_in g.D.PartialEq.eq held l.proposal l.index;
   lower : l.lower ≡ count (λ s. nat_lt s l.index) l.tracker.signers;
   low : l.lower ≤ l.index;

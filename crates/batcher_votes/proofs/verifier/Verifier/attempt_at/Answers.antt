@@ -1,5 +1,5 @@
 use Rattle.std.proofs.Common.{◌≡◌, Some}
-use Rattle.batcher_votes.specs.Held.{of_kind}
+use Rattle.batcher_votes.specs.RoundState.{of_kind}
 use Rattle.batcher_votes.specs.Certifications.{pending_of, verified_of, held_by}
 use Rattle.batcher_votes.specs.Verifiers.{subject_ready}
 use Rattle.batcher_votes.proofs.VerifierLemmas.KindChanges.{of_mapped}

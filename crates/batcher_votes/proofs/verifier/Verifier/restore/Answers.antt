@@ -1,8 +1,8 @@
 use Rattle.std.proofs.Common.{◌≡◌, ◌∙◌, ◌++◌, [], cond, filter, Some, ap, sym}
 use Rattle.batcher_types.specs.declared.messages.Kind.{Kind}
-use Rattle.batcher_types.specs.Votes.{is_kind, waits}
-use Rattle.batcher_votes.specs.Selected.{proposal_of}
-use Rattle.batcher_votes.specs.Buffering.{Buffers}
+use Rattle.batcher_types.specs.Votes.{is_kind, is_eligible}
+use Rattle.batcher_votes.specs.ProposalStates.{proposal_of}
+use Rattle.batcher_votes.specs.VerifierSteps.{Buffers}
 use Rattle.batcher_votes.specs.Kinds.{with_kind}
 use Rattle.batcher_votes.specs.Certifications.{is_complete, pending_of, verified_of, held_by}
 use Rattle.batcher_votes.proofs.VerifierLemmas.KindChanges.{restores}
@@ -23,7 +23,7 @@ returns-in-Some-clause-buffers g c =
     rw (← c.self.view_is)
     (restores_buffers same held _ kind p c.args.votes
     (restores v.leader v.proposal v.kinds kind c.restore.new.self same p c.args.votes (c.restore.ensures.complete ∙ ap is_complete own)
-    (c.restore.ensures.pending ∙ ap (λ one. pending_of one ++ cond (is_complete one) [] (filter (waits same (Some p)) c.args.votes)) own)
+    (c.restore.ensures.pending ∙ ap (λ one. pending_of one ++ cond (is_complete one) [] (filter (is_eligible same (Some p)) c.args.votes)) own)
     (c.restore.ensures.verified ∙ ap verified_of own))
     selected (λ kind. tidy_from m same v.round held kind (c.self.invariant.kinds kind)))
 

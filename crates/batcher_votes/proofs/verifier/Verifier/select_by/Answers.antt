@@ -1,9 +1,9 @@
 use Rattle.std.proofs.Common.{◌≡◌, ◌∙◌, true, not, None, is_some, refl, ap, sym}
-use Rattle.batcher_votes.specs.Selected.{proposal_of}
-use Rattle.batcher_votes.specs.Buffering.{leaders_vote}
+use Rattle.batcher_votes.specs.ProposalStates.{proposal_of}
+use Rattle.batcher_votes.specs.VerifierSteps.{leaders_vote}
 use Rattle.batcher_votes.specs.Certifications.{held_by}
 use Rattle.batcher_votes.proofs.VerifierLemmas.Soundness.{tidy_from}
-use Rattle.batcher_votes.proofs.VerifierLemmas.WaitingVotes.{sets_same, selects_again, some_copied}
+use Rattle.batcher_votes.proofs.VerifierLemmas.EligibleVotes.{sets_same, selects_again, some_copied}
 use Rattle.batcher_votes.proofs.verifier.Verifier.select_by.Goals as goal
 
 pub returns-in_default-clause-sets : goal.returns-in_default-clause-sets

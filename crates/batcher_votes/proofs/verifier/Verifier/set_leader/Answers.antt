@@ -1,7 +1,7 @@
 use Rattle.std.proofs.Common.{refl}
 use Rattle.batcher_votes.specs.Certifications.{held_by}
 use Rattle.batcher_votes.proofs.VerifierLemmas.Soundness.{tidy_from}
-use Rattle.batcher_votes.proofs.VerifierLemmas.WaitingVotes.{sets_same}
+use Rattle.batcher_votes.proofs.VerifierLemmas.EligibleVotes.{sets_same}
 use Rattle.batcher_votes.proofs.verifier.Verifier.set_leader.Goals as goal
 
 pub returns-in-None-clause-sets : goal.returns-in-None-clause-sets

@@ -1,13 +1,13 @@
 use Rattle.std.proofs.Common.{◌∙◌, filter, Some, ap, sym}
 use Rattle.batcher_types.specs.declared.messages.Kind.TheVariants.{Nullification as TheNullification}
-use Rattle.batcher_types.specs.Votes.{waits}
-use Rattle.batcher_votes.specs.Selected.{proposal_of, updated}
-use Rattle.batcher_votes.specs.Buffering.{SetsProposal}
+use Rattle.batcher_types.specs.Votes.{is_eligible}
+use Rattle.batcher_votes.specs.ProposalStates.{proposal_of, updated}
+use Rattle.batcher_votes.specs.VerifierSteps.{SetsProposal}
 use Rattle.batcher_votes.specs.Certifications.{is_complete, pending_of, verified_of, held_by}
 use Rattle.batcher_votes.proofs.VerifierLemmas.KindChanges.{retains}
 use Rattle.batcher_votes.proofs.VerifierLemmas.Soundness.{nullifies_stay, sound_sets, tidy_from}
 use Rattle.batcher_votes.proofs.VerifierLemmas.RestoredVotes.{none_wait}
-use Rattle.batcher_votes.proofs.VerifierLemmas.WaitingVotes.{no_change, a_change, changed_so, other_too, some_copied, still_selected, sets_same, sets_changed}
+use Rattle.batcher_votes.proofs.VerifierLemmas.EligibleVotes.{no_change, a_change, changed_so, other_too, some_copied, still_selected, sets_same, sets_changed}
 use Rattle.batcher_votes.proofs.verifier.Verifier.set_proposal.Goals as goal
 
 pub returns-in-None-clause-sets : goal.returns-in-None-clause-sets
@@ -38,11 +38,11 @@ returns-in-Some-clause-sets g c =
     after p (a_change _ (proposal_of after) p (sym found)) (λ kind. tidy_from m same v.round held kind (c.self.invariant.kinds kind))
     (retains v.leader after v.kinds same p c.retain.new.self c.retain-in-Some.new.self
     (c.retain.ensures.complete ∙ ap is_complete c.get_mut.ensures.value)
-    (c.retain.ensures.pending ∙ ap (λ one. filter (waits same (Some p)) (pending_of one)) c.get_mut.ensures.value)
-    (c.retain.ensures.verified ∙ ap (λ one. filter (waits same (Some p)) (verified_of one)) c.get_mut.ensures.value)
+    (c.retain.ensures.pending ∙ ap (λ one. filter (is_eligible same (Some p)) (pending_of one)) c.get_mut.ensures.value)
+    (c.retain.ensures.verified ∙ ap (λ one. filter (is_eligible same (Some p)) (verified_of one)) c.get_mut.ensures.value)
     (c.retain-in-Some.ensures.complete ∙ ap is_complete c.get_mut-in-Some.ensures.value)
-    (c.retain-in-Some.ensures.pending ∙ ap (λ one. filter (waits same (Some p)) (pending_of one)) c.get_mut-in-Some.ensures.value)
-    (c.retain-in-Some.ensures.verified ∙ ap (λ one. filter (waits same (Some p)) (verified_of one)) c.get_mut-in-Some.ensures.value)
+    (c.retain-in-Some.ensures.pending ∙ ap (λ one. filter (is_eligible same (Some p)) (pending_of one)) c.get_mut-in-Some.ensures.value)
+    (c.retain-in-Some.ensures.verified ∙ ap (λ one. filter (is_eligible same (Some p)) (verified_of one)) c.get_mut-in-Some.ensures.value)
     (nullifies_stay same v.round (proposal_of v.proposal) p (pending_of v.kinds.nullify) nullifies.pending)
     (nullifies_stay same v.round (proposal_of v.proposal) p (verified_of v.kinds.nullify) nullifies.verified)))
 

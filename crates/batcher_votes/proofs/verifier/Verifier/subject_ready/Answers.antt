@@ -1,5 +1,5 @@
 use Rattle.std.proofs.Common.{◌≡◌, ◌∙◌, sym}
-use Rattle.batcher_votes.specs.Buffering.{is_ready}
+use Rattle.batcher_votes.specs.VerifierSteps.{is_ready}
 use Rattle.batcher_votes.specs.Certifications.{is_complete, pending_of, verified_of, held_by}
 use Rattle.batcher_votes.proofs.VerifierLemmas.KindChanges.{of_mapped}
 use Rattle.batcher_votes.proofs.VerifierLemmas.Construction.{ready_some, some_left}
@@ -14,7 +14,7 @@ returns-clause-ready g c =
     let kind = c.args.kind in
     let ready : c.is_ready.result ≡ is_ready same m.batchable v.quorum held kind
     = rw (of_mapped is_complete v.kinds kind, of_mapped verified_of v.kinds kind, of_mapped pending_of v.kinds kind)
-    (rw (c.get.ensures, rw (← c.self.view_is) at c.waits_for_any-any_proposal.ensures, ← (c.is_batchable.ensures v.scheme.value)) at c.is_ready.ensures) in
+    (rw (c.get.ensures, rw (← c.self.view_is) at c.eligible_for_any-any_proposal.ensures, ← (c.is_batchable.ensures v.scheme.value)) at c.is_ready.ensures) in
     rw (← c.self.view_is)
     (some_left _ _ _ (ready_some same v.round m v.quorum held kind c.self.invariant) (sym ready ∙ c.if-not-is_ready.false)
     (rw (← c.self.view_is) at c.subject_tried.ensures))

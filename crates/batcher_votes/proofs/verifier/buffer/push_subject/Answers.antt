@@ -1,7 +1,7 @@
 use Rattle.std.proofs.Common.{◌≡◌, ◌<◌, ◌+◌, ◌-◌, ◌∙◌, ap, sym, length, arith}
 use Rattle.batcher_types.specs.Votes.{subject_of}
 use Rattle.batcher_types.proofs.VoteLemmas.{same_subject-true}
-use Rattle.batcher_votes.proofs.VerifierLemmas.Runs.{same_item, spread-grow}
+use Rattle.batcher_votes.proofs.VerifierLemmas.Runs.{same_item, subjects_of_runs-grow}
 use Rattle.batcher_votes.proofs.verifier.buffer.push_subject.Goals as goal
 
 pub returns-then-is_about-clause-subjects : goal.returns-then-is_about-clause-subjects
@@ -13,4 +13,5 @@ returns-then-is_about-clause-subjects g c =
     let same = same_subject-true g.D.PartialEq.eq g.met.D.Digest.identical _ _ (sym c.is_about.ensures ∙ c.if-is_about.true) in
     let one = same_item runs.items last c.index_mut.result.now c.index-then-index-lt18446744073709551615.result.now below c.index_mut.ensures.value
     c.index-then-index-lt18446744073709551615.ensures in
-    spread-grow runs.items last c.index_mut.result.now (subject_of c.args.vote.now) long c.index_mut.ensures.value (ap (λ run. run.subject) one ∙ same)
+    subjects_of_runs-grow runs.items last c.index_mut.result.now (subject_of c.args.vote.now) long c.index_mut.ensures.value
+    (ap (λ run. run.subject) one ∙ same)

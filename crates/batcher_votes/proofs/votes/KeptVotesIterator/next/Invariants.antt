@@ -1,6 +1,6 @@
 use Rattle.std.proofs.Common.{◌≡◌, length}
 use Rattle.std.specs.List.{filter_map}
-use Rattle.batcher_votes.specs.Held.{of_kind}
+use Rattle.batcher_votes.specs.RoundState.{of_kind}
 use Rattle.batcher_votes.specs.Entries.{part, vote_at, votes_in}
 use Rattle.batcher_votes.proofs.votes.KeptVotesIterator.next.Given as goal
 

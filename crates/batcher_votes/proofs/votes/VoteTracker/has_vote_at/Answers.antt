@@ -1,6 +1,6 @@
 use Rattle.std.proofs.Common.{◌∙◌, ap, sym, refl, nat_eq, find}
-use Rattle.batcher_votes.specs.Held.{of_kind}
-use Rattle.batcher_votes.specs.Tracking.{is_seen_for}
+use Rattle.batcher_votes.specs.RoundState.{of_kind}
+use Rattle.batcher_votes.specs.TrackerSteps.{is_seen_for}
 use Rattle.batcher_votes.specs.Entries.{key_of, marks_of, observed_seen, votes_in}
 use Rattle.batcher_votes.proofs.TrackerLemmas.RecordVote.{observed_found}
 use Rattle.batcher_votes.proofs.votes.VoteTracker.has_vote_at.Goals as goal

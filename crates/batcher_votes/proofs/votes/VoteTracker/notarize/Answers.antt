@@ -11,6 +11,6 @@ returns g c =
     let es = c.self.inside.entries.items in
     let i = c.args.signer.0 in
     rw (← c.self.view_is)
-    (c.notarize.ensures ∙ ap (λ s. vote_at votes.notarize s) c.seen_of-seen.ensures.seen
-    ∙ sym (kept_vote_found marks votes es Notarization i (find (λ e. nat_eq (key_of e) i) es) c.seen_of-seen.ensures.ascending
+    (c.notarize.ensures ∙ ap (λ s. vote_at votes.notarize s) (c.seen_at-seen.ensures.seen i c.place-place.ensures.place)
+    ∙ sym (kept_vote_found marks votes es Notarization i (find (λ e. nat_eq (key_of e) i) es) c.seen_at-seen.ensures.ascending
     (c.self.invariant.kinds Notarization).each refl))

@@ -2,8 +2,8 @@ use Rattle.std.proofs.Common.{◌≡◌, ◌∙◌, true, false, nat_eq, length,
 use Rattle.std.proofs.lemmas.Bool.{false≢true, lt-ltb}
 use Rattle.std.specs.Option.{option_copied}
 use Rattle.batcher_types.specs.Votes.{signer_of, kind_of}
-use Rattle.batcher_votes.specs.Held.{of_kind}
-use Rattle.batcher_votes.specs.Entries.{marks_of, key_of, part, seen_in, has_place, compared, seen_outcome, is_selected_in, tested, tracked_by, votes_in}
+use Rattle.batcher_votes.specs.RoundState.{of_kind}
+use Rattle.batcher_votes.specs.Entries.{marks_of, key_of, part, seen_in, has_index, compared, seen_outcome, is_selected_in, tested, tracked_by, votes_in}
 use Rattle.batcher_votes.proofs.TrackerLemmas.PutEntry.{count_few}
 use Rattle.batcher_votes.proofs.TrackerLemmas.RecordVote.{known_entry, seen_known, recorded_none, recorded_compared, recorded_full, tracked_compared, tracked_full, outcome_found, outcome_first, outcome_kept, seen_compacted}
 use Rattle.batcher_votes.proofs.votes.VoteTracker.record_at.Goals as goal
@@ -20,7 +20,7 @@ returns-then-is_kept g c =
     let seen : c.seen_at-seen.result ≡ seen_in (kind_of c.args.vote.now) (find (λ e. nat_eq (key_of e) (signer_of c.args.vote.now)) c.self.inside.entries.items)
     = c.seen_at-seen.ensures.seen (signer_of vote) place ∙ ap (λ k. seen_in k o) c.kind-kind.ensures in
     let in_range = lt-ltb _ _ (rw (← c.self.view_is) at c.requires.range) in
-    let has = ap has_place (sym seen) ∙ sym c.is_kept.ensures ∙ c.if-is_kept.true in
+    let has = ap has_index (sym seen) ∙ sym c.is_kept.ensures ∙ c.if-is_kept.true in
     record {
       outcome =
           rw (← c.self.view_is)
@@ -60,7 +60,7 @@ returns-in_err-make_room_at-clause-repeated g c =
     let o = find (λ e. nat_eq (key_of e) (signer_of c.args.vote.now)) c.self.inside.entries.items in
     let seen : c.seen_at-seen.result ≡ seen_in (kind_of c.args.vote.now) (find (λ e. nat_eq (key_of e) (signer_of c.args.vote.now)) c.self.inside.entries.items)
     = c.seen_at-seen.ensures.seen i place ∙ ap (λ k. seen_in k o) c.kind-kind.ensures in
-    let none = ap has_place (sym seen) ∙ sym c.is_kept.ensures ∙ c.if-is_kept.false in
+    let none = ap has_index (sym seen) ∙ sym c.is_kept.ensures ∙ c.if-is_kept.false in
     rw (← c.self.view_is)
     (λ before.
     let on = seen_compacted g.D.PartialEq.eq marks votes es (option_copied c.args.proposal) vote up (λ kind. c.self.invariant.kinds kind) o refl none before in
@@ -138,7 +138,7 @@ overflow_cast-next g c =
     let kind = c.kind-kind.result in
     let kept = c.len.ensures ∙ ap (λ v. length (of_kind v c.kind-kind.result)) c.make_room_at.ensures.votes in
     let counted = (c.self.invariant.kinds c.kind-kind.result).counted in
-    let few = count_few (λ e. has_place (part c.kind-kind.result e)) c.self.inside.entries.items in
+    let few = count_few (λ e. has_index (part c.kind-kind.result e)) c.self.inside.entries.items in
     omega (arith, kept, counted, few, c.seen_at-seen.ensures.few, c.self.invariant.few)
 
 pub invariant_of-self-2 : goal.invariant_of-self-2
@@ -152,7 +152,7 @@ invariant_of-self-2 g c =
     let o = find (λ e. nat_eq (key_of e) (signer_of c.args.vote.now)) c.self.inside.entries.items in
     let seen : c.seen_at-seen.result ≡ seen_in (kind_of c.args.vote.now) (find (λ e. nat_eq (key_of e) (signer_of c.args.vote.now)) c.self.inside.entries.items)
     = c.seen_at-seen.ensures.seen (signer_of vote) place ∙ ap (λ k. seen_in k o) c.kind-kind.ensures in
-    let none = ap has_place (sym seen) ∙ sym c.is_kept.ensures ∙ c.if-is_kept.false in
+    let none = ap has_index (sym seen) ∙ sym c.is_kept.ensures ∙ c.if-is_kept.false in
     let off : of_kind (marks_of c.self.inside.compacted) (kind_of c.args.vote.now) ≡ false =
     ap (of_kind marks) (sym c.kind-kind.ensures) ∙ sym c.of-is_compacted.ensures ∙ c.if-is_compacted.false in
     let length_is : c.len.result ≡ length (of_kind (votes_in c.self.inside.kept) (kind_of c.args.vote.now)) =
@@ -175,7 +175,7 @@ returns g c =
     let seen : c.seen_at-seen.result ≡ seen_in (kind_of c.args.vote.now) (find (λ e. nat_eq (key_of e) (signer_of c.args.vote.now)) c.self.inside.entries.items)
     = c.seen_at-seen.ensures.seen (signer_of vote) place ∙ ap (λ k. seen_in k o) c.kind-kind.ensures in
     let in_range = lt-ltb _ _ (rw (← c.self.view_is) at c.requires.range) in
-    let none = ap has_place (sym seen) ∙ sym c.is_kept.ensures ∙ c.if-is_kept.false in
+    let none = ap has_index (sym seen) ∙ sym c.is_kept.ensures ∙ c.if-is_kept.false in
     let off : of_kind (marks_of c.self.inside.compacted) (kind_of c.args.vote.now) ≡ false =
     ap (of_kind marks) (sym c.kind-kind.ensures) ∙ sym c.of-is_compacted.ensures ∙ c.if-is_compacted.false in
     let length_is : c.len.result ≡ length (of_kind (votes_in c.self.inside.kept) (kind_of c.args.vote.now)) =

@@ -1,12 +1,12 @@
 use Rattle.std.proofs.Common.{◌≡◌, ◌∙◌, true, nat_lt, Ok, arith, ap, refl, sym}
 use Rattle.std.proofs.lemmas.Bool.Decides.{nat_tests}
 use Rattle.batcher_types.specs.Votes.{kind_of, signer_of, subject_of, attestation_of}
-use Rattle.batcher_votes.specs.Buffering.{MayFix}
-use Rattle.batcher_votes.specs.Sound.{WaitsWhereKept}
-use Rattle.batcher_votes.specs.Tracking.{observed, is_seen}
-use Rattle.batcher_histories.specs.Setting.{setting}
+use Rattle.batcher_votes.specs.VerifierSteps.{MayFix}
+use Rattle.batcher_votes.specs.Soundness.{BuffersOnlyKept}
+use Rattle.batcher_votes.specs.TrackerSteps.{observed, is_seen}
+use Rattle.batcher_histories.specs.Config.{config}
 use Rattle.batcher_histories.specs.Steps.{own_result, fixed_by}
-use Rattle.batcher_histories.proofs.Right.Admission.{not_buffered}
+use Rattle.batcher_histories.proofs.Correctness.Admission.{not_buffered}
 use Rattle.batcher_round.proofs.OwnVotes.{held_by, recordable, kept_new, accepted, right_accepted, right_kept}
 use Rattle.batcher_round.proofs.round.ballots.Ballots.accept.Goals as goal
 
@@ -15,7 +15,7 @@ unwrap-requires g c =
     let b = c.self.inside in
     let same = g.D.PartialEq.eq in
     let m = g.S.Scheme.meaning b.verifier.scheme in
-    let x = setting m g.S.PublicKey.Ord.cmp g.S.Signature.PartialEq.eq same b.verifier.number b.tracker.mode in
+    let x = config m g.S.PublicKey.Ord.cmp g.S.Signature.PartialEq.eq same b.verifier.number b.tracker.mode in
     let vote = c.args.vote.now in
     let outcome = c.in_ok-outcome.outcome in
     let told = rw (← c.self.view_is) at c.own_result.ensures in
@@ -24,12 +24,12 @@ unwrap-requires g c =
     recordable x b.tracker b.verifier.holds vote outcome result c.record_at.result roomy.room c.record_at.ensures.with_room
     (λ seen. c.record_at.ensures.repeated (ap (λ h. is_seen (observed h (kind_of vote) (signer_of vote))) roomy.grows.2 ∙ seen))
 
-pub take-requires-clause-fresh : goal.take-requires-clause-fresh
-take-requires-clause-fresh g c =
+pub add_reserved-requires-clause-fresh : goal.add_reserved-requires-clause-fresh
+add_reserved-requires-clause-fresh g c =
     let b = c.self.inside in
     let same = g.D.PartialEq.eq in
     let m = g.S.Scheme.meaning b.verifier.scheme in
-    let x = setting m g.S.PublicKey.Ord.cmp g.S.Signature.PartialEq.eq same b.verifier.number b.tracker.mode in
+    let x = config m g.S.PublicKey.Ord.cmp g.S.Signature.PartialEq.eq same b.verifier.number b.tracker.mode in
     let vote = c.args.vote.now in
     let outcome = c.in_ok-outcome.outcome in
     let told = rw (← c.self.view_is) at c.own_result.ensures in
@@ -45,9 +45,9 @@ take-requires-clause-fresh g c =
     let below : nat_lt (signer_of vote) c.reserve_to_record.new.tracker.participants ≡ true =
     rw (roomy.grows.0.1, c.self.invariant.bound) (grind (arith, nat_tests, signer)) in
     let took = rw c.unwrap.ensures at c.record_at.ensures.outcome in
-    let within_old : WaitsWhereKept c.reserve_to_record.new.tracker.holds c.make_room.new.self.holds =
+    let within_old : BuffersOnlyKept c.reserve_to_record.new.tracker.holds c.make_room.new.self.holds =
     rw (made.holds, reserved.grows.2, roomy.grows.2) c.self.invariant.within in
-    let within : WaitsWhereKept b.tracker.holds fixed = rw roomy.grows.2 at (c.fix_proposal.ensures.within within_old) in
+    let within : BuffersOnlyKept b.tracker.holds fixed = rw roomy.grows.2 at (c.fix_proposal.ensures.within within_old) in
     let s = c.fix_proposal.ensures.same in
     let new = kept_new x b.tracker b.verifier.holds vote outcome result c.reserve_to_record.new.tracker fixed _ _ roomy.grows.2 fixes_it below
     c.proposal-selected.ensures took
@@ -60,7 +60,7 @@ invariant_of-self-then-is_kept g c =
     let b = c.self.inside in
     let same = g.D.PartialEq.eq in
     let m = g.S.Scheme.meaning b.verifier.scheme in
-    let x = setting m g.S.PublicKey.Ord.cmp g.S.Signature.PartialEq.eq same b.verifier.number b.tracker.mode in
+    let x = config m g.S.PublicKey.Ord.cmp g.S.Signature.PartialEq.eq same b.verifier.number b.tracker.mode in
     let vote = c.args.vote.now in
     let outcome = c.in_ok-outcome.outcome in
     let told = rw (← c.self.view_is) at c.own_result.ensures in
@@ -76,23 +76,23 @@ invariant_of-self-then-is_kept g c =
     let below : nat_lt (signer_of vote) c.reserve_to_record.new.tracker.participants ≡ true =
     rw (roomy.grows.0.1, c.self.invariant.bound) (grind (arith, nat_tests, signer)) in
     let took = rw c.unwrap.ensures at c.record_at.ensures.outcome in
-    let within_old : WaitsWhereKept c.reserve_to_record.new.tracker.holds c.make_room.new.self.holds =
+    let within_old : BuffersOnlyKept c.reserve_to_record.new.tracker.holds c.make_room.new.self.holds =
     rw (made.holds, reserved.grows.2, roomy.grows.2) c.self.invariant.within in
-    let within : WaitsWhereKept b.tracker.holds fixed = rw roomy.grows.2 at (c.fix_proposal.ensures.within within_old) in
+    let within : BuffersOnlyKept b.tracker.holds fixed = rw roomy.grows.2 at (c.fix_proposal.ensures.within within_old) in
     let s = c.fix_proposal.ensures.same in
     let records = rw c.unwrap.ensures at c.record_at.ensures.records in
-    rw (c.take.ensures.same.0, s.0, made.same.0, reserved.grows.0.0, c.take.ensures.same.2, s.2, made.same.2, reserved.grows.0.2)
+    rw (c.add_reserved.ensures.same.0, s.0, made.same.0, reserved.grows.0.0, c.add_reserved.ensures.same.2, s.2, made.same.2, reserved.grows.0.2)
     (right_kept x b.tracker b.verifier.holds vote outcome result c.reserve_to_record.new.tracker fixed _ _ roomy.grows.2 fixes_it below
     c.proposal-selected.ensures took
     c.record_at.new.self records b.verifier.quorum c.self.invariant within roomy.grows.0 c.record_at.ensures.participants c.record_at.ensures.mode
-    c.take.new.self.holds (sym c.is_kept-2.ensures ∙ c.if-is_kept.true) c.take.ensures.adds)
+    c.add_reserved.new.self.holds (sym c.is_kept-2.ensures ∙ c.if-is_kept.true) c.add_reserved.ensures.adds)
 
 pub invariant_of-self-else-is_kept : goal.invariant_of-self-else-is_kept
 invariant_of-self-else-is_kept g c =
     let b = c.self.inside in
     let same = g.D.PartialEq.eq in
     let m = g.S.Scheme.meaning b.verifier.scheme in
-    let x = setting m g.S.PublicKey.Ord.cmp g.S.Signature.PartialEq.eq same b.verifier.number b.tracker.mode in
+    let x = config m g.S.PublicKey.Ord.cmp g.S.Signature.PartialEq.eq same b.verifier.number b.tracker.mode in
     let vote = c.args.vote.now in
     let outcome = c.in_ok-outcome.outcome in
     let told = rw (← c.self.view_is) at c.own_result.ensures in
@@ -108,9 +108,9 @@ invariant_of-self-else-is_kept g c =
     let below : nat_lt (signer_of vote) c.reserve_to_record.new.tracker.participants ≡ true =
     rw (roomy.grows.0.1, c.self.invariant.bound) (grind (arith, nat_tests, signer)) in
     let took = rw c.unwrap.ensures at c.record_at.ensures.outcome in
-    let within_old : WaitsWhereKept c.reserve_to_record.new.tracker.holds c.make_room.new.self.holds =
+    let within_old : BuffersOnlyKept c.reserve_to_record.new.tracker.holds c.make_room.new.self.holds =
     rw (made.holds, reserved.grows.2, roomy.grows.2) c.self.invariant.within in
-    let within : WaitsWhereKept b.tracker.holds fixed = rw roomy.grows.2 at (c.fix_proposal.ensures.within within_old) in
+    let within : BuffersOnlyKept b.tracker.holds fixed = rw roomy.grows.2 at (c.fix_proposal.ensures.within within_old) in
     let s = c.fix_proposal.ensures.same in
     let records = rw c.unwrap.ensures at c.record_at.ensures.records in
     rw (s.0, made.same.0, reserved.grows.0.0, s.2, made.same.2, reserved.grows.0.2)
@@ -123,7 +123,7 @@ returns-then-is_kept-clause-step g c =
     let b = c.self.inside in
     let same = g.D.PartialEq.eq in
     let m = g.S.Scheme.meaning b.verifier.scheme in
-    let x = setting m g.S.PublicKey.Ord.cmp g.S.Signature.PartialEq.eq same b.verifier.number b.tracker.mode in
+    let x = config m g.S.PublicKey.Ord.cmp g.S.Signature.PartialEq.eq same b.verifier.number b.tracker.mode in
     let vote = c.args.vote.now in
     let outcome = c.in_ok-outcome.outcome in
     let told = rw (← c.self.view_is) at c.own_result.ensures in
@@ -144,14 +144,14 @@ returns-then-is_kept-clause-step g c =
     rw (← c.self.view_is)
     (accepted x b.tracker b.verifier.holds vote outcome result c.reserve_to_record.new.tracker fixed _ _ roomy.grows.2 fixes_it below
     c.proposal-selected.ensures took
-    c.record_at.new.self records c.take.new.self.holds (rw kept c.take.ensures.adds))
+    c.record_at.new.self records c.add_reserved.new.self.holds (rw kept c.add_reserved.ensures.adds))
 
 pub returns-else-is_kept-clause-step : goal.returns-else-is_kept-clause-step
 returns-else-is_kept-clause-step g c =
     let b = c.self.inside in
     let same = g.D.PartialEq.eq in
     let m = g.S.Scheme.meaning b.verifier.scheme in
-    let x = setting m g.S.PublicKey.Ord.cmp g.S.Signature.PartialEq.eq same b.verifier.number b.tracker.mode in
+    let x = config m g.S.PublicKey.Ord.cmp g.S.Signature.PartialEq.eq same b.verifier.number b.tracker.mode in
     let vote = c.args.vote.now in
     let outcome = c.in_ok-outcome.outcome in
     let told = rw (← c.self.view_is) at c.own_result.ensures in

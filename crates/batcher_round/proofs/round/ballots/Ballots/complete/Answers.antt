@@ -2,12 +2,12 @@ use Rattle.std.proofs.Common.{◌≡◌, ◌∙◌, ◌&&◌, not, ap, subst, re
 use Rattle.batcher_types.specs.declared.messages.Kind.{Kind}
 use Rattle.batcher_types.specs.declared.messages.Kind.TheVariants.{Notarization, Finalization}
 use Rattle.batcher_types.specs.Votes.{is_kind, kind_certified}
-use Rattle.batcher_votes.specs.Selected.{proposal_of, same_selected}
-use Rattle.batcher_votes.specs.Tracking.{ReleasesKind, is_released_in}
-use Rattle.batcher_votes.specs.Buffering.{MayFix, CompletesKind}
-use Rattle.batcher_histories.specs.Setting.{setting}
-use Rattle.batcher_histories.proofs.Right.Own.{right_certified, within_complete}
-use Rattle.batcher_histories.proofs.Right.Room.{no_room_with, room_left}
+use Rattle.batcher_votes.specs.ProposalStates.{proposal_of, same_selected}
+use Rattle.batcher_votes.specs.TrackerSteps.{ReleasesKind, is_released_in}
+use Rattle.batcher_votes.specs.VerifierSteps.{MayFix, CompletesKind}
+use Rattle.batcher_histories.specs.Config.{config}
+use Rattle.batcher_histories.proofs.Correctness.Own.{right_certified, within_complete}
+use Rattle.batcher_histories.proofs.Correctness.Room.{no_room_with, room_left}
 use Rattle.batcher_round.proofs.round.ballots.Ballots.complete.Goals as goal
 use Rattle.batcher_votes.proofs.VerifierLemmas.FixedProposal.{finalization_for}
 
@@ -17,15 +17,15 @@ invariant_of-self-2 g c =
     let same = g.D.PartialEq.eq in
     let kind = c.kind-kind.result in
     let made = c.in_ok-reserve_to_fix.ensures in
-    let completes : CompletesKind same b.verifier.holds kind c.record_certificate.new.self.holds = subst
-    (λ h. CompletesKind same h kind c.record_certificate.new.self.holds) made.grows.2 c.record_certificate.ensures.completes in
+    let completes : CompletesKind same b.verifier.holds kind c.complete_kind.new.self.holds = subst
+    (λ h. CompletesKind same h kind c.complete_kind.new.self.holds) made.grows.2 c.complete_kind.ensures.completes in
     let f = c.fix_proposal-changed.ensures in
     let new = c.fix_proposal-changed.new.verifier.holds in
     let within = f.within
-    (within_complete (g.S.Scheme.meaning b.verifier.scheme) same b.tracker c.release.new.self b.verifier.holds c.record_certificate.new.self.holds new
+    (within_complete (g.S.Scheme.meaning b.verifier.scheme) same b.tracker c.release.new.self b.verifier.holds c.complete_kind.new.self.holds new
     b.verifier.quorum kind c.proposal-proposal.result (proposal_of new.selection) c.self.invariant completes f.fixes) in
-    rw (f.same.0, c.record_certificate.ensures.same.0, made.grows.0.0, f.same.2, c.record_certificate.ensures.same.2, made.grows.0.2)
-    (right_certified (g.S.Scheme.meaning b.verifier.scheme) same b.tracker c.release.new.self b.verifier.holds c.record_certificate.new.self.holds
+    rw (f.same.0, c.complete_kind.ensures.same.0, made.grows.0.0, f.same.2, c.complete_kind.ensures.same.2, made.grows.0.2)
+    (right_certified (g.S.Scheme.meaning b.verifier.scheme) same b.tracker c.release.new.self b.verifier.holds c.complete_kind.new.self.holds
     c.fix_proposal-changed.new.verifier.holds b.verifier.quorum kind
     c.proposal-proposal.result _ c.self.invariant completes f.fixes within c.release.ensures.participants c.release.ensures.mode
     c.release.ensures.releases c.release.ensures.others
@@ -38,10 +38,10 @@ fix_proposal-changed-requires g c =
     let same = g.D.PartialEq.eq in
     let kind = c.kind-kind.result in
     let made = c.in_ok-reserve_to_fix.ensures in
-    let completes : CompletesKind same b.verifier.holds kind c.record_certificate.new.self.holds = subst
-    (λ h. CompletesKind same h kind c.record_certificate.new.self.holds) made.grows.2 c.record_certificate.ensures.completes in
-    room_left same b.verifier.holds c.record_certificate.new.self.holds kind b.tracker.holds.kept c.proposal-proposal.result _ _ _ _ completes
-    c.record_certificate.ensures.room made.room
+    let completes : CompletesKind same b.verifier.holds kind c.complete_kind.new.self.holds = subst
+    (λ h. CompletesKind same h kind c.complete_kind.new.self.holds) made.grows.2 c.complete_kind.ensures.completes in
+    room_left same b.verifier.holds c.complete_kind.new.self.holds kind b.tracker.holds.kept c.proposal-proposal.result _ _ _ _ completes
+    c.complete_kind.ensures.room made.room
 
 pub returns-clause-step : goal.returns-clause-step
 returns-clause-step g c =
@@ -50,11 +50,11 @@ returns-clause-step g c =
     let made = c.in_ok-reserve_to_fix.ensures in
     let old = b.verifier.holds in
     let certificate = c.args.certificate.now in
-    let completed = c.record_certificate.new.self.holds in
+    let completed = c.complete_kind.new.self.holds in
     let new = c.fix_proposal-changed.new.verifier.holds in
     let completes : CompletesKind same old (kind_certified certificate) completed =
     subst (λ h. CompletesKind same h (kind_certified certificate) completed) made.grows.2
-    (subst (λ k. CompletesKind same c.reserve_to_fix.new.verifier.holds k completed) c.kind-kind.ensures c.record_certificate.ensures.completes) in
+    (subst (λ k. CompletesKind same c.reserve_to_fix.new.verifier.holds k completed) c.kind-kind.ensures c.complete_kind.ensures.completes) in
     let before : proposal_of completed.selection ≡ proposal_of old.selection = ap proposal_of completes.selection in
     let answer = c.is_selected_anew.ensures ∙ ap (λ k. is_kind Notarization k && c.fix_proposal-changed.result) c.kind-kind.ensures
     ∙ ap (λ d. is_kind Notarization (kind_certified certificate) && d)
@@ -81,7 +81,7 @@ pub returns-in_err-reserve_to_fix-clause-no_memory :
     goal.returns-in_err-reserve_to_fix-clause-no_memory
 returns-in_err-reserve_to_fix-clause-no_memory g c =
     let b = c.self.inside in
-    let x = setting (g.S.Scheme.meaning b.verifier.scheme) g.S.PublicKey.Ord.cmp g.S.Signature.PartialEq.eq g.D.PartialEq.eq b.verifier.number b.tracker.mode in
+    let x = config (g.S.Scheme.meaning b.verifier.scheme) g.S.PublicKey.Ord.cmp g.S.Signature.PartialEq.eq g.D.PartialEq.eq b.verifier.number b.tracker.mode in
     rw (← c.self.view_is)
     (λ none.
     let wrong =

@@ -2,9 +2,9 @@ use Rattle.std.proofs.Common.{◌∙◌, ap, sym, refl, is_some}
 use Rattle.std.proofs.lemmas.Bool.{false≢true, and_parts, not-true}
 use Rattle.batcher_votes.specs.declared.votes.Mode.TheVariants.{Retaining}
 use Rattle.batcher_votes.proofs.VerifierLemmas.FixedProposal.{made_for}
-use Rattle.batcher_histories.specs.Setting.{setting}
+use Rattle.batcher_histories.specs.Config.{config}
 use Rattle.batcher_histories.specs.Steps.{Fixes}
-use Rattle.batcher_histories.proofs.Right.Attempt.{right_without, right_given}
+use Rattle.batcher_histories.proofs.Correctness.Attempt.{right_without, right_given}
 use Rattle.batcher_round.proofs.OwnCertificates.{made_is, takes_none, fixes_only}
 use Rattle.batcher_round.proofs.round.ballots.Ballots.construct.Goals as goal
 use Rattle.batcher_round.proofs.round.ballots.Ballots.construct.Goals.{in-Some-certificate, in_default-certificate}
@@ -26,7 +26,7 @@ invariant_of-self-in-Some-certificate g c =
     let tries = rw c.in-Some.is at c.in_ok-batch.ensures.tries in
     let ready = sym c.in_ok-batch.ensures.ready ∙ ap is_some c.in-Some.is in
     let was = not-true _ ((and_parts _ _ ready).0) in
-    let x = setting (g.S.Scheme.meaning left.scheme) g.S.PublicKey.Ord.cmp g.S.Signature.PartialEq.eq g.D.PartialEq.eq left.number Retaining in
+    let x = config (g.S.Scheme.meaning left.scheme) g.S.PublicKey.Ord.cmp g.S.Signature.PartialEq.eq g.D.PartialEq.eq left.number Retaining in
     let made = made_is m g.D.PartialEq.eq g.met.D.Eq.laws.refl b.verifier.number b.verifier.quorum b.verifier.holds left.holds c.args.kind _ _ c.in-Some.batch
     tries c.in-Some-certificate.certificate c.in-Some-certificate.is c.proposal-proposal.result c.proposal-proposal.ensures in
     let fixes : Fixes x left.holds c.proposal-proposal.result c.fix_proposal.new.verifier.holds =
@@ -58,7 +58,7 @@ returns-clause-tries g c =
     let b = c.self.inside in
     let m = g.S.Scheme.meaning b.verifier.scheme in
     let left = c.try_construct.new.self in
-    let x = setting m g.S.PublicKey.Ord.cmp g.S.Signature.PartialEq.eq g.D.PartialEq.eq b.verifier.number b.tracker.mode in
+    let x = config m g.S.PublicKey.Ord.cmp g.S.Signature.PartialEq.eq g.D.PartialEq.eq b.verifier.number b.tracker.mode in
     let tries = rw c.in-Some.is at c.in_ok-batch.ensures.tries in
     let by_quorum = rw c.self.invariant.quorum_is at tries in
     elim c.match-batch.branch [

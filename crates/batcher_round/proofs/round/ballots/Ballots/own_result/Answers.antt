@@ -1,8 +1,8 @@
 use Rattle.std.proofs.Common.{◌≡◌, ◌∙◌, Bool, false, Option, is_some, ap, sym}
-use Rattle.batcher_votes.specs.Selected.{proposal_of, fixes}
-use Rattle.batcher_votes.specs.Tracking.{shown, observed_opposite}
+use Rattle.batcher_votes.specs.ProposalStates.{proposal_of, fixes}
+use Rattle.batcher_votes.specs.TrackerSteps.{shown, observed_opposite}
 use Rattle.batcher_histories.specs.Steps.{fixed_by}
-use Rattle.batcher_histories.proofs.Right.Own.{fixed_some, fixed_none, own_result_of}
+use Rattle.batcher_histories.proofs.Correctness.Own.{fixed_some, fixed_none, own_result_of}
 use Rattle.batcher_round.proofs.round.ballots.Ballots.own_result.Goals as goal
 use Rattle.batcher_round.proofs.round.ballots.Ballots.own_result.Goals.{in-Some, in-None}
 

@@ -1,9 +1,9 @@
 use Rattle.std.proofs.Common.{◌∙◌, ap, false, is_some, refl}
-use Rattle.batcher_votes.specs.Buffering.{leader_answer}
-use Rattle.batcher_histories.specs.Setting.{setting}
-use Rattle.batcher_votes.specs.Held.{Held}
-use Rattle.batcher_histories.proofs.Follow.Resting.{leader_step}
-use Rattle.batcher_histories.proofs.Right.Kept.{right_led, led_by}
+use Rattle.batcher_votes.specs.VerifierSteps.{leader_answer}
+use Rattle.batcher_histories.specs.Config.{config}
+use Rattle.batcher_votes.specs.RoundState.{RoundState}
+use Rattle.batcher_histories.proofs.Simulation.Resting.{leader_step}
+use Rattle.batcher_histories.proofs.Correctness.Kept.{right_led, led_by}
 use Rattle.batcher_round.proofs.round.ballots.Ballots.set_leader.Goals as goal
 
 pub invariant_of-self : goal.invariant_of-self
@@ -23,8 +23,8 @@ returns-clause-answer g c =
 pub returns-clause-step : goal.returns-clause-step
 returns-clause-step g c =
     let b = c.self.inside in
-    let x = setting (g.S.Scheme.meaning b.verifier.scheme) g.S.PublicKey.Ord.cmp g.S.Signature.PartialEq.eq g.D.PartialEq.eq b.verifier.number b.tracker.mode in
-    let held : Held g.row.S-Signature.Denot g.row.D.Denot = record { tracked = b.tracker.holds; buffered = b.verifier.holds; forwarded = false } in
+    let x = config (g.S.Scheme.meaning b.verifier.scheme) g.S.PublicKey.Ord.cmp g.S.Signature.PartialEq.eq g.D.PartialEq.eq b.verifier.number b.tracker.mode in
+    let held : RoundState g.row.S-Signature.Denot g.row.D.Denot = record { tracked = b.tracker.holds; buffered = b.verifier.holds; forwarded = false } in
     rw (← c.self.view_is)
     (leader_step x held c.args.leader c.notarize-notarize.result c.set_leader.result c.set_leader.new.self.holds c.notarize-notarize.ensures
     c.set_leader.ensures.again (rw c.as_ref.ensures.value at c.set_leader.ensures.sets))

@@ -1,5 +1,5 @@
 use Rattle.std.proofs.Common.{◌≡◌, ◌++◌, length, replicate, rules}
-use Rattle.batcher_votes.specs.Waiting.{spread}
+use Rattle.batcher_votes.specs.BufferView.{subjects_of_runs}
 use Rattle.batcher_votes.proofs.VerifierLemmas.Runs.{append-from, repeat-from, run_joins}
 use Rattle.batcher_votes.proofs.verifier.buffer.Buffer.extend.Goals as goal
 
@@ -9,7 +9,7 @@ invariant_of-self g c =
     let more = c.args.attestations.now in
     let left = c.push_run.ensures.subjects in
     let right : c.extend_from_slice.new.self.items ≡ attestations ++ more = search rules in
-    rw (left, right) (run_joins (spread c.self.inside.runs.items) attestations more c.args.subject c.self.invariant)
+    rw (left, right) (run_joins (subjects_of_runs c.self.inside.runs.items) attestations more c.args.subject c.self.invariant)
 
 pub returns : goal.returns
 returns g c =
@@ -22,7 +22,7 @@ returns g c =
       ← c.self.view_is,
       left,
       right,
-      append-from (spread runs) (replicate (length more) c.args.subject) attestations more c.self.invariant,
+      append-from (subjects_of_runs runs) (replicate (length more) c.args.subject) attestations more c.self.invariant,
       repeat-from
           c.args.subject more,
     )

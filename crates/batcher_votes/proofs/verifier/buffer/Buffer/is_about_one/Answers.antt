@@ -1,7 +1,7 @@
 use Rattle.std.proofs.Common.{sym, ap, ◌∙◌}
 use Rattle.batcher_types.proofs.VoteLemmas.{same_subject-refl}
-use Rattle.batcher_votes.specs.Waiting.{one_subject_in, spread}
-use Rattle.batcher_votes.proofs.VerifierLemmas.Runs.{one-from, one-spread}
+use Rattle.batcher_votes.specs.BufferView.{one_subject_in, subjects_of_runs}
+use Rattle.batcher_votes.proofs.VerifierLemmas.Runs.{one-from, one-subjects_of_runs}
 use Rattle.batcher_votes.proofs.verifier.buffer.Buffer.is_about_one.Goals as goal
 
 pub returns : goal.returns
@@ -10,5 +10,5 @@ returns g c =
     let runs = c.self.inside.runs.items in
     rw (← c.self.view_is)
     (c.about_one.ensures ∙ (ap (one_subject_in same) c.as_slice.ensures.value
-    ∙ (one-spread same (same_subject-refl same g.met.D.Eq.laws.refl) runs
-    ∙ sym (one-from same (spread runs) c.self.inside.attestations.items c.self.invariant))))
+    ∙ (one-subjects_of_runs same (same_subject-refl same g.met.D.Eq.laws.refl) runs
+    ∙ sym (one-from same (subjects_of_runs runs) c.self.inside.attestations.items c.self.invariant))))

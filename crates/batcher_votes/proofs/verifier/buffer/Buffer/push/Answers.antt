@@ -1,6 +1,6 @@
 use Rattle.std.proofs.Common.{◌≡◌, ◌++◌, ◌∷◌, [], rules}
 use Rattle.batcher_types.specs.Votes.{attestation_of}
-use Rattle.batcher_votes.specs.Waiting.{spread}
+use Rattle.batcher_votes.specs.BufferView.{subjects_of_runs}
 use Rattle.batcher_votes.proofs.VerifierLemmas.Runs.{push-from}
 use Rattle.batcher_votes.proofs.verifier.buffer.Buffer.push.Goals as goal
 
@@ -9,4 +9,4 @@ returns-clause-votes g c =
     let left = c.push_subject.ensures.subjects in
     let right : c.push_reserved.new.self.items ≡ c.self.inside.attestations.items ++ attestation_of c.args.vote.now ∷ [] = search rules in
     rw (← c.self.view_is, left, right)
-    (push-from (spread c.self.inside.runs.items) c.self.inside.attestations.items c.args.vote.now c.self.invariant)
+    (push-from (subjects_of_runs c.self.inside.runs.items) c.self.inside.attestations.items c.args.vote.now c.self.invariant)

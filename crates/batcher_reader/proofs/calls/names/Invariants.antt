@@ -1,9 +1,0 @@
-use Rattle.std.proofs.Common.{◌≡◌, ◌<◌, ℕ, get_or, vec_len}
-use Rattle.batcher_types.specs.declared.scheme.keyed.Name.{Name}
-use Rattle.batcher_reader.proofs.calls.names.Given as goal
-
-abbrev pub invariant-loop-number : goal.invariant-loop-number
-invariant-loop-number l = record {
-  count : vec_len l.names ≡ l.number;
-  each : (k : ℕ) (d : Name) → k < l.number → get_or l.names.items k d ≡ record { 0 = k };
-}

@@ -1,6 +1,0 @@
-use Rattle.std.proofs.lemmas.List.Filters.{FiltersInPlace}
-use Rattle.batcher_votes.specs.Waiting.{may_wait}
-use Rattle.batcher_votes.proofs.verifier.buffer.keep_runs.Given as goal
-
-abbrev pub invariant-loop-i : goal.invariant-loop-i
-invariant-loop-i g l = FiltersInPlace (λ run. may_wait g.D.PartialEq.eq l.proposal run.subject) l.initial.runs l.runs l.kept l.i
