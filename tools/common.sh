@@ -24,14 +24,14 @@ sources() {
     \( -name '*.rt' -o -name '*.antt' -o -name '*.edit' -o -name crates.txt \) -print0 | LC_ALL=C sort -z | xargs -0 sha256sum | sha256sum
 }
 
-# Runs a command whose last line is 'N passed, M failed', and adds up what it counts.
-passed=0 failed=0
+# Runs a command whose last line is 'N passed, M failed', and adds up what it counts. 'unmet' has what was said last by
+# each command that failed.
+passed=0 failed=0 unmet=
 count() {
-  local said last
+  local said last before=$failed
   said=$(mktemp)
   "$@" | tee "$said"
   last=$(tail -n 1 "$said")
-  rm -f "$said"
   if [[ $last =~ ^([0-9]+)\ passed,\ ([0-9]+)\ failed$ ]]; then
     passed=$((passed + BASH_REMATCH[1]))
     failed=$((failed + BASH_REMATCH[2]))
@@ -39,4 +39,6 @@ count() {
     echo "$1 did not end in a count"
     failed=$((failed + 1))
   fi
+  [ "$failed" = "$before" ] || unmet+="== $1 failed; its last lines:"$'\n'$(tail -n 20 "$said" | cut -c 1-300)$'\n'
+  rm -f "$said"
 }
