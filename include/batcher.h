@@ -31,7 +31,7 @@ enum batcher_code {
     BATCHER_NONE, /* the handle is empty */
     BATCHER_MALFORMED, /* a code that means nothing, no participant, or not one verdict for each */
     BATCHER_ELSEWHERE, /* of another round; of a node, of another epoch or outside of its window */
-    BATCHER_OUT_OF_MEMORY, /* all is as it was, but for the verdicts of a construction or a list */
+    BATCHER_OUT_OF_MEMORY, /* all is as it was, but for the verdicts of a construction */
     BATCHER_LEADER_CHANGED, /* another leader was named before */
     BATCHER_NOT_VERIFIED, /* an own vote without a verdict that it attests */
     BATCHER_DUPLICATE_NOTARIZE, /* a notarize of its signer is kept */
@@ -143,11 +143,10 @@ uint8_t batcher_round_new(struct batcher_round *round, uint64_t epoch, uint64_t 
 
 void batcher_round_free(struct batcher_round *round);
 
-/* Whether the attestation of a number attests what it is of. */
+/* Whether the attestation of a number attests what it is of. Verdicts on numbers that ascend cost least. */
 uint8_t batcher_round_record_verdict(struct batcher_round *round, uint64_t number, bool attests);
 
-/* The same of each attestation of a list, in their order. OUT_OF_MEMORY: the first ones may be recorded,
- * and the same call can be made again. */
+/* The same of each attestation of a list: of all, or of none. */
 uint8_t batcher_round_record_verdicts(struct batcher_round *round,
                                       const struct batcher_attestation *list, size_t list_length,
                                       const bool *verdicts, size_t verdicts_length);

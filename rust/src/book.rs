@@ -213,11 +213,16 @@ impl<G: Clone + Eq> Book<G> {
         attests: bool,
     ) -> Result<(), Error> {
         let kept = self.kept_mut(kind, &listed);
-        let attests = kept.map_or(attests, |kept| *kept.verdict.get_or_insert(attests));
-        done(library.record_verdict(listed.number, attests))
+        let earlier = kept.as_ref().and_then(|kept| kept.verdict);
+        let attests = earlier.unwrap_or(attests);
+        done(library.record_verdict(listed.number, attests))?;
+        if let Some(kept) = kept {
+            kept.verdict = Some(attests);
+        }
+        Ok(())
     }
 
-    /// Hands in the verdicts on what a step has wanted.
+    /// Hands in the verdicts on what a step has wanted. A refusal for memory changes nothing.
     pub(crate) fn record_verdicts(
         &mut self,
         library: &mut impl Library,
@@ -225,21 +230,30 @@ impl<G: Clone + Eq> Book<G> {
         verdicts: &[bool],
     ) -> Result<(), Error> {
         let kind = wanted.subject.kind();
-        let mut count = 0;
-        for (listed, attests) in wanted.listed.iter().zip(verdicts) {
-            let kept = self.kept_mut(kind, listed);
-            count += usize::from(
-                kept.is_some_and(|kept| *kept.verdict.get_or_insert(*attests) == *attests),
-            );
+        let given = || wanted.listed.iter().zip(verdicts);
+        let are_first = given().all(|(listed, attests)| {
+            self.kept(kind, listed)
+                .is_some_and(|kept| kept.verdict.is_none_or(|first| first == *attests))
+        });
+        if are_first {
+            done(library.record_verdicts(&wanted.listed, verdicts))?;
+        } else {
+            // Of two verdicts on one attestation the first counts, and what was forgotten meanwhile
+            // is needed no more.
+            let (mut list, mut firsts) = (Vec::new(), Vec::new());
+            reserve(&mut list, verdicts.len())?;
+            reserve(&mut firsts, verdicts.len())?;
+            for (listed, attests) in given() {
+                if let Some(kept) = self.kept(kind, listed) {
+                    list.push(*listed);
+                    firsts.push(kept.verdict.unwrap_or(*attests));
+                }
+            }
+            done(library.record_verdicts(&list, &firsts))?;
         }
-        if count == verdicts.len() {
-            return done(library.record_verdicts(&wanted.listed, verdicts));
-        }
-        // Of two verdicts on one attestation the first counts, and what was forgotten meanwhile is
-        // needed no more.
-        for listed in &wanted.listed {
-            if let Some(attests) = self.kept(kind, listed).and_then(|kept| kept.verdict) {
-                done(library.record_verdict(listed.number, attests))?;
+        for (listed, attests) in given() {
+            if let Some(kept) = self.kept_mut(kind, listed) {
+                kept.verdict.get_or_insert(*attests);
             }
         }
         Ok(())

@@ -723,13 +723,13 @@ impl<S: Scheme> Node<S> {
     /// Records a verdict on each of the attestations that a step has handed out, in their order.
     /// Then step again. **A verdict can't be taken back, and after false the next batch has its
     /// signer blocked**, unless a certificate comes first. Of two verdicts on one attestation the
-    /// first counts. Those of a view that was finalized meanwhile change nothing. Where the verification failed to run, record
-    /// nothing, and step again.
+    /// first counts. Those of a view that was finalized meanwhile change nothing. Where the
+    /// verification failed to run, record nothing, and step again.
     ///
     /// # Errors
     ///
-    /// `Elsewhere` where they are of another node, and `OutOfMemory`. After that the same call can
-    /// be made again.
+    /// `Elsewhere` where they are of another node, and `OutOfMemory`, where none is recorded and the
+    /// same call can be made again.
     ///
     /// # Panics
     ///

@@ -662,8 +662,8 @@ impl<S: Scheme> Round<S> {
     ///
     /// # Errors
     ///
-    /// `Elsewhere` where they are of another round, and `OutOfMemory`, after which the same call
-    /// can be made again.
+    /// `Elsewhere` where they are of another round, and `OutOfMemory`, where none is recorded and the
+    /// same call can be made again.
     ///
     /// # Panics
     ///

@@ -5,9 +5,10 @@ mod refusing;
 
 use batcher::positions::Round as Number;
 use batcher::{
-    Certificate, Epoch, Mode, Participant, Proposal, Round, Sha256Digest, Step, Subject, View,
+    Certificate, Epoch, Error, Mode, Participant, Proposal, Round, Sha256Digest, Step, Subject,
+    View, Wanted,
 };
-use refusing::{Plain, again, each_refused_in_turn, vote};
+use refusing::{Plain, again, each_refused_in_turn, once, vote};
 
 /// A round with what it has answered, as text.
 struct Player {
@@ -133,5 +134,76 @@ fn a_refusal_changes_nothing() {
                 play(mode, aggregates, granted)
             });
         }
+    }
+}
+
+fn hear_nullify(round: &mut Round<Plain>, signer: u32) {
+    let nullify = vote(Subject::Nullify { round: NUMBER }, signer, true);
+    let admission = round.add_network(&signer, nullify).unwrap();
+    assert!(admission.added);
+}
+
+fn wanted(round: &mut Round<Plain>) -> Wanted<bool> {
+    match round.step() {
+        Ok(Step::Verify(wanted)) => wanted,
+        other => panic!("{other:?}"),
+    }
+}
+
+/// How many votes of the next batch are looked at, and whose are invalid.
+fn processed(round: &mut Round<Plain>) -> (usize, Vec<u32>) {
+    match round.step() {
+        Ok(Step::Made(batch)) => {
+            let invalid = batch.invalid.iter().map(|it| it.get()).collect();
+            (batch.processed, invalid)
+        }
+        other => panic!("{other:?}"),
+    }
+}
+
+/// A verdict can't be taken back, so other ones can be given only where none was recorded.
+#[test]
+fn of_a_refused_list_no_verdict_is_recorded() {
+    for refused in 0.. {
+        let mut round = Round::in_mode(NUMBER, Plain::new(4, false), Mode::Retaining).unwrap();
+        for signer in 0..3 {
+            hear_nullify(&mut round, signer);
+        }
+        let three = wanted(&mut round);
+        let answer = once(&mut Some(refused), || {
+            round.record_verdicts(&three, &[false; 3])
+        });
+        if answer.is_ok() {
+            assert!(refused > 1, "{refused} requests alone");
+            return;
+        }
+        assert_eq!(answer, Err(Error::OutOfMemory));
+        round.record_verdicts(&three, &[true; 3]).unwrap();
+        assert_eq!(processed(&mut round), (3, vec![]));
+    }
+}
+
+/// Nor is one where some have an earlier verdict, and so a lower number.
+#[test]
+fn of_a_refused_list_no_verdict_is_recorded_beside_earlier_ones() {
+    for refused in 0.. {
+        let mut round = Round::in_mode(NUMBER, Plain::new(4, false), Mode::Retaining).unwrap();
+        for signer in 0..3 {
+            hear_nullify(&mut round, signer);
+        }
+        let three = wanted(&mut round);
+        hear_nullify(&mut round, 3);
+        let four = wanted(&mut round);
+        round.record_verdicts(&three, &[true, false, true]).unwrap();
+        let answer = once(&mut Some(refused), || {
+            round.record_verdicts(&four, &[true, true, true, false])
+        });
+        if answer.is_ok() {
+            assert!(refused > 3, "{refused} requests alone");
+            return;
+        }
+        assert_eq!(answer, Err(Error::OutOfMemory));
+        round.record_verdicts(&four, &[true; 4]).unwrap();
+        assert_eq!(processed(&mut round), (4, vec![1]));
     }
 }

@@ -3,7 +3,6 @@ pub mod Truths
 pub mod Rows
 pub mod Flat
 pub mod Output
-pub mod VerdictLists
 pub mod Handles
 pub mod Rounds
 pub mod Nodes

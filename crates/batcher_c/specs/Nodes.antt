@@ -1,5 +1,5 @@
 -- What the calls of a node do and answer, by codes and flat values.
-use Rattle.std.specs.Prelude.{◌≡◌, ◌≢◌, ◌↔◌, ◌≤◌, ◌<◌, ◌==◌, not, ℕ, Bool, true, false, List, [], ◌∷◌, length, take, map, Option, Some, None, IfSome, IsSomeAnd}
+use Rattle.std.specs.Prelude.{◌≡◌, ◌≢◌, ◌↔◌, ◌≤◌, ◌<◌, ◌==◌, not, ℕ, Bool, true, false, List, [], ◌∷◌, length, map, Option, Some, None, IfSome, IsSomeAnd}
 use Rattle.batcher_types.specs.declared.messages.Sha256Digest.{Sha256Digest}
 use Rattle.batcher_types.specs.declared.messages.Activity.{Activity}
 use Rattle.batcher_types.specs.declared.messages.Subject.{Subject}
@@ -16,6 +16,7 @@ use Rattle.batcher_histories.specs.Comparison.{has_block}
 use Rattle.batcher_histories.specs.Steps.{fault_or_memory}
 use Rattle.batcher_histories.specs.Answers.{keeps_nullify, missing_after, own_answer}
 use Rattle.batcher_external.specs.declared.scheme.Content.{Content}
+use Rattle.batcher_external.specs.VerdictLists.{AreRecorded}
 use Rattle.batcher_session.specs.Ledgers.{SameScheme, known_in, known_together, is_known_to_attest}
 use Rattle.batcher_session.specs.Wants.{Asked}
 use Rattle.batcher_node.specs.declared.answers.Receipt.{Receipt}
@@ -38,9 +39,9 @@ use Rattle.batcher_c.specs.declared.flat.FlatAttestation.{FlatAttestation}
 use Rattle.batcher_c.specs.declared.flat.FlatVote.{FlatVote}
 use Rattle.batcher_c.specs.declared.flat.FlatAdmission.{FlatAdmission}
 use Rattle.batcher_c.specs.declared.flat.FlatStep.{FlatStep}
+use Rattle.batcher_c.specs.Truths.{number_attests}
 use Rattle.batcher_c.specs.Flat.{kind_in, cause_in, fault_in, vote_in, subject_in, attestation_in, admission_in, proposal_in}
 use Rattle.batcher_c.specs.Output.{Made, IsWritten, WritesBatch}
-use Rattle.batcher_c.specs.VerdictLists.{AreRecorded}
 use Rattle.batcher_c.specs.Rounds.{is_one_of, refusals, wants, WantsOf, IsReceived}
 
 -- the configuration of a node
@@ -158,15 +159,13 @@ module _ (before : NodeSessionView) (code : ℕ) (after : NodeSessionView) where
     pub scheme : SameScheme before.ledger after.ledger
     pub node : after.node ≡ before.node
 
-  -- a verdict on each of the attestations of a list, as if each were recorded by itself; where
-  -- memory is refused, on so many of the first
+  -- a verdict on each of the attestations of a list, as if each were recorded by itself
   pub record RecordsNodeVerdicts (list : List FlatAttestation) (verdicts : List Bool) : Type 0 where
     pub codes : is_one_of (DONE ∷ MALFORMED ∷ OUT_OF_MEMORY ∷ []) code ≡ true
     pub malformed : (code ≡ MALFORMED) ↔ (length verdicts ≢ length list)
-    pub recorded : code ≡ DONE → AreRecorded before.ledger after.ledger list
-    pub begun : code ≡ OUT_OF_MEMORY
-        → (count : ℕ) × AreRecorded before.ledger after.ledger (take count list)
-    pub stays : code ≡ MALFORMED → after ≡ before
+    pub recorded : code ≡ DONE → AreRecorded number_attests (known_in before.ledger.singles)
+        (known_in after.ledger.singles) (map attestation_in list)
+    pub stays : code ≢ DONE → after ≡ before
     pub together : after.ledger.together ≡ before.ledger.together
     pub scheme : SameScheme before.ledger after.ledger
     pub node : after.node ≡ before.node

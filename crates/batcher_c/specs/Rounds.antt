@@ -1,5 +1,5 @@
 -- What the calls of a round do and answer, by codes and flat values.
-use Rattle.std.specs.Prelude.{◌≡◌, ◌≢◌, ◌↔◌, ◌≤◌, ◌==◌, not, ℕ, Bool, true, false, List, [], ◌∷◌, length, take, map, Option, Some, None, Ok, IfSome, IsSomeAnd}
+use Rattle.std.specs.Prelude.{◌≡◌, ◌≢◌, ◌↔◌, ◌≤◌, ◌==◌, not, ℕ, Bool, true, false, List, [], ◌∷◌, length, map, Option, Some, None, Ok, IfSome, IsSomeAnd}
 use Rattle.std.specs.List.{list_any}
 use Rattle.batcher_types.specs.declared.messages.Sha256Digest.{Sha256Digest}
 use Rattle.batcher_types.specs.declared.positions.Participant.{Participant}
@@ -21,6 +21,7 @@ use Rattle.batcher_histories.specs.Answers.{keeps_nullify, own_answer}
 use Rattle.batcher_round.specs.Next.{subject_next}
 use Rattle.batcher_external.specs.declared.scheme.Content.{Content}
 use Rattle.batcher_external.specs.declared.scheme.Content.TheVariants.{Listed, Received}
+use Rattle.batcher_external.specs.VerdictLists.{AreRecorded}
 use Rattle.batcher_session.specs.Ledgers.{SameScheme, known_in, known_together, is_known_to_attest}
 use Rattle.batcher_session.specs.Sessions.{SessionView, config_by, GoesOn, ForEachHistory, SameRound}
 use Rattle.batcher_session.specs.Wants.{Asked, asked_next}
@@ -33,9 +34,9 @@ use Rattle.batcher_c.specs.declared.flat.FlatAttestation.{FlatAttestation}
 use Rattle.batcher_c.specs.declared.flat.FlatVote.{FlatVote}
 use Rattle.batcher_c.specs.declared.flat.FlatAdmission.{FlatAdmission}
 use Rattle.batcher_c.specs.declared.flat.FlatStep.{FlatStep}
+use Rattle.batcher_c.specs.Truths.{number_attests}
 use Rattle.batcher_c.specs.Flat.{kind_in, fault_in, mode_in, vote_in, subject_in, attestation_in, admission_in, outcome_in, report_in, proposal_in}
 use Rattle.batcher_c.specs.Output.{Made, IsWritten, WritesBatch}
-use Rattle.batcher_c.specs.VerdictLists.{AreRecorded}
 
 abbrev pub is_one_of : List ℕ → ℕ → Bool
 is_one_of codes code = list_any (λ c. c == code) codes
@@ -151,15 +152,13 @@ module _ (before : SessionView) (code : ℕ) (after : SessionView) where
     pub scheme : SameScheme before.ledger after.ledger
     pub round : after.round ≡ before.round
 
-  -- a verdict on each of the attestations of a list, as if each were recorded by itself; where
-  -- memory is refused, on so many of the first
+  -- a verdict on each of the attestations of a list, as if each were recorded by itself
   pub record RecordsVerdicts (list : List FlatAttestation) (verdicts : List Bool) : Type 0 where
     pub codes : is_one_of (DONE ∷ MALFORMED ∷ OUT_OF_MEMORY ∷ []) code ≡ true
     pub malformed : (code ≡ MALFORMED) ↔ (length verdicts ≢ length list)
-    pub recorded : code ≡ DONE → AreRecorded before.ledger after.ledger list
-    pub begun : code ≡ OUT_OF_MEMORY
-        → (count : ℕ) × AreRecorded before.ledger after.ledger (take count list)
-    pub stays : code ≡ MALFORMED → after ≡ before
+    pub recorded : code ≡ DONE → AreRecorded number_attests (known_in before.ledger.singles)
+        (known_in after.ledger.singles) (map attestation_in list)
+    pub stays : code ≢ DONE → after ≡ before
     pub together : after.ledger.together ≡ before.ledger.together
     pub scheme : SameScheme before.ledger after.ledger
     pub round : after.round ≡ before.round

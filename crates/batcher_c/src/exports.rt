@@ -1,12 +1,12 @@
 //! The functions of a round that C calls. Each answers a code of the header.
 
 ghost use Rattle.std.specs.Prelude.{◌≡◌, ⊤, true, map, None};
+ghost use Rattle.batcher_external.specs.VerdictLists.{AreTrue};
 ghost use Rattle.batcher_c.specs.Flat.{attestation_in};
 ghost use Rattle.batcher_c.specs.Handles.{OnRound};
 ghost use Rattle.batcher_c.specs.Rounds.{MakesRound, RecordsVerdict, RecordsVerdicts, RecordsTogether, AddsNetwork, AcceptsVote, RecordsCertificate, SetsLeader, Forwards, AsksLeader, AsksProposal};
 ghost use Rattle.batcher_c.specs.Rounds.{AsksCertificate, AsksNullify, AsksMissing, ListsMissing, Constructs};
 ghost use Rattle.batcher_c.specs.Truths.{number_attests, list_passes, number_certifies};
-ghost use Rattle.batcher_c.specs.VerdictLists.{AreTrue};
 
 use crate::codes::{DONE, MALFORMED, NONE, OUT_OF_MEMORY};
 use crate::flat::{
@@ -76,8 +76,7 @@ pub extern "C" fn batcher_round_record_verdict(
     code
 }
 
-/// Records of each attestation of a list, in their order, whether it attests what it is of. Where
-/// memory is refused, the first ones may be recorded, and the same call can be made again.
+/// Records of each attestation of a list whether it attests what it is of: of all, or of none.
 #[unsafe(no_mangle)]
 pub extern "C" fn batcher_round_record_verdicts(
     round: &mut RoundHandle,
@@ -85,14 +84,14 @@ pub extern "C" fn batcher_round_record_verdicts(
     list: &[FlatAttestation],
     verdicts: &[bool],
 ) -> u8
-    requires { AreTrue list.now verdicts.now }
+    requires { AreTrue number_attests (map attestation_in list.now) verdicts.now }
     ensures { OnRound round.old.value round.new.value result ⊤ (λ before after.
         RecordsVerdicts before result after list.now verdicts.now) }
 {
     let Some(mut session) = round.take(alloc) else {
         return NONE;
     };
-    let code = rounds::record_verdicts(&mut session, list, verdicts);
+    let code = rounds::record_verdicts(&mut session, alloc, list, verdicts);
     round.put(session);
     code
 }

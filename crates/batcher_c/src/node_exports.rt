@@ -2,13 +2,13 @@
 //! header.
 
 ghost use Rattle.std.specs.Prelude.{◌≡◌, ⊤, map, None};
+ghost use Rattle.batcher_external.specs.VerdictLists.{AreTrue};
 ghost use Rattle.batcher_c.specs.Flat.{attestation_in};
 ghost use Rattle.batcher_c.specs.Handles.{OnNode};
 ghost use Rattle.batcher_c.specs.Nodes.{MakesNode, RecordsNodeVerdict, RecordsNodeVerdicts, RecordsNodeTogether, ReceivesVote, ReceivesCertificate, CastsVote, EntersView, FinalizesView, ForwardsInView};
 ghost use Rattle.batcher_c.specs.Nodes.{ConstructsNext, AsksWindow, AsksRoundsKept, ListsBlocked, AsksLeaderOf, AsksProposalOf, AsksCertificateOf, AsksNullifyOf, AsksMissingOf, ListsMissingOf};
 ghost use Rattle.batcher_c.specs.Convictions.{AsksConvicted};
 ghost use Rattle.batcher_c.specs.Truths.{number_attests, list_passes, number_certifies};
-ghost use Rattle.batcher_c.specs.VerdictLists.{AreTrue};
 
 use crate::codes::{DONE, MALFORMED, NONE, OUT_OF_MEMORY};
 use crate::evidence;
@@ -85,8 +85,7 @@ pub extern "C" fn batcher_node_record_verdict(
     code
 }
 
-/// Records of each attestation of a list, in their order, whether it attests what it is of. Where
-/// memory is refused, the first ones may be recorded, and the same call can be made again.
+/// Records of each attestation of a list whether it attests what it is of: of all, or of none.
 #[unsafe(no_mangle)]
 pub extern "C" fn batcher_node_record_verdicts(
     node: &mut NodeHandle,
@@ -94,14 +93,14 @@ pub extern "C" fn batcher_node_record_verdicts(
     list: &[FlatAttestation],
     verdicts: &[bool],
 ) -> u8
-    requires { AreTrue list.now verdicts.now }
+    requires { AreTrue number_attests (map attestation_in list.now) verdicts.now }
     ensures { OnNode node.old.value node.new.value result ⊤ (λ before after.
         RecordsNodeVerdicts before result after list.now verdicts.now) }
 {
     let Some(mut session) = node.take(alloc) else {
         return NONE;
     };
-    let code = nodes::record_verdicts(&mut session, list, verdicts);
+    let code = nodes::record_verdicts(&mut session, alloc, list, verdicts);
     node.put(session);
     code
 }

@@ -1,11 +1,11 @@
 //! The calls of a node, over flat values. Each answers a code.
 
-ghost use Rattle.std.specs.Prelude.{◌≡◌, ◌≢◌, ℕ, true, map, Some};
+ghost use Rattle.std.specs.Prelude.{◌≡◌, ◌≢◌, true, map, Some};
 ghost use Rattle.batcher_histories.specs.declared.answers.OwnFault.{OwnFault as TheFault};
+ghost use Rattle.batcher_external.specs.VerdictLists.{AreTrue};
 ghost use Rattle.batcher_c.specs.Flat.{attestation_in, fault_in};
 ghost use Rattle.batcher_c.specs.Rounds.{is_one_of, refusals};
 ghost use Rattle.batcher_c.specs.Truths.{number_attests, list_passes, number_certifies};
-ghost use Rattle.batcher_c.specs.VerdictLists.{AreTrue};
 ghost use Rattle.batcher_c.specs.Nodes.{RecordsNodeVerdict, RecordsNodeVerdicts, RecordsNodeTogether, ReceivesVote, ReceivesCertificate, CastsVote, EntersView, FinalizesView, ForwardsInView, ConstructsNext};
 ghost use Rattle.batcher_c.specs.Nodes.{AsksWindow, AsksRoundsKept, ListsBlocked, AsksLeaderOf, AsksProposalOf, AsksCertificateOf, AsksNullifyOf, AsksMissingOf, ListsMissingOf};
 
@@ -40,23 +40,26 @@ pub fn record_verdict(node: &mut Node, number: u64, attests: bool) -> u8
     }
 }
 
-/// Records a verdict on each of the attestations of a list, in their order.
-pub fn record_verdicts(node: &mut Node, list: &[FlatAttestation], verdicts: &[bool]) -> u8
-    requires { AreTrue list.now verdicts.now }
+/// Records a verdict on each of the attestations of a list.
+pub fn record_verdicts(
+    node: &mut Node,
+    alloc: Global,
+    list: &[FlatAttestation],
+    verdicts: &[bool],
+) -> u8
+    requires { AreTrue number_attests (map attestation_in list.now) verdicts.now }
     ensures { RecordsNodeVerdicts node.old result node.new list.now verdicts.now }
 {
     if verdicts.len() != list.len() {
         return MALFORMED;
     }
-    for index in 0..list.len() {
-        if node
-            .record_verdict(list[index].number, verdicts[index])
-            .is_err()
-        {
-            return OUT_OF_MEMORY;
-        }
+    let Ok(attestations) = attestations_of(alloc, list) else {
+        return OUT_OF_MEMORY;
+    };
+    match node.record_verdicts(&attestations, verdicts) {
+        Ok(()) => DONE,
+        Err(_) => OUT_OF_MEMORY,
     }
-    DONE
 }
 
 /// Records a verdict on attestations as a whole.

@@ -2,9 +2,9 @@
 
 ghost use Rattle.std.specs.Prelude.{◌≡◌, ◌≢◌, ◌↔◌, true, map, Some};
 ghost use Rattle.batcher_histories.specs.declared.answers.OwnFault.{OwnFault as TheFault};
+ghost use Rattle.batcher_external.specs.VerdictLists.{AreTrue};
 ghost use Rattle.batcher_c.specs.Flat.{attestation_in, fault_in};
 ghost use Rattle.batcher_c.specs.Truths.{number_attests, list_passes, number_certifies};
-ghost use Rattle.batcher_c.specs.VerdictLists.{AreTrue};
 ghost use Rattle.batcher_c.specs.Rounds.{is_one_of, refusals, RecordsVerdict, RecordsVerdicts, RecordsTogether, AddsNetwork, AcceptsVote, RecordsCertificate, SetsLeader, Forwards, AsksLeader, AsksProposal};
 ghost use Rattle.batcher_c.specs.Rounds.{AsksCertificate, AsksNullify, AsksMissing, ListsMissing, Constructs};
 
@@ -36,23 +36,26 @@ pub fn record_verdict(session: &mut Session, number: u64, attests: bool) -> u8
     }
 }
 
-/// Records a verdict on each of the attestations of a list, in their order.
-pub fn record_verdicts(session: &mut Session, list: &[FlatAttestation], verdicts: &[bool]) -> u8
-    requires { AreTrue list.now verdicts.now }
+/// Records a verdict on each of the attestations of a list.
+pub fn record_verdicts(
+    session: &mut Session,
+    alloc: Global,
+    list: &[FlatAttestation],
+    verdicts: &[bool],
+) -> u8
+    requires { AreTrue number_attests (map attestation_in list.now) verdicts.now }
     ensures { RecordsVerdicts session.old result session.new list.now verdicts.now }
 {
     if verdicts.len() != list.len() {
         return MALFORMED;
     }
-    for index in 0..list.len() {
-        if session
-            .record_verdict(list[index].number, verdicts[index])
-            .is_err()
-        {
-            return OUT_OF_MEMORY;
-        }
+    let Ok(attestations) = attestations_of(alloc, list) else {
+        return OUT_OF_MEMORY;
+    };
+    match session.record_verdicts(&attestations, verdicts) {
+        Ok(()) => DONE,
+        Err(_) => OUT_OF_MEMORY,
     }
-    DONE
 }
 
 /// Records a verdict on attestations as a whole.

@@ -1,3 +1,4 @@
 pub mod Wholes
 pub mod Filtered
 pub mod Tables
+pub mod VerdictLists

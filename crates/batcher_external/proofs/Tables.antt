@@ -1,10 +1,9 @@
 -- What is known by a list of verdicts in ascending order, and by others beside it.
-use Rattle.std.proofs.Common.{◌≡◌, ◌≢◌, ◌∙◌, ◌<◌, ◌++◌, ◌==◌, ℕ, Bool, true, false, cond, nat_eq, nat_cmp, is_eq, List, [], ◌∷◌}
+use Rattle.std.proofs.Common.{◌≡◌, ◌≢◌, ◌∙◌, ◌<◌, ◌++◌, ◌==◌, ℕ, Bool, true, false, cond, nat_eq, List, [], ◌∷◌}
 use Rattle.std.proofs.Common.{find, slice_get, if◌then◌else◌, zero, suc, Option, Some, None, is_some, ap, sym, subst, refl, arith}
 use Rattle.std.specs.Option.{option_map, option_or, option_and_then}
 use Rattle.std.specs.List.{All, AllByRecursion}
 use Rattle.std.specs.Map.{lookup}
-use Rattle.std.specs.BTreeMap.{is_at}
 use Rattle.std.proofs.lemmas.List.Folds.{find-append}
 use Rattle.std.proofs.lemmas.Bool.Decides.{nat_tests}
 use Rattle.batcher_types.specs.Ascending.{IsAscending, is_ascending}
@@ -61,7 +60,7 @@ find_slice key (y ∷ ys) (suc i) k x up e is =
     let no : nat_eq (key y) k ≡ false = grind (arith, nat_tests) in
     rw no (find_slice key ys i k x up.1 e is)
 
-same_test : (n k : ℕ) → is_eq (nat_cmp n k) ≡ nat_eq k n
+same_test : (n k : ℕ) → nat_eq n k ≡ nat_eq k n
 same_test n k = grind (arith, nat_tests)
 
 option_or-None : {X : Type 0} (a : Option X) → option_or a None ≡ a
@@ -92,7 +91,7 @@ module _ {T : Type 0} {truth : Ghosts T} where
   known-append (v ∷ run) others number =
       rw (same_test number v.number)
       (headed number v (nat_eq v.number number)
-      (lookup (is_at (nat_cmp number)) (numbered run ++ others))
+      (lookup (nat_eq number) (numbered run ++ others))
       (item_of (λ v. v.number) run number) (known_in others number) refl
       (known-append run others number))
 
@@ -113,7 +112,7 @@ module _ {T : Type 0} {truth : Ghosts T} where
   pub known_agrees : (entries : List (ℕ × Verdict T truth)) (number : ℕ) (attests : Bool)
       → known_in entries number ≡ Some attests → attests ≡ truth.attests number
   known_agrees entries number attests e =
-      agreed number (lookup (is_at (nat_cmp number)) entries) attests e
+      agreed number (lookup (nat_eq number) entries) attests e
 
   module _ (run : List (Verdict T truth)) (others : List (ℕ × Verdict T truth)) (number : ℕ) where
     pub run_known : (attests : Bool) → known_in_run run number ≡ Some attests
@@ -149,25 +148,36 @@ module _ {T : Type 0} {truth : Ghosts T} where
       ∙ sym (known-append run old number)
 
   -- of a verdict that is added to a list of lower numbers
-  module _ (run new : List (Verdict T truth)) (v : Verdict T truth)
-      (others : List (ℕ × Verdict T truth)) (longer : new ≡ run ++ v ∷ []) where
-    pub pushed_known : (number : ℕ) (attests : Bool) → v.number ≡ number → v.attests ≡ attests
-        → All (λ x. x.number < number) run
-        → known_in (numbered new ++ others) number ≡ Some attests
-    pushed_known number attests is_number is below =
-        let absent = last_absent (λ x. x.number) run number below in
-        let same : nat_eq v.number number ≡ true = grind (arith, nat_tests) in
-        run_known new others number attests
-        (rw (longer, find-append (λ x. nat_eq x.number number) run (v ∷ []), absent, same, is) refl)
+  module _ (run new : List (Verdict T truth)) (v : Verdict T truth) (longer : new ≡ run ++ v ∷ [])
+    where
+      pub run_pushed : (number : ℕ) (attests : Bool) → v.number ≡ number → v.attests ≡ attests
+          → All (λ x. x.number < number) run → known_in_run new number ≡ Some attests
+      run_pushed number attests is_number is below =
+          let absent = last_absent (λ x. x.number) run number below in
+          let same : nat_eq v.number number ≡ true = grind (arith, nat_tests) in
+          rw (longer, find-append (λ x. nat_eq x.number number) run (v ∷ []), absent, same, is) refl
 
-    pub pushed_others : (number other : ℕ) → v.number ≡ number → other ≢ number
-        → known_in (numbered new ++ others) other ≡ known_in (numbered run ++ others) other
-    pushed_others number other is differs =
-        let no : nat_eq v.number other ≡ false = grind (arith, nat_tests) in
-        known-append new others other
-        ∙ rw (
-          longer,
-          find-append (λ x. nat_eq x.number other) run (v ∷ []),
-          no,
-          option_or-None (item_of (λ x. x.number) run other),
-        ) (sym (known-append run others other))
+      pub run_others : (number other : ℕ) → v.number ≡ number → other ≢ number
+          → known_in_run new other ≡ known_in_run run other
+      run_others number other is differs =
+          let no : nat_eq v.number other ≡ false = grind (arith, nat_tests) in
+          rw (
+            longer,
+            find-append (λ x. nat_eq x.number other) run (v ∷ []),
+            no,
+            option_or-None (item_of (λ x. x.number) run other),
+          ) refl
+
+      pub pushed_known : (others : List (ℕ × Verdict T truth)) (number : ℕ) (attests : Bool)
+          → v.number ≡ number → v.attests ≡ attests → All (λ x. x.number < number) run
+          → known_in (numbered new ++ others) number ≡ Some attests
+      pushed_known others number attests is_number is below =
+          run_known new others number attests (run_pushed number attests is_number is below)
+
+      pub pushed_others : (others : List (ℕ × Verdict T truth)) (number other : ℕ)
+          → v.number ≡ number → other ≢ number
+          → known_in (numbered new ++ others) other ≡ known_in (numbered run ++ others) other
+      pushed_others others number other is differs =
+          known-append new others other
+          ∙ ap (λ known. option_or known (known_in others other)) (run_others number other is differs)
+          ∙ sym (known-append run others other)

@@ -1,9 +1,7 @@
 -- What is known of attestations.
-use Rattle.std.specs.Prelude.{◌==◌, ◌&&◌, ℕ, Bool, cond, List, filter, map, Option, Some, None, is_none, option_and_then}
-use Rattle.std.specs.Ordering.{nat_cmp}
+use Rattle.std.specs.Prelude.{◌==◌, ◌&&◌, ℕ, Bool, cond, nat_eq, List, filter, map, Option, Some, None, is_none, option_and_then}
 use Rattle.std.specs.Option.{option_map}
 use Rattle.std.specs.Map.{lookup}
-use Rattle.std.specs.BTreeMap.{is_at}
 use Rattle.std.specs.Cmp.Lexicographic.{pointwise}
 use Rattle.batcher_types.specs.Items.{item_of}
 use Rattle.batcher_types.specs.declared.messages.Attestation.{Attestation}
@@ -20,7 +18,7 @@ module _ {T : Type 0} {truth : Ghosts T} where
   abbrev pub known_in : List (ℕ × Verdict T truth) → ℕ → Option Bool
   known_in verdicts number =
       option_and_then (λ v. cond (v.number == number) (Some v.attests) None)
-      (lookup (is_at (nat_cmp number)) verdicts)
+      (lookup (nat_eq number) verdicts)
 
   -- each verdict of a list with its number
   abbrev pub numbered : List (Verdict T truth) → List (ℕ × Verdict T truth)

@@ -1,12 +1,14 @@
 //! Verdicts in ascending order of their numbers, as they are recorded where attestations are
 //! numbered as they come.
 
-ghost use Rattle.std.specs.Prelude.{◌≡◌, ◌<◌, ◌++◌, [], ◌∷◌, IsTrue, IfSome, OnOk, OnErr, Some, true};
+ghost use Rattle.std.specs.Prelude.{◌≡◌, ◌<◌, ◌++◌, [], ◌∷◌, length, IsTrue, IfSome, OnOk, OnErr, Some, true};
 ghost use Rattle.std.specs.List.{All};
 ghost use Rattle.batcher_types.specs.Ascending.{is_ascending};
 ghost use Rattle.batcher_external.specs.KnownAttestations.{known_in_run};
+ghost use Rattle.batcher_external.specs.VerdictLists.{AreTrue, AreRecorded, IsFollowedBy};
 
 use crate::truth::{Truth, Verdict};
+use batcher_types::messages::Attestation;
 use std::alloc::{AllocError, Global};
 
 /// Verdicts in strictly ascending order of their numbers.
@@ -35,6 +37,42 @@ impl<T: Truth> Run<T> {
     {
         self.verdicts.push(verdict)?;
         Ok(())
+    }
+
+    /// Adds a verdict on each of these attestations, whose numbers ascend from above all others. A
+    /// refusal for memory changes nothing.
+    pub fn extend(
+        &mut self,
+        attestations: &[Attestation<u64>],
+        verdicts: &[bool],
+    ) -> Result<(), AllocError>
+        requires one_each { length verdicts.now ≡ length attestations.now }
+        requires truths { AreTrue T.attests attestations.now verdicts.now }
+        requires follow { IsFollowedBy self.old.verdicts.items attestations.now }
+        ensures recorded { OnOk result (AreRecorded T.attests
+            (known_in_run self.old.verdicts.items) (known_in_run self.new.verdicts.items)
+            attestations.now) }
+        ensures refused { OnErr result (self.new.verdicts.items ≡ self.old.verdicts.items) }
+    {
+        self.verdicts.reserve(attestations.len())?;
+        for index in 0..attestations.len() {
+            let verdict = Verdict::new(attestations[index].signature, verdicts[index]);
+            self.verdicts.push_reserved(verdict);
+        }
+        Ok(())
+    }
+
+    /// Whether the numbers of these attestations ascend, from above all that are here.
+    pub fn is_followed_by(&self, attestations: &[Attestation<u64>]) -> bool
+        ensures { IsTrue result → IsFollowedBy self.now.verdicts.items attestations.now }
+    {
+        match attestations.first() {
+            Some(first) => {
+                self.is_below(first.signature)
+                    && attestations.is_sorted_by(|a, b| a.signature < b.signature)
+            }
+            None => true,
+        }
     }
 
     /// Whether all numbers are lower.

@@ -1,9 +1,10 @@
 //! What is known of attestations and certificates, by their numbers.
 
-ghost use Rattle.std.specs.Prelude.{◌≡◌, ◌≢◌, ◌++◌, ◌∷◌, [], ℕ, None, Some, IfOk, IfSome, OnOk, OnErr};
+ghost use Rattle.std.specs.Prelude.{◌≡◌, ◌≢◌, ◌++◌, ◌∷◌, [], ℕ, length, None, Some, IfOk, IfSome, OnOk, OnErr};
 ghost use Rattle.std.specs.Bool.{Decides};
 ghost use Rattle.batcher_external.specs.KnownAttestations.{known_in, known_of_whole, is_unknown_in, unknown_among};
 ghost use Rattle.batcher_external.specs.Tables.{entries_of};
+ghost use Rattle.batcher_external.specs.VerdictLists.{AreTrue, AreRecorded};
 
 use crate::table::Table;
 use crate::truth::{Truth, Whole};
@@ -40,6 +41,23 @@ impl<T: Truth> Verdicts<T> {
         ensures whole { self.new.whole ≡ self.old.whole }
     {
         self.singles.record(number, attests)
+    }
+
+    /// Records a verdict on each of these attestations. A refusal for memory changes nothing.
+    pub fn record_all(
+        &mut self,
+        attestations: &[Attestation<u64>],
+        verdicts: &[bool],
+    ) -> Result<(), AllocError>
+        requires one_each { length verdicts.now ≡ length attestations.now }
+        requires truths { AreTrue T.attests attestations.now verdicts.now }
+        ensures recorded { OnOk result (AreRecorded T.attests
+            (known_in (entries_of self.old.singles)) (known_in (entries_of self.new.singles))
+            attestations.now) }
+        ensures refused { OnErr result (entries_of self.new.singles ≡ entries_of self.old.singles) }
+        ensures whole { self.new.whole ≡ self.old.whole }
+    {
+        self.singles.record_all(attestations, verdicts)
     }
 
     /// Records whether attestations pass as a whole, in place of those before.

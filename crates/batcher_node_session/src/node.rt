@@ -1,12 +1,13 @@
 //! A node whose attestations are verified elsewhere, of either sort of scheme.
 
-ghost use Rattle.std.specs.Prelude.{◌≡◌, ◌≢◌, ◌≤◌, ◌<◌, ◌∷◌, [], ℕ, not, true, false, length, IfOk, IfErr, IfSome, IfNone, OnOk, OnErr, Ok, Err, None, Some, is_some};
+ghost use Rattle.std.specs.Prelude.{◌≡◌, ◌≢◌, ◌≤◌, ◌<◌, ◌∷◌, [], ℕ, not, true, false, length, IfOk, IfSome, IfNone, OnOk, OnErr, Ok, Err, None, Some, is_some};
 ghost use Rattle.batcher.specs.Answers.{own_answer, keeps_nullify, missing_after};
 ghost use Rattle.batcher.specs.Comparison.{has_block};
 ghost use Rattle.batcher.specs.Selection.{is_certified, leader_of, selected_proposal};
 ghost use Rattle.batcher.specs.Steps.{fault_or_memory};
 ghost use Rattle.batcher.specs.Verifiers.{certifies_itself};
 ghost use Rattle.batcher.specs.Votes.{attestation_of, subject_of, subject_certified, round_in};
+ghost use Rattle.batcher_external.specs.VerdictLists.{AreTrue, AreRecorded};
 ghost use Rattle.batcher_session.specs.Ledgers.{SameScheme, known_in, known_together, is_known_to_attest};
 ghost use Rattle.batcher_node.specs.Events.{started, vote_came, certificate_came, view_entered, view_finalized, constructed, view_history};
 ghost use Rattle.batcher_node.specs.Nodes.{SameNode, IsAtRest, IsNext, IsLedByAnother, slot_at};
@@ -149,6 +150,24 @@ impl<T: Truth> NodeSession<T> {
         ensures same { SameScheme self.old.ledger self.new.ledger }
     {
         self.ledger.record(number, attests)
+    }
+
+    /// Records a verdict on each of these attestations. A refusal for memory changes nothing.
+    pub fn record_verdicts(
+        &mut self,
+        attestations: &[Attestation<u64>],
+        verdicts: &[bool],
+    ) -> Result<(), AllocError>
+        requires one_each { length verdicts.now ≡ length attestations.now }
+        requires truths { AreTrue T.attests attestations.now verdicts.now }
+        ensures recorded { OnOk result (AreRecorded T.attests (known_in self.old.ledger.singles)
+            (known_in self.new.ledger.singles) attestations.now) }
+        ensures refused { OnErr result (self.new ≡ self.old) }
+        ensures together { self.new.ledger.together ≡ self.old.ledger.together }
+        ensures node { self.new.node ≡ self.old.node }
+        ensures same { SameScheme self.old.ledger self.new.ledger }
+    {
+        self.ledger.record_all(attestations, verdicts)
     }
 
     /// Records whether these attestations pass as a whole, in place of those before.

@@ -1,15 +1,12 @@
 -- Verdicts are known of the scheme's own and of their data alike.
-use Rattle.std.proofs.Common.{◌≡◌, ◌∙◌, ◌==◌, ◌&&◌, nat_lt, sym, ℕ, Bool, true, false, cond, List, [], ◌∷◌, length, filter, arith, Option, Some, None, is_none, ap, refl}
-use Rattle.std.specs.Ordering.{nat_cmp}
+use Rattle.std.proofs.Common.{◌≡◌, ◌∙◌, ◌==◌, ◌&&◌, nat_eq, nat_lt, sym, ℕ, Bool, true, false, cond, List, [], ◌∷◌, length, filter, arith, Option, Some, None, is_none, ap, refl}
 use Rattle.std.specs.Map.{lookup}
-use Rattle.std.specs.BTreeMap.{is_at}
 use Rattle.std.specs.Option.{option_map, option_and_then}
 use Rattle.std.proofs.lemmas.Bool.Decides.{nat_tests}
 use Rattle.std.proofs.lemmas.Map.Made.{lookup-map_values}
 use Rattle.batcher.specs.messages.Attestation.{Attestation}
 use Rattle.batcher_external.specs.declared.truth.Truth.{Ghosts}
 use Rattle.batcher_external.specs.declared.truth.Verdict.{Verdict}
-use Rattle.batcher_external.specs.KnownAttestations.{known_of_whole}
 use Rattle.batcher_external.specs.KnownAttestations as theirs
 use Rattle.batcher_session.specs.Ledgers.{Single, single_of, singles_of, known_in, unknown_among, or_false}
 use Rattle.batcher_session.specs.Wants.{asked_singly}
@@ -26,8 +23,8 @@ module _ {T : Type 0} {truth : Ghosts T} where
       → known_in (singles_of singles) number ≡ theirs.known_in singles number
   same_known singles number =
       ap (option_and_then (λ (v : Single). cond (v.number == number) (Some v.attests) None))
-      (lookup-map_values single_of (is_at (nat_cmp number)) singles)
-      ∙ found number (lookup (is_at (nat_cmp number)) singles)
+      (lookup-map_values single_of (nat_eq number) singles)
+      ∙ found number (lookup (nat_eq number) singles)
 
   -- What is known of an attestation, of a signer that takes part, is what the verdicts say.
   pub known_by : (singles : List (ℕ × Verdict T truth)) (signer n number : ℕ) (found : Option Bool)

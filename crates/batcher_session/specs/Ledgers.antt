@@ -1,9 +1,7 @@
 -- The verdicts that are recorded, as data.
-use Rattle.std.specs.Prelude.{◌≡◌, ◌==◌, ◌&&◌, ℕ, Bool, false, nat_lt, cond, List, map, filter, Option, Some, None, is_none, option_and_then}
-use Rattle.std.specs.Ordering.{nat_cmp}
+use Rattle.std.specs.Prelude.{◌≡◌, ◌==◌, ◌&&◌, ℕ, Bool, false, nat_eq, nat_lt, cond, List, map, filter, Option, Some, None, is_none, option_and_then}
 use Rattle.std.specs.Option.{option_map}
 use Rattle.std.specs.Map.{lookup}
-use Rattle.std.specs.BTreeMap.{is_at}
 use Rattle.std.specs.Cmp.Lexicographic.{pointwise}
 use Rattle.batcher.specs.messages.Attestation.{Attestation}
 use Rattle.batcher_external.specs.declared.truth.Truth.{Ghosts}
@@ -37,7 +35,7 @@ pub record SameScheme (old new : LedgerView) : Type 0 where
 abbrev pub known_in : List (ℕ × Single) → ℕ → Option Bool
 known_in singles number =
     option_and_then (λ v. cond (v.number == number) (Some v.attests) None)
-    (lookup (is_at (nat_cmp number)) singles)
+    (lookup (nat_eq number) singles)
 
 -- whether there is no verdict on it
 abbrev pub is_unknown_in : List (ℕ × Single) → Attestation ℕ → Bool

@@ -2,6 +2,7 @@
 
 ghost use Rattle.std.specs.Prelude.{◌≡◌, ◌≢◌, ◌≤◌, ◌++◌, ℕ, length, IfOk, IfSome, OnOk, OnErr, None, Some, is_some, true, option_and_then};
 ghost use Rattle.batcher_external.specs.External.{attests};
+ghost use Rattle.batcher_external.specs.VerdictLists.{AreTrue, AreRecorded};
 ghost use Rattle.batcher_round.specs.Next.{subject_next};
 ghost use Rattle.batcher_session.specs.Ledgers.{SameScheme, known_in, known_together, unknown_among, is_known_to_attest};
 ghost use Rattle.batcher_session.specs.Wants.{asked_next, asked_singly, known_first};
@@ -100,6 +101,23 @@ impl<T: Truth> Ledger<T> {
         ensures same { SameScheme self.old self.new }
     {
         self.verdicts.record(number, attests)
+    }
+
+    /// Records a verdict on each of these attestations. A refusal for memory changes nothing.
+    pub fn record_all(
+        &mut self,
+        attestations: &[Attestation<u64>],
+        verdicts: &[bool],
+    ) -> Result<(), AllocError>
+        requires one_each { length verdicts.now ≡ length attestations.now }
+        requires truths { AreTrue T.attests attestations.now verdicts.now }
+        ensures recorded { OnOk result (AreRecorded T.attests (known_in self.old.singles)
+            (known_in self.new.singles) attestations.now) }
+        ensures refused { OnErr result (self.new ≡ self.old) }
+        ensures together { self.new.together ≡ self.old.together }
+        ensures same { SameScheme self.old self.new }
+    {
+        self.verdicts.record_all(attestations, verdicts)
     }
 
     /// Records whether these attestations pass as a whole, in place of those before.

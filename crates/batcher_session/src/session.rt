@@ -13,6 +13,7 @@ ghost use Rattle.batcher.specs.calls.Call.TheVariants.{Network as NetworkCall, O
 ghost use Rattle.batcher.specs.answers.Answer.TheVariants.{Network as NetworkAnswer, Own as OwnAnswer, Construct as ConstructAnswer, Leader as LeaderAnswer};
 ghost use Rattle.batcher.specs.answers.Answer.TheVariants.{Forward as ForwardAnswer, Certificate as CertificateAnswer, Missing as MissingAnswer};
 ghost use Rattle.batcher_round.specs.Next.{subject_next};
+ghost use Rattle.batcher_external.specs.VerdictLists.{AreTrue, AreRecorded};
 ghost use Rattle.batcher_session.specs.Ledgers.{SameScheme, known_in, known_together, is_known_to_attest};
 ghost use Rattle.batcher_session.specs.Sessions.{config_by, GoesOn, ForEachHistory, SameRound};
 ghost use Rattle.batcher_session.specs.Sorts.{view_of};
@@ -120,6 +121,24 @@ impl<T: Truth> Session<T> {
         ensures round { self.new.round ≡ self.old.round }
     {
         self.ledger.record(number, attests)
+    }
+
+    /// Records a verdict on each of these attestations. A refusal for memory changes nothing.
+    pub fn record_verdicts(
+        &mut self,
+        attestations: &[Attestation<u64>],
+        verdicts: &[bool],
+    ) -> Result<(), AllocError>
+        requires one_each { length verdicts.now ≡ length attestations.now }
+        requires truths { AreTrue T.attests attestations.now verdicts.now }
+        ensures recorded { OnOk result (AreRecorded T.attests (known_in self.old.ledger.singles)
+            (known_in self.new.ledger.singles) attestations.now) }
+        ensures together { self.new.ledger.together ≡ self.old.ledger.together }
+        ensures refused { OnErr result (self.new ≡ self.old) }
+        ensures scheme { SameScheme self.old.ledger self.new.ledger }
+        ensures round { self.new.round ≡ self.old.round }
+    {
+        self.ledger.record_all(attestations, verdicts)
     }
 
     /// Records whether these attestations pass as a whole, in place of those before.

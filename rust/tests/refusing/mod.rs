@@ -92,15 +92,20 @@ impl Scheme for Plain {
     }
 }
 
-/// Counts only while a call runs, and makes it once more where memory was refused.
+/// Makes a call, and counts its requests alone.
+pub fn once<R>(granted: &mut Option<u32>, call: impl FnOnce() -> R) -> R {
+    GRANTED.set(*granted);
+    let answer = call();
+    *granted = GRANTED.take();
+    answer
+}
+
+/// The same, with the call made once more where memory was refused.
 pub fn again<R>(
     granted: &mut Option<u32>,
     mut call: impl FnMut() -> Result<R, Error>,
 ) -> Result<R, Error> {
-    GRANTED.set(*granted);
-    let answer = call();
-    *granted = GRANTED.take();
-    match answer {
+    match once(granted, &mut call) {
         Err(Error::OutOfMemory) => call(),
         answer => answer,
     }
@@ -109,10 +114,9 @@ pub fn again<R>(
 /// Whether a call asks for memory.
 #[allow(dead_code)]
 pub fn asks<R>(call: impl FnOnce() -> R) -> (R, bool) {
-    GRANTED.set(Some(u32::MAX));
-    let answer = call();
-    let is_asked = GRANTED.take() != Some(u32::MAX);
-    (answer, is_asked)
+    let mut granted = Some(u32::MAX);
+    let answer = once(&mut granted, call);
+    (answer, granted != Some(u32::MAX))
 }
 
 #[allow(dead_code)]

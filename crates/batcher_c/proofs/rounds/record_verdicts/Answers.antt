@@ -1,18 +1,28 @@
-use Rattle.std.proofs.Common.{rules, ◌∙◌, arith, sym}
-use Rattle.batcher_c.proofs.VerdictLists.{one_more, ok_holds}
+use Rattle.std.proofs.Common.{rules, ◌≡◌, ◌∙◌, map, sym, subst}
+use Rattle.batcher_external.specs.VerdictLists.{AreTrue, AreRecorded}
+use Rattle.batcher_session.specs.Ledgers.{known_in}
+use Rattle.batcher_c.specs.Flat.{attestation_in}
+use Rattle.batcher_c.specs.Truths.{number_attests}
 use Rattle.batcher_c.proofs.rounds.record_verdicts.Goals as goal
 
-pub loop-index-preserved : goal.loop-index-preserved
-loop-index-preserved c =
-    let is_ok = sym c.is_err.ensures.value ∙ c.if-is_err.false in
-    let is_true = c.requires c.loop-index.index _ _ c.loop-index-test.true (omega arith) in
+pub record_verdicts-requires-clause-truths : goal.record_verdicts-requires-clause-truths
+record_verdicts-requires-clause-truths c =
+    let same : c.deref.result.now ≡ map attestation_in c.args.list.now =
+    c.deref.ensures.value ∙ c.in-Ok.ensures in
+    subst (λ all. AreTrue number_attests all c.args.verdicts.now) (sym same) c.requires
+
+pub returns-in-Ok-record_verdicts : goal.returns-in-Ok-record_verdicts
+returns-in-Ok-record_verdicts c =
+    let same : c.deref.result.now ≡ map attestation_in c.args.list.now =
+    c.deref.ensures.value ∙ c.in-Ok.ensures in
     record {
-      recorded = one_more c.args.session.now.ledger c.loop-index.session.ledger
-          c.record_verdict.new.self.ledger c.args.list.now c.loop-index.index _ _
-          c.loop-index-test.true is_true
-          (ok_holds c.record_verdict.result is_ok c.record_verdict.ensures.recorded)
-          (ok_holds c.record_verdict.result is_ok c.record_verdict.ensures.others)
-          c.loop-index.invariant.recorded;
+      codes = search rules;
+      malformed = search rules;
+      recorded = λ done. subst
+          (AreRecorded number_attests (known_in c.args.session.now.ledger.singles)
+          (known_in c.record_verdicts.new.self.ledger.singles)) same
+          c.in-Ok-record_verdicts.ensures.recorded;
+      stays = search rules;
       together = search rules;
       scheme = search rules;
       round = search rules;

@@ -8,7 +8,7 @@ pub returns-then-is_below-clause-recorded : goal.returns-then-is_below-clause-re
 returns-then-is_below-clause-recorded g c =
     on_ok_weaker c.push.result
     (λ longer. pushed_known c.args.self.now.run.verdicts.items c.push.new.self.verdicts.items
-    c.new.result c.args.self.now.others.entries longer c.args.number c.args.attests c.new.ensures.0
+    c.new.result longer c.args.self.now.others.entries c.args.number c.args.attests c.new.ensures.0
     c.new.ensures.1 (c.if-is_below.ensures refl))
     c.push.ensures.pushed
 
@@ -16,7 +16,7 @@ pub returns-then-is_below-clause-others : goal.returns-then-is_below-clause-othe
 returns-then-is_below-clause-others g c =
     on_ok_weaker c.push.result
     (λ longer. λ other differs. pushed_others c.args.self.now.run.verdicts.items
-    c.push.new.self.verdicts.items c.new.result c.args.self.now.others.entries longer c.args.number
+    c.push.new.self.verdicts.items c.new.result longer c.args.self.now.others.entries c.args.number
     other c.new.ensures.0 differs)
     c.push.ensures.pushed
 
