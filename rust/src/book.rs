@@ -231,29 +231,57 @@ impl<G: Clone + Eq> Book<G> {
     ) -> Result<(), Error> {
         let kind = wanted.subject.kind();
         let given = || wanted.listed.iter().zip(verdicts);
-        let are_first = given().all(|(listed, attests)| {
-            self.kept(kind, listed)
-                .is_some_and(|kept| kept.verdict.is_none_or(|first| first == *attests))
-        });
-        if are_first {
-            done(library.record_verdicts(&wanted.listed, verdicts))?;
-        } else {
-            // Of two verdicts on one attestation the first counts, and what was forgotten meanwhile
-            // is needed no more.
-            let (mut list, mut firsts) = (Vec::new(), Vec::new());
-            reserve(&mut list, verdicts.len())?;
-            reserve(&mut firsts, verdicts.len())?;
-            for (listed, attests) in given() {
-                if let Some(kept) = self.kept(kind, listed) {
-                    list.push(*listed);
-                    firsts.push(kept.verdict.unwrap_or(*attests));
-                }
-            }
-            done(library.record_verdicts(&list, &firsts))?;
-        }
+        let mut fresh = 0;
         for (listed, attests) in given() {
+            match self.kept_mut(kind, listed) {
+                Some(kept) if kept.verdict.is_none() => kept.verdict = Some(*attests),
+                _ => break,
+            }
+            fresh += 1;
+        }
+        if fresh == verdicts.len() {
+            let answer = done(library.record_verdicts(&wanted.listed, verdicts));
+            if answer.is_err() {
+                self.take_back(kind, &wanted.listed);
+            }
+            return answer;
+        }
+        self.take_back(kind, &wanted.listed[..fresh]);
+        self.record_first_verdicts(library, kind, given())
+    }
+
+    /// Forgets the verdicts on these.
+    #[cold]
+    fn take_back(&mut self, kind: Kind, list: &[ffi::Attestation]) {
+        for listed in list {
             if let Some(kept) = self.kept_mut(kind, listed) {
-                kept.verdict.get_or_insert(*attests);
+                kept.verdict = None;
+            }
+        }
+    }
+
+    /// The same where some have an earlier verdict or were forgotten. Of two verdicts on one
+    /// attestation the first counts, and what was forgotten meanwhile is needed no more.
+    #[cold]
+    fn record_first_verdicts<'a>(
+        &mut self,
+        library: &mut impl Library,
+        kind: Kind,
+        given: impl ExactSizeIterator<Item = (&'a ffi::Attestation, &'a bool)>,
+    ) -> Result<(), Error> {
+        let (mut list, mut verdicts) = (Vec::new(), Vec::new());
+        reserve(&mut list, given.len())?;
+        reserve(&mut verdicts, given.len())?;
+        for (listed, attests) in given {
+            if let Some(kept) = self.kept(kind, listed) {
+                list.push(*listed);
+                verdicts.push(kept.verdict.unwrap_or(*attests));
+            }
+        }
+        done(library.record_verdicts(&list, &verdicts))?;
+        for (listed, attests) in list.iter().zip(&verdicts) {
+            if let Some(kept) = self.kept_mut(kind, listed) {
+                kept.verdict = Some(*attests);
             }
         }
         Ok(())

@@ -107,6 +107,10 @@ impl<T: Truth> Table<T> {
         match self.run.known(place, number) {
             Some(attests) => Some(attests),
             None => {
+                // Mostly there are none, and a search would hash the number first.
+                if self.others.is_empty() {
+                    return None;
+                }
                 let verdict = self.others.get(&number)?;
                 if verdict.number != number {
                     return None;
