@@ -231,6 +231,7 @@ impl<G: Clone + Eq> Book<G> {
     ) -> Result<(), Error> {
         let kind = wanted.subject.kind();
         let given = || wanted.listed.iter().zip(verdicts);
+        // Nearly always none has a verdict yet, and one pass notes them.
         let mut fresh = 0;
         for (listed, attests) in given() {
             match self.kept_mut(kind, listed) {

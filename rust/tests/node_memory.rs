@@ -8,7 +8,7 @@ use batcher::positions::Round as Number;
 use batcher::{
     Certificate, Epoch, Error, Participant, Proposal, Sha256Digest, Subject, View, Vote,
 };
-use refusing::{Plain, again, asks, each_refused_in_turn, vote};
+use refusing::{Plain, again, asks, each_refused_in_turn, once, vote};
 
 fn number(view: u64) -> Number {
     Number::new(Epoch::zero(), View::new(view))
@@ -149,6 +149,36 @@ fn a_refusal_changes_nothing() {
             each_refused_in_turn(&format!("{track}, {aggregates}"), |granted| {
                 play(track, aggregates, granted)
             });
+        }
+    }
+}
+
+/// A verdict can't be taken back, so other ones can be given only where none was recorded.
+#[test]
+fn of_a_refused_list_no_verdict_is_recorded() {
+    for refused in 0.. {
+        let mut node =
+            Node::new(Epoch::zero(), Plain::new(4, false), View::zero(), 2, false).unwrap();
+        node.enter(View::new(1), Participant::new(0)).unwrap();
+        for signer in 0..3 {
+            let answer = node.receive_vote(&signer, vote(nullify(1), signer, true));
+            assert!(answer.is_ok());
+        }
+        let Ok(Step::Verify(wanted)) = node.step() else {
+            panic!("no verdict is wanted");
+        };
+        let answer = once(&mut Some(refused), || {
+            node.record_verdicts(&wanted, &[false; 3])
+        });
+        if answer.is_ok() {
+            assert!(refused > 1, "{refused} requests alone");
+            return;
+        }
+        assert_eq!(answer, Err(Error::OutOfMemory));
+        node.record_verdicts(&wanted, &[true; 3]).unwrap();
+        assert!(matches!(node.step(), Ok(Step::Made(_))));
+        for signer in 0..3 {
+            assert_eq!(node.blocked(Participant::new(signer)), None);
         }
     }
 }
