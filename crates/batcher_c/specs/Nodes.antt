@@ -159,7 +159,7 @@ module _ (before : NodeSessionView) (code : ℕ) (after : NodeSessionView) where
     pub scheme : SameScheme before.ledger after.ledger
     pub node : after.node ≡ before.node
 
-  -- a verdict on each of the attestations of a list, as if each were recorded by itself
+  -- a verdict on each of the attestations of a list, as if each were recorded by itself, or on none
   pub record RecordsNodeVerdicts (list : List FlatAttestation) (verdicts : List Bool) : Type 0 where
     pub codes : is_one_of (DONE ∷ MALFORMED ∷ OUT_OF_MEMORY ∷ []) code ≡ true
     pub malformed : (code ≡ MALFORMED) ↔ (length verdicts ≢ length list)

@@ -152,7 +152,7 @@ module _ (before : SessionView) (code : ℕ) (after : SessionView) where
     pub scheme : SameScheme before.ledger after.ledger
     pub round : after.round ≡ before.round
 
-  -- a verdict on each of the attestations of a list, as if each were recorded by itself
+  -- a verdict on each of the attestations of a list, as if each were recorded by itself, or on none
   pub record RecordsVerdicts (list : List FlatAttestation) (verdicts : List Bool) : Type 0 where
     pub codes : is_one_of (DONE ∷ MALFORMED ∷ OUT_OF_MEMORY ∷ []) code ≡ true
     pub malformed : (code ≡ MALFORMED) ↔ (length verdicts ≢ length list)

@@ -12,9 +12,9 @@ use batcher_types::messages::Attestation;
 use std::alloc::{AllocError, Global};
 use std::collections::HashMap;
 
-/// Verdicts by number. One on a number above all others goes to the end of a list, which costs
-/// little, and so do those that are recorded together, where their numbers ascend from there. All
-/// others go to a map, so that they may come in any order.
+/// Verdicts by number. One on a number above all of a list goes to its end, which costs little,
+/// and so do those that are recorded together, where their numbers ascend from there. All others
+/// go to a map, so that they may come in any order.
 #[derive(Drop)]
 pub struct Table<T: Truth> {
     run: Run<T>,
