@@ -6,8 +6,8 @@
  *     time, on one thread, and its pointer is neither copied nor written;
  *   - each pointer is to a live value of its type that nobody else writes meanwhile, or to as many as
  *     the length after it says; a `bool` is 0 or 1; pointers that are written through don't overlap;
- *   - of one number a handle is always given the same verdict, of a list as a whole too, and a round
- *     is given only certificates that certify what they name.
+ *   - of one number a handle is always given the same verdict, also after a call that was refused, of
+ *     a list as a whole too, and a round is given only certificates that certify what they name.
  * All else is tested: on an empty handle, for a code that means nothing and for a vote of another
  * round a call answers a code, and changes nothing. */
 #ifndef BATCHER_H
@@ -143,7 +143,8 @@ uint8_t batcher_round_new(struct batcher_round *round, uint64_t epoch, uint64_t 
 
 void batcher_round_free(struct batcher_round *round);
 
-/* Whether the attestation of a number attests what it is of. Verdicts on numbers that ascend cost least. */
+/* Whether the attestation of a number attests what it is of. Verdicts on numbers that ascend cost least,
+ * and a peer that can choose numbers can make others slow to look up. */
 uint8_t batcher_round_record_verdict(struct batcher_round *round, uint64_t number, bool attests);
 
 /* The same of each attestation of a list: of all, or of none. */

@@ -7,7 +7,7 @@ use crate::flat::{block_of, done, kind_of, subject_of};
 use crate::messages::{Activity, Attestation, Certificate, Kind, Subject, Vote};
 use crate::positions::Participant;
 use crate::scheme::Scheme;
-use crate::table::{Kept, Table};
+use crate::table::{Found, Kept, Table};
 
 /// Attestations of one subject, on each of which a verdict is wanted. It is plain data: it may go
 /// to another thread, and the round or node goes on meanwhile.
@@ -62,6 +62,8 @@ pub(crate) trait Library {
     fn record_verdict(&mut self, number: u64, attests: bool) -> u8;
 
     fn record_verdicts(&mut self, list: &[ffi::Attestation], verdicts: &[bool]) -> u8;
+
+    fn record_verdict_together(&mut self, list: &[ffi::Attestation], passes: bool) -> u8;
 }
 
 /// What the library is given of a vote in place of its signature.
@@ -77,6 +79,9 @@ pub(crate) struct Book<G> {
     releases: bool,
     /// Of which kinds the library keeps votes in full.
     keeps: [bool; 3],
+    /// The attestations of which the library was last handed whether they pass as a whole, and
+    /// whether they do.
+    together: Option<(Vec<ffi::Attestation>, bool)>,
 }
 
 impl<G: Clone + Eq> Book<G> {
@@ -85,6 +90,7 @@ impl<G: Clone + Eq> Book<G> {
             table: Table::new(),
             releases: mode == Mode::Releasing,
             keeps: [mode != Mode::Skipped; 3],
+            together: None,
         }
     }
 
@@ -136,7 +142,7 @@ impl<G: Clone + Eq> Book<G> {
         let block = block_of(answer.block)?;
         let report = self.report(answer, numbered, &vote)?;
         if answer.added {
-            self.keep(numbered, vote, None);
+            self.keep(numbered, vote, Found::Nothing);
         }
         Ok(Admission {
             added: answer.added,
@@ -147,9 +153,9 @@ impl<G: Clone + Eq> Book<G> {
 
     /// Keeps a vote that was added.
     #[inline]
-    pub(crate) fn keep(&mut self, numbered: Numbered, vote: Vote<G>, verdict: Option<bool>) {
+    pub(crate) fn keep(&mut self, numbered: Numbered, vote: Vote<G>, found: Found) {
         if numbered.may_keep {
-            self.table.insert(vote, numbered.listed.number, verdict);
+            self.table.insert(vote, numbered.listed.number, found);
         }
     }
 
@@ -212,17 +218,16 @@ impl<G: Clone + Eq> Book<G> {
         listed: ffi::Attestation,
         attests: bool,
     ) -> Result<(), Error> {
-        let kept = self.kept_mut(kind, &listed);
-        let earlier = kept.as_ref().and_then(|kept| kept.verdict);
-        let attests = earlier.unwrap_or(attests);
+        let Some(kept) = self.kept_mut(kind, &listed) else {
+            return done(library.record_verdict(listed.number, attests));
+        };
+        let attests = kept.first_verdict(attests);
         done(library.record_verdict(listed.number, attests))?;
-        if let Some(kept) = kept {
-            kept.verdict = Some(attests);
-        }
+        kept.found = Found::Recorded(attests);
         Ok(())
     }
 
-    /// Hands in the verdicts on what a step has wanted. A refusal for memory changes nothing.
+    /// Hands in the verdicts on what a step has wanted. Where memory is refused none is recorded.
     pub(crate) fn record_verdicts(
         &mut self,
         library: &mut impl Library,
@@ -235,7 +240,9 @@ impl<G: Clone + Eq> Book<G> {
         let mut fresh = 0;
         for (listed, attests) in given() {
             match self.kept_mut(kind, listed) {
-                Some(kept) if kept.verdict.is_none() => kept.verdict = Some(*attests),
+                Some(kept) if kept.found == Found::Nothing => {
+                    kept.found = Found::Recorded(*attests);
+                }
                 _ => break,
             }
             fresh += 1;
@@ -243,20 +250,25 @@ impl<G: Clone + Eq> Book<G> {
         if fresh == verdicts.len() {
             let answer = done(library.record_verdicts(&wanted.listed, verdicts));
             if answer.is_err() {
-                self.take_back(kind, &wanted.listed);
+                self.note(kind, given(), Found::Refused);
             }
             return answer;
         }
-        self.take_back(kind, &wanted.listed[..fresh]);
+        self.note(kind, given().take(fresh), |_| Found::Nothing);
         self.record_first_verdicts(library, kind, given())
     }
 
-    /// Forgets the verdicts on these.
+    /// Notes what became of verdicts.
     #[cold]
-    fn take_back(&mut self, kind: Kind, list: &[ffi::Attestation]) {
-        for listed in list {
+    fn note<'a>(
+        &mut self,
+        kind: Kind,
+        given: impl Iterator<Item = (&'a ffi::Attestation, &'a bool)>,
+        found: impl Fn(bool) -> Found,
+    ) {
+        for (listed, attests) in given {
             if let Some(kept) = self.kept_mut(kind, listed) {
-                kept.verdict = None;
+                kept.found = found(*attests);
             }
         }
     }
@@ -274,23 +286,41 @@ impl<G: Clone + Eq> Book<G> {
         reserve(&mut list, given.len())?;
         reserve(&mut verdicts, given.len())?;
         for (listed, attests) in given {
-            if let Some(kept) = self.kept(kind, listed) {
+            if let Some(kept) = self.kept_mut(kind, listed) {
                 list.push(*listed);
-                verdicts.push(kept.verdict.unwrap_or(*attests));
+                verdicts.push(kept.first_verdict(*attests));
             }
         }
         done(library.record_verdicts(&list, &verdicts))?;
-        for (listed, attests) in list.iter().zip(&verdicts) {
-            if let Some(kept) = self.kept_mut(kind, listed) {
-                kept.verdict = Some(*attests);
-            }
-        }
+        self.note(kind, list.iter().zip(&verdicts), Found::Recorded);
         Ok(())
     }
 
+    /// Hands in whether what a step has wanted passes as a whole. Of two verdicts on the same
+    /// attestations the first counts, also where the library refused it for memory.
+    pub(crate) fn record_verdict_together(
+        &mut self,
+        library: &mut impl Library,
+        wanted: &WantedTogether<G>,
+        passes: bool,
+    ) -> Result<(), Error> {
+        let listed = &wanted.wanted.listed;
+        let passes = match &self.together {
+            Some((list, first)) if list == listed => *first,
+            _ => {
+                let mut list = Vec::new();
+                reserve(&mut list, listed.len())?;
+                list.extend_from_slice(listed);
+                self.together = Some((list, passes));
+                passes
+            }
+        };
+        done(library.record_verdict_together(listed, passes))
+    }
+
     /// What is handed out to be verified: those of the attestations that a step wants verdicts on,
-    /// without those on which there is one, as on a vote that was restored. The library is handed
-    /// that. None where there is one on each.
+    /// without those on which one is recorded, as on a vote that was restored. The library is handed
+    /// that one again. None where there is one on each.
     pub(crate) fn wanted(
         &self,
         library: &mut impl Library,
@@ -305,7 +335,7 @@ impl<G: Clone + Eq> Book<G> {
         reserve(&mut attestations, list.len())?;
         for one in list {
             let kept = self.kept(kind, one).ok_or(Error::Unknown(code::VERIFY))?;
-            if kept.verdict.is_none() {
+            if kept.recorded().is_none() {
                 attestations.push(kept.vote.attestation().clone());
             }
         }
@@ -313,7 +343,7 @@ impl<G: Clone + Eq> Book<G> {
             listed.extend_from_slice(list);
         } else {
             for one in list {
-                match self.kept(kind, one).and_then(|kept| kept.verdict) {
+                match self.kept(kind, one).and_then(Kept::recorded) {
                     Some(attests) => done(library.record_verdict(one.number, attests))?,
                     None => listed.push(*one),
                 }

@@ -44,7 +44,7 @@ pub(crate) struct Proposal {
 
 /// `struct batcher_attestation`
 #[repr(C)]
-#[derive(Clone, Copy, Debug, Default)]
+#[derive(Clone, Copy, Debug, Default, PartialEq, Eq)]
 pub(crate) struct Attestation {
     pub(crate) number: u64,
     pub(crate) signer: u32,

@@ -59,9 +59,9 @@ use crate::flat::{
 };
 use crate::messages::{Activity, Certificate, Kind, Proposal, Vote};
 use crate::positions::{self, Epoch, Participant, View};
-use crate::round::{NOBODY, identity};
+use crate::round::identity;
 use crate::scheme::Scheme;
-use crate::table::Numbers;
+use crate::table::{Found, Numbers};
 use std::fmt;
 use std::sync::Arc;
 
@@ -78,6 +78,9 @@ pub enum Receipt<A> {
     /// The peer takes no part, so the message wasn't looked at.
     Unknown,
 }
+
+/// A certificate has no signer that is likely to have sent it.
+const NOT_LIKELY: Participant = Participant::new(u32::MAX);
 
 /// What became of a peer's certificate.
 #[derive(Clone, Copy, Debug, PartialEq, Eq, Hash)]
@@ -98,9 +101,9 @@ pub enum Cast<G> {
     /// It is the first of its kind and signer, and **is to be sent** to all. This is reported of
     /// it.
     ToSend(Activity<G>),
-    /// There was one before, and nothing that is kept shows that the two differ. It **isn't to be
-    /// sent**: to send it could get this node blocked. It may be taken for the earlier one from then
-    /// on, so no vote is to be tried out.
+    /// There was one before: a nullify, or a vote of which nothing that is kept shows that the two
+    /// differ. It **isn't to be sent**: to send it could get this node blocked. It may be taken for
+    /// the earlier one from then on, so no vote is to be tried out.
     Known,
     /// It is of a view outside of the window, or of another epoch, and wasn't looked at.
     Outside,
@@ -226,9 +229,9 @@ impl<S: Scheme> Node<S> {
     ///
     /// A node that is made after a restart knows no own vote of before. Enter the views that aren't
     /// final again, each with its leader, the lowest first. Then cast all that was cast, as the same
-    /// bytes and in the same order, before any other vote: what is answered `ToSend` once more keeps each vote that
-    /// contradicts it from being sent. Where one is answered `Outside`, the node doesn't know it:
-    /// cast nothing else in that view.
+    /// bytes and in the same order, before any other vote: what is answered `ToSend` once more keeps
+    /// each vote that contradicts it from being sent. Where one is answered `Outside` or
+    /// `NotVerified`, the node doesn't know it: cast nothing else in that view.
     ///
     /// # Errors
     ///
@@ -412,8 +415,7 @@ impl<S: Scheme> Node<S> {
         certificate: &Certificate<S::Certificate>,
     ) -> Option<Receipt<Verdict>> {
         let (round, kind) = (certificate.round(), certificate.kind());
-        // A certificate has no signer that is likely to have sent it.
-        match self.look_at(peer, Participant::new(u32::MAX), round) {
+        match self.look_at(peer, NOT_LIKELY, round) {
             Err(receipt) => Some(receipt),
             Ok(_) => self
                 .has_certificate(round.view, kind)
@@ -458,17 +460,18 @@ impl<S: Scheme> Node<S> {
         certificate: &Certificate<S::Certificate>,
         certifies: bool,
     ) -> Result<Receipt<Verdict>, Error> {
-        let name = match self.scheme.participants().index(peer) {
-            Some(sender) => u64::from(sender.get()),
-            None => NOBODY,
+        let round = certificate.round();
+        let sender = match self.look_at(peer, NOT_LIKELY, round) {
+            Ok(sender) => sender,
+            Err(receipt) => return Ok(receipt),
         };
-        let (kind, view) = (certificate.kind(), certificate.round().view);
+        let (kind, view) = (certificate.kind(), round.view);
         let (number, mode) = (self.numbers.unused(), self.mode_of(view));
         let proposal = flat_subject(&certificate.subject());
         self.books.reserve()?;
         let mut selected_anew = false;
         let answer = self.library.receive_certificate(
-            name,
+            u64::from(sender.get()),
             kind as u8,
             &proposal,
             number,
@@ -497,7 +500,11 @@ impl<S: Scheme> Node<S> {
     ///
     /// Hand in votes of one's own participant alone, and a finalize only of a proposal that is
     /// notarized, which the node doesn't look at. Keep the bytes of each own vote before it is cast,
-    /// since the next certificate may have it: to send it again send these, and never sign it anew. [`Node::new`] says what to do with them after a restart.
+    /// since the next certificate may have it: to send it again send these, and never sign it anew.
+    /// [`Node::new`] says what to do with them after a restart. **Where one is answered
+    /// `OutOfMemory`, or `Outside` of a view to come, cast nothing else in its view until the same
+    /// vote is answered otherwise**: after a restart it would be sent, and contradict what was sent
+    /// since.
     ///
     /// ```
     /// # include!(concat!(env!("CARGO_MANIFEST_DIR"), "/tests/toy/mod.rs"));
@@ -575,7 +582,7 @@ impl<S: Scheme> Node<S> {
         }
         match book.report(&self.answer, numbered, &vote)? {
             Some(report) => {
-                book.keep(numbered, vote, Some(true));
+                book.keep(numbered, vote, Found::Recorded(true));
                 Ok(Cast::ToSend(report))
             }
             None => Err(Error::Unknown(code::DONE)),
@@ -723,8 +730,9 @@ impl<S: Scheme> Node<S> {
     /// Records a verdict on each of the attestations that a step has handed out, in their order.
     /// Then step again. **A verdict can't be taken back, and after false the next batch has its
     /// signer blocked**, unless a certificate comes first. Of two verdicts on one attestation the
-    /// first counts. Those of a view that was finalized meanwhile change nothing. Where the
-    /// verification failed to run, record nothing, and step again.
+    /// first counts, also where memory was refused for it. Those of a view that was finalized
+    /// meanwhile change nothing. Where the verification failed to run, record nothing, and step
+    /// again.
     ///
     /// # Errors
     ///
@@ -755,7 +763,8 @@ impl<S: Scheme> Node<S> {
     }
 
     /// Records whether the attestations that a step has handed out pass as a whole. Then step
-    /// again. It counts for these attestations together, and for no others.
+    /// again. It counts for these attestations together, and for no others. Of two verdicts on the
+    /// same attestations the first counts.
     ///
     /// # Errors
     ///
@@ -766,11 +775,14 @@ impl<S: Scheme> Node<S> {
         wanted: &WantedTogether<S::Signature>,
         passes: bool,
     ) -> Result<(), Error> {
-        let wanted = &wanted.wanted;
-        if wanted.owner != self.identity {
+        if wanted.wanted.owner != self.identity {
             return Err(Error::Elsewhere);
         }
-        done(self.library.record_verdict_together(&wanted.listed, passes))
+        match self.books.get_mut(wanted.subject().round().view) {
+            Some(book) => book.record_verdict_together(&mut self.library, wanted, passes),
+            // A later view was finalized meanwhile.
+            None => Ok(()),
+        }
     }
 
     /// The selected proposal of a view, to be handed on by participant `me`: once at most, and not
@@ -857,11 +869,14 @@ impl<S: Scheme> Node<S> {
         let answer = self
             .library
             .missing_voters(view.get(), &proposal, &mut list, &mut count);
-        if !some(answer)? {
+        if some(answer)? {
+            list.truncate(count as usize);
+        } else {
             // Nothing was said in the view, so nobody is known to have it.
-            return Ok((0..participants).map(Participant::new).collect());
+            list.clear();
+            list.extend(0..participants);
         }
-        list.truncate(count as usize);
+        // That takes no memory.
         Ok(list.into_iter().map(Participant::new).collect())
     }
 
@@ -870,9 +885,9 @@ impl<S: Scheme> Node<S> {
     ///
     /// Where it does, and is a finalization of the node's epoch and of a view beyond the finalized
     /// one, [`Node::finalize`] of its view moves the window there. Of an earlier view it says nothing
-    /// new, and the next view can't be entered. Then hand it to [`Node::receive_certificate`], which records it
-    /// unless its peer is blocked or takes no part, and enter the view that comes next with its
-    /// leader.
+    /// new, and the next view may be passed. Then hand it to [`Node::receive_certificate`], which
+    /// records it unless its peer is blocked or takes no part, and enter the view that comes next
+    /// with its leader.
     ///
     /// ```
     /// # include!(concat!(env!("CARGO_MANIFEST_DIR"), "/tests/toy/mod.rs"));
@@ -1016,6 +1031,10 @@ impl Library for node::Node {
 
     fn record_verdicts(&mut self, list: &[ffi::Attestation], verdicts: &[bool]) -> u8 {
         node::Node::record_verdicts(self, list, verdicts)
+    }
+
+    fn record_verdict_together(&mut self, list: &[ffi::Attestation], passes: bool) -> u8 {
+        node::Node::record_verdict_together(self, list, passes)
     }
 }
 

@@ -8,13 +8,13 @@ use crate::flat::{done, error_of, flat_proposal, flat_subject, flat_vote, propos
 use crate::messages::{Certificate, Kind, Proposal, Vote};
 use crate::positions::{self, Participant};
 use crate::scheme::Scheme;
-use crate::table::Numbers;
+use crate::table::{Found, Numbers};
 use std::fmt;
 use std::sync::Arc;
 use std::sync::atomic::{AtomicU64, Ordering};
 
 /// What the library is given for a sender that is no participant. All of these have lower names.
-pub(crate) const NOBODY: u64 = u64::MAX;
+const NOBODY: u64 = u64::MAX;
 
 /// A number that distinguishes a round, or a node, from all others of the process.
 pub(crate) fn identity() -> u64 {
@@ -235,7 +235,9 @@ impl<S: Scheme> Round<S> {
     /// vote before it is handed in, since the next certificate may have it. A round that is made
     /// again for the same view, as after a restart or after [`Error::Gone`], knows none of them, and
     /// would let another be sent that contradicts them. Hand those in first, as the same bytes and
-    /// in the same order. Where that can't be done, cast nothing more in that view.
+    /// in the same order. Where that can't be done, cast nothing more in that view. **Where one is
+    /// answered `OutOfMemory`, hand in no other until the same one is answered otherwise**: it comes
+    /// first then.
     ///
     /// ```
     /// # include!(concat!(env!("CARGO_MANIFEST_DIR"), "/tests/toy/mod.rs"));
@@ -319,7 +321,7 @@ impl<S: Scheme> Round<S> {
         }
         // A vote that was added is reported.
         let report = report.ok_or(Error::Unknown(code::DONE))?;
-        self.book.keep(numbered, vote, Some(true));
+        self.book.keep(numbered, vote, Found::Recorded(true));
         Ok(Outcome::ToSend { report, retained })
     }
 
@@ -409,8 +411,9 @@ impl<S: Scheme> Round<S> {
             self.library
                 .record_certificate(kind as u8, &proposal, number, &mut selected_anew),
         )?;
-        // The votes of a batch that isn't finished are needed until it is.
-        if self.unfinished.is_none_or(|step| step.kind != kind as u8) {
+        // The votes of a certificate that isn't handed over yet are needed until it is.
+        let is_needed = |step: ffi::Step| step.certified && step.kind == kind as u8;
+        if !self.unfinished.is_some_and(is_needed) {
             self.book.certified(kind);
         }
         Ok(selected_anew)
@@ -657,8 +660,8 @@ impl<S: Scheme> Round<S> {
     /// Then step again, also where no vote has come.
     ///
     /// **A verdict can't be taken back, and false has its signer blocked.** Of two verdicts on one
-    /// attestation the first counts. Where the verification failed to run, record nothing, and step
-    /// again.
+    /// attestation the first counts, also where memory was refused for it. Where the verification
+    /// failed to run, record nothing, and step again.
     ///
     /// # Errors
     ///
@@ -689,7 +692,8 @@ impl<S: Scheme> Round<S> {
     /// again, also where no vote has come.
     ///
     /// It counts for these attestations together, and for no others: where a vote of their kind
-    /// comes before the next step, that asks for a verdict on all of them with the new one.
+    /// comes before the next step, that asks for a verdict on all of them with the new one. Of two
+    /// verdicts on the same attestations the first counts.
     ///
     /// # Errors
     ///
@@ -700,11 +704,11 @@ impl<S: Scheme> Round<S> {
         wanted: &WantedTogether<S::Signature>,
         passes: bool,
     ) -> Result<(), Error> {
-        let wanted = &wanted.wanted;
-        if wanted.owner != self.identity {
+        if wanted.wanted.owner != self.identity {
             return Err(Error::Elsewhere);
         }
-        done(self.library.record_verdict_together(&wanted.listed, passes))
+        self.book
+            .record_verdict_together(&mut self.library, wanted, passes)
     }
 
     // Hands over a batch that the library has made.
@@ -732,6 +736,10 @@ impl Library for ffi::Round {
 
     fn record_verdicts(&mut self, list: &[ffi::Attestation], verdicts: &[bool]) -> u8 {
         ffi::Round::record_verdicts(self, list, verdicts)
+    }
+
+    fn record_verdict_together(&mut self, list: &[ffi::Attestation], passes: bool) -> u8 {
+        ffi::Round::record_verdict_together(self, list, passes)
     }
 }
 

@@ -115,9 +115,8 @@ pub trait Scheme {
         verified: usize,
     ) -> bool {
         let unknown = &attestations[verified..];
-        self.verify_attestations(subject, unknown)
-            .into_iter()
-            .all(|attests| attests)
+        let verdicts = self.verify_attestations(subject, unknown);
+        verdicts.len() == unknown.len() && verdicts.into_iter().all(|attests| attests)
     }
 
     /// The certificate of a quorum of attestations, ascending by signer. Each attests, or they

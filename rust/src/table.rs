@@ -15,12 +15,44 @@ use crate::Error;
 use crate::messages::{Kind, Vote};
 use crate::positions::Participant;
 
+/// The verdict on a vote, which is the first that the library was handed. Since what is proved rests
+/// on it, the library is never handed another on the same number, also not where it refused this one
+/// for memory.
+#[derive(Clone, Copy, PartialEq, Eq, Debug)]
+pub(crate) enum Found {
+    Nothing,
+    /// The library refused it, and so asks for it again.
+    Refused(bool),
+    Recorded(bool),
+}
+
 /// A vote that the library keeps in full.
 pub(crate) struct Kept<G> {
     pub(crate) vote: Vote<G>,
     pub(crate) number: u64,
-    /// What was found of it. The first verdict counts, so the verdicts on a number are never two.
-    pub(crate) verdict: Option<bool>,
+    pub(crate) found: Found,
+}
+
+impl<G> Kept<G> {
+    /// The first verdict, which is this one where there is none. It is about to be handed to the
+    /// library, which hasn't recorded it yet.
+    pub(crate) fn first_verdict(&mut self, attests: bool) -> bool {
+        match self.found {
+            Found::Refused(first) | Found::Recorded(first) => first,
+            Found::Nothing => {
+                self.found = Found::Refused(attests);
+                attests
+            }
+        }
+    }
+
+    /// The verdict that the library has recorded.
+    pub(crate) fn recorded(&self) -> Option<bool> {
+        match self.found {
+            Found::Recorded(attests) => Some(attests),
+            Found::Nothing | Found::Refused(_) => None,
+        }
+    }
 }
 
 /// How many votes of a kind there is room for at first.
@@ -127,13 +159,13 @@ impl<G: Eq> Table<G> {
 
     /// Keeps the first vote of its kind and signer. There is room for it.
     #[inline]
-    pub(crate) fn insert(&mut self, vote: Vote<G>, number: u64, verdict: Option<bool>) {
+    pub(crate) fn insert(&mut self, vote: Vote<G>, number: u64, found: Found) {
         let Places { index, kept } = &mut self.kinds[vote.kind() as usize];
         if let Some(place) = index.get_mut(usize::from(vote.signer())) {
             kept.push(Kept {
                 vote,
                 number,
-                verdict,
+                found,
             });
             *place = kept.len() as u32;
         }
@@ -178,7 +210,7 @@ mod tests {
             for signer in 0..participants {
                 table.reserve(Kind::Nullification, participants).unwrap();
                 let number = numbers.unused();
-                table.insert(vote(signer), number, None);
+                table.insert(vote(signer), number, Found::Nothing);
             }
             let Places { index, kept } = &table.kinds[Kind::Nullification as usize];
             let bytes = kept.capacity() * size_of::<Kept<[u8; 64]>>() + 4 * index.capacity();
@@ -195,7 +227,7 @@ mod tests {
         let (mut table, mut numbers) = (Table::new(), Numbers::new());
         table.reserve(Kind::Nullification, 4).unwrap();
         let number = numbers.unused();
-        table.insert(vote(3), number, None);
+        table.insert(vote(3), number, Found::Nothing);
         let signer = Participant::new(3);
         assert!(
             table

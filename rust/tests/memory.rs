@@ -161,7 +161,8 @@ fn processed(round: &mut Round<Plain>) -> (usize, Vec<u32>) {
     }
 }
 
-/// A verdict can't be taken back, so other ones can be given only where none was recorded.
+/// All are asked for again. The library was handed verdicts, which count where others follow: what
+/// is proved rests on it that a number has one.
 #[test]
 fn of_a_refused_list_no_verdict_is_recorded() {
     for refused in 0.. {
@@ -171,19 +172,21 @@ fn of_a_refused_list_no_verdict_is_recorded() {
         }
         let three = wanted(&mut round);
         let answer = once(&mut Some(refused), || {
-            round.record_verdicts(&three, &[false; 3])
+            round.record_verdicts(&three, &[true, false, true])
         });
         if answer.is_ok() {
             assert!(refused > 1, "{refused} requests alone");
             return;
         }
         assert_eq!(answer, Err(Error::OutOfMemory));
-        round.record_verdicts(&three, &[true; 3]).unwrap();
-        assert_eq!(processed(&mut round), (3, vec![]));
+        let again = wanted(&mut round);
+        assert_eq!(again.attestations(), three.attestations());
+        round.record_verdicts(&again, &[true; 3]).unwrap();
+        assert_eq!(processed(&mut round), (3, vec![1]));
     }
 }
 
-/// Nor is one where some have an earlier verdict, and so a lower number.
+/// Nor is one where some have an earlier verdict, so that the others go to the library's map.
 #[test]
 fn of_a_refused_list_no_verdict_is_recorded_beside_earlier_ones() {
     for refused in 0.. {
@@ -203,7 +206,81 @@ fn of_a_refused_list_no_verdict_is_recorded_beside_earlier_ones() {
             return;
         }
         assert_eq!(answer, Err(Error::OutOfMemory));
-        round.record_verdicts(&four, &[true; 4]).unwrap();
-        assert_eq!(processed(&mut round), (4, vec![1]));
+        // The first three have one.
+        assert_eq!(wanted(&mut round).attestations(), &four.attestations()[3..]);
+        round
+            .record_verdicts(&four, &[true, true, true, false])
+            .unwrap();
+        assert_eq!(processed(&mut round), (4, vec![1, 3]));
     }
+}
+
+/// A certificate from outside has the crate forget the votes of its kind, also where a batch without
+/// one isn't handed over yet.
+#[test]
+fn votes_are_forgotten_beside_a_refused_batch() {
+    for refused in 0.. {
+        let mut round = Round::in_mode(NUMBER, Plain::new(4, false), Mode::Releasing).unwrap();
+        round.set_leader(Participant::new(0)).unwrap();
+        let subject = Subject::Notarize {
+            proposal: proposal(1),
+        };
+        for signer in 0..3 {
+            let admission = round.add_network(&signer, vote(subject, signer, true));
+            assert!(admission.unwrap().added);
+        }
+        let three = wanted(&mut round);
+        round.record_verdicts(&three, &[true, false, true]).unwrap();
+        let answer = once(&mut Some(refused), || round.step().map(drop));
+        round
+            .record_verified_certificate(&Certificate::new(subject, 3))
+            .unwrap();
+        assert_eq!(round.votes_kept(), 0);
+        if answer.is_ok() {
+            assert!(refused > 0, "none was refused");
+            return;
+        }
+    }
+}
+
+/// Of two verdicts on the same attestations as a whole the first counts, also where memory was refused
+/// for it.
+#[test]
+fn the_first_verdict_on_a_whole_counts() {
+    for refused in 0.. {
+        let mut round = Round::in_mode(NUMBER, Plain::new(4, true), Mode::Retaining).unwrap();
+        for signer in 0..3 {
+            hear_nullify(&mut round, signer);
+        }
+        let Ok(Step::VerifyTogether(three)) = round.step() else {
+            panic!("no verdict as a whole is wanted");
+        };
+        let answer = once(&mut Some(refused), || {
+            round.record_verdict_together(&three, false)
+        });
+        round.record_verdict_together(&three, true).unwrap();
+        let is_asked = matches!(round.step(), Ok(Step::Verify(_)));
+        if refused > 0 {
+            assert!(is_asked, "it passes though it didn't");
+        }
+        if answer.is_ok() {
+            assert!(refused > 1, "{refused} requests alone");
+            return;
+        }
+    }
+}
+
+/// The verdict on an own vote, which came from a peer before, counts where it was refused too.
+#[test]
+fn a_refused_verdict_on_an_own_vote_counts() {
+    let mut round = Round::in_mode(NUMBER, Plain::new(4, false), Mode::Retaining).unwrap();
+    for signer in 0..3 {
+        hear_nullify(&mut round, signer);
+    }
+    let own = vote(Subject::Nullify { round: NUMBER }, 0, true);
+    let answer = once(&mut Some(0), || round.accept_verified_vote(own));
+    assert_eq!(answer, Err(Error::OutOfMemory));
+    let three = wanted(&mut round);
+    round.record_verdicts(&three, &[false; 3]).unwrap();
+    assert_eq!(processed(&mut round), (3, vec![1, 2]));
 }

@@ -3,7 +3,7 @@
 
 mod refusing;
 
-use batcher::node::{Node, Receipt, Step, Verdict};
+use batcher::node::{Cast, Cause, Node, Receipt, Step, Verdict};
 use batcher::positions::Round as Number;
 use batcher::{
     Certificate, Epoch, Error, Participant, Proposal, Sha256Digest, Subject, View, Vote,
@@ -121,6 +121,9 @@ fn play(track: bool, aggregates: bool, granted: &mut Option<u32>) -> Vec<String>
     player.construct();
     let missing = player.call(|node| node.missing_voters(View::new(1), &proposal(1, 2)));
     assert_eq!(missing, [Participant::new(0)]);
+    // Nothing was said in that view.
+    let missing = player.call(|node| node.missing_voters(View::new(9), &proposal(9, 1)));
+    assert_eq!(missing.len(), 4);
     // Views 4 and 5 are passed over. In one of them something is said after that.
     enter(&mut player, 6, 2);
     player.hear(0, notarize(4, 4), true);
@@ -153,7 +156,7 @@ fn a_refusal_changes_nothing() {
     }
 }
 
-/// A verdict can't be taken back, so other ones can be given only where none was recorded.
+/// All are asked for again, and the verdicts that the library was handed count.
 #[test]
 fn of_a_refused_list_no_verdict_is_recorded() {
     for refused in 0.. {
@@ -168,17 +171,53 @@ fn of_a_refused_list_no_verdict_is_recorded() {
             panic!("no verdict is wanted");
         };
         let answer = once(&mut Some(refused), || {
-            node.record_verdicts(&wanted, &[false; 3])
+            node.record_verdicts(&wanted, &[true, false, true])
         });
         if answer.is_ok() {
             assert!(refused > 1, "{refused} requests alone");
             return;
         }
         assert_eq!(answer, Err(Error::OutOfMemory));
-        node.record_verdicts(&wanted, &[true; 3]).unwrap();
+        let Ok(Step::Verify(again)) = node.step() else {
+            panic!("verdicts are recorded");
+        };
+        assert_eq!(again.attestations(), wanted.attestations());
+        node.record_verdicts(&again, &[true; 3]).unwrap();
         assert!(matches!(node.step(), Ok(Step::Made(_))));
         for signer in 0..3 {
-            assert_eq!(node.blocked(Participant::new(signer)), None);
+            let cause = (signer == 1).then_some(Cause::Signature);
+            assert_eq!(node.blocked(Participant::new(signer)), cause);
+        }
+    }
+}
+
+/// What of these own votes is to be sent, where memory is refused once. A vote for which it was is cast
+/// again before another.
+fn sent(granted: &mut Option<u32>, written: &[Vote<bool>]) -> Vec<Vote<bool>> {
+    let mut node = Node::new(Epoch::zero(), Plain::new(4, false), View::zero(), 2, false).unwrap();
+    node.enter(View::new(1), Participant::new(0)).unwrap();
+    let is_sent = |own: &&Vote<bool>| {
+        let answer = again(granted, || node.cast_verified_vote(**own));
+        matches!(answer, Ok(Cast::ToSend(_)))
+    };
+    written.iter().filter(is_sent).copied().collect()
+}
+
+/// So who starts again sends what it sent before, and nothing that contradicts it.
+#[test]
+fn a_restart_sends_the_same_beside_a_refusal() {
+    let written = [
+        vote(finalize(1, 1), 0, true),
+        vote(nullify(1), 0, true),
+        vote(notarize(1, 1), 0, true),
+    ];
+    let expected = [written[0], written[2]];
+    for refused in 0.. {
+        let mut granted = Some(refused);
+        assert_eq!(sent(&mut granted, &written), expected);
+        if granted.is_some() {
+            assert!(refused > 2, "{refused} requests alone");
+            return;
         }
     }
 }
@@ -188,6 +227,9 @@ fn of_a_refused_list_no_verdict_is_recorded() {
 #[test]
 fn a_flood_takes_no_memory() {
     let mut node = Node::new(Epoch::zero(), Plain::new(4, false), View::new(5), 3, false).unwrap();
+    let beyond = Certificate::new(nullify(9), 3);
+    let receipt = asks(|| node.receive_verified_certificate(&1, &beyond, true));
+    assert_eq!(receipt, (Ok(Receipt::Outside), false));
     node.enter(View::new(6), Participant::new(0)).unwrap();
     let first = vote(notarize(7, 1), 1, true);
     let _ = node.receive_vote(&1, first).unwrap();
