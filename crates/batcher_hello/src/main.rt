@@ -60,7 +60,7 @@ fn hear(rt: &impl Print, round: &mut TestRound, sender: Name, vote: TestVote) ->
     }
     // A round gives three batches in a row at most, so after four constructions it is at rest.
     for _ in 0..4 {
-        // `Counter` is for tests. A validator hands on a generator that nobody can foresee.
+        // `Counter` is for tests. A validator passes in a generator that nobody can predict.
         let Some(batch) = round.try_construct(&mut Counter::new(0))? else {
             break;
         };

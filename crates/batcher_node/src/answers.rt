@@ -66,8 +66,8 @@ impl fmt::Display for Verdict {
 pub enum Cast<G, D> {
     /// It is the first of its kind and signer, and is to be sent to all. This is reported of it.
     ToSend(Activity<G, D>),
-    /// There was one before, and nothing that is kept shows that the two differ. So it isn't to be
-    /// sent: who has the earlier one would block the sender of another.
+    /// There was one before: a nullify, or a vote of which nothing that is kept shows that the two
+    /// differ. So it isn't to be sent: who has the earlier one would block the sender of another.
     Known,
     /// It is of a view outside of the window, or of another epoch, and wasn't looked at.
     Outside,
