@@ -9,7 +9,8 @@
  *   - of one number a handle is always given the same verdict, also after a call that was refused, of
  *     a list as a whole too, and a round is given only certificates that certify what they name.
  * All else is tested: on an empty handle, for a code that means nothing and for a vote of another
- * round a call answers a code, and changes nothing. */
+ * round a call answers a code, and changes nothing. A leader's index alone isn't looked at. What a
+ * validator owes besides, as which votes it may cast and send, is in `docs/RUST.md`. */
 #ifndef BATCHER_H
 #define BATCHER_H
 
@@ -29,9 +30,9 @@ struct batcher_node {
 enum batcher_code {
     BATCHER_DONE, /* of a construction: a batch was made */
     BATCHER_NONE, /* the handle is empty */
-    BATCHER_MALFORMED, /* a code that means nothing, no participant, or not one verdict for each */
+    BATCHER_MALFORMED, /* a code that means nothing, no participants, or not one verdict for each */
     BATCHER_ELSEWHERE, /* of another round; of a node, of another epoch or outside of its window */
-    BATCHER_OUT_OF_MEMORY, /* all is as it was, but for the verdicts of a construction */
+    BATCHER_OUT_OF_MEMORY, /* all is as it was, but verdicts may have to be recorded again */
     BATCHER_LEADER_CHANGED, /* another leader was named before */
     BATCHER_NOT_VERIFIED, /* an own vote without a verdict that it attests */
     BATCHER_DUPLICATE_NOTARIZE, /* a notarize of its signer is kept */
@@ -53,6 +54,7 @@ enum batcher_code {
 
 enum batcher_kind { BATCHER_NOTARIZATION, BATCHER_NULLIFICATION, BATCHER_FINALIZATION };
 
+/* How long votes are kept in full: to the end, until their kind is certified, or never. */
 enum batcher_mode { BATCHER_RETAINING, BATCHER_RELEASING, BATCHER_SKIPPED };
 
 /* Why the sender of a vote is to be blocked, if it is. */
@@ -116,7 +118,7 @@ struct batcher_admission {
     struct batcher_vote second;
     uint8_t report;
     uint8_t block;
-    bool added;
+    bool added; /* the first of its kind and signer */
     bool retained; /* of a round's own vote, whether votes of its kind are kept in full; else false */
 };
 
@@ -136,8 +138,8 @@ struct batcher_step {
 };
 
 /* A round of so many participants, whose keys are 0, 1, .. in this order. A batchable scheme waits for a
- * quorum before it wants verdicts; where it aggregates, a quorum may pass as a whole. The handle's earlier
- * round is freed. */
+ * quorum before it wants verdicts; where it aggregates, a quorum may pass as a whole. Where it is DONE, the
+ * handle's earlier round is freed. */
 uint8_t batcher_round_new(struct batcher_round *round, uint64_t epoch, uint64_t view,
                           uint32_t participants, uint8_t mode, bool batchable, bool aggregates);
 
@@ -161,7 +163,8 @@ uint8_t batcher_round_record_verdict_together(struct batcher_round *round,
 uint8_t batcher_round_add_network(struct batcher_round *round, uint64_t sender,
                                   const struct batcher_vote *vote, struct batcher_admission *out);
 
-/* A vote of the node's own, of which a verdict says that it attests. */
+/* A vote of the node's own, of which a verdict says that it attests. It is to be sent only where it is DONE
+ * and `added`. */
 uint8_t batcher_round_accept_vote(struct batcher_round *round, const struct batcher_vote *vote,
                                   struct batcher_admission *out);
 
@@ -171,6 +174,7 @@ uint8_t batcher_round_record_certificate(struct batcher_round *round, uint8_t ki
                                          const struct batcher_proposal *proposal, uint64_t number,
                                          bool *selected_anew);
 
+/* The index isn't looked at, and can't be changed. */
 uint8_t batcher_round_set_leader(struct batcher_round *round, uint32_t leader);
 
 /* IDLE: there is none yet. */
@@ -188,7 +192,8 @@ uint8_t batcher_round_has_certificate(struct batcher_round *round, uint8_t kind,
 /* Whether a nullify of the signer is kept in full. */
 uint8_t batcher_round_has_nullify(struct batcher_round *round, uint32_t signer, bool *out);
 
-/* Whether the participant isn't known to have the proposal's block. */
+/* Whether the participant isn't known to have the proposal's contents. Of votes that aren't kept in full one
+ * for the selected proposal counts for whichever is asked about. */
 uint8_t batcher_round_is_missing_voter(struct batcher_round *round,
                                        const struct batcher_proposal *proposal,
                                        uint32_t participant, bool *out);
@@ -200,7 +205,8 @@ uint8_t batcher_round_missing_voters(struct batcher_round *round,
                                      size_t list_length, uint64_t *count);
 
 /* The next construction. It is made by the verdicts that were recorded since the last one; where it wants
- * others it says so, and nothing changes. Made again with those it goes on. */
+ * others it says so, and nothing changes. Made again with those it goes on. It forgets all verdicts where it
+ * wants none. Make it after all that was taken in, until it is IDLE. */
 uint8_t batcher_round_try_construct(struct batcher_round *round, struct batcher_step *out,
                                     struct batcher_attestation *list, size_t list_length,
                                     uint32_t *signers, size_t signers_length);
@@ -239,10 +245,12 @@ uint8_t batcher_node_receive_certificate(struct batcher_node *node, uint64_t pee
 uint8_t batcher_node_cast_vote(struct batcher_node *node, const struct batcher_vote *vote,
                                struct batcher_admission *out);
 
-/* A view that passes over others makes their rounds skipped ones, where nothing was said there yet. */
+/* A view that passes over others makes their rounds skipped ones, where nothing was said there yet. The
+ * leader's index isn't looked at, and can't be changed. */
 uint8_t batcher_node_enter(struct batcher_node *node, uint64_t view, uint32_t leader);
 
-/* The rounds of the views before it are freed. An earlier view than the last one changes nothing. */
+/* Only for a finalization that certifies: the window never moves back. The rounds of the views before it
+ * are freed. An earlier view than the last one changes nothing. */
 uint8_t batcher_node_finalize(struct batcher_node *node, uint64_t view);
 
 /* The next construction, as that of a round, in the lowest view that changed: which one is in out. IDLE:
@@ -286,7 +294,8 @@ uint8_t batcher_node_missing_voters(struct batcher_node *node, uint64_t view,
                                     size_t list_length, uint64_t *count);
 
 /* The signer that two votes convict: they are of one of so many participants, contradict each other,
- * and both attest, as the caller has verified. IDLE: they convict nobody. It takes no node's word. */
+ * and both attest, as the caller has verified. IDLE: they convict nobody. It takes no node's word. The two
+ * have different numbers: of equal ones the first verdict would count for both. */
 uint8_t batcher_convicted(uint32_t participants, const struct batcher_vote *first,
                           const struct batcher_vote *second, bool first_attests,
                           bool second_attests, uint32_t *out);

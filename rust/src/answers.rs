@@ -85,8 +85,8 @@ pub enum Outcome<G> {
         /// Whether votes of its kind are kept in full.
         retained: bool,
     },
-    /// There was one before, and nothing that is kept shows that the two differ. It **isn't to be
-    /// sent**: if it differs, whoever has the earlier one blocks this node.
+    /// There was one before: a nullify, or a vote of which nothing that is kept shows that the two
+    /// differ. It **isn't to be sent**: if it differs, whoever has the earlier one blocks this node.
     Duplicate {
         /// Whether votes of its kind are kept in full.
         retained: bool,
@@ -96,16 +96,16 @@ pub enum Outcome<G> {
 /// Why an own vote is refused. Nothing changes then.
 #[derive(Clone, Copy, Debug, PartialEq, Eq, Hash)]
 pub enum OwnFault {
-    /// A notarize of its index is kept, equal to this one or not.
+    /// A notarize of its signer is kept, equal to this one or not.
     DuplicateNotarize,
-    /// A finalize of its index is kept, equal to this one or not.
+    /// A finalize of its signer is kept, equal to this one or not.
     DuplicateFinalize,
-    /// An earlier vote of its kind and index isn't kept, and only one of the two is for the
+    /// An earlier vote of its kind and signer isn't kept, and only one of the two is for the
     /// selected proposal.
     Conflicting,
-    /// A finalize of its index was seen: who finalizes a view doesn't give up on it.
+    /// A finalize of its signer was seen: who finalizes a view doesn't give up on it.
     NullifyAfterFinalize,
-    /// A nullify of its index was seen: who gave up on a view doesn't finalize it.
+    /// A nullify of its signer was seen: who gave up on a view doesn't finalize it.
     FinalizeAfterNullify,
 }
 
@@ -130,7 +130,7 @@ pub struct Batch<C> {
     /// How many pending votes were looked at.
     pub processed: usize,
     /// The signers whose votes were found not to attest, in the order in which they were looked at.
-    /// They are to be blocked: a vote is taken in from its signer alone.
+    /// They are to be blocked, as a node has done: a vote is taken in from its signer alone.
     pub invalid: Vec<Participant>,
     /// The certificate, if one was made, which is to be sent. It is recorded already, and isn't
     /// given again.

@@ -296,8 +296,8 @@ impl<G: Clone + Eq> Book<G> {
         Ok(())
     }
 
-    /// Hands in whether what a step has wanted passes as a whole. Of two verdicts on the same
-    /// attestations the first counts, also where the library refused it for memory.
+    /// Hands in whether what a step has wanted passes as a whole. Of two verdicts in a row on the
+    /// same attestations the first counts, also where the library refused it for memory.
     pub(crate) fn record_verdict_together(
         &mut self,
         library: &mut impl Library,

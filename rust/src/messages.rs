@@ -68,7 +68,7 @@ impl fmt::Display for Kind {
 /// and the proposal for the others.
 #[derive(Clone, Copy, Debug, PartialEq, Eq, Hash)]
 pub enum Subject {
-    /// That the proposal is certified.
+    /// That its signer votes to notarize the proposal.
     Notarize {
         /// The proposal.
         proposal: Proposal,

@@ -11,7 +11,7 @@
 //!    that a peer sends, under the key that the transport has authenticated.
 //! 3. It writes each own vote down, [casts](Node::cast_vote) it, and sends it where that answers
 //!    [`Cast::ToSend`], and only then.
-//! 4. After each of these it [constructs](Node::try_construct) until there is no answer, and sends
+//! 4. After each of these it [constructs](Node::try_construct) until that answers `None`, and sends
 //!    each certificate that a batch has.
 //! 5. Where a certificate ends a view, it [enters](Node::enter) the next one. Where a view is final,
 //!    it [says so](Node::finalize), which lets go of the rounds before it.
@@ -102,8 +102,8 @@ pub enum Cast<G> {
     /// it.
     ToSend(Activity<G>),
     /// There was one before: a nullify, or a vote of which nothing that is kept shows that the two
-    /// differ. It **isn't to be sent**: to send it could get this node blocked. It may be taken for
-    /// the earlier one from then on, so no vote is to be tried out.
+    /// differ. It **isn't to be sent**: to send it could get this node blocked. Even so it may change
+    /// what is known of the earlier one, so don't cast a vote just to try.
     Known,
     /// It is of a view outside of the window, or of another epoch, and wasn't looked at.
     Outside,
@@ -154,7 +154,7 @@ impl Window {
 pub struct Construction<C> {
     /// The view.
     pub view: View,
-    /// The batch, if it gave one.
+    /// The batch. Where there is none, this view rests, and others may not, so go on.
     pub batch: Option<Batch<C>>,
 }
 
@@ -594,8 +594,8 @@ impl<S: Scheme> Node<S> {
     /// certificate is made. What is promised of honest peers rests on the right leader.
     ///
     /// A view below the current one can be entered too, as after a restart, which leaves the current
-    /// view as it was. One that was passed over stays skipped, so that a restart enters the lowest
-    /// view first. If the leader's notarize is kept, that may select its proposal, so construct
+    /// view as it was. One that was passed over stays skipped, so after a restart enter the lowest
+    /// first. If the leader's notarize is kept, that may select its proposal, so construct
     /// after this.
     ///
     /// ```
@@ -648,8 +648,9 @@ impl<S: Scheme> Node<S> {
     }
 
     /// Makes one construction, in the lowest view that changed since it was found to rest, and has
-    /// the scheme verify what it takes. None where all views rest. Whose votes the batch found not
-    /// to attest is blocked from then on.
+    /// the scheme verify what it takes. None where all views rest: a construction without a batch
+    /// says that of its own view alone. Whose votes the batch found not to attest is blocked from
+    /// then on.
     ///
     /// # Errors
     ///
@@ -763,8 +764,8 @@ impl<S: Scheme> Node<S> {
     }
 
     /// Records whether the attestations that a step has handed out pass as a whole. Then step
-    /// again. It counts for these attestations together, and for no others. Of two verdicts on the
-    /// same attestations the first counts.
+    /// again. It counts for these attestations together, and for no others. Of two verdicts in a
+    /// row on the same attestations the first counts.
     ///
     /// # Errors
     ///
@@ -833,8 +834,10 @@ impl<S: Scheme> Node<S> {
         answer == code::DONE && has
     }
 
-    /// Whether nothing that was said in a view shows that the participant has the proposal's block:
-    /// neither a notarize nor a finalize for it. A vote shows that also where it doesn't attest.
+    /// Whether nothing that was said in a view shows that the participant has the proposal's
+    /// contents: neither a notarize nor a finalize for it. A vote shows that also where it doesn't
+    /// attest. Of votes that aren't kept in full, one for the selected proposal counts for whichever
+    /// is asked about: so ask about the selected one.
     pub fn is_missing_voter(
         &self,
         view: View,

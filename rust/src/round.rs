@@ -176,7 +176,7 @@ impl<S: Scheme> Round<S> {
     /// The first of each kind per signer is added, except a nullify after a finalize of its signer,
     /// or a finalize after its nullify. A sender is to be blocked for that, for the vote of another
     /// signer, and for two votes that are known to differ. To block it is the caller's matter: a
-    /// round goes on taking in its votes. A vote that isn't added takes no memory.
+    /// round goes on taking in its votes. A vote that isn't added isn't kept.
     ///
     /// Votes come from their signers alone. Where the network gossips, don't hand in a vote under
     /// the key of who relays it, who would be blocked for it.
@@ -208,6 +208,9 @@ impl<S: Scheme> Round<S> {
         sender: &S::PublicKey,
         vote: Vote<S::Signature>,
     ) -> Result<Admission<S::Signature>, Error> {
+        if !self.belongs(&vote) {
+            return Err(Error::Elsewhere);
+        }
         let participants = self.scheme.participants();
         let sender = participants.index_near(sender, vote.signer());
         let name = sender.map_or(NOBODY, |index| u64::from(index.get()));
@@ -492,8 +495,10 @@ impl<S: Scheme> Round<S> {
         self.library.has_nullify(signer.get(), &mut has) == code::DONE && has
     }
 
-    /// Whether nothing shows that the participant has the proposal's block: neither a notarize nor
-    /// a finalize for it. A vote shows that also where it doesn't attest.
+    /// Whether nothing shows that the participant has the proposal's contents: neither a notarize
+    /// nor a finalize for it. A vote shows that also where it doesn't attest. Of votes that aren't
+    /// kept in full, one for the selected proposal counts for whichever is asked about: so ask about
+    /// the selected one.
     pub fn is_missing_voter(&self, proposal: &Proposal, participant: Participant) -> bool {
         let (proposal, mut is_missing) = (flat_proposal(proposal), false);
         let answer = self
@@ -659,9 +664,10 @@ impl<S: Scheme> Round<S> {
     /// Records a verdict on each of the attestations that a step has handed out, in their order.
     /// Then step again, also where no vote has come.
     ///
-    /// **A verdict can't be taken back, and false has its signer blocked.** Of two verdicts on one
-    /// attestation the first counts, also where memory was refused for it. Where the verification
-    /// failed to run, record nothing, and step again.
+    /// **A verdict can't be taken back, and after false the next batch names its signer**, unless a
+    /// certificate of that kind comes first. Of two verdicts on one attestation the first counts,
+    /// also where memory was refused for it. Where the verification failed to run, record nothing,
+    /// and step again.
     ///
     /// # Errors
     ///
@@ -693,7 +699,7 @@ impl<S: Scheme> Round<S> {
     ///
     /// It counts for these attestations together, and for no others: where a vote of their kind
     /// comes before the next step, that asks for a verdict on all of them with the new one. Of two
-    /// verdicts on the same attestations the first counts.
+    /// verdicts in a row on the same attestations the first counts.
     ///
     /// # Errors
     ///

@@ -5,9 +5,9 @@ use crate::positions::Set;
 
 /// Signatures and certificates, for one set of participants.
 ///
-/// What is proved of a round is proved for every scheme, so it holds of this one, with one
-/// condition: what it says of an attestation depends on the subject, the signer and the signature
-/// alone. A round keeps the first verdict on each.
+/// What is proved of a round is proved for every scheme, so it holds of this one, on conditions
+/// that `docs/RUST.md` lists. The first is that what it says of an attestation depends on the
+/// subject, the signer and the signature alone. A round keeps the first verdict on each.
 ///
 /// Where the scheme is batchable, a round asks for verdicts only when a quorum is possible, and for
 /// many at once; else as soon as a vote counts. Batchable is the default, and that a scheme doesn't

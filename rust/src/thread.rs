@@ -88,7 +88,9 @@ impl Host {
             .spawn(move || {
                 let mut values = Values::new();
                 for job in inbox {
-                    job(&mut values);
+                    // A job catches its own panic. What is dropped or woken after it may panic too,
+                    // and the other values are to live on.
+                    let _ = catch_unwind(AssertUnwindSafe(|| job(&mut values)));
                 }
             })
             .map_err(|_| Error::NoThread)?;
@@ -242,7 +244,7 @@ struct Slot<R> {
 }
 
 impl<R> Slot<R> {
-    // No code that may panic runs while it is locked, so it is never left half done.
+    // Nothing that may panic runs between two changes, so it is never left half done.
     fn lock(&self) -> MutexGuard<'_, State<R>> {
         self.state.lock().unwrap_or_else(PoisonError::into_inner)
     }
@@ -272,15 +274,16 @@ impl<R> Drop for Answers<R> {
     }
 }
 
-/// The answer to a job, once it is there. As a future it is ready once. The job is run whether or
-/// not the answer is waited for.
+/// The answer to a job, once it is there. As a future it is ready once, and `Gone` from then on. The
+/// job is run whether or not the answer is waited for.
 #[must_use = "what the job answers is lost with it"]
 pub struct Reply<R> {
     slot: Arc<Slot<R>>,
 }
 
 impl<R> Reply<R> {
-    /// Waits for the answer by blocking this thread.
+    /// Waits for the answer by blocking this thread. A job of the same host would wait for itself,
+    /// and two hosts whose jobs wait for each other wait for ever.
     ///
     /// # Errors
     ///

@@ -8,7 +8,7 @@ use batcher::{
     Certificate, Epoch, Error, Mode, Participant, Proposal, Round, Sha256Digest, Step, Subject,
     View, Wanted,
 };
-use refusing::{Plain, again, each_refused_in_turn, once, vote};
+use refusing::{Plain, again, asks, each_refused_in_turn, once, vote};
 
 /// A round with what it has answered, as text.
 struct Player {
@@ -213,6 +213,16 @@ fn of_a_refused_list_no_verdict_is_recorded_beside_earlier_ones() {
             .unwrap();
         assert_eq!(processed(&mut round), (4, vec![1, 3]));
     }
+}
+
+/// A vote of another round isn't looked at, so it takes no memory.
+#[test]
+fn a_vote_of_another_round_takes_no_memory() {
+    let mut round = Round::in_mode(NUMBER, Plain::new(4, false), Mode::Retaining).unwrap();
+    let other = Number::new(Epoch::zero(), View::new(9));
+    let nullify = vote(Subject::Nullify { round: other }, 1, true);
+    let answer = asks(|| round.add_network(&1, nullify));
+    assert_eq!(answer, (Err(Error::Elsewhere), false));
 }
 
 /// A certificate from outside has the crate forget the votes of its kind, also where a batch without

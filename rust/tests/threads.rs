@@ -8,6 +8,7 @@ use batcher::{Epoch, Error, Kind, Participant, Round, View};
 use std::future::Future;
 use std::pin::pin;
 use std::sync::Arc;
+use std::sync::mpsc::channel;
 use std::task::{Context, Poll, Wake, Waker};
 use std::thread::{self, Thread};
 use toy::{KEYS, ROUND, Toy, nullify};
@@ -45,6 +46,31 @@ fn many_threads_share_a_round() {
         .unwrap()
         .unwrap();
     assert_eq!(batch.processed, 4);
+}
+
+/// A value whose drop panics.
+struct Falls;
+
+impl Drop for Falls {
+    fn drop(&mut self) {
+        panic!("a drop that panics");
+    }
+}
+
+// An answer that nobody waits for, and a value without a mailbox, are dropped on the host's thread.
+#[test]
+fn a_drop_that_panics_ends_no_other_round() {
+    let host = Host::new().unwrap();
+    let round = start(&host);
+    let value = host.start(|| Ok(Falls)).unwrap();
+    let (sender, receiver) = channel::<()>();
+    let waits = value.ask(move |_| receiver.recv().is_ok());
+    drop(value.ask(|_| Falls));
+    sender.send(()).unwrap();
+    assert_eq!(waits.wait(), Ok(true));
+    assert_eq!(value.call(|_| ()), Ok(()));
+    drop(value);
+    assert_eq!(round.call(|round| round.votes_kept()), Ok(0));
 }
 
 #[test]
