@@ -84,6 +84,7 @@ fn play() -> Result<Vec<Report>, Error> {
                     rounds: BTreeMap::new(),
                     asked: BTreeSet::new(),
                     finalized: BTreeMap::new(),
+                    certificates: Vec::new(),
                     blocked: BTreeMap::new(),
                 };
                 validator.run(&inbox)

@@ -85,6 +85,9 @@ pub struct Validator {
     /// Views of which attestations are with the verifiers.
     pub asked: BTreeSet<u64>,
     pub finalized: BTreeMap<u64, Proposal>,
+    /// All that it made or recorded. Who has blocked the maker of one drops it, and may have no
+    /// quorum of its own: so they are sent again where a view takes too long.
+    pub certificates: Vec<Made>,
     pub blocked: BTreeMap<Participant, String>,
 }
 
@@ -101,6 +104,9 @@ impl Validator {
                     self.since = Instant::now();
                     // What the verifiers haven't answered by now is asked for again.
                     self.asked.clear();
+                    for made in &self.certificates {
+                        self.send_each(|_| Message::Certificate(self.me, made.clone()));
+                    }
                     self.cast(Subject::Nullify {
                         round: number(self.view),
                     })?;
@@ -181,7 +187,9 @@ impl Validator {
             Message::Certifies(from, _, false) => {
                 self.block(from, "a certificate that is none".into())
             }
-            Message::Certifies(_, made, true) => {
+            Message::Certifies(_, made, true)
+                if !self.has(made.round().view.get(), made.kind()) =>
+            {
                 self.round(made.round().view.get())?
                     .record_verified_certificate(&made)?;
                 self.note(&made);
@@ -190,7 +198,10 @@ impl Validator {
                 self.asked.remove(&view);
                 self.round(view)?.record_verdicts(&wanted, &verdicts)?;
             }
-            Message::Vote(..) | Message::Certificate(..) | Message::Stop => {}
+            Message::Vote(..)
+            | Message::Certificate(..)
+            | Message::Certifies(..)
+            | Message::Stop => {}
         }
         Ok(())
     }
@@ -243,6 +254,7 @@ impl Validator {
     }
 
     fn note(&mut self, made: &Made) {
+        self.certificates.push(made.clone());
         if let (Kind::Finalization, Some(proposal)) = (made.kind(), made.proposal()) {
             self.finalized.insert(proposal.round.view.get(), proposal);
             let _ = self.finals.send((self.me, self.finalized.len()));
