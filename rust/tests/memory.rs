@@ -143,6 +143,14 @@ fn hear_nullify(round: &mut Round<Plain>, signer: u32) {
     assert!(admission.added);
 }
 
+fn with_three_nullifies(aggregates: bool) -> Round<Plain> {
+    let mut round = Round::in_mode(NUMBER, Plain::new(4, aggregates), Mode::Retaining).unwrap();
+    for signer in 0..3 {
+        hear_nullify(&mut round, signer);
+    }
+    round
+}
+
 fn wanted(round: &mut Round<Plain>) -> Wanted<bool> {
     match round.step() {
         Ok(Step::Verify(wanted)) => wanted,
@@ -166,10 +174,7 @@ fn processed(round: &mut Round<Plain>) -> (usize, Vec<u32>) {
 #[test]
 fn of_a_refused_list_no_verdict_is_recorded() {
     for refused in 0.. {
-        let mut round = Round::in_mode(NUMBER, Plain::new(4, false), Mode::Retaining).unwrap();
-        for signer in 0..3 {
-            hear_nullify(&mut round, signer);
-        }
+        let mut round = with_three_nullifies(false);
         let three = wanted(&mut round);
         let answer = once(&mut Some(refused), || {
             round.record_verdicts(&three, &[true, false, true])
@@ -190,10 +195,7 @@ fn of_a_refused_list_no_verdict_is_recorded() {
 #[test]
 fn of_a_refused_list_no_verdict_is_recorded_beside_earlier_ones() {
     for refused in 0.. {
-        let mut round = Round::in_mode(NUMBER, Plain::new(4, false), Mode::Retaining).unwrap();
-        for signer in 0..3 {
-            hear_nullify(&mut round, signer);
-        }
+        let mut round = with_three_nullifies(false);
         let three = wanted(&mut round);
         hear_nullify(&mut round, 3);
         let four = wanted(&mut round);
@@ -258,10 +260,7 @@ fn votes_are_forgotten_beside_a_refused_batch() {
 #[test]
 fn the_first_verdict_on_a_whole_counts() {
     for refused in 0.. {
-        let mut round = Round::in_mode(NUMBER, Plain::new(4, true), Mode::Retaining).unwrap();
-        for signer in 0..3 {
-            hear_nullify(&mut round, signer);
-        }
+        let mut round = with_three_nullifies(true);
         let Ok(Step::VerifyTogether(three)) = round.step() else {
             panic!("no verdict as a whole is wanted");
         };
@@ -283,10 +282,7 @@ fn the_first_verdict_on_a_whole_counts() {
 /// The verdict on an own vote, which came from a peer before, counts where it was refused too.
 #[test]
 fn a_refused_verdict_on_an_own_vote_counts() {
-    let mut round = Round::in_mode(NUMBER, Plain::new(4, false), Mode::Retaining).unwrap();
-    for signer in 0..3 {
-        hear_nullify(&mut round, signer);
-    }
+    let mut round = with_three_nullifies(false);
     let own = vote(Subject::Nullify { round: NUMBER }, 0, true);
     let answer = once(&mut Some(0), || round.accept_verified_vote(own));
     assert_eq!(answer, Err(Error::OutOfMemory));
