@@ -38,6 +38,8 @@ pub use Rattle.batcher_histories.specs.Attempts as RoundAttempts
 pub use Rattle.batcher_histories.specs.Answers
 pub use Rattle.batcher_histories.specs.Represents
 pub use Rattle.batcher_histories.specs.RoundContracts
+pub use Rattle.batcher_round.specs.Next
+pub use Rattle.batcher_round.specs.Verdicts
 pub use Rattle.batcher_promises.specs.Work
 pub use Rattle.batcher_promises.specs.Promises
 pub use Rattle.batcher_promises.specs.AnswerFacts

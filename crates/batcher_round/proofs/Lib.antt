@@ -2,3 +2,4 @@ pub mod OwnVotes
 pub mod OwnCertificates
 pub mod InRound
 pub mod Construction
+pub mod Otherwise

@@ -1,12 +1,15 @@
 //! One round: what it answers to votes, and the certificates that it makes of them.
 
-ghost use Rattle.std.specs.Prelude.{◌≡◌, ◌≤◌, ◌<◌, ◌||◌, ◌↔◌, not, None, true, false, [], length, is_some, if◌then◌else◌, Ok, Err, IfOk, IfErr, IfSome, OnOk, OnErr, IsTrue, IsOk};
+ghost use Rattle.std.specs.Prelude.{◌≡◌, ◌≤◌, ◌<◌, ◌||◌, ◌↔◌, not, None, Some, true, false, [], length, map, is_some, if◌then◌else◌, Ok, Err, IfOk, IfErr, IfSome, OnOk, OnErr, IsTrue, IsOk};
 ghost use Rattle.std.specs.Option.{option_map};
 ghost use Rattle.batcher_round.specs.RoundWords.{NullifyKind, TheKind, IfGiven, attestation_of, subject_of, round_in, subject_certified, of_kind, kept_vote, selected_in, nothing_held, missing_in, leader_set_answer, forward_answer};
 ghost use Rattle.batcher_round.specs.RoundWords.{admission, SameRound, kind_tried, restored_with, own_result, fault_or_memory, is_added, has_block_held, has_block, is_certified, leader_of, selected_proposal, keeps_nullify, own_answer};
 ghost use Rattle.batcher_round.specs.RoundWords.{needs_memory, BatchCertifies, AfterLeader, AfterNetwork, AfterConstruct, AfterOwn, AfterCertificate, MayCall, ForEachHistory, SimulatesAlways, MeetsAlways, SimulatesOnOk};
 ghost use Rattle.batcher_round.specs.RoundWords.{IsRefusedForNeed, Represents, NetworkCall, OwnCall, ConstructCall, LeaderCall, ForwardCall, MissingCall, CertificateCall, NetworkAnswer, OwnAnswer, ConstructAnswer, LeaderAnswer};
 ghost use Rattle.batcher_round.specs.RoundWords.{ForwardAnswer, MissingAnswer, CertificateAnswer, OutOfMemoryFault, subject_next, pending_next, verified_next, quorum_of, fresh_votes, proven_votes};
+ghost use Rattle.rand_core.specs.Stream.{Stream};
+ghost use Rattle.batcher_round.specs.Verdicts.{judged, judged_with, LooksAtNext, MayBeQuorumNext};
+ghost use Rattle.batcher_votes.specs.VerifierSteps.{certificate_for};
 
 mod answers;
 mod ballots;
@@ -14,7 +17,9 @@ mod ballots;
 use answers::{added, admission_of, blocked, mismatch_reason, report_by};
 use ballots::Ballots;
 pub use batcher_histories::answers::{Admission, BlockReason, OwnFault};
-use batcher_types::messages::{Activity, Certificate, Digest, Kind, Proposal, Vote};
+use batcher_types::messages::{
+    Activity, Attestation, Certificate, Digest, Identical, Kind, Proposal, Subject, Vote,
+};
 use batcher_types::positions::{self, Participant, Participants};
 use batcher_types::scheme::Scheme;
 use batcher_votes::verifier::{Batch, LeaderFault, NextAttempt};
@@ -424,6 +429,23 @@ impl<S: Scheme<D>, D: Digest> Round<S, D> {
         self.ballots.construct(Kind::Finalization, rng)
     }
 
+    // The kind whose certificate the next construction tries.
+    fn kind_tried(&self) -> Option<Kind>
+        ensures { result ≡ kind_tried (⟦<S as RoundConfigs<D>>⟧.of self.now) self.now.holds }
+    {
+        let verifier = self.ballots.verifier();
+        if verifier.next_attempt(Kind::Notarization).is_some() {
+            return Some(Kind::Notarization);
+        }
+        if verifier.next_attempt(Kind::Nullification).is_some() {
+            return Some(Kind::Nullification);
+        }
+        if verifier.next_attempt(Kind::Finalization).is_some() {
+            return Some(Kind::Finalization);
+        }
+        None
+    }
+
     /// Whether a nullify of the signer is kept in full.
     pub fn has_nullify(&self, signer: Participant) -> bool
         ensures held { result ≡ is_some (kept_vote self.now.holds.tracked NullifyKind signer.0) }
@@ -458,6 +480,82 @@ impl<S: Scheme<D>, D: Digest> Round<S, D> {
     {
         let missing = self.ballots.missing(proposal)?;
         Ok(Participants::from(missing))
+    }
+}
+
+impl<S: Scheme<D>, D: Digest> Round<S, D>
+where
+    S::Signature: Identical,
+{
+    /// Makes the next construction by verdicts from elsewhere, on the pending attestations that
+    /// `next_attempt` lends. Where those that attest are a quorum with the verified ones, their
+    /// certificate is assembled. It is a construction like any other, and draws nothing.
+    ///
+    /// None where the subject and the list aren't those of the next attempt, as where a vote came
+    /// meanwhile: then nothing changes. A refusal for memory leaves the round as it was.
+    pub fn conclude(
+        &mut self,
+        subject: Subject<D>,
+        list: &[Attestation<S::Signature>],
+        verdicts: &[bool],
+    ) -> Result<Option<Batch<Certificate<S::Certificate, D>>>, AllocError>
+        requires { verdicts.now ≡ map ((S.meaning self.old.scheme).attests subject) list.now }
+        ensures looks_at { IfGiven result (λ _.
+            LooksAtNext (⟦<S as RoundConfigs<D>>⟧.of self.old) self.old.holds subject list.now) }
+        ensures not_stale { LooksAtNext (⟦<S as RoundConfigs<D>>⟧.of self.old) self.old.holds
+            subject list.now → IfOk result (λ given. is_some given ≡ true) }
+        ensures stale { result ≡ Ok None → self.new ≡ self.old }
+        ensures step { IfGiven result (λ batch. (stream : Stream)
+            → AfterConstruct (judged (⟦<S as RoundConfigs<D>>⟧.of self.old)) self.old.holds stream
+            (Some batch) self.new.holds stream) }
+        ensures meets { IfGiven result (λ batch. SimulatesAlways ⟦<S as RoundConfigs<D>>⟧.of
+            self.old (ConstructCall, ConstructAnswer (Some batch)) self.new.holds) }
+        ensures needed { IsRefusedForNeed ⟦<S as RoundConfigs<D>>⟧.of self.old
+            ConstructCall result }
+        ensures certifies { IfGiven result (BatchCertifies (S.meaning self.old.scheme)) }
+        ensures refused { OnErr result (self.new ≡ self.old) }
+        ensures same { SameRound self.old self.new }
+    {
+        match self.kind_tried() {
+            None => Ok(None),
+            Some(kind) => self.ballots.conclude(kind, subject, list, verdicts),
+        }
+    }
+
+    /// Makes the next construction by a certificate that was made elsewhere, of all that
+    /// `next_attempt` lends: the pending attestations and the verified ones. So schemes that
+    /// aggregate verify no attestation by itself. It takes no memory and draws nothing.
+    ///
+    /// None where the subject and the list aren't those of the next attempt, or where all that it
+    /// lends is too little for a quorum. Then nothing changes.
+    pub fn conclude_with(
+        &mut self,
+        subject: Subject<D>,
+        list: &[Attestation<S::Signature>],
+        certificate: S::Certificate,
+    ) -> Option<Batch<Certificate<S::Certificate, D>>>
+        requires { (S.meaning self.old.scheme).certifies subject certificate ≡ true }
+        ensures looks_at { is_some result ≡ true
+            → LooksAtNext (⟦<S as RoundConfigs<D>>⟧.of self.old) self.old.holds subject list.now }
+        ensures not_stale { LooksAtNext (⟦<S as RoundConfigs<D>>⟧.of self.old) self.old.holds
+            subject list.now
+            → MayBeQuorumNext (⟦<S as RoundConfigs<D>>⟧.of self.old) self.old.holds
+            → is_some result ≡ true }
+        ensures stale { result ≡ None → self.new ≡ self.old }
+        ensures gives { IfSome result (λ batch. batch.certificate
+            ≡ Some (certificate_for subject certificate)) }
+        ensures step { IfSome result (λ batch. (stream : Stream)
+            → AfterConstruct (judged_with (⟦<S as RoundConfigs<D>>⟧.of self.old) certificate)
+            self.old.holds stream (Some batch) self.new.holds stream) }
+        ensures meets { IfSome result (λ batch. SimulatesAlways ⟦<S as RoundConfigs<D>>⟧.of
+            self.old (ConstructCall, ConstructAnswer (Some batch)) self.new.holds) }
+        ensures certifies { IfSome result (BatchCertifies (S.meaning self.old.scheme)) }
+        ensures same { SameRound self.old self.new }
+    {
+        match self.kind_tried() {
+            None => None,
+            Some(kind) => self.ballots.conclude_with(kind, subject, list, certificate),
+        }
     }
 }
 

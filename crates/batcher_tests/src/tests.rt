@@ -11,6 +11,7 @@ mod rows;
 mod schemes;
 mod scripts;
 mod texts;
+mod verdicts;
 mod verifiers;
 
 use batcher::messages::{

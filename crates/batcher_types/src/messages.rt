@@ -14,6 +14,17 @@ pub trait Digest: Copy + Eq {
     ghost identical: { (a b : Self) → Self.eq a b ≡ true → a ≡ b };
 }
 
+/// A value of which `==` tells apart whatever differs, as bytes do.
+pub trait Identical: Copy + Eq {
+    ghost identical: { (a b : Self) → Self.eq a b ≡ true → a ≡ b };
+}
+
+impl<const N: usize> Identical for [u8; N] {
+    ghost use Rattle.std.proofs.Common.{rules};
+
+    ghost identical = { Prim.search rules };
+}
+
 /// A SHA-256 digest.
 #[derive(Clone, Copy, Debug, PartialEq, Eq)]
 pub struct Sha256Digest(pub [u8; 32]);

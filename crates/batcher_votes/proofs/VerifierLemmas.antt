@@ -8,6 +8,8 @@ pub mod Construction
 pub mod FixedProposal
 pub mod KindChanges
 pub mod RestoredVotes
+pub mod Results
 pub mod Runs
 pub mod Soundness
+pub mod Verdicts
 pub mod EligibleVotes

@@ -9,4 +9,6 @@ pub mod Certifications
 pub mod Verifiers
 pub mod Entries
 pub mod AttemptInputs
+pub mod Outcomes
+pub mod Verdicts
 pub mod Texts

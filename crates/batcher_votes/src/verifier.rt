@@ -1,7 +1,7 @@
 //! Votes on their way to a certificate: the selected proposal, two buffers of votes a kind, and
 //! the attempts to make certificates out of them.
 
-ghost use Rattle.std.specs.Prelude.{◌≡◌, ◌≢◌, ◌+◌, ◌≤◌, ◌&&◌, not, cond, true, false, ◌++◌, [], if◌then◌else◌, length, filter, Some, None, is_some, is_none, IsOk, IfOk, IfSome, OnOk, OnErr};
+ghost use Rattle.std.specs.Prelude.{◌≡◌, ◌≢◌, ◌+◌, ◌≤◌, ◌&&◌, not, cond, true, false, ◌++◌, ◌↔◌, [], Ok, IsTrue, length, filter, map, Some, None, is_some, is_none, IsOk, IfOk, IfSome, OnOk, OnErr};
 ghost use Rattle.std.specs.Option.{option_copied, option_map};
 ghost use Rattle.batcher_types.specs.declared.messages.Kind.{Kind as TheKind};
 ghost use Rattle.batcher_types.specs.declared.messages.Kind.TheVariants.{Notarization as TheNotarization, Nullification as TheNullification, Finalization as TheFinalization};
@@ -16,6 +16,9 @@ ghost use Rattle.batcher_types.specs.Attempts.{attempt_of};
 ghost use Rattle.batcher_votes.specs.VerifierSteps.{attestations_of, nothing_buffered, subject_from, is_buffered, is_dropped, leaders_vote, leader_answer, subject_tried, certificate_for};
 ghost use Rattle.batcher_votes.specs.VerifierSteps.{AddsVote, SetsLeader, SetsProposal, CompletesKind};
 ghost use Rattle.batcher_votes.specs.AttemptInputs.{pending_tried, verified_tried};
+ghost use Rattle.batcher_votes.specs.Outcomes.{IsFine, TakesIn, outcome_of};
+ghost use Rattle.batcher_votes.specs.Verdicts.{judged, judged_in, judged_with_in, LooksAt, MayBeQuorum};
+ghost use Rattle.rand_core.specs.Stream.{Stream};
 ghost use Rattle.batcher_votes.specs.Soundness.{IsSound, KeepsAllRoom, KeepsOtherRoom, RestoresRoom};
 ghost use Rattle.batcher_votes.specs.Verifiers.{is_of_round, subject_ready, is_ready_in, Tries, IfGiven, BatchCertifies, NamesSomebody, IsLeftAlone};
 ghost use Rattle.batcher_votes.specs.Verifiers.{room_for, taken_by, HasRoomToRestore, RestoresAll};
@@ -23,6 +26,8 @@ ghost use Rattle.batcher_votes.specs.Verifiers.{room_for, taken_by, HasRoomToRes
 mod attempt;
 mod buffer;
 mod certification;
+mod proposal;
+mod verdicts;
 
 use crate::per_kind::PerKind;
 use crate::votes::KeptVotes;
@@ -615,21 +620,15 @@ impl<S: Scheme<D>, D: Digest> Verifier<S, D> {
     ) -> Result<Attempted<S::Certificate, S::Signature>, AllocError>
         requires { subject_ready D.eq (S.meaning self.now.scheme).batchable self.now.quorum
             self.now.holds self.now.number kind ≡ Some subject }
-        ensures { IfOk result (λ a. (
-          record {
-            processed = a.batch.processed;
-            invalid = a.batch.invalid;
-            certificate = a.batch.certificate;
-            fallback = a.batch.fallback;
-            verified =
-                (if is_some a.batch.certificate then [] else attestations_of
-                (of_kind self.now.holds.verified kind) ++ a.joining.items);
-          },
+        ensures attempt { IfOk result (λ a. (
+          outcome_of (verified_tried self.now.holds kind) a.batch a.joining.items,
           R.stream rng.new,
         )
             ≡ attempt_of (S.meaning self.now.scheme) subject self.now.quorum
             (attestations_of (of_kind self.now.holds.verified kind))
             (attestations_of (of_kind self.now.holds.pending kind)) (R.stream rng.old)) }
+        ensures fine { IfOk result (λ a. IsFine (S.meaning self.now.scheme) subject
+            (outcome_of (verified_tried self.now.holds kind) a.batch a.joining.items)) }
     {
         let scheme: &S = &self.scheme;
         let certification = self.kinds.get(kind);
@@ -644,7 +643,7 @@ impl<S: Scheme<D>, D: Digest> Verifier<S, D> {
         )
     }
 
-    // One attempt at the certificate of a subject. The verified votes grow before they change.
+    // One attempt at the certificate of a subject.
     fn construct<R: CryptoRng>(
         &mut self,
         kind: Kind,
@@ -660,7 +659,32 @@ impl<S: Scheme<D>, D: Digest> Verifier<S, D> {
         ensures unchanged { OnErr result (self.new.holds ≡ self.old.holds) }
         ensures same { SameVerifier self.old self.new }
     {
-        let Attempted { batch, joining } = self.attempt_at(kind, subject, rng)?;
+        let tried = self.attempt_at(kind, subject, rng)?;
+        self.take_in(kind, subject, tried)
+    }
+
+    // Takes in what an attempt at the certificate of a subject gave. The verified votes grow before
+    // they change.
+    fn take_in(
+        &mut self,
+        kind: Kind,
+        subject: Subject<D>,
+        tried: Attempted<S::Certificate, S::Signature>,
+    ) -> Result<Batch<Certificate<S::Certificate, D>>, AllocError>
+        requires ready { subject_ready D.eq (S.meaning self.old.scheme).batchable self.old.quorum
+            self.old.holds self.old.number kind ≡ Some subject }
+        requires fine { IsFine (S.meaning self.old.scheme) subject
+            (outcome_of (verified_tried self.old.holds kind) tried.batch tried.joining.items) }
+        ensures takes { IfOk result (λ batch. TakesIn self.old.number self.old.holds kind subject
+            (outcome_of (verified_tried self.old.holds kind) tried.batch tried.joining.items)
+            batch self.new.holds) }
+        ensures certifies { IfOk result (BatchCertifies (S.meaning self.old.scheme)) }
+        ensures names { IfOk result NamesSomebody }
+        ensures no_memory { is_some tried.batch.certificate ≡ true → IsOk result }
+        ensures unchanged { OnErr result (self.new.holds ≡ self.old.holds) }
+        ensures same { SameVerifier self.old self.new }
+    {
+        let Attempted { batch, joining } = tried;
         let batch = batch.for_subject(subject);
         let certification = self.kinds.get_mut(kind);
         if batch.certificate.is_some() {
@@ -699,64 +723,6 @@ impl<C: Drop> Batch<C> {
             invalid,
             certificate,
             fallback,
-        }
-    }
-}
-
-impl<D> ProposalState<D> {
-    fn selected(&self) -> Option<&Proposal<D>>
-        ensures { option_copied result ≡ proposal_of self.now }
-    {
-        match self {
-            ProposalState::Unknown => None,
-            ProposalState::Leader(proposal) => Some(proposal),
-            ProposalState::Certificate(proposal) => Some(proposal),
-        }
-    }
-}
-
-impl<D: Digest> ProposalState<D> {
-    // What a new source makes of it: where none is selected it is taken, and what is certified
-    // takes the place of the leader's.
-    fn updated(self, next: ProposalState<D>) -> ProposalState<D>
-        ensures { result ≡ updated self next }
-    {
-        match self {
-            ProposalState::Unknown => next,
-            ProposalState::Leader(_) => match next {
-                ProposalState::Certificate(_) => next,
-                ProposalState::Unknown | ProposalState::Leader(_) => self,
-            },
-            ProposalState::Certificate(_) => self,
-        }
-    }
-
-    // The selected proposal, where it is another than before.
-    fn changed_from(self, before: ProposalState<D>) -> Option<Proposal<D>>
-        requires { is_some (proposal_of before) ≡ true → is_some (proposal_of self) ≡ true }
-        ensures { result ≡ cond (same_selected D.eq (proposal_of before) (proposal_of self)) None
-            (proposal_of self) }
-    {
-        let proposal = *self.selected()?;
-        match before.selected() {
-            Some(known) => {
-                if *known == proposal {
-                    None
-                } else {
-                    Some(proposal)
-                }
-            }
-            None => Some(proposal),
-        }
-    }
-
-    // Whether the vote waits with what is selected.
-    fn may_be_eligible<G: Copy>(&self, vote: &Vote<G, D>) -> bool
-        ensures { result ≡ is_eligible D.eq (proposal_of self.now) vote.now }
-    {
-        match self.selected() {
-            None => true,
-            Some(proposal) => vote.eligible_with(proposal),
         }
     }
 }

@@ -1,7 +1,7 @@
 //! The votes of a round and their owner. A change makes all the room that it needs, and then
 //! changes tracker and verifier with no way back.
 
-ghost use Rattle.std.specs.Prelude.{◌≡◌, ◌≤◌, ◌<◌, ◌^◌, ◌&&◌, ◌||◌, not, None, true, false, length, is_some, [], IfOk, IfErr, OnOk, IsOk, Ok};
+ghost use Rattle.std.specs.Prelude.{◌≡◌, ◌≤◌, ◌<◌, ◌^◌, ◌&&◌, ◌||◌, not, None, true, false, length, is_some, [], map, Some, IfOk, IfErr, IfSome, OnOk, IsOk, Ok};
 ghost use Rattle.batcher_types.specs.declared.messages.Kind.{Kind as TheKind};
 ghost use Rattle.batcher_types.specs.declared.messages.Kind.TheVariants.{Nullification as NullifyKind};
 ghost use Rattle.batcher_types.specs.declared.positions.Round.{Round as TheNumber};
@@ -12,11 +12,13 @@ ghost use Rattle.batcher_types.specs.Meaning.{Meaning};
 ghost use Rattle.batcher_types.specs.Quorum.{quorum_of};
 ghost use Rattle.batcher_types.specs.Votes.{is_kind, kind_of, signer_of, attestation_of, subject_of, round_in};
 ghost use Rattle.batcher_votes.specs.ProposalStates.{same_selected};
-ghost use Rattle.batcher_votes.specs.RoundState.{RoundState, of_kind, SameVerifier};
+ghost use Rattle.batcher_votes.specs.RoundState.{RoundState, of_kind, SameVerifier, SameTracker};
 ghost use Rattle.batcher_votes.specs.TrackerSteps.{shown, is_known, is_seen, HasRoomToRecord, observed_opposite, kept_vote};
-ghost use Rattle.batcher_votes.specs.VerifierSteps.{selected_in, MayFix};
+ghost use Rattle.batcher_votes.specs.VerifierSteps.{certificate_for, selected_in, MayFix};
 ghost use Rattle.batcher_votes.specs.Soundness.{IsSound, BuffersOnlyKept, HasRoomFor, WhereItReplaces};
 ghost use Rattle.batcher_votes.specs.Verifiers.{IfGiven, BatchCertifies};
+ghost use Rattle.rand_core.specs.Stream.{Stream};
+ghost use Rattle.batcher_round.specs.Verdicts.{judged, judged_with, LooksAtKind, MayBeQuorumOf};
 ghost use Rattle.batcher_histories.specs.Config.{config};
 ghost use Rattle.batcher_histories.specs.Steps.{nothing_held, missing_in, has_block as has_block_held, rejection_by, own_result, admission_by, is_ready_in, restored_with, fault_or_memory, leader_set_answer, is_added, report_by};
 ghost use Rattle.batcher_histories.specs.Steps.{AfterOwn, AfterLeader, AfterCertificate, TriesHeld};
@@ -28,7 +30,9 @@ use crate::round::answers::{
     is_selected_anew, opposite_fault, unopposed_result,
 };
 use crate::round::{Admission, OwnFault, RoundConfigs};
-use batcher_types::messages::{Certificate, Digest, Kind, Place, Proposal, Vote};
+use batcher_types::messages::{
+    Attestation, Certificate, Digest, Identical, Kind, Place, Proposal, Subject, Vote,
+};
 use batcher_types::positions::{self, Participant, quorum};
 use batcher_types::scheme::Scheme;
 use batcher_votes::verifier::{Batch, LeaderFault, ProposalState, Verifier};
@@ -364,6 +368,97 @@ impl<S: Scheme<D>, D: Digest> Ballots<S, D> {
             self.tracker.release(kind, proposal);
         }
         Ok(Some(batch))
+    }
+}
+
+impl<S: Scheme<D>, D: Digest> Ballots<S, D>
+where
+    S::Signature: Identical,
+{
+    /// Tries to make a certificate of the kind by verdicts from elsewhere, where an attempt at it
+    /// is about the subject and looks at just these pending attestations, and else changes nothing.
+    pub(super) fn conclude(
+        &mut self,
+        kind: Kind,
+        subject: Subject<D>,
+        list: &[Attestation<S::Signature>],
+        verdicts: &[bool],
+    ) -> Result<Option<Batch<Certificate<S::Certificate, D>>>, AllocError>
+        requires { verdicts.now
+            ≡ map ((S.meaning self.old.verifier.scheme).attests subject) list.now }
+        ensures looks_at { IfGiven result (λ _.
+            LooksAtKind (⟦<S as RoundConfigs<D>>⟧.of (round_with self.old))
+            (round_with self.old).holds kind subject list.now) }
+        ensures not_stale { LooksAtKind (⟦<S as RoundConfigs<D>>⟧.of (round_with self.old))
+            (round_with self.old).holds kind subject list.now
+            → IfOk result (λ given. is_some given ≡ true) }
+        ensures stale { result ≡ Ok None → SameRoundState self.old self.new }
+        ensures tries { IfGiven result (λ batch. (stream : Stream) → TriesHeld
+            (judged (⟦<S as RoundConfigs<D>>⟧.of (round_with self.old)))
+            (round_with self.old).holds
+            kind stream batch (round_with self.new).holds stream) }
+        ensures sound { IsSound (S.meaning self.old.verifier.scheme) D.eq self.old.verifier.number
+            (quorum_of (length (S.meaning self.old.verifier.scheme).participants))
+            self.old.verifier.holds }
+        ensures certifies { IfGiven result (BatchCertifies (S.meaning self.old.verifier.scheme)) }
+        ensures all { AllOrNothing result self.old self.new }
+    {
+        let Some(batch) = self.verifier.conclude(kind, subject, list, verdicts)? else {
+            return Ok(None);
+        };
+        if let Some(certificate) = &batch.certificate {
+            // As of one that is constructed, nothing is restored, and no room is needed.
+            let proposal = certificate.proposal();
+            fix_proposal(&mut self.verifier, &self.tracker, proposal);
+            self.tracker.release(kind, proposal);
+        }
+        Ok(Some(batch))
+    }
+
+    /// The same by a certificate of all that the attempt looks at, which has to be enough for a
+    /// quorum. It takes no memory.
+    pub(super) fn conclude_with(
+        &mut self,
+        kind: Kind,
+        subject: Subject<D>,
+        list: &[Attestation<S::Signature>],
+        certificate: S::Certificate,
+    ) -> Option<Batch<Certificate<S::Certificate, D>>>
+        requires { (S.meaning self.old.verifier.scheme).certifies subject certificate ≡ true }
+        ensures looks_at { is_some result ≡ true
+            → LooksAtKind (⟦<S as RoundConfigs<D>>⟧.of (round_with self.old))
+            (round_with self.old).holds kind subject list.now }
+        ensures not_stale { LooksAtKind (⟦<S as RoundConfigs<D>>⟧.of (round_with self.old))
+            (round_with self.old).holds kind subject list.now
+            → MayBeQuorumOf (⟦<S as RoundConfigs<D>>⟧.of (round_with self.old))
+            (round_with self.old).holds kind → is_some result ≡ true }
+        ensures stale { result ≡ None → SameRoundState self.old self.new }
+        ensures tries { IfSome result (λ batch. (stream : Stream) → TriesHeld
+            (judged_with (⟦<S as RoundConfigs<D>>⟧.of (round_with self.old)) certificate)
+            (round_with self.old).holds
+            kind stream batch (round_with self.new).holds stream) }
+        ensures gives { IfSome result (λ batch. batch.certificate
+            ≡ Some (certificate_for subject certificate)) }
+        ensures sound { IsSound (S.meaning self.old.verifier.scheme) D.eq self.old.verifier.number
+            (quorum_of (length (S.meaning self.old.verifier.scheme).participants))
+            self.old.verifier.holds }
+        ensures certifies { IfSome result (BatchCertifies (S.meaning self.old.verifier.scheme)) }
+        ensures same { (SameVerifier self.old.verifier self.new.verifier)
+            × (SameTracker self.old.tracker self.new.tracker) }
+    {
+        let made = self
+            .verifier
+            .conclude_with(kind, subject, list, certificate);
+        let Some(batch) = made else {
+            return None;
+        };
+        if let Some(certificate) = &batch.certificate {
+            // As of one that is constructed, nothing is restored, and no room is needed.
+            let proposal = certificate.proposal();
+            fix_proposal(&mut self.verifier, &self.tracker, proposal);
+            self.tracker.release(kind, proposal);
+        }
+        Some(batch)
     }
 }
 

@@ -1,5 +1,5 @@
 -- What the laws of a scheme say of an attempt.
-use Rattle.std.proofs.Common.{◌≡◌, ◌≢◌, not, cond, ◌∷◌, ◌≤◌, ◌+◌, ℕ, Bool, true, false, nat_le, List, [], ◌++◌, length, filter, Option, Some, None, IfSome, is_some, refl, sym, ap, ◌∙◌, arith}
+use Rattle.std.proofs.Common.{◌≡◌, ◌≢◌, not, cond, ◌∷◌, ◌≤◌, ◌+◌, ℕ, Bool, true, false, nat_le, List, [], ◌++◌, length, filter, Option, Some, None, is_some, refl, sym, ap, ◌∙◌, arith}
 use Rattle.std.specs.List.{AllPass}
 use Rattle.std.proofs.lemmas.Bool.{true≢false, false≢true}
 use Rattle.std.proofs.lemmas.Bool.Decides.{nat_tests}
@@ -10,6 +10,7 @@ use Rattle.batcher_types.specs.Lists.{EachOnce}
 use Rattle.batcher_types.specs.Attestations.{index_of_signer, signers, failing}
 use Rattle.batcher_types.specs.Meaning.{Meaning, MayTry, IsLawful}
 use Rattle.batcher_types.specs.Attempts.{AttemptResult, checked, one_by_one, at_once, attempt_of}
+use Rattle.batcher_votes.specs.Outcomes.{IsFine}
 use Rattle.batcher_votes.proofs.VerifierLemmas.CheckedQuorum.{IsQuorum-checked, IsQuorum-valid, AllPass-valid, once_checked}
 use Rattle.batcher_types.specs.declared.messages.Attestation.{Attestation}
 use Rattle.batcher_types.specs.declared.messages.Subject.{Subject}
@@ -28,16 +29,6 @@ none_fail : {G : Type 0} (test : Attestation G → Bool) (xs : List (Attestation
     → signers (failing test xs) ≡ [] → AllPass test xs
 none_fail test [] none = AllPass-nil test
 none_fail test (a ∷ xs) none = all_of test a xs (test a) refl none (none_fail test xs)
-
--- What is true of what an attempt gives.
-pub record IsFine {D K G C : Type 0} (m : Meaning D K G C) (subject : Subject D) (t : AttemptResult G C) :
-    Type 0 where
-  pub attested : AllPass (m.attests subject) t.verified
-  pub once : EachOnce index_of_signer t.verified
-  pub emptied : is_some t.certificate ≡ true → t.verified ≡ []
-  pub certifies : IfSome t.certificate (λ c. m.certifies subject c ≡ true)
-  -- who had to verify one by one found somebody
-  pub names : t.fallback ≡ true → t.invalid ≢ []
 
 module _ {D K G C : Type 0} (m : Meaning D K G C) (lawful : IsLawful m) (subject : Subject D)
     (q : ℕ) (v p : List (Attestation G)) (some : 1 ≤ length m.participants)

@@ -8,7 +8,6 @@ use Rattle.std.proofs.lemmas.List.Elements.{All-cons, All-head, All-tail, All-ni
 use Rattle.std.proofs.lemmas.Option.{same_Some}
 use Rattle.std.proofs.lemmas.Bool.{and_parts, and_from, not-true}
 use Rattle.rand_core.specs.Stream.{Stream}
-use Rattle.batcher_types.specs.declared.positions.Participant.{Participant}
 use Rattle.batcher_types.specs.declared.positions.Round.{Round}
 use Rattle.batcher_types.specs.declared.messages.Attestation.{Attestation}
 use Rattle.batcher_types.specs.declared.messages.Proposal.{Proposal}
@@ -38,7 +37,8 @@ use Rattle.batcher_votes.specs.Soundness.{IsSound, IsSoundKind, attests_itself, 
 use Rattle.batcher_votes.proofs.VerifierLemmas.Changes.{Absorbs}
 use Rattle.batcher_votes.specs.Verifiers.{subject_ready, certifies_itself, BatchCertifies, NamesSomebody}
 use Rattle.batcher_votes.proofs.VerifierLemmas.Runs.{vote_again, attestation_again, subject_again}
-use Rattle.batcher_votes.proofs.VerifierLemmas.AttemptLaws.{IsFine, fine}
+use Rattle.batcher_votes.specs.Outcomes.{IsFine, TakesIn, outcome_of}
+use Rattle.batcher_votes.proofs.VerifierLemmas.AttemptLaws.{fine}
 
 module _ {D : Type 0} (same : D → D → Bool) (identical : (a b : D) → same a b ≡ true → a ≡ b) where
   module _ {G : Type 0} (number : Round) (subject : Subject D) where
@@ -258,18 +258,18 @@ module _ {D K G C : Type 0} (m : Meaning D K G C) (same : D → D → Bool)
   this_or_other old new tried kind false e others sel s this = sound_same old new kind sel (others e) s
 
   -- what an attempt leaves is sound
-  pub sound_tries :
-      (q : ℕ) (old new : VerifierState G D) (tried : Kind) (before after : Stream)
-      (batch : Batch (Certificate C D)) → IsSound m same number q old
-      → (t : TriesKind m number q old tried before batch after new) → IsFine m t.subject t.outcome
-      → IsSound m same number q new
-  sound_tries q old new tried before after batch s t fine =
+  pub sound_taken :
+      (q : ℕ) (old new : VerifierState G D) (tried : Kind) (subject : Subject D)
+      (outcome : AttemptResult G C) (batch : Batch (Certificate C D))
+      → IsSound m same number q old → TakesIn number old tried subject outcome batch new
+      → IsFine m subject outcome → IsSound m same number q new
+  sound_taken q old new tried subject outcome batch s t fine =
       record {
         some = s.some;
         enough = s.enough;
         kinds =
             λ kind. this_or_other old new tried kind (is_kind tried kind) refl (t.others kind) t.selection (s.kinds kind)
-            (sound_tried old new tried t.subject t.outcome t.subject_is fine t.selection t.certified t.pending t.verified);
+            (sound_tried old new tried subject outcome t.subject_is fine t.selection t.certified t.pending t.verified);
       }
 
 certified_itself : {D K G C : Type 0} (m : Meaning D K G C) (subject : Subject D) (c : C)
@@ -360,22 +360,17 @@ pub either_true : (a b c : Bool) → a ≡ true → c ≡ (a || b) → c ≡ tru
 either_true true b c e h = h
 either_true false b c e h = absurd (cc)
 
-module _ {D K G C : Type 0} (m : Meaning D K G C) (same : D → D → Bool) (number : Round) (q : ℕ)
+module _ {D G C : Type 0} (same : D → D → Bool) (batchable : Bool) (number : Round) (q : ℕ)
     (old new : VerifierState G D) (kind : Kind) (subject : Subject D)
-    (ready : subject_ready same m.batchable q old number kind ≡ Some subject)
-    (before after : Stream) (batch : Batch (Certificate C D)) (t : AttemptResult G C)
-    (attempted : (t, after) ≡ attempt_of m subject q (attestations_of (of_kind old.verified kind))
-    (attestations_of (of_kind old.pending kind)) before) (batch_is : batch ≡ batch_of subject t)
+    (ready : subject_ready same batchable q old number kind ≡ Some subject)
+    (batch : Batch (Certificate C D)) (t : AttemptResult G C) (batch_is : batch ≡ batch_of subject t)
   where
     -- a certificate was given
-    abbrev pub tries_given : is_some t.certificate ≡ true → t.verified ≡ []
-        → CompletesKind same old kind new → TriesKind m number q old kind before batch after new
-    tries_given there left c =
+    abbrev pub takes_given : is_some t.certificate ≡ true → t.verified ≡ []
+        → CompletesKind same old kind new → TakesIn number old kind subject t batch new
+    takes_given there left c =
         record {
-          subject = subject;
-          outcome = t;
           subject_is = (given _ _ subject ready).1;
-          attempt = attempted;
           batch_is = batch_is;
           leader = c.leader;
           selection = c.selection;
@@ -392,20 +387,17 @@ module _ {D K G C : Type 0} (m : Meaning D K G C) (same : D → D → Bool) (num
         }
 
     -- none was given
-    abbrev pub tries_without :
+    abbrev pub takes_without :
         (joining : List (Attestation G)) → t.certificate ≡ None → t.verified
         ≡ attestations_of (of_kind old.verified kind) ++ joining
         → All (λ v. subject_of v ≡ subject) (of_kind old.verified kind)
         → Absorbs old kind subject joining new
-        → TriesKind m number q old kind before batch after new
-    tries_without joining none left about a =
+        → TakesIn number old kind subject t batch new
+    takes_without joining none left about a =
         let parts = given _ _ subject ready in
         let open_kind = not-true (of_kind old.certified kind) ((and_parts _ _ parts.0).0) in
         record {
-          subject = subject;
-          outcome = t;
           subject_is = parts.1;
-          attempt = attempted;
           batch_is = batch_is;
           leader = a.leader;
           selection = a.selection;
@@ -421,7 +413,30 @@ module _ {D K G C : Type 0} (m : Meaning D K G C) (same : D → D → Bool) (num
               ) a.verified;
         }
 
--- what an attempt gives is fine, ones an equation of both
+-- what was taken in, with the attempt that came to it
+pub tries_by : {D K G C : Type 0} (m : Meaning D K G C) (number : Round) (q : ℕ)
+    (old new : VerifierState G D) (kind : Kind) (subject : Subject D) (before after : Stream)
+    (batch : Batch (Certificate C D)) (t : AttemptResult G C)
+    → TakesIn number old kind subject t batch new
+    → (t, after) ≡ attempt_of m subject q (attestations_of (of_kind old.verified kind))
+    (attestations_of (of_kind old.pending kind)) before
+    → TriesKind m number q old kind before batch after new
+tries_by m number q old new kind subject before after batch t takes attempted =
+    record {
+      subject = subject;
+      outcome = t;
+      subject_is = takes.subject_is;
+      attempt = attempted;
+      batch_is = takes.batch_is;
+      leader = takes.leader;
+      selection = takes.selection;
+      others = takes.others;
+      certified = takes.certified;
+      pending = takes.pending;
+      verified = takes.verified;
+    }
+
+-- what an attempt gives is fine, once there is an equation of both
 pub fine_attempt :
     {D K G C : Type 0} (m : Meaning D K G C) (lawful : IsLawful m) (same : D → D → Bool)
     (number : Round) (q : ℕ) (old : VerifierState G D) (kind : Kind) (subject : Subject D)
@@ -439,9 +454,10 @@ fine_attempt m lawful same number q old kind subject s about before after t atte
 
 -- What a construction answers and leaves.
 pub record Constructs {D K G C : Type 0} (m : Meaning D K G C) (same : D → D → Bool)
-    (number : Round) (q : ℕ) (old : VerifierState G D) (kind : Kind) (before : Stream)
-    (batch : Batch (Certificate C D)) (after : Stream) (new : VerifierState G D) : Type 0 where
-  pub tries : TriesKind m number q old kind before batch after new
+    (number : Round) (q : ℕ) (old : VerifierState G D) (kind : Kind) (subject : Subject D)
+    (outcome : AttemptResult G C) (batch : Batch (Certificate C D)) (new : VerifierState G D) :
+    Type 0 where
+  pub takes : TakesIn number old kind subject outcome batch new
   pub certifies : BatchCertifies m batch
   pub names : NamesSomebody batch
   pub sound : IsSound m same number q new
@@ -454,61 +470,48 @@ certificate_is (NotarizationCertificate it) subject content e f = rw (← e, ←
 certificate_is (NullificationCertificate it) subject content e f = rw (← e, ← f) refl
 certificate_is (FinalizationCertificate it) subject content e f = rw (← e, ← f) refl
 
-module _ {D K G C : Type 0} (m : Meaning D K G C) (lawful : IsLawful m) (same : D → D → Bool)
+module _ {D K G C : Type 0} (m : Meaning D K G C) (same : D → D → Bool)
     (identical : (a b : D) → same a b ≡ true → a ≡ b) (reflexive : (a : D) → same a a ≡ true)
     (number : Round) (q : ℕ) (old new : VerifierState G D) (sound : IsSound m same number q old)
     (kind : Kind) (subject : Subject D)
     (ready : subject_ready same m.batchable q old number kind ≡ Some subject)
-    (before after : Stream) (processed : ℕ) (invalid : List Participant) (certificate : Option C)
-    (fallback : Bool) (joining : List (Attestation G)) where
-  -- what an attempt gave, by its parts
-  abbrev pub gave : AttemptResult G C
-  gave =
-      record {
-        processed = processed;
-        invalid = invalid;
-        certificate = certificate;
-        fallback = fallback;
-        verified = cond (is_some certificate) []
-            (attestations_of (of_kind old.verified kind) ++ joining);
-      }
+    (tried : Batch C) (joining : List (Attestation G)) where
+  -- what an attempt gave
+  abbrev gave : AttemptResult G C
+  gave = outcome_of (attestations_of (of_kind old.verified kind)) tried joining
 
-  module _ (attempted : (gave, after) ≡ attempt_of m subject q
-      (attestations_of (of_kind old.verified kind)) (attestations_of (of_kind old.pending kind))
-      before) (batch : Batch (Certificate C D)) (batch_is : batch ≡ batch_of subject gave) where
+  module _ (fine : IsFine m subject gave) (batch : Batch (Certificate C D))
+      (batch_is : batch ≡ batch_of subject gave) where
     about : All (λ v. subject_of v ≡ subject) (of_kind old.verified kind)
     about = verified_about same identical number subject m.batchable q old kind ready (sound.kinds kind).verified
 
-    fine_gave : IsFine m subject gave
-    fine_gave = fine_attempt m lawful same number q old kind subject sound about before after gave attempted
+    given_some : is_some batch.certificate ≡ is_some tried.certificate
+    given_some = ap (λ b. is_some b.certificate) batch_is ∙ is_some-option_map (certificate_for subject) tried.certificate
 
-    given_some : is_some batch.certificate ≡ is_some certificate
-    given_some = ap (λ b. is_some b.certificate) batch_is ∙ is_some-option_map (certificate_for subject) certificate
-
-    constructs : (t : TriesKind m number q old kind before batch after new)
-        → IsFine m t.subject t.outcome → Constructs m same number q old kind before batch after new
-    constructs t is_fine =
+    constructs : TakesIn number old kind subject gave batch new
+        → Constructs m same number q old kind subject gave batch new
+    constructs takes =
         record {
-          tries = t;
-          certifies = rw batch_is (batch_certifies m subject certificate fine_gave.certifies);
-          names = rw batch_is fine_gave.names;
-          sound = sound_tries m same reflexive number q old new kind before after batch sound t is_fine;
+          takes = takes;
+          certifies = rw batch_is (batch_certifies m subject tried.certificate fine.certifies);
+          names = rw batch_is fine.names;
+          sound = sound_taken m same reflexive number q old new kind subject gave batch sound takes fine;
         }
 
     -- a certificate was given
     pub constructs_one : is_some batch.certificate ≡ true → CompletesKind same old kind new
-        → Constructs m same number q old kind before batch after new
+        → Constructs m same number q old kind subject gave batch new
     constructs_one there c =
-        let some : is_some certificate ≡ true = sym given_some ∙ there in
+        let some : is_some tried.certificate ≡ true = sym given_some ∙ there in
         constructs
-        (tries_given m same number q old new kind subject ready before after batch gave attempted batch_is some
-        (ap (λ b. cond b [] (attestations_of (of_kind old.verified kind) ++ joining)) some) c) fine_gave
+        (takes_given same m.batchable number q old new kind subject ready batch gave batch_is some
+        (ap (λ b. cond b [] (attestations_of (of_kind old.verified kind) ++ joining)) some) c)
 
     -- none was given
     pub constructs_none : is_some batch.certificate ≡ false → Absorbs old kind subject joining new
-        → Constructs m same number q old kind before batch after new
+        → Constructs m same number q old kind subject gave batch new
     constructs_none none a =
-        let absent : certificate ≡ None = is_some-false certificate (sym given_some ∙ none) in
+        let absent : tried.certificate ≡ None = is_some-false tried.certificate (sym given_some ∙ none) in
         constructs
-        (tries_without m same number q old new kind subject ready before after batch gave attempted batch_is joining absent
-        (ap (λ o. cond (is_some o) [] (attestations_of (of_kind old.verified kind) ++ joining)) absent) about a) fine_gave
+        (takes_without same m.batchable number q old new kind subject ready batch gave batch_is joining absent
+        (ap (λ o. cond (is_some o) [] (attestations_of (of_kind old.verified kind) ++ joining)) absent) about a)

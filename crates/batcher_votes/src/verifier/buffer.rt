@@ -191,7 +191,7 @@ fn has_signer<G>(attestations: &[Attestation<G>], signer: Participant) -> bool
 }
 
 // Whether the two subjects are one.
-fn are_same<D: Digest>(one: &Subject<D>, other: &Subject<D>) -> bool
+pub(crate) fn are_same<D: Digest>(one: &Subject<D>, other: &Subject<D>) -> bool
     ensures { result ≡ same_subject D.eq one.now other.now }
 {
     match (one, other) {

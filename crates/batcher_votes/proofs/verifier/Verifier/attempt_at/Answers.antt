@@ -1,9 +1,10 @@
-use Rattle.std.proofs.Common.{◌≡◌, Some}
+use Rattle.std.proofs.Common.{◌≡◌, Some, rules}
 use Rattle.batcher_votes.specs.RoundState.{of_kind}
 use Rattle.batcher_votes.specs.Certifications.{pending_of, verified_of, held_by}
 use Rattle.batcher_votes.specs.Verifiers.{subject_ready}
 use Rattle.batcher_votes.proofs.VerifierLemmas.KindChanges.{of_mapped}
-use Rattle.batcher_votes.proofs.VerifierLemmas.Construction.{once_attestations, verified_about, attested_about}
+use Rattle.batcher_votes.proofs.VerifierLemmas.Construction.{once_attestations, verified_about, attested_about, fine_attempt}
+use Rattle.batcher_votes.proofs.VerifierLemmas.Results.{if_ok}
 use Rattle.batcher_votes.proofs.verifier.Verifier.attempt_at.Goals as goal
 
 pub attempt-requires-clause-once : goal.attempt-requires-clause-once
@@ -26,3 +27,21 @@ attempt-requires-clause-attested g c =
     in
     rw (c.deref-scheme.ensures, c.verified.ensures, c.get-certification.ensures, ← of_mapped verified_of v.kinds kind)
     (attested_about m same v.round c.args.subject (of_kind held.verified kind) about (c.self.invariant.kinds kind).attested)
+
+pub returns-clause-attempt : goal.returns-clause-attempt
+returns-clause-attempt g c = search rules
+
+pub returns-clause-fine : goal.returns-clause-fine
+returns-clause-fine g c =
+    let v = c.self.inside in
+    let m = g.S.Scheme.meaning v.scheme.value in
+    let same = g.D.PartialEq.eq in
+    let kind = c.args.kind in
+    let held = held_by v.leader v.proposal v.kinds in
+    let ready : subject_ready same m.batchable v.quorum held v.round kind ≡ Some c.args.subject = rw (← c.self.view_is) at c.requires in
+    let about = verified_about same g.met.D.Digest.identical v.round c.args.subject m.batchable v.quorum held kind ready (c.self.invariant.kinds kind).verified
+    in
+    rw (← c.self.view_is)
+    (if_ok _ _ _ (λ a attempted. fine_attempt m (g.met.S.Scheme.lawful v.scheme.value) same v.round v.quorum held kind c.args.subject c.self.invariant about
+    _ _ _ attempted)
+    (rw (← c.self.view_is) at (returns-clause-attempt g c)))

@@ -1,109 +1,23 @@
-use Rattle.std.proofs.Common.{◌≡◌, ◌∙◌, Some, ap, sym, rules}
-use Rattle.batcher_votes.specs.Kinds.{with_kind}
-use Rattle.batcher_votes.specs.Certifications.{is_complete, pending_of, verified_of, held_by}
-use Rattle.batcher_votes.specs.Verifiers.{subject_ready}
-use Rattle.batcher_votes.proofs.VerifierLemmas.KindChanges.{completes, absorbs, holds_same}
-use Rattle.batcher_votes.proofs.VerifierLemmas.Construction.{constructs_one, constructs_none}
+use Rattle.batcher_types.specs.declared.messages.Certificate.{Certificate}
+use Rattle.batcher_votes.specs.declared.verifier.Batch.{Batch}
+use Rattle.batcher_votes.specs.AttemptInputs.{verified_tried}
+use Rattle.batcher_votes.specs.Outcomes.{TakesIn, outcome_of}
+use Rattle.batcher_votes.specs.VerifierSteps.{TriesKind}
+use Rattle.batcher_votes.proofs.VerifierLemmas.Construction.{tries_by}
+use Rattle.batcher_votes.proofs.VerifierLemmas.Results.{if_ok}
 use Rattle.batcher_votes.proofs.verifier.Verifier.construct.Goals as goal
 
-pub invariant_of-self : goal.invariant_of-self
-invariant_of-self g c =
-    let v = c.self.inside in
-    let m = g.S.Scheme.meaning v.scheme.value in
-    let same = g.D.PartialEq.eq in
-    let held = held_by v.leader v.proposal v.kinds in
-    let kind = c.args.kind in
-    let subject = c.args.subject in
-    let b = c.in_ok-batch.field-0.batch in
-    let ready : subject_ready same m.batchable v.quorum held v.round kind ≡ Some subject = rw (← c.self.view_is) at c.requires in
-    let attempted = rw (← c.self.view_is) at c.in_ok-batch.ensures in
-    let made = constructs_one m (g.met.S.Scheme.lawful v.scheme.value) same g.met.D.Digest.identical g.met.D.Eq.laws.refl v.round v.quorum held
-    (held_by v.leader v.proposal (with_kind v.kinds kind c.finish.new.self)) c.self.invariant kind subject ready _ _
-    b.processed b.invalid b.certificate b.fallback c.in_ok-batch.field-0.joining.items attempted c.for_subject-batch.result c.for_subject-batch.ensures
-    (sym c.is_some.ensures ∙ c.if-is_some.true)
-    (completes v.leader v.proposal v.kinds kind c.finish.new.self same c.finish.ensures.complete c.finish.ensures.pending
-    c.finish.ensures.verified) in
-    made.sound
-
-pub returns-then-is_some : goal.returns-then-is_some
-returns-then-is_some g c =
-    let v = c.self.inside in
-    let m = g.S.Scheme.meaning v.scheme.value in
-    let same = g.D.PartialEq.eq in
-    let held = held_by v.leader v.proposal v.kinds in
-    let kind = c.args.kind in
-    let subject = c.args.subject in
-    let b = c.in_ok-batch.field-0.batch in
-    let ready : subject_ready same m.batchable v.quorum held v.round kind ≡ Some subject = rw (← c.self.view_is) at c.requires in
-    let attempted = rw (← c.self.view_is) at c.in_ok-batch.ensures in
-    let made = constructs_one m (g.met.S.Scheme.lawful v.scheme.value) same g.met.D.Digest.identical g.met.D.Eq.laws.refl v.round v.quorum held
-    (held_by v.leader v.proposal (with_kind v.kinds kind c.finish.new.self)) c.self.invariant kind subject ready _ _
-    b.processed b.invalid b.certificate b.fallback c.in_ok-batch.field-0.joining.items attempted c.for_subject-batch.result c.for_subject-batch.ensures
-    (sym c.is_some.ensures ∙ c.if-is_some.true)
-    (completes v.leader v.proposal v.kinds kind c.finish.new.self same c.finish.ensures.complete c.finish.ensures.pending
-    c.finish.ensures.verified) in
-    record {
-      tries = rw (← c.self.view_is) made.tries;
-      certifies = rw (← c.self.view_is) made.certifies;
-      names = made.names;
-      unchanged = search rules;
-      same = search rules;
-    }
-
-pub invariant_of-self-in_err-make_room_for_run : goal.invariant_of-self-in_err-make_room_for_run
-invariant_of-self-in_err-make_room_for_run g c =
-    let v = c.self.inside in
-    let own = c.get_mut-certification.ensures.value in
-    rw (holds_same v.leader v.proposal v.kinds c.args.kind c.make_room_for_run.new.self (c.make_room_for_run.ensures.complete ∙ ap is_complete own)
-    (c.make_room_for_run.ensures.pending ∙ ap pending_of own) (c.make_room_for_run.ensures.verified ∙ ap verified_of own))
-    c.self.invariant
-
-pub invariant_of-self-2 : goal.invariant_of-self-2
-invariant_of-self-2 g c =
-    let v = c.self.inside in
-    let m = g.S.Scheme.meaning v.scheme.value in
-    let same = g.D.PartialEq.eq in
-    let held = held_by v.leader v.proposal v.kinds in
-    let kind = c.args.kind in
-    let subject = c.args.subject in
-    let b = c.in_ok-batch.field-0.batch in
-    let ready : subject_ready same m.batchable v.quorum held v.round kind ≡ Some subject = rw (← c.self.view_is) at c.requires in
-    let attempted = rw (← c.self.view_is) at c.in_ok-batch.ensures in
-    let made = constructs_none m (g.met.S.Scheme.lawful v.scheme.value) same g.met.D.Digest.identical g.met.D.Eq.laws.refl v.round v.quorum held
-    (held_by v.leader v.proposal (with_kind v.kinds kind c.absorb.new.self)) c.self.invariant kind subject ready _ _
-    b.processed b.invalid b.certificate b.fallback c.in_ok-batch.field-0.joining.items attempted c.for_subject-batch.result c.for_subject-batch.ensures
-    (sym c.is_some.ensures ∙ c.if-is_some.false)
-    (absorbs v.leader v.proposal v.kinds kind c.absorb.new.self subject c.in_ok-batch.field-0.joining.items
-    (c.absorb.ensures.complete ∙ c.make_room_for_run.ensures.complete ∙ ap is_complete c.get_mut-certification.ensures.value)
-    c.absorb.ensures.pending
-    (rw (c.as_slice.ensures.value, c.make_room_for_run.ensures.verified, c.get_mut-certification.ensures.value)
-    at c.absorb.ensures.verified)) in
-    made.sound
-
-pub returns : goal.returns
-returns g c =
-    let v = c.self.inside in
-    let m = g.S.Scheme.meaning v.scheme.value in
-    let same = g.D.PartialEq.eq in
-    let held = held_by v.leader v.proposal v.kinds in
-    let kind = c.args.kind in
-    let subject = c.args.subject in
-    let b = c.in_ok-batch.field-0.batch in
-    let ready : subject_ready same m.batchable v.quorum held v.round kind ≡ Some subject = rw (← c.self.view_is) at c.requires in
-    let attempted = rw (← c.self.view_is) at c.in_ok-batch.ensures in
-    let made = constructs_none m (g.met.S.Scheme.lawful v.scheme.value) same g.met.D.Digest.identical g.met.D.Eq.laws.refl v.round v.quorum held
-    (held_by v.leader v.proposal (with_kind v.kinds kind c.absorb.new.self)) c.self.invariant kind subject ready _ _
-    b.processed b.invalid b.certificate b.fallback c.in_ok-batch.field-0.joining.items attempted c.for_subject-batch.result c.for_subject-batch.ensures
-    (sym c.is_some.ensures ∙ c.if-is_some.false)
-    (absorbs v.leader v.proposal v.kinds kind c.absorb.new.self subject c.in_ok-batch.field-0.joining.items
-    (c.absorb.ensures.complete ∙ c.make_room_for_run.ensures.complete ∙ ap is_complete c.get_mut-certification.ensures.value)
-    c.absorb.ensures.pending
-    (rw (c.as_slice.ensures.value, c.make_room_for_run.ensures.verified, c.get_mut-certification.ensures.value)
-    at c.absorb.ensures.verified)) in
-    record {
-      tries = rw (← c.self.view_is) made.tries;
-      certifies = search rules;
-      names = made.names;
-      unchanged = search rules;
-      same = search rules;
-    }
+pub returns-clause-tries : goal.returns-clause-tries
+returns-clause-tries g c =
+    let old = c.args.self.now in
+    let new = c.take_in.new.self in
+    let m = g.S.Scheme.meaning old.scheme in
+    let before = g.R.Rng.stream c.args.rng.now in
+    let after = g.R.Rng.stream c.attempt_at.new.rng in
+    let outcome = outcome_of (verified_tried old.holds c.args.kind) c.in_ok-tried.tried.batch c.in_ok-tried.tried.joining.items in
+    let by : (batch : Batch (Certificate g.row.S-Certificate.Denot g.row.D.Denot))
+    → TakesIn old.number old.holds c.args.kind c.args.subject outcome batch new.holds
+    → TriesKind m old.number old.quorum old.holds c.args.kind before batch after new.holds
+    = λ batch takes. tries_by m old.number old.quorum old.holds new.holds c.args.kind c.args.subject before after batch outcome takes
+    c.in_ok-tried.ensures.attempt in
+    if_ok c.take_in.result _ _ by c.take_in.ensures.takes
