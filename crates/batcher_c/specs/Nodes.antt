@@ -28,7 +28,7 @@ use Rattle.batcher_node.specs.Windows.{is_of, width}
 use Rattle.batcher_node.specs.Events.{NodeEvent, started, vote_came, certificate_came, view_entered, view_finalized, constructed, view_history}
 use Rattle.batcher_node.specs.Nodes.{NodeConfig, SameNode, IsAtRest, IsLedByAnother, slot_at}
 use Rattle.batcher_node.specs.NodePromises.{IsComplete, KeepsPromises}
-use Rattle.batcher_node.specs.Represents.{NodeRepresents, HasHistory, Meets, SimulatesCast, SimulatesForward, ForEachNodeHistory, IsHeard, config_of}
+use Rattle.batcher_node.specs.Represents.{NodeRepresents, Meets, SimulatesCast, SimulatesForward, ForEachNodeHistory, IsHeard, config_of}
 use Rattle.batcher_node_session.specs.Views.{NodeSessionView, config_by, InView}
 use Rattle.batcher_node_session.specs.Steps.{AsksNext}
 use Rattle.batcher_c.specs.contracts.caller.CallerTruth.TheImpl.{ghosts}
@@ -100,7 +100,8 @@ module _ (s : NodeSessionView) (code : ℕ) where
     pub codes : code ≡ DONE
     pub counted : count ≡ length s.node.blocked
     pub listed : IsWritten cause_in s.node.blocked room list
-    pub promised : KeepsPromises (node_config_of s) s.node
+    pub promised : ForEachNodeHistory (node_config_of s) s.node
+        (λ past. KeepsPromises (node_config_of s) past s.node)
 
   pub record AsksLeaderOf (view old out : ℕ) : Type 0 where
     pub codes : is_one_of (DONE ∷ IDLE ∷ []) code ≡ true
@@ -316,8 +317,8 @@ module _ (before : NodeSessionView) (code : ℕ) (after : NodeSessionView) where
     pub asked_stays : wants code ≡ true → after ≡ before
     pub rests : code ≡ IDLE → (after ≡ before) × IsAtRest before.node
     pub complete : code ≡ IDLE
-        → (h : HasHistory (node_config_of after) after.node)
-        × IsComplete (node_config_of after) h.past after.node
+        → ForEachNodeHistory (node_config_of after) after.node
+        (λ past. IsComplete (node_config_of after) past after.node)
     pub done : code ≡ DONE → (batch : Batch Made)
         × (WritesBatch step room list signers_room signers batch
         × NodeGoes (constructed step.view (Some batch)))

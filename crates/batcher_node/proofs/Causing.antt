@@ -22,7 +22,7 @@ use Rattle.batcher_node.specs.declared.answers.Cause.{Cause}
 use Rattle.batcher_node.specs.declared.answers.Cause.TheVariants.{Vote as ForVote, Certificate as ForCertificate, Signature as ForSignature}
 use Rattle.batcher_node.specs.Events.{NodeEvent, started, vote_came, certificate_came, vote_cast, view_entered, view_finalized, constructed, proposal_forwarded, NodeHistory, view_history, peer_in, is_peer, cause_by, cause_in}
 use Rattle.batcher_node.specs.Nodes.{NodeView, NodeConfig, cause_at}
-use Rattle.batcher_node.specs.Represents.{NodeRepresents, HasHistory, config_of}
+use Rattle.batcher_node.specs.Represents.{NodeRepresents, HasHistory, ForEachNodeHistory, ForSomeNodeHistory, config_of}
 use Rattle.batcher_node.specs.NodePromises.{IsForCause, AreForCause, GaveCauseFor, HadGivenCause}
 use Rattle.batcher_node.proofs.Finding.{some_is, some_same}
 
@@ -204,6 +204,11 @@ module _ {D K G C : Type 0} (x : NodeConfig D K G C) where
           had_given_cause past good i c (sym (h.blocked_are i place) ∙ is)
 
   -- THE HISTORY OF EACH NODE
+  -- There is a history that a node represents. So what holds of each holds of one.
+  pub some_of_each : {S : Type 0} (node : NodeView S G D) (holds : NodeHistory D K G C → Type 0)
+      → HasHistory x node → ForEachNodeHistory x node holds → ForSomeNodeHistory x node holds
+  some_of_each node holds h each = (h, each h.past h.represents)
+
   -- a new node
   pub starts : {S : Type 0} (node : NodeView S G D) → node.rounds ≡ []
       → ((i : ℕ) → cause_at node.blocked i ≡ None) → HasHistory x node

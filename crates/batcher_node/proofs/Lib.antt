@@ -17,3 +17,5 @@ pub mod SendingBlocks
 pub mod SendingCertificates
 mod SendingWorked
 pub mod SendingKept
+pub mod DueLemmas
+pub mod DueRounds

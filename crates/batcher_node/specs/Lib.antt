@@ -6,3 +6,5 @@ pub mod Represents
 pub mod NodePromises
 pub mod Sending
 pub mod SendingExamples
+pub mod Verdicts
+pub mod Due

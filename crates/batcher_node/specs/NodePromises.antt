@@ -99,14 +99,14 @@ module _ {D K G C : Type 0} (x : NodeConfig D K G C) where
     pub is_part : past ≡ later ++ earlier
     pub gave : GaveCauseFor cause earlier i
 
-  -- There is a history that a node represents, and of which all that is promised holds: whoever
-  -- is blocked had given cause, and no quorum is lost where the node rests.
-  pub record KeepsPromises {S : Type 0} (node : NodeView S G D) : Type 0 where
-    pub past : NodeHistory D K G C
-    pub represents : NodeRepresents x past node
-    pub promised : IsNodePromised past
-    pub blocked_gave_cause : (i : ℕ) → IfSome (cause_at node.blocked i) (HadGivenCause past i)
-    pub complete_at_rest : IsAtRest node → IsComplete past node
+  -- All that is promised holds of a node and of a history that it represents: whoever is blocked
+  -- had given cause in it, and no quorum of its votes is lost where the node rests.
+  pub record KeepsPromises {S : Type 0} (past : NodeHistory D K G C) (node : NodeView S G D)
+      : Type 0
+    where
+      pub promised : IsNodePromised past
+      pub blocked_gave_cause : (i : ℕ) → IfSome (cause_at node.blocked i) (HadGivenCause past i)
+      pub complete_at_rest : IsAtRest node → IsComplete past node
 
 module _ {S D K G C : Type 0} (round_config : NodeView S G D → NodeConfig D K G C)
     (participants : S → List K) where

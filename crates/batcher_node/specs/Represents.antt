@@ -152,6 +152,11 @@ module _ {D K G C : Type 0} (x : NodeConfig D K G C) where
   ForEachNodeHistory node holds = (past : NodeHistory D K G C) → NodeRepresents past node
       → holds past
 
+  -- What is said of some history that a node represents. There is one.
+  abbrev pub ForSomeNodeHistory : {S : Type 0} → NodeView S G D → (NodeHistory D K G C → Type 0)
+      → Type 0
+  ForSomeNodeHistory node holds = (h : HasHistory node) × holds h.past
+
   -- An own vote that is answered leaves a node that represents the longer history: one that is to
   -- be sent was reported as the first of its kind and signer, and one that is known wasn't.
   abbrev pub SimulatesCast : {S : Type 0} → NodeView S G D → Vote G D → Cast G D → NodeView S G D

@@ -3,6 +3,7 @@
 #![tactic(auto)]
 
 mod answers;
+mod due;
 mod node;
 mod rounds;
 mod slot;

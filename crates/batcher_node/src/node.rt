@@ -1,12 +1,12 @@
 //! A node: the rounds of a window of views, and the peers that are blocked in all of them.
 
-ghost use Rattle.std.specs.Prelude.{◌≡◌, ◌≤◌, ◌<◌, ◌∷◌, [], true, false, cond, ◌==◌, ℕ, length, IfOk, IfErr, OnOk, OnErr, IfSome, IfNone, Some, None, Ok, Err, is_some};
+ghost use Rattle.std.specs.Prelude.{◌≡◌, ◌≤◌, ◌<◌, ◌∷◌, [], true, false, cond, ◌==◌, ℕ, length, map, IfOk, IfErr, OnOk, OnErr, IfSome, IfNone, Some, None, Ok, Err, is_some};
 ghost use Rattle.std.specs.List.{list_any, range_with_len};
 ghost use Rattle.std.specs.Option.{option_map, option_copied, option_or};
 ghost use Rattle.std.specs.List.Sorted.{IsStrictlySortedBy};
 ghost use Rattle.std.specs.Ordering.{nat_cmp};
 ghost use Rattle.batcher.specs.Votes.{subject_of, subject_certified, attestation_of, round_in};
-ghost use Rattle.batcher.specs.Verifiers.{certifies_itself};
+ghost use Rattle.batcher.specs.Verifiers.{certifies_itself, IfGiven};
 ghost use Rattle.batcher.specs.Answers.{own_answer};
 ghost use Rattle.batcher.specs.Steps.{fault_or_memory};
 ghost use Rattle.batcher_node.specs.declared.answers.Cause.TheVariants.{Vote as ForVote, Signature as ForSignature};
@@ -14,15 +14,20 @@ ghost use Rattle.batcher_node.specs.declared.answers.EnterFault.TheVariants.{Pas
 ghost use Rattle.batcher_node.specs.Windows.{is_of, width, contains, numbered};
 ghost use Rattle.batcher_node.specs.Events.{peer_in, invalid_in, started, vote_came, certificate_came, view_entered, view_finalized, constructed, view_history};
 ghost use Rattle.batcher_node.specs.Nodes.{SameNode, IsAtRest, HasChanged, IsNext, Draws, IsLedByAnother, cause_at, slot_at};
-ghost use Rattle.batcher_node.specs.Represents.{cast_by, Meets, SimulatesCast, SimulatesForward, NodeRepresents, ForEachNodeHistory, IsHeard, config_of, HasHistory};
+ghost use Rattle.batcher_node.specs.Represents.{cast_by, Meets, SimulatesCast, SimulatesForward, NodeRepresents, ForEachNodeHistory, IsHeard, config_of, ForSomeNodeHistory};
+ghost use Rattle.batcher_node.specs.Verdicts.{LooksAtThere, MayBeQuorumThere};
+ghost use Rattle.batcher.specs.VerifierSteps.{certificate_for};
 ghost use Rattle.batcher_node.specs.NodePromises.{HadGivenCause, IsComplete, KeepsPromises};
 
 use crate::answers::{Cast, Cause, EnterFault, Receipt, Verdict};
+use crate::due::Due;
 use crate::rounds::Rounds;
 use crate::step::{self, Heard, Led, Verified};
 use crate::views::Views;
 use crate::window::Window;
-use batcher::messages::{Activity, Certificate, Digest, Proposal, Vote};
+use batcher::messages::{
+    Activity, Attestation, Certificate, Digest, Identical, Proposal, Subject, Vote,
+};
 use batcher::positions::{Epoch, Participant, View};
 use batcher::round::{Admission, BlockReason, OwnFault, Round, RoundConfigs};
 use batcher::scheme::Scheme;
@@ -60,6 +65,8 @@ pub struct Node<S: Scheme<D>, D: Digest> {
 
 impl<S: Scheme<D>, D: Digest> Model for Node<S, D> {
     ghost use Rattle.batcher_node.specs.Nodes.{NodeView};
+    ghost use Rattle.std.specs.BinaryHeap.{heap_items, heap_capacity};
+    ghost use Rattle.batcher_node.specs.Due.{ListsChanged};
     ghost use Rattle.batcher_node.specs.Represents.{IsNode};
 
     ghost Value = { NodeView S S.Signature D };
@@ -73,14 +80,15 @@ impl<S: Scheme<D>, D: Digest> Model for Node<S, D> {
       blocked = n.blocked.items;
     } };
 
-    ghost invariant = { λ n. IsNode S.meaning S.PublicKey.cmp S.Signature.eq D.eq (record {
+    ghost invariant = { λ n. (IsNode S.meaning S.PublicKey.cmp S.Signature.eq D.eq (record {
       scheme = n.rounds.scheme.value;
       epoch = n.rounds.epoch;
       retains = n.rounds.retains;
       window = n.rounds.window;
       rounds = n.rounds.slots.entries;
       blocked = n.blocked.items;
-    }) };
+    })) × (ListsChanged (heap_items n.rounds.due.views) (heap_capacity n.rounds.due.views)
+        n.rounds.slots.entries) };
 }
 
 /// A construction in a view.
@@ -128,6 +136,7 @@ impl<S: Scheme<D>, D: Digest> Node<S, D> {
                     ahead,
                 },
                 slots: BTreeMap::new(alloc),
+                due: Due::new(alloc),
             },
             blocked,
         })
@@ -290,8 +299,8 @@ impl<S: Scheme<D>, D: Digest> Node<S, D> {
             IsNext self.old.rounds one.view.0)) }
         ensures rests { result ≡ Ok None → (self.new ≡ self.old) × (IsAtRest self.old) }
         ensures complete { result ≡ Ok None
-            → (h : HasHistory (⟦<S as NodeConfigs<D>>⟧.of self.new) self.new)
-            × (IsComplete (⟦<S as NodeConfigs<D>>⟧.of self.new) h.past self.new) }
+            → ForEachNodeHistory (⟦<S as NodeConfigs<D>>⟧.of self.new) self.new
+            (λ past. IsComplete (⟦<S as NodeConfigs<D>>⟧.of self.new) past self.new) }
         ensures draws { IfOk result (λ made. IfSome made (λ one. Draws ⟦<S as RoundConfigs<D>>⟧.of
             (slot_at self.old.rounds) (slot_at self.new.rounds) one.view.0
             (R.stream rng.old) one.batch (R.stream rng.new))) }
@@ -371,26 +380,26 @@ impl<S: Scheme<D>, D: Digest> Node<S, D> {
         Views { keys }
     }
 
-    /// Why each participant is blocked, if it is, by its index: for what it did in a history that
-    /// the node represents.
+    /// Why each participant is blocked, if it is, by its index: for what it did in each history
+    /// that the node represents, and so in that of the calls which were made.
     pub fn blocked(&self) -> &[Option<Cause>]
         ensures list { result.now ≡ self.now.blocked }
-        ensures cause { (h : HasHistory (⟦<S as NodeConfigs<D>>⟧.of self.now) self.now)
-            × ((i : ℕ) → IfSome (cause_at result.now i)
-            (HadGivenCause (⟦<S as NodeConfigs<D>>⟧.of self.now) h.past i)) }
+        ensures cause { ForEachNodeHistory (⟦<S as NodeConfigs<D>>⟧.of self.now) self.now
+            (λ past. (i : ℕ) → IfSome (cause_at result.now i)
+            (HadGivenCause (⟦<S as NodeConfigs<D>>⟧.of self.now) past i)) }
     {
         self.promises();
         self.blocked.as_slice()
     }
 
-    /// Does nothing. Its contract says that there is a history that the node represents, and
-    /// that all that is promised holds of it. So a caller has this by one call, and carries no
-    /// history.
-    ///
-    /// Which history it is stays open, and so it needn't be that of the calls which were made. How
-    /// one goes on with a call is said by that call's `meets`.
+    /// Does nothing. Its contract says that all that is promised holds of each history that the
+    /// node represents, and that there is one. So it holds of the history of the calls which were
+    /// made: each call's `meets` says that the node represents it.
     pub fn promises(&self)
-        ensures { KeepsPromises (⟦<S as NodeConfigs<D>>⟧.of self.now) self.now }
+        ensures each { ForEachNodeHistory (⟦<S as NodeConfigs<D>>⟧.of self.now) self.now
+            (λ past. KeepsPromises (⟦<S as NodeConfigs<D>>⟧.of self.now) past self.now) }
+        ensures some { ForSomeNodeHistory (⟦<S as NodeConfigs<D>>⟧.of self.now) self.now
+            (λ past. KeepsPromises (⟦<S as NodeConfigs<D>>⟧.of self.now) past self.now) }
     {
         self.rounds.promises();
     }
@@ -415,6 +424,91 @@ impl<S: Scheme<D>, D: Digest> Node<S, D> {
             Some(slot) => Some(&slot.round),
             None => None,
         }
+    }
+}
+
+impl<S: Scheme<D>, D: Digest> Node<S, D>
+where
+    S::Signature: Identical,
+{
+    /// Makes the construction of the next view by verdicts from elsewhere, on the pending
+    /// attestations that the `next_attempt` of its round lends. It is a construction like any
+    /// other, and draws nothing.
+    ///
+    /// None where the subject and the list aren't those of that attempt, as where a vote came
+    /// meanwhile or a lower view is next: then nothing changes. A refusal for memory leaves the
+    /// node as it was.
+    pub fn conclude(
+        &mut self,
+        subject: Subject<D>,
+        list: &[Attestation<S::Signature>],
+        verdicts: &[bool],
+    ) -> Result<Option<Construction<S::Certificate, D>>, AllocError>
+        requires { verdicts.now ≡ map ((S.meaning self.old.scheme).attests subject) list.now }
+        ensures meets { IfGiven result (λ one. Meets (⟦<S as NodeConfigs<D>>⟧.of self.old) self.old
+            (constructed one.view.0 one.batch) self.new) }
+        ensures gives { IfGiven result (λ one. is_some one.batch ≡ true) }
+        ensures next { IfGiven result (λ one. IsNext self.old.rounds one.view.0) }
+        ensures looks_at { IfGiven result (λ one. LooksAtThere ⟦<S as RoundConfigs<D>>⟧.of
+            (slot_at self.old.rounds one.view.0) subject list.now) }
+        ensures not_stale { (view : ℕ) → IsNext self.old.rounds view
+            → LooksAtThere ⟦<S as RoundConfigs<D>>⟧.of (slot_at self.old.rounds view) subject
+            list.now → IfOk result (λ given. is_some given ≡ true) }
+        ensures stale { result ≡ Ok None → self.new ≡ self.old }
+        ensures needed { OnErr result ((view : ℕ) × (HasChanged (slot_at self.old.rounds view))) }
+        ensures refused { OnErr result (self.new ≡ self.old) }
+        ensures same { SameNode self.old self.new }
+    {
+        let Some(next) = self.rounds.next() else {
+            return Ok(None);
+        };
+        let Some(batch) = self.rounds.conclude(next, subject, list, verdicts)? else {
+            return Ok(None);
+        };
+        let (view, batch) = (View(next), Some(batch));
+        block_named(&mut self.blocked, &batch);
+        Ok(Some(Construction { view, batch }))
+    }
+
+    /// Makes the construction of the next view by a certificate that was made elsewhere, of all
+    /// that the `next_attempt` of its round lends, as schemes that aggregate do. It takes no memory
+    /// and draws nothing.
+    ///
+    /// None where the subject and the list aren't those of that attempt, or where all that it lends
+    /// is too little for a quorum. Then nothing changes.
+    pub fn conclude_with(
+        &mut self,
+        subject: Subject<D>,
+        list: &[Attestation<S::Signature>],
+        certificate: S::Certificate,
+    ) -> Option<Construction<S::Certificate, D>>
+        requires { (S.meaning self.old.scheme).certifies subject certificate ≡ true }
+        ensures meets { IfSome result (λ one. Meets (⟦<S as NodeConfigs<D>>⟧.of self.old) self.old
+            (constructed one.view.0 one.batch) self.new) }
+        ensures gives { IfSome result (λ one. IfSome one.batch (λ batch. batch.certificate
+            ≡ Some (certificate_for subject certificate))) }
+        ensures constructs { IfSome result (λ one. is_some one.batch ≡ true) }
+        ensures next { IfSome result (λ one. IsNext self.old.rounds one.view.0) }
+        ensures looks_at { IfSome result (λ one. LooksAtThere ⟦<S as RoundConfigs<D>>⟧.of
+            (slot_at self.old.rounds one.view.0) subject list.now) }
+        ensures not_stale { (view : ℕ) → IsNext self.old.rounds view
+            → LooksAtThere ⟦<S as RoundConfigs<D>>⟧.of (slot_at self.old.rounds view) subject
+            list.now
+            → MayBeQuorumThere ⟦<S as RoundConfigs<D>>⟧.of (slot_at self.old.rounds view)
+            → is_some result ≡ true }
+        ensures stale { result ≡ None → self.new ≡ self.old }
+        ensures same { SameNode self.old self.new }
+    {
+        let Some(next) = self.rounds.next() else {
+            return None;
+        };
+        let made = self.rounds.conclude_with(next, subject, list, certificate);
+        let Some(batch) = made else {
+            return None;
+        };
+        let (view, batch) = (View(next), Some(batch));
+        block_named(&mut self.blocked, &batch);
+        Some(Construction { view, batch })
     }
 }
 

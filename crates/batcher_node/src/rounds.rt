@@ -1,28 +1,33 @@
 //! The rounds of a node's views, each of which takes what is said in its view.
 
-ghost use Rattle.std.specs.Prelude.{◌≡◌, ◌≢◌, ◌≤◌, ◌<◌, ℕ, false, length, [], None, find, MatchOption, IfOk, IfErr, OnOk, OnErr, IfSome, IfNone};
+ghost use Rattle.std.specs.Prelude.{◌≡◌, ◌≢◌, ◌≤◌, ◌<◌, ℕ, false, length, [], None, find, map, is_some, true, Some, Ok, MatchOption, IfOk, IfErr, OnOk, OnErr, IfSome, IfNone};
 ghost use Rattle.std.specs.Option.{option_map};
 ghost use Rattle.std.specs.Ordering.{nat_cmp};
 ghost use Rattle.std.specs.Map.{keys_of};
 ghost use Rattle.std.specs.List.Sorted.{IsStrictlySortedBy};
 ghost use Rattle.std.specs.BTreeMap.{get};
+ghost use Rattle.std.specs.BinaryHeap.{heap_items, heap_capacity};
+ghost use Rattle.batcher_node.specs.Due.{ListsChanged};
 ghost use Rattle.batcher.specs.calls.Call.TheVariants.{Construct as ConstructCall, Forward as ForwardCall};
 ghost use Rattle.batcher.specs.answers.Answer.TheVariants.{Construct as ConstructAnswer, Forward as ForwardAnswer};
 ghost use Rattle.batcher.specs.Runs.{MayCall};
 ghost use Rattle.batcher.specs.Represents.{Represents};
 ghost use Rattle.batcher.specs.RoundContracts.{ForEachHistory};
 ghost use Rattle.batcher.specs.Selection.{is_certified};
-ghost use Rattle.batcher.specs.Verifiers.{certifies_itself};
+ghost use Rattle.batcher.specs.Verifiers.{certifies_itself, IfGiven};
 ghost use Rattle.batcher_node.specs.Windows.{is_of, entered, finalized, numbered};
-ghost use Rattle.batcher_node.specs.Nodes.{fresh_round, IsTended, MakesCall, MakesCallThere, Refuses, Draws, HasChanged, IsAtRest, slot_at};
+ghost use Rattle.batcher_node.specs.Nodes.{fresh_round, IsNext, IsTended, MakesCall, MakesCallThere, Refuses, Draws, HasChanged, IsAtRest, slot_at};
+ghost use Rattle.batcher_node.specs.Verdicts.{LooksAtThere, MayBeQuorumThere};
+ghost use Rattle.batcher.specs.VerifierSteps.{certificate_for};
 ghost use Rattle.batcher_node.specs.NodePromises.{HoldsOfAll, IsNodePromised, IsComplete};
 
+use crate::due::Due;
 use crate::node::NodeConfigs;
 use crate::slot::Slot;
 use crate::step::Step;
 use crate::theorems::nodes_keep_their_promises;
 use crate::window::Window;
-use batcher::messages::{Certificate, Digest, Kind, Proposal};
+use batcher::messages::{Attestation, Certificate, Digest, Identical, Kind, Proposal, Subject};
 use batcher::positions::{self, Epoch, Participant, View};
 use batcher::round::{Round, RoundConfigs};
 use batcher::scheme::Scheme;
@@ -43,6 +48,9 @@ pub(crate) struct Rounds<S: Scheme<D>, D: Digest> {
     pub(crate) retains: bool,
     pub(crate) window: Window,
     pub(crate) slots: BTreeMap<u64, Slot<Round<S, D>>>,
+    /// The views that changed since they were found to rest, so that the next one is found without
+    /// a walk over all.
+    pub(crate) due: Due,
 }
 
 impl<S: Scheme<D>, D: Digest> Rounds<S, D> {
@@ -105,8 +113,12 @@ impl<S: Scheme<D>, D: Digest> Rounds<S, D> {
     ) -> Result<Result<T::Answer, T::Fault>, AllocError>
         requires tended { IsTended (length (S.meaning self.old.scheme.value).participants)
             self.old.scheme.value self.old.epoch self.old.window self.old.slots.entries }
+        requires listed { ListsChanged (heap_items self.old.due.views)
+            (heap_capacity self.old.due.views) self.old.slots.entries }
         requires may { MayCall (S.meaning self.old.scheme.value) (numbered self.old.epoch view)
             (T.call step) }
+        ensures listed { ListsChanged (heap_items self.new.due.views)
+            (heap_capacity self.new.due.views) self.new.slots.entries }
         ensures makes_call { IfOk result (λ made.
             IfOk made (λ answer. MakesCall ⟦<S as RoundConfigs<D>>⟧.of
             (get nat_cmp self.old.slots) (get nat_cmp self.new.slots) view
@@ -120,17 +132,30 @@ impl<S: Scheme<D>, D: Digest> Rounds<S, D> {
         ensures declined { IfOk result (λ made.
             OnErr made (self.new.slots.entries ≡ self.old.slots.entries)) }
         ensures refused { OnErr result (self.new.slots.entries ≡ self.old.slots.entries) }
-        ensures same { self.new ≡ record self.old { slots = self.new.slots } }
+        ensures same { self.new ≡ record self.old {
+          slots = self.new.slots;
+          due = self.new.due;
+        } }
     {
         match self.slots.get_mut(&view) {
-            Some(slot) => Ok(step.make(slot)),
+            Some(slot) => {
+                let rested = !slot.changed;
+                let made = step.make(slot);
+                let wakes = rested & slot.changed;
+                self.due.wake(view, wakes);
+                Ok(made)
+            }
             None => {
+                let count = self.slots.len() + 1;
+                self.due.make_room(count)?;
                 let mut slot = self.fresh(view)?;
                 match step.make(&mut slot) {
                     Ok(answer) => {
+                        let wakes = slot.changed;
                         // What is given up is handed to `drop`, here and below: where `?` drops a
                         // round, each function takes ten seconds more to prove.
                         drop(self.slots.insert(view, slot)?);
+                        self.due.wake(view, wakes);
                         Ok(Ok(answer))
                     }
                     Err(fault) => {
@@ -149,6 +174,11 @@ impl<S: Scheme<D>, D: Digest> Rounds<S, D> {
         view: u64,
         rng: &mut R,
     ) -> Result<Option<Option<Batch<Certificate<S::Certificate, D>>>>, AllocError>
+        requires listed { ListsChanged (heap_items self.old.due.views)
+            (heap_capacity self.old.due.views) self.old.slots.entries }
+        requires next { IsNext self.old.slots.entries view }
+        ensures listed { ListsChanged (heap_items self.new.due.views)
+            (heap_capacity self.new.due.views) self.new.slots.entries }
         ensures makes_call { IfOk result (λ made.
             IfSome made (λ answer. MakesCallThere ⟦<S as RoundConfigs<D>>⟧.of
             (get nat_cmp self.old.slots) (get nat_cmp self.new.slots) view
@@ -162,12 +192,16 @@ impl<S: Scheme<D>, D: Digest> Rounds<S, D> {
         ensures uncalled { IfOk result (λ made. IfNone made
             (self.new.slots.entries ≡ self.old.slots.entries)) }
         ensures refused { OnErr result (self.new.slots.entries ≡ self.old.slots.entries) }
-        ensures same { self.new ≡ record self.old { slots = self.new.slots } }
+        ensures same { self.new ≡ record self.old {
+          slots = self.new.slots;
+          due = self.new.due;
+        } }
     {
         match self.slots.get_mut(&view) {
             Some(slot) => {
                 let batch = slot.round.try_construct(rng)?;
                 slot.changed = batch.is_some();
+                self.due.rest(batch.is_none());
                 Ok(Some(batch))
             }
             None => Ok(None),
@@ -180,12 +214,19 @@ impl<S: Scheme<D>, D: Digest> Rounds<S, D> {
         view: u64,
         me: Participant,
     ) -> Option<Option<Proposal<D>>>
+        requires listed { ListsChanged (heap_items self.old.due.views)
+            (heap_capacity self.old.due.views) self.old.slots.entries }
+        ensures listed { ListsChanged (heap_items self.new.due.views)
+            (heap_capacity self.new.due.views) self.new.slots.entries }
         ensures makes_call { IfSome result (λ answer. MakesCallThere ⟦<S as RoundConfigs<D>>⟧.of
             (get nat_cmp self.old.slots) (get nat_cmp self.new.slots) view
             (ForwardCall me) (ForwardAnswer answer)) }
         ensures absent { IfNone result (get nat_cmp self.old.slots view ≡ None) }
         ensures uncalled { IfNone result (self.new.slots.entries ≡ self.old.slots.entries) }
-        ensures same { self.new ≡ record self.old { slots = self.new.slots } }
+        ensures same { self.new ≡ record self.old {
+          slots = self.new.slots;
+          due = self.new.due;
+        } }
     {
         match self.slots.get_mut(&view) {
             Some(slot) => Some(slot.round.try_forward_proposal(me)),
@@ -195,17 +236,23 @@ impl<S: Scheme<D>, D: Digest> Rounds<S, D> {
 
     /// The lowest view that changed since it was found to rest.
     pub(crate) fn next(&self) -> Option<u64>
+        requires { ListsChanged (heap_items self.now.due.views) (heap_capacity self.now.due.views)
+            self.now.slots.entries }
         ensures found { IfSome result (λ view. HasChanged (slot_at self.now.slots.entries view)) }
         ensures lowest { IfSome result (λ view. (lower : ℕ) → lower < view
             → IfSome (slot_at self.now.slots.entries lower) (λ slot. slot.changed ≡ false)) }
         ensures none { IfNone result ((view : ℕ)
             → IfSome (slot_at self.now.slots.entries view) (λ slot. slot.changed ≡ false)) }
     {
-        first_changed(&self.slots)
+        self.due.lowest()
     }
 
     /// A view was finalized: the rounds before it are dropped.
     pub(crate) fn finalize(&mut self, view: u64)
+        requires listed { ListsChanged (heap_items self.old.due.views)
+            (heap_capacity self.old.due.views) self.old.slots.entries }
+        ensures listed { ListsChanged (heap_items self.new.due.views)
+            (heap_capacity self.new.due.views) self.new.slots.entries }
         ensures window { self.new.window ≡ finalized self.old.window view }
         ensures kept { (other : ℕ) → self.new.window.finalized ≤ other
             → slot_at self.new.slots.entries other ≡ slot_at self.old.slots.entries other }
@@ -214,10 +261,12 @@ impl<S: Scheme<D>, D: Digest> Rounds<S, D> {
         ensures same { self.new ≡ record self.old {
           window = self.new.window;
           slots = self.new.slots;
+          due = self.new.due;
         } }
     {
         self.window.finalize(view);
         drop_before(&mut self.slots, self.window.finalized);
+        self.due.drop_before(self.window.finalized);
     }
 
     /// Does nothing. Its contract is what `nodes_keep_their_promises` says of all nodes over the
@@ -233,22 +282,108 @@ impl<S: Scheme<D>, D: Digest> Rounds<S, D> {
     }
 }
 
+impl<S: Scheme<D>, D: Digest> Rounds<S, D>
+where
+    S::Signature: Identical,
+{
+    /// Lets the round of a view construct by verdicts from elsewhere.
+    pub(crate) fn conclude(
+        &mut self,
+        view: u64,
+        subject: Subject<D>,
+        list: &[Attestation<S::Signature>],
+        verdicts: &[bool],
+    ) -> Result<Option<Batch<Certificate<S::Certificate, D>>>, AllocError>
+        requires tended { IsTended (length (S.meaning self.old.scheme.value).participants)
+            self.old.scheme.value self.old.epoch self.old.window self.old.slots.entries }
+        requires listed { ListsChanged (heap_items self.old.due.views)
+            (heap_capacity self.old.due.views) self.old.slots.entries }
+        requires next { IsNext self.old.slots.entries view }
+        requires verdicts { verdicts.now
+            ≡ map ((S.meaning self.old.scheme.value).attests subject) list.now }
+        ensures listed { ListsChanged (heap_items self.new.due.views)
+            (heap_capacity self.new.due.views) self.new.slots.entries }
+        ensures makes_call { IfGiven result (λ batch. MakesCallThere ⟦<S as RoundConfigs<D>>⟧.of
+            (get nat_cmp self.old.slots) (get nat_cmp self.new.slots) view
+            ConstructCall (ConstructAnswer (Some batch))) }
+        ensures looks_at { IfGiven result (λ _. LooksAtThere ⟦<S as RoundConfigs<D>>⟧.of
+            (get nat_cmp self.old.slots view) subject list.now) }
+        ensures not_stale { LooksAtThere ⟦<S as RoundConfigs<D>>⟧.of
+            (get nat_cmp self.old.slots view) subject list.now
+            → IfOk result (λ given. is_some given ≡ true) }
+        ensures stale { result ≡ Ok None → self.new.slots.entries ≡ self.old.slots.entries }
+        ensures refused { OnErr result (self.new.slots.entries ≡ self.old.slots.entries) }
+        ensures same { self.new ≡ record self.old {
+          slots = self.new.slots;
+          due = self.new.due;
+        } }
+    {
+        match self.slots.get_mut(&view) {
+            Some(slot) => {
+                let Some(batch) = slot.round.conclude(subject, list, verdicts)? else {
+                    return Ok(None);
+                };
+                slot.changed = true;
+                Ok(Some(batch))
+            }
+            None => Ok(None),
+        }
+    }
+
+    /// The same by a certificate that was made elsewhere. It takes no memory.
+    pub(crate) fn conclude_with(
+        &mut self,
+        view: u64,
+        subject: Subject<D>,
+        list: &[Attestation<S::Signature>],
+        certificate: S::Certificate,
+    ) -> Option<Batch<Certificate<S::Certificate, D>>>
+        requires tended { IsTended (length (S.meaning self.old.scheme.value).participants)
+            self.old.scheme.value self.old.epoch self.old.window self.old.slots.entries }
+        requires listed { ListsChanged (heap_items self.old.due.views)
+            (heap_capacity self.old.due.views) self.old.slots.entries }
+        requires next { IsNext self.old.slots.entries view }
+        requires certifies { (S.meaning self.old.scheme.value).certifies subject certificate
+            ≡ true }
+        ensures listed { ListsChanged (heap_items self.new.due.views)
+            (heap_capacity self.new.due.views) self.new.slots.entries }
+        ensures makes_call { IfSome result (λ batch. MakesCallThere ⟦<S as RoundConfigs<D>>⟧.of
+            (get nat_cmp self.old.slots) (get nat_cmp self.new.slots) view
+            ConstructCall (ConstructAnswer (Some batch))) }
+        ensures gives { IfSome result (λ batch. batch.certificate
+            ≡ Some (certificate_for subject certificate)) }
+        ensures looks_at { is_some result ≡ true → LooksAtThere ⟦<S as RoundConfigs<D>>⟧.of
+            (get nat_cmp self.old.slots view) subject list.now }
+        ensures not_stale { LooksAtThere ⟦<S as RoundConfigs<D>>⟧.of
+            (get nat_cmp self.old.slots view) subject list.now
+            → MayBeQuorumThere ⟦<S as RoundConfigs<D>>⟧.of (get nat_cmp self.old.slots view)
+            → is_some result ≡ true }
+        ensures stale { result ≡ None → self.new.slots.entries ≡ self.old.slots.entries }
+        ensures same { self.new ≡ record self.old {
+          slots = self.new.slots;
+          due = self.new.due;
+        } }
+    {
+        match self.slots.get_mut(&view) {
+            Some(slot) => {
+                let made = slot.round.conclude_with(subject, list, certificate);
+                let Some(batch) = made else {
+                    return None;
+                };
+                slot.changed = true;
+                Some(batch)
+            }
+            None => None,
+        }
+    }
+}
+
 // Drops the rounds of the views before this one.
 fn drop_before<R: Drop>(slots: &mut BTreeMap<u64, Slot<R>>, finalized: u64)
     ensures kept { (view : ℕ) → finalized ≤ view
         → slot_at slots.new.entries view ≡ slot_at slots.old.entries view }
     ensures dropped { (view : ℕ) → view < finalized → slot_at slots.new.entries view ≡ None }
+    ensures fewer { length slots.new.entries ≤ length slots.old.entries }
 {
     slots.retain(move |view, _| *view >= finalized);
-}
-
-// The view of the first entry that changed. The entries ascend.
-fn first_changed<R>(slots: &BTreeMap<u64, Slot<R>>) -> Option<u64>
-    ensures first { result ≡ option_map (λ e. e.0) (find (λ e. e.1.changed) slots.now.entries) }
-    ensures ascending { IsStrictlySortedBy nat_cmp (keys_of slots.now.entries) }
-{
-    match slots.iter().find(|(_, slot)| slot.changed) {
-        Some((view, _)) => Some(*view),
-        None => None,
-    }
 }

@@ -11,7 +11,7 @@ use std::alloc::AllocError;
 
 /// A call of a round: what it is in the history of the round's view, and how it is made.
 pub(crate) trait Step<S: Scheme<D>, D: Digest>: Drop {
-    ghost use Rattle.std.specs.Prelude.{◌≡◌, ⊤, IfOk, IfErr, OnErr};
+    ghost use Rattle.std.specs.Prelude.{◌≡◌, ⊤, true, IfOk, IfErr, OnErr};
     ghost use Rattle.batcher.specs.calls.Call.{Call as TheCall};
     ghost use Rattle.batcher.specs.answers.Answer.{Answer as TheAnswer};
     ghost use Rattle.batcher.specs.RoundState.{RoundView, SameRound};
@@ -38,6 +38,7 @@ pub(crate) trait Step<S: Scheme<D>, D: Digest>: Drop {
             slot.new.round.holds }
         ensures due { IfOk result (λ answer. slot.new.changed
             ≡ due_after (call self, answered answer) slot.old.changed) }
+        ensures stays { slot.old.changed ≡ true → slot.new.changed ≡ true }
         ensures named { IfErr result (refuses self slot.old.round) }
         ensures refused { OnErr result (slot.new ≡ slot.old) }
         ensures same { SameRound slot.old.round slot.new.round };

@@ -116,12 +116,10 @@ module _ {D K G C : Type 0} (x : NodeConfig D K G C) where
         old.rounds view (forwards_over old new view me given (slot_at old.rounds view) h)
 
     -- what is promised of it
-    pub keeps_over : (node : NodeView S G D) → KeepsPromises x node
-        → KeepsPromises x (node_over see node)
-    keeps_over node h =
+    pub keeps_over : (past : NodeHistory D K G C) (node : NodeView S G D)
+        → KeepsPromises x past node → KeepsPromises x past (node_over see node)
+    keeps_over past node h =
         record {
-          past = h.past;
-          represents = represents_over h.past node h.represents;
           promised = h.promised;
           blocked_gave_cause = h.blocked_gave_cause;
           complete_at_rest =

@@ -10,8 +10,8 @@ use Rattle.batcher_external.specs.declared.scheme.External.{External}
 use Rattle.batcher_external.specs.declared.truth.Truth.{Ghosts}
 use Rattle.batcher_node.specs.Events.{NodeEvent, NodeHistory}
 use Rattle.batcher_node.specs.Nodes.{NodeConfig, NodeView, IsAtRest, IsLedByAnother, IsNext, slot_at}
-use Rattle.batcher_node.specs.NodePromises.{KeepsPromises}
-use Rattle.batcher_node.specs.Represents.{NodeRepresents, Meets, SimulatesCast, SimulatesForward, ForEachNodeHistory}
+use Rattle.batcher_node.specs.NodePromises.{KeepsPromises, IsComplete}
+use Rattle.batcher_node.specs.Represents.{NodeRepresents, Meets, SimulatesCast, SimulatesForward, ForEachNodeHistory, ForSomeNodeHistory}
 use Rattle.batcher_node.specs.declared.answers.Cast.{Cast}
 use Rattle.batcher_node_session.proofs.Over.{led_over, next_over, none_over}
 use Rattle.batcher_node_session.proofs.Representation.{represents_over, wherever_over, meets_over, cast_over, forward_over, rests_over, keeps_over}
@@ -45,8 +45,27 @@ module _ {T : Type 0} {truth : Ghosts T} {b : ℕ} (batchable : Bool) where
           → ForEachNodeHistory x node P → ForEachNodeHistory x (seen batchable node) P
       wherever_seen P h = wherever_over x (scheme_seen batchable) node P h
 
-      pub keeps_seen : KeepsPromises x node → KeepsPromises x (seen batchable node)
-      keeps_seen h = keeps_over x (scheme_seen batchable) node h
+      pub keep_seen : ForEachNodeHistory x node (λ past. KeepsPromises x past node)
+          → ForEachNodeHistory x (seen batchable node)
+          (λ past. KeepsPromises x past (seen batchable node))
+      keep_seen h =
+          wherever_seen (λ past. KeepsPromises x past (seen batchable node))
+          (λ past represents. keeps_over x (scheme_seen batchable) past node (h past represents))
+
+      pub complete_seen : ForEachNodeHistory x node (λ past. KeepsPromises x past node)
+          → IsAtRest node → ForEachNodeHistory x (seen batchable node)
+          (λ past. IsComplete x past (seen batchable node))
+      complete_seen h rest =
+          wherever_seen (λ past. IsComplete x past (seen batchable node))
+          (λ past represents. (h past represents).complete_at_rest rest)
+
+      pub keeps_seen : ForSomeNodeHistory x node (λ past. KeepsPromises x past node)
+          → ForSomeNodeHistory x (seen batchable node)
+          (λ past. KeepsPromises x past (seen batchable node))
+      keeps_seen h = (
+        record { past = h.0.past; represents = represents_seen h.0.past h.0.represents },
+        keeps_over x (scheme_seen batchable) h.0.past node h.1,
+      )
 
     module _ (old new : NodeView (External T b truth) ℕ Sha256Digest) where
       pub meets_seen : (event : NodeEvent Sha256Digest Name ℕ (Content T truth))

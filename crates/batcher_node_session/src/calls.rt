@@ -9,7 +9,7 @@ ghost use Rattle.batcher_external.specs.External.{attests};
 ghost use Rattle.batcher_node.specs.Events.{started, vote_came, certificate_came, view_entered, view_finalized, view_history};
 ghost use Rattle.batcher_node.specs.Nodes.{SameNode, IsAtRest, IsNext, IsLedByAnother, slot_at};
 ghost use Rattle.batcher_node.specs.NodePromises.{KeepsPromises};
-ghost use Rattle.batcher_node.specs.Represents.{Meets, SimulatesCast, SimulatesForward, NodeRepresents, ForEachNodeHistory, IsHeard, config_of};
+ghost use Rattle.batcher_node.specs.Represents.{Meets, SimulatesCast, SimulatesForward, NodeRepresents, ForEachNodeHistory, ForSomeNodeHistory, IsHeard, config_of};
 ghost use Rattle.batcher_node.specs.Windows.{is_of};
 ghost use Rattle.batcher_node_session.specs.Views.{seen, config_by};
 
@@ -178,8 +178,14 @@ pub(crate) fn try_forward_proposal<T: Truth, const BATCHABLE: bool>(
 pub(crate) fn promises<T: Truth, const BATCHABLE: bool>(
     node: &Node<External<T, BATCHABLE>, Sha256Digest>,
 )
-    ensures { KeepsPromises (config_by T.Truth (seen BATCHABLE node.now))
-        (seen BATCHABLE node.now) }
+    ensures each { ForEachNodeHistory (config_by T.Truth (seen BATCHABLE node.now))
+        (seen BATCHABLE node.now)
+        (λ past. KeepsPromises (config_by T.Truth (seen BATCHABLE node.now)) past
+        (seen BATCHABLE node.now)) }
+    ensures some { ForSomeNodeHistory (config_by T.Truth (seen BATCHABLE node.now))
+        (seen BATCHABLE node.now)
+        (λ past. KeepsPromises (config_by T.Truth (seen BATCHABLE node.now)) past
+        (seen BATCHABLE node.now)) }
 {
     node.promises();
 }

@@ -5,7 +5,7 @@ ghost use Rattle.batcher_session.specs.Ledgers.{SameScheme, known_in};
 ghost use Rattle.batcher_node.specs.Events.{constructed};
 ghost use Rattle.batcher_node.specs.Nodes.{SameNode, IsAtRest, IsNext};
 ghost use Rattle.batcher_node.specs.NodePromises.{IsComplete};
-ghost use Rattle.batcher_node.specs.Represents.{Meets, HasHistory};
+ghost use Rattle.batcher_node.specs.Represents.{Meets, ForEachNodeHistory};
 ghost use Rattle.batcher_node_session.specs.Views.{seen, config_by};
 ghost use Rattle.batcher_node_session.specs.Steps.{AsksNext, IfMade, view_in, asked_by, subject_asked};
 
@@ -33,8 +33,8 @@ pub(crate) fn step<T: Truth, const BATCHABLE: bool>(
     ensures rests { result ≡ Ok NodeStep.Rests → (node.new ≡ node.old)
         × ((ledger.new ≡ ledger.old) × (IsAtRest (seen BATCHABLE node.old))) }
     ensures complete { result ≡ Ok NodeStep.Rests
-        → (h : HasHistory (config_by T.Truth (seen BATCHABLE node.new)) (seen BATCHABLE node.new))
-        × (IsComplete (config_by T.Truth (seen BATCHABLE node.new)) h.past
+        → ForEachNodeHistory (config_by T.Truth (seen BATCHABLE node.new)) (seen BATCHABLE node.new)
+        (λ past. IsComplete (config_by T.Truth (seen BATCHABLE node.new)) past
         (seen BATCHABLE node.new)) }
     ensures meets { IfOk result (λ step. IfMade step (λ one. Meets
         (config_by T.Truth (seen BATCHABLE node.old)) (seen BATCHABLE node.old)

@@ -12,7 +12,7 @@ ghost use Rattle.batcher_session.specs.Ledgers.{SameScheme, known_in, known_toge
 ghost use Rattle.batcher_node.specs.Events.{started, vote_came, certificate_came, view_entered, view_finalized, constructed, view_history};
 ghost use Rattle.batcher_node.specs.Nodes.{SameNode, IsAtRest, IsNext, IsLedByAnother, slot_at};
 ghost use Rattle.batcher_node.specs.NodePromises.{KeepsPromises, IsComplete};
-ghost use Rattle.batcher_node.specs.Represents.{Meets, SimulatesCast, SimulatesForward, NodeRepresents, ForEachNodeHistory, IsHeard, HasHistory, config_of};
+ghost use Rattle.batcher_node.specs.Represents.{Meets, SimulatesCast, SimulatesForward, NodeRepresents, ForEachNodeHistory, IsHeard, ForSomeNodeHistory, config_of};
 ghost use Rattle.batcher_node.specs.Windows.{is_of, width};
 ghost use Rattle.batcher_node_session.specs.Views.{config_by, InView};
 ghost use Rattle.batcher_node_session.specs.Steps.{AsksNext, IfMade, view_in, asked_by, subject_asked};
@@ -363,10 +363,13 @@ impl<T: Truth> NodeSession<T> {
         }
     }
 
-    /// Does nothing. Its contract says that there is a history that the node represents, and
-    /// that all that is promised holds of it. Which history it is stays open.
+    /// Does nothing. Its contract says that all that is promised holds of each history that the
+    /// node represents, and that there is one.
     pub fn promises(&self)
-        ensures { KeepsPromises (config_by T.Truth self.now.node) self.now.node }
+        ensures each { ForEachNodeHistory (config_by T.Truth self.now.node) self.now.node
+            (λ past. KeepsPromises (config_by T.Truth self.now.node) past self.now.node) }
+        ensures some { ForSomeNodeHistory (config_by T.Truth self.now.node) self.now.node
+            (λ past. KeepsPromises (config_by T.Truth self.now.node) past self.now.node) }
     {
         match &self.sort {
             Sort::Batchable(node) => calls::promises(node),
@@ -480,8 +483,8 @@ impl<T: Truth> NodeSession<T> {
         ensures rests { result ≡ Ok NodeStep.Rests
             → (self.new ≡ self.old) × (IsAtRest self.old.node) }
         ensures complete { result ≡ Ok NodeStep.Rests
-            → (h : HasHistory (config_by T.Truth self.new.node) self.new.node)
-            × (IsComplete (config_by T.Truth self.new.node) h.past self.new.node) }
+            → ForEachNodeHistory (config_by T.Truth self.new.node) self.new.node
+            (λ past. IsComplete (config_by T.Truth self.new.node) past self.new.node) }
         ensures meets { IfOk result (λ step. IfMade step (λ one. Meets
             (config_by T.Truth self.old.node) self.old.node (constructed one.view.0 one.batch)
             self.new.node)) }

@@ -1,5 +1,5 @@
 use Rattle.std.proofs.Common.{arith, refl}
-use Rattle.batcher_node_session.proofs.Seeing.{next_seen, rests_seen, represents_seen}
+use Rattle.batcher_node_session.proofs.Seeing.{next_seen, rests_seen, complete_seen}
 use Rattle.batcher_node_session.proofs.constructing.step.Goals as goal
 
 pub returns-in_default-clause-rests : goal.returns-in_default-clause-rests
@@ -8,13 +8,7 @@ returns-in_default-clause-rests g c = λ is.
 
 pub returns-in_default-clause-complete : goal.returns-in_default-clause-complete
 returns-in_default-clause-complete g c = λ is.
-    let kept = c.promises.ensures in (
-      record {
-        past = kept.past;
-        represents = represents_seen _ _ c.args.node.now kept.past kept.represents;
-      },
-      kept.complete_at_rest c.in_default.ensures.none,
-    )
+    complete_seen _ _ c.args.node.now c.promises.ensures.each c.in_default.ensures.none
 
 pub wanted-requires : goal.wanted-requires
 wanted-requires g c =

@@ -12,7 +12,7 @@ returns-clause-meets g c = λ past.
     rw (← c.self.view_is)
     (entered_told g.S.Scheme.meaning g.S.PublicKey.Ord.cmp
     g.S.Signature.PartialEq.eq g.D.PartialEq.eq past _ _ c.args.view.0 c.args.leader _
-    c.self.invariant.tended (omega arith) (if_ok _ _ _ c.in_ok-branch.was c.in_ok-call.ensures.makes_call)
+    c.self.invariant.0.tended (omega arith) (if_ok _ _ _ c.in_ok-branch.was c.in_ok-call.ensures.makes_call)
     (c.enter.ensures ∙ ap (λ r. entered r.window c.args.view.0) c.call.ensures.same) refl)
 
 pub returns-in_err-branch-clause-led : goal.returns-in_err-branch-clause-led
@@ -23,27 +23,29 @@ returns-in_err-branch-clause-led g c = λ is.
     (err_fact _ _ c.in_ok-call.ensures.named _ c.in_err-branch.was))
 
 pub invariant_of-self-2 : goal.invariant_of-self-2
-invariant_of-self-2 g c =
-    let h = c.self.invariant.history in
-    rw c.enter.ensures (subst (λ r. IsNode g.S.Scheme.meaning g.S.PublicKey.Ord.cmp g.S.Signature.PartialEq.eq
-    g.D.PartialEq.eq (record {
-      scheme = r.scheme.value;
-      epoch = r.epoch;
-      retains = r.retains;
-      window = entered r.window c.args.view.0;
-      rounds = r.slots.entries;
-      blocked = c.self.inside.blocked.items;
-    })) (sym c.call.ensures.same)
-    (record {
-      tended = search rules;
-      each = search rules;
-      history =
-          record {
-            past = view_entered c.args.view.0 c.args.leader ∷ h.past;
-            represents =
-                entered_told g.S.Scheme.meaning g.S.PublicKey.Ord.cmp g.S.Signature.PartialEq.eq
-                g.D.PartialEq.eq h.past _ _ c.args.view.0 c.args.leader _
-                c.self.invariant.tended (omega arith) (if_ok _ _ _ c.in_ok-branch.was c.in_ok-call.ensures.makes_call)
-                refl refl h.represents;
-          };
-    }))
+invariant_of-self-2 g c = (
+  let h = c.self.invariant.0.history in
+      rw c.enter.ensures (subst (λ r. IsNode g.S.Scheme.meaning g.S.PublicKey.Ord.cmp g.S.Signature.PartialEq.eq
+      g.D.PartialEq.eq (record {
+        scheme = r.scheme.value;
+        epoch = r.epoch;
+        retains = r.retains;
+        window = entered r.window c.args.view.0;
+        rounds = r.slots.entries;
+        blocked = c.self.inside.blocked.items;
+      })) (sym c.call.ensures.same)
+      (record {
+        tended = search rules;
+        each = search rules;
+        history =
+            record {
+              past = view_entered c.args.view.0 c.args.leader ∷ h.past;
+              represents =
+                  entered_told g.S.Scheme.meaning g.S.PublicKey.Ord.cmp g.S.Signature.PartialEq.eq
+                  g.D.PartialEq.eq h.past _ _ c.args.view.0 c.args.leader _
+                  c.self.invariant.0.tended (omega arith) (if_ok _ _ _ c.in_ok-branch.was c.in_ok-call.ensures.makes_call)
+                  refl refl h.represents;
+            };
+      })),
+  c.call.ensures.listed,
+)

@@ -13,42 +13,44 @@ returns-clause-meets g c = λ past.
     rw (← c.self.view_is)
     (vote_told g.S.Scheme.meaning g.S.PublicKey.Ord.cmp g.S.Signature.PartialEq.eq
     g.D.PartialEq.eq past _ _ c.args.peer c.args.vote c.in_ok-admission.admission _ _
-    c.self.invariant.tended (search rules) (search rules) (search rules)
+    c.self.invariant.0.tended (search rules) (search rules) (search rules)
     (rw (← number) (sym c.contains.ensures ∙ c.if-not-contains.false))
     (rw (← number) (if_ok _ _ _ c.in_ok-admission.was c.in_ok-call.ensures.makes_call))
     (ap (λ r. r.window) c.call.ensures.same)
     (λ i within. c.block_for_vote.ensures.blocks i (search rules)))
 
 pub invariant_of-self-2 : goal.invariant_of-self-2
-invariant_of-self-2 g c =
-    let h = c.self.invariant.history in
-    let number = c.round-number.ensures in
-    subst (λ r. IsNode g.S.Scheme.meaning g.S.PublicKey.Ord.cmp g.S.Signature.PartialEq.eq
-    g.D.PartialEq.eq (record {
-      scheme = r.scheme.value;
-      epoch = r.epoch;
-      retains = r.retains;
-      window = r.window;
-      rounds = r.slots.entries;
-      blocked = c.block_for_vote.new.blocked.items;
-    })) (sym c.call.ensures.same)
-    (record {
-      tended =
-          still_tended _ _ _ _ _ _ _ c.self.invariant.tended _ _ _ _
-          (not_far c.self.inside.rounds.epoch c.self.inside.rounds.window c.round-number.result
-          (sym c.contains.ensures ∙ c.if-not-contains.false))
-          (if_ok _ _ _ c.in_ok-admission.was c.in_ok-call.ensures.makes_call);
-      each = search rules;
-      history =
-          record {
-            past = vote_came c.args.peer c.args.vote (Answered c.in_ok-admission.admission) ∷ h.past;
-            represents =
-                vote_told g.S.Scheme.meaning g.S.PublicKey.Ord.cmp g.S.Signature.PartialEq.eq
-                g.D.PartialEq.eq h.past _ _ c.args.peer c.args.vote
-                c.in_ok-admission.admission _ _ c.self.invariant.tended
-                (search rules) (search rules) (search rules)
-                (rw (← number) (sym c.contains.ensures ∙ c.if-not-contains.false))
-                (rw (← number) (if_ok _ _ _ c.in_ok-admission.was c.in_ok-call.ensures.makes_call)) refl
-                (λ i within. c.block_for_vote.ensures.blocks i (search rules)) h.represents;
-          };
-    })
+invariant_of-self-2 g c = (
+  let h = c.self.invariant.0.history in
+      let number = c.round-number.ensures in
+      subst (λ r. IsNode g.S.Scheme.meaning g.S.PublicKey.Ord.cmp g.S.Signature.PartialEq.eq
+      g.D.PartialEq.eq (record {
+        scheme = r.scheme.value;
+        epoch = r.epoch;
+        retains = r.retains;
+        window = r.window;
+        rounds = r.slots.entries;
+        blocked = c.block_for_vote.new.blocked.items;
+      })) (sym c.call.ensures.same)
+      (record {
+        tended =
+            still_tended _ _ _ _ _ _ _ c.self.invariant.0.tended _ _ _ _
+            (not_far c.self.inside.rounds.epoch c.self.inside.rounds.window c.round-number.result
+            (sym c.contains.ensures ∙ c.if-not-contains.false))
+            (if_ok _ _ _ c.in_ok-admission.was c.in_ok-call.ensures.makes_call);
+        each = search rules;
+        history =
+            record {
+              past = vote_came c.args.peer c.args.vote (Answered c.in_ok-admission.admission) ∷ h.past;
+              represents =
+                  vote_told g.S.Scheme.meaning g.S.PublicKey.Ord.cmp g.S.Signature.PartialEq.eq
+                  g.D.PartialEq.eq h.past _ _ c.args.peer c.args.vote
+                  c.in_ok-admission.admission _ _ c.self.invariant.0.tended
+                  (search rules) (search rules) (search rules)
+                  (rw (← number) (sym c.contains.ensures ∙ c.if-not-contains.false))
+                  (rw (← number) (if_ok _ _ _ c.in_ok-admission.was c.in_ok-call.ensures.makes_call)) refl
+                  (λ i within. c.block_for_vote.ensures.blocks i (search rules)) h.represents;
+            };
+      }),
+  c.call.ensures.listed,
+)

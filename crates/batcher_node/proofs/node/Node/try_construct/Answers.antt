@@ -10,7 +10,7 @@ returns-clause-meets g c = λ past.
     rw (← c.self.view_is)
     (construction_told g.S.Scheme.meaning g.S.PublicKey.Ord.cmp
     g.S.Signature.PartialEq.eq g.D.PartialEq.eq past _ _ _ _ _
-    c.self.invariant.tended (search rules) (search rules) (search rules)
+    c.self.invariant.0.tended (search rules) (search rules) (search rules)
     (ap (λ r. r.window) c.try_construct.ensures.same)
     (λ i within. c.block_named.ensures.blocks i (search rules)))
 
@@ -19,32 +19,33 @@ returns-clause-draws g c =
     rw (← c.self.view_is) (if_some _ _ _ c.in-Some-2.is c.in_ok-batch.ensures.draws)
 
 pub invariant_of-self-2 : goal.invariant_of-self-2
-invariant_of-self-2 g c =
-    let h = c.self.invariant.history in
-    subst (λ r. IsNode g.S.Scheme.meaning g.S.PublicKey.Ord.cmp g.S.Signature.PartialEq.eq
-    g.D.PartialEq.eq (record {
-      scheme = r.scheme.value;
-      epoch = r.epoch;
-      retains = r.retains;
-      window = r.window;
-      rounds = r.slots.entries;
-      blocked = c.block_named.new.blocked.items;
-    })) (sym c.try_construct.ensures.same)
-    (record {
-      tended = search rules;
-      each = search rules;
-      history =
-          record {
-            past = constructed c.in-Some.number c.in-Some-2.batch ∷ h.past;
-            represents =
-                construction_told g.S.Scheme.meaning g.S.PublicKey.Ord.cmp g.S.Signature.PartialEq.eq
-                g.D.PartialEq.eq h.past _ _ _ _ _
-                c.self.invariant.tended (search rules) (search rules) (search rules) refl
-                (λ i within. c.block_named.ensures.blocks i (search rules)) h.represents;
-          };
-    })
+invariant_of-self-2 g c = (
+  let h = c.self.invariant.0.history in
+      subst (λ r. IsNode g.S.Scheme.meaning g.S.PublicKey.Ord.cmp g.S.Signature.PartialEq.eq
+      g.D.PartialEq.eq (record {
+        scheme = r.scheme.value;
+        epoch = r.epoch;
+        retains = r.retains;
+        window = r.window;
+        rounds = r.slots.entries;
+        blocked = c.block_named.new.blocked.items;
+      })) (sym c.try_construct.ensures.same)
+      (record {
+        tended = search rules;
+        each = search rules;
+        history =
+            record {
+              past = constructed c.in-Some.number c.in-Some-2.batch ∷ h.past;
+              represents =
+                  construction_told g.S.Scheme.meaning g.S.PublicKey.Ord.cmp g.S.Signature.PartialEq.eq
+                  g.D.PartialEq.eq h.past _ _ _ _ _
+                  c.self.invariant.0.tended (search rules) (search rules) (search rules) refl
+                  (λ i within. c.block_named.ensures.blocks i (search rules)) h.represents;
+            };
+      }),
+  c.try_construct.ensures.listed,
+)
 
 pub returns-in_default-clause-complete : goal.returns-in_default-clause-complete
-returns-in_default-clause-complete g c = λ is.
-    let kept = c.promises.ensures in
-    (record { past = kept.past; represents = kept.represents }, kept.complete_at_rest (search rules))
+returns-in_default-clause-complete g c = λ is past represents.
+    (c.promises.ensures.each past represents).complete_at_rest (search rules)

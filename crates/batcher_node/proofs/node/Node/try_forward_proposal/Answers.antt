@@ -10,7 +10,7 @@ returns-clause-meets g c =
     rw (← c.self.view_is) (elim c.match-try_forward_proposal.branch [
       | in-Some w ↦ forwards_there g.S.Scheme.meaning g.S.PublicKey.Ord.cmp
           g.S.Signature.PartialEq.eq g.D.PartialEq.eq _ c.args.view.0 c.args.me _ _ w.result-is _ _
-          c.self.invariant.tended w.in-Some.ensures.makes_call
+          c.self.invariant.0.tended w.in-Some.ensures.makes_call
           (ap (λ r. r.window) c.try_forward_proposal.ensures.same) refl
       | in-None w ↦ forwards_nothing g.S.Scheme.meaning g.S.PublicKey.Ord.cmp
           g.S.Signature.PartialEq.eq g.D.PartialEq.eq _ c.args.view.0 c.args.me _ w.result-is
@@ -25,17 +25,19 @@ returns-clause-meets g c =
     ])
 
 pub invariant_of-self : goal.invariant_of-self
-invariant_of-self g c =
-    subst (λ r. IsNode g.S.Scheme.meaning g.S.PublicKey.Ord.cmp g.S.Signature.PartialEq.eq
-    g.D.PartialEq.eq (record {
-      scheme = r.scheme.value;
-      epoch = r.epoch;
-      retains = r.retains;
-      window = r.window;
-      rounds = r.slots.entries;
-      blocked = c.self.inside.blocked.items;
-    })) (sym c.try_forward_proposal.ensures.same)
-    (still_node g.S.Scheme.meaning g.S.PublicKey.Ord.cmp g.S.Signature.PartialEq.eq
-    g.D.PartialEq.eq _ c.try_forward_proposal.new.self.slots.entries c.args.view.0 c.args.me
-    c.try_forward_proposal.result c.try_forward_proposal.ensures.makes_call
-    c.try_forward_proposal.ensures.uncalled c.self.invariant)
+invariant_of-self g c = (
+  subst (λ r. IsNode g.S.Scheme.meaning g.S.PublicKey.Ord.cmp g.S.Signature.PartialEq.eq
+      g.D.PartialEq.eq (record {
+        scheme = r.scheme.value;
+        epoch = r.epoch;
+        retains = r.retains;
+        window = r.window;
+        rounds = r.slots.entries;
+        blocked = c.self.inside.blocked.items;
+      })) (sym c.try_forward_proposal.ensures.same)
+      (still_node g.S.Scheme.meaning g.S.PublicKey.Ord.cmp g.S.Signature.PartialEq.eq
+      g.D.PartialEq.eq _ c.try_forward_proposal.new.self.slots.entries c.args.view.0 c.args.me
+      c.try_forward_proposal.result c.try_forward_proposal.ensures.makes_call
+      c.try_forward_proposal.ensures.uncalled c.self.invariant.0),
+  c.try_forward_proposal.ensures.listed,
+)

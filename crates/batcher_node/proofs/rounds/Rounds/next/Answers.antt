@@ -1,32 +1,37 @@
-use Rattle.std.proofs.Common.{◌≡◌, ◌<◌, ◌∙◌, ℕ, false, Option, Some, None, sym, refl}
+use Rattle.std.proofs.Common.{◌≡◌, ◌<◌, ◌≤◌, ◌∙◌, sym, ℕ, false, Option, Some, None}
 use Rattle.std.specs.Prelude.{IfSome, IfNone}
-use Rattle.batcher_node.specs.Nodes.{slot_at}
-use Rattle.batcher_node.proofs.Finding.{view_found, view_none}
-use Rattle.batcher_node.proofs.Lowest.{view_lowest}
+use Rattle.std.specs.BinaryHeap.{heap_items}
+use Rattle.batcher_node.specs.Due.{times}
+use Rattle.batcher_node.specs.Nodes.{HasChanged, slot_at}
+use Rattle.batcher_node.proofs.DueRounds.{listed_changed, unlisted_rests}
 use Rattle.batcher_node.proofs.rounds.Rounds.next.Goals as goal
 
-some_case : {P : ℕ → Type 0} (o : Option ℕ) → ((view : ℕ) → o ≡ Some view → P view) → IfSome o P
-some_case None h = tt
-some_case (Some view) h = h view refl
+some_maps : {P Q : ℕ → Type 0} (o : Option ℕ) → ((view : ℕ) → P view → Q view) → IfSome o P
+    → IfSome o Q
+some_maps None h is = tt
+some_maps (Some view) h is = h view is
 
-none_case : {P : Type 0} (o : Option ℕ) → (o ≡ None → P) → IfNone o P
-none_case None h = h refl
-none_case (Some view) h = tt
+none_maps : {P Q : Type 0} (o : Option ℕ) → (P → Q) → IfNone o P → IfNone o Q
+none_maps None h is = h is
+none_maps (Some view) h is = tt
 
 pub returns-clause-found : goal.returns-clause-found
 returns-clause-found g c =
-    some_case _ (λ view is.
-    view_found c.args.self.now.slots.entries view _ c.first_changed.ensures.ascending refl
-    (sym c.first_changed.ensures.first ∙ is))
+    let changed : (view : ℕ) → 1 ≤ times (heap_items c.args.self.now.due.views) view
+    → HasChanged (slot_at c.args.self.now.slots.entries view)
+    = λ view some. listed_changed _ _ (c.requires.listed view) some in
+    some_maps _ changed c.lowest.ensures.found
 
 pub returns-clause-lowest : goal.returns-clause-lowest
 returns-clause-lowest g c =
-    some_case {P = λ view. (lower : ℕ) → lower < view
-    → IfSome (slot_at c.args.self.now.slots.entries lower) (λ slot. slot.changed ≡ false)} _ (λ view is lower below.
-    view_lowest c.args.self.now.slots.entries view _ c.first_changed.ensures.ascending refl
-    (sym c.first_changed.ensures.first ∙ is) lower below)
+    let rests : (view : ℕ) → ((lower : ℕ) → lower < view → times (heap_items c.args.self.now.due.views) lower ≡ 0)
+    → (lower : ℕ) → lower < view → IfSome (slot_at c.args.self.now.slots.entries lower) (λ slot. slot.changed ≡ false)
+    = λ view none lower below. unlisted_rests _ (sym (c.requires.listed lower) ∙ none lower below) in
+    some_maps _ rests c.lowest.ensures.lowest
 
 pub returns-clause-none : goal.returns-clause-none
 returns-clause-none g c =
-    none_case _ (λ is.
-    view_none c.args.self.now.slots.entries _ refl (sym c.first_changed.ensures.first ∙ is))
+    let rests : ((view : ℕ) → times (heap_items c.args.self.now.due.views) view ≡ 0)
+    → (view : ℕ) → IfSome (slot_at c.args.self.now.slots.entries view) (λ slot. slot.changed ≡ false)
+    = λ none view. unlisted_rests _ (sym (c.requires.listed view) ∙ none view) in
+    none_maps _ rests c.lowest.ensures.none

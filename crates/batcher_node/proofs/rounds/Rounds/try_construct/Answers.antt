@@ -1,6 +1,9 @@
-use Rattle.std.proofs.Common.{◌∙◌, sym, ap, Some, rules}
+use Rattle.std.proofs.Common.{◌∙◌, ◌≡◌, not, Bool, true, false, length, refl, sym, ap, Some, rules}
 use Rattle.std.proofs.lemmas.Map.Steps.{set_value_same}
+use Rattle.std.specs.BinaryHeap.{heap_items, heap_capacity}
+use Rattle.std.proofs.lemmas.Map.{length-set_value}
 use Rattle.batcher_node.proofs.Calling.{not_at, on_err, due_given}
+use Rattle.batcher_node.proofs.DueRounds.{next_listed}
 use Rattle.batcher_node.proofs.rounds.Rounds.try_construct.Goals as goal
 
 pub returns-in_err-batch-in-Some-clause-refused : goal.returns-in_err-batch-in-Some-clause-refused
@@ -40,3 +43,22 @@ returns-in_ok-batch-in-Some-clause-draws g c =
       here = updates.1;
       step = c.in_ok-batch-in-Some.ensures.step;
     }
+
+otherwise : (rests gives some : Bool) → some ≡ not rests → gives ≡ some → rests ≡ not gives
+otherwise true gives some e f = rw (f, e) refl
+otherwise false gives some e f = rw (f, e) refl
+
+pub returns-in_ok-batch-in-Some-clause-listed : goal.returns-in_ok-batch-in-Some-clause-listed
+returns-in_ok-batch-in-Some-clause-listed g c =
+    let left = record c.in-Some.slot.now { round = c.try_construct.new.self; changed = c.is_some-slot.result } in
+    let rounds = c.args.self.now.slots.entries in
+    let new = (c.get_mut.follows.lender left).entries in
+    let updates = (c.get_mut.follows.holds left).3 (search rules) in
+    let as_many : length new ≡ length rounds = rw (c.get_mut.follows.holds left).0 (length-set_value _ rounds left) in
+    let views = c.args.self.now.due.views in
+    let rests : c.is_none.result ≡ not c.is_some-slot.result
+    = otherwise _ _ _ c.is_none.ensures c.is_some-slot.ensures in
+    next_listed (heap_items views) (heap_items c.rest.new.self.views) (heap_capacity views) (heap_capacity c.rest.new.self.views)
+    rounds new c.args.view c.in-Some.slot.now left c.is_some-slot.result c.requires.listed c.requires.next
+    (sym c.in-Some.ensures.value) updates.1 refl (rw rests at c.rest.ensures.times) c.rest.ensures.kept as_many
+    (λ other apart. updates.2 other (not_at c.args.view other apart))

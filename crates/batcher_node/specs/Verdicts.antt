@@ -1,0 +1,23 @@
+-- What the next construction of a node looks at.
+use Rattle.std.specs.Prelude.{◌≡◌, List, Option, Some}
+use Rattle.batcher.specs.messages.Attestation.{Attestation}
+use Rattle.batcher.specs.messages.Subject.{Subject}
+use Rattle.batcher.specs.Config.{Config}
+use Rattle.batcher.specs.RoundState.{RoundView}
+use Rattle.batcher.specs.Verdicts.{LooksAtNext, MayBeQuorumNext}
+use Rattle.batcher_node.specs.declared.slot.Slot.{Slot}
+
+module _ {S D K G C : Type 0} (round_config : RoundView S G D → Config D K G C)
+    (at : Option (Slot (RoundView S G D))) where
+  -- There is a round, whose next construction is about the subject and looks at these pending
+  -- attestations.
+  pub record LooksAtThere (subject : Subject D) (list : List (Attestation G)) : Type 0 where
+    pub slot : Slot (RoundView S G D)
+    pub there : at ≡ Some slot
+    pub looks : LooksAtNext (round_config slot.round) slot.round.holds subject list
+
+  -- There is a round, of which all that its next construction looks at could be a quorum.
+  pub record MayBeQuorumThere : Type 0 where
+    pub slot : Slot (RoundView S G D)
+    pub there : at ≡ Some slot
+    pub enough : MayBeQuorumNext (round_config slot.round) slot.round.holds
