@@ -1,6 +1,6 @@
 //! Proposals, votes, certificates, and what is reported of them.
 
-ghost use Rattle.std.specs.Prelude.{◌≡◌, true, Some};
+ghost use Rattle.std.specs.Prelude.{◌≡◌, ◌↔◌, true, Some, IsTrue};
 ghost use Rattle.batcher_types.specs.declared.positions.Participant.{Participant};
 
 mod map;
@@ -80,6 +80,13 @@ impl<D: fmt::Display> fmt::Display for Proposal<D> {
 pub struct Attestation<G> {
     pub signer: Participant,
     pub signature: G,
+}
+
+/// Whether two lists of attestations are one.
+pub fn are_identical<G: Identical>(one: &[Attestation<G>], other: &[Attestation<G>]) -> bool
+    ensures { IsTrue result ↔ (one.now ≡ other.now) }
+{
+    one == other
 }
 
 /// What is signed by one participant.
@@ -459,6 +466,26 @@ impl<D: Copy> Subject<D> {
         match self {
             Subject::Notarize { proposal } | Subject::Finalize { proposal } => Some(*proposal),
             Subject::Nullify { .. } => None,
+        }
+    }
+}
+
+impl<D: Digest> Subject<D> {
+    ghost use Rattle.batcher_types.specs.Votes.{same_subject};
+
+    /// Whether the two are one.
+    pub fn is_same(&self, other: &Self) -> bool
+        ensures { result ≡ same_subject D.eq self.now other.now }
+    {
+        match (self, other) {
+            (Subject::Notarize { proposal: p }, Subject::Notarize { proposal: q }) => *p == *q,
+            (Subject::Nullify { round: r }, Subject::Nullify { round: s }) => *r == *s,
+            (Subject::Finalize { proposal: p }, Subject::Finalize { proposal: q }) => *p == *q,
+            (Subject::Notarize { .. }, Subject::Nullify { .. } | Subject::Finalize { .. })
+            | (Subject::Nullify { .. }, Subject::Notarize { .. } | Subject::Finalize { .. })
+            | (Subject::Finalize { .. }, Subject::Notarize { .. } | Subject::Nullify { .. }) => {
+                false
+            }
         }
     }
 }

@@ -1,6 +1,6 @@
 //! One attempt at a certificate.
 
-ghost use Rattle.std.specs.Prelude.{◌≡◌, ◌≤◌, ◌++◌, ◌&&◌, ◌↔◌, [], Bool, IsTrue, not, Some, false, length, map, nat_le, IfOk};
+ghost use Rattle.std.specs.Prelude.{◌≡◌, ◌≤◌, ◌++◌, ◌&&◌, [], Bool, not, Some, false, length, map, nat_le, IfOk};
 ghost use Rattle.std.specs.List.{AllPass};
 ghost use Rattle.rand_core.specs.Stream.{Stream};
 ghost use Rattle.batcher_types.specs.declared.messages.Attestation.{Attestation as TheAttestation};
@@ -12,7 +12,7 @@ ghost use Rattle.batcher_votes.specs.Outcomes.{outcome_of};
 ghost use Rattle.batcher_votes.specs.Verdicts.{judged};
 
 use crate::verifier::Batch;
-use batcher_types::messages::{Attestation, Digest, Identical, Subject};
+use batcher_types::messages::{Attestation, Digest, Subject};
 use batcher_types::positions::{Participant, Participants};
 use batcher_types::scheme::{Scheme, Verification};
 use rand_core::CryptoRng;
@@ -190,11 +190,4 @@ fn sorted_by<G: Copy>(
         }
     }
     Ok(Verification { verified, invalid })
-}
-
-/// Whether the two lists are one.
-pub(crate) fn are_identical<G: Identical>(one: &[Attestation<G>], other: &[Attestation<G>]) -> bool
-    ensures { IsTrue result ↔ (one.now ≡ other.now) }
-{
-    one == other
 }

@@ -190,20 +190,6 @@ fn has_signer<G>(attestations: &[Attestation<G>], signer: Participant) -> bool
         .any(|attestation| attestation.signer.0 == signer.0)
 }
 
-// Whether the two subjects are one.
-pub(crate) fn are_same<D: Digest>(one: &Subject<D>, other: &Subject<D>) -> bool
-    ensures { result ≡ same_subject D.eq one.now other.now }
-{
-    match (one, other) {
-        (Subject::Notarize { proposal: p }, Subject::Notarize { proposal: q }) => *p == *q,
-        (Subject::Nullify { round: r }, Subject::Nullify { round: s }) => *r == *s,
-        (Subject::Finalize { proposal: p }, Subject::Finalize { proposal: q }) => *p == *q,
-        (Subject::Notarize { .. }, Subject::Nullify { .. } | Subject::Finalize { .. })
-        | (Subject::Nullify { .. }, Subject::Notarize { .. } | Subject::Finalize { .. })
-        | (Subject::Finalize { .. }, Subject::Notarize { .. } | Subject::Nullify { .. }) => false,
-    }
-}
-
 // Whether the vote is for the subject.
 fn is_about<G, D: Digest>(subject: &Subject<D>, vote: &Vote<G, D>) -> bool
     ensures { result ≡ same_subject D.eq subject.now (subject_of vote.now) }
@@ -276,7 +262,7 @@ fn all_same<D: Digest>(subject: &Subject<D>, runs: &[Run<D>]) -> bool
     ensures { result ≡ list_all (λ run. same_subject D.eq subject.now run.subject) runs.now }
 {
     for run in runs {
-        if !are_same(subject, &run.subject) {
+        if !subject.is_same(&run.subject) {
             return false;
         }
     }

@@ -11,10 +11,11 @@ ghost use Rattle.rand_core.specs.Stream.{Stream};
 ghost use Rattle.batcher_votes.specs.Soundness.{IsSound};
 ghost use Rattle.batcher_votes.specs.Verifiers.{subject_ready, Tries, IfGiven, BatchCertifies, NamesSomebody};
 
-use crate::verifier::attempt::{Attempted, are_identical, attempt_by_verdicts, looked_at};
-use crate::verifier::buffer::are_same;
+use crate::verifier::attempt::{Attempted, attempt_by_verdicts, looked_at};
 use crate::verifier::{Batch, Verifier};
-use batcher_types::messages::{Attestation, Certificate, Digest, Identical, Kind, Subject};
+use batcher_types::messages::{
+    Attestation, Certificate, Digest, Identical, Kind, Subject, are_identical,
+};
 use batcher_types::scheme::Scheme;
 use std::alloc::AllocError;
 
@@ -119,7 +120,7 @@ where
             certification.verified(),
             certification.pending(),
         );
-        are_same(&ready, &subject) && are_identical(pending, list)
+        ready.is_same(&subject) && are_identical(pending, list)
     }
 }
 

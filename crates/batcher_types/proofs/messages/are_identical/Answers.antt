@@ -3,7 +3,7 @@ use Rattle.std.specs.Bool.{Decides}
 use Rattle.std.proofs.lemmas.Bool.Decides.{Decides-and, Decides-eqb}
 use Rattle.std.proofs.lemmas.Slice.Eq.{slice_eq-Decides}
 use Rattle.batcher_types.specs.declared.messages.Attestation.{Attestation}
-use Rattle.batcher_votes.proofs.verifier.attempt.are_identical.Goals as goal
+use Rattle.batcher_types.proofs.messages.are_identical.Goals as goal
 
 module _ {G : Type 0} (eq : G → G → Bool) (reflexive : (a : G) → eq a a ≡ true)
     (identical : (a b : G) → eq a b ≡ true → a ≡ b) where
