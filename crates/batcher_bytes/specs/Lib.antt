@@ -1,0 +1,5 @@
+pub mod Signatures
+pub mod Keys
+pub mod Listings
+pub mod Meanings
+pub mod Lawful

@@ -1,0 +1,10 @@
+-- Signatures of the program: a signature attests whatever it is of where it begins as the keys do.
+use Rattle.std.specs.Prelude.{◌==◌, Bool, slice_index}
+use Rattle.batcher.specs.messages.Attestation.{Attestation}
+use Rattle.batcher.specs.messages.Sha256Digest.{Sha256Digest}
+use Rattle.batcher.specs.messages.Subject.{Subject}
+use Rattle.batcher_bytes.specs.declared.signature.Keys.{Keys}
+use Rattle.batcher_bytes.specs.declared.signature.Signature.{Signature}
+
+abbrev pub is_marked : Keys → Subject Sha256Digest → Attestation Signature → Bool
+is_marked keys subject a = slice_index a.signature.bytes 0 == slice_index keys.0 0

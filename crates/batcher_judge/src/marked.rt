@@ -1,0 +1,30 @@
+//! Signatures of one byte, which is the first of the keys.
+
+use batcher::messages::Attestation;
+use batcher::positions::Participant;
+use batcher_bytes::{Keys, Signature, Truth};
+
+/// The truth of marks.
+#[derive(Clone, Copy)]
+pub struct Marked;
+
+impl Truth for Marked {
+    ghost use Rattle.std.specs.Prelude.{false};
+    ghost use Rattle.batcher_judge.specs.Marks.{is_marked};
+
+    ghost attests = { is_marked };
+
+    ghost passes = { λ keys subject list. false };
+
+    ghost certifies = { λ keys subject bytes. false };
+}
+
+/// A signature by the keys, whatever it is of.
+pub fn sign(signer: Participant, keys: Keys) -> Attestation<Signature> {
+    let mut bytes = [0u8; 96];
+    bytes[0] = keys.0[0];
+    Attestation {
+        signer,
+        signature: Signature { length: 1, bytes },
+    }
+}

@@ -1,0 +1,151 @@
+-- What is asked about, and what is recorded after what was.
+use Rattle.std.proofs.Common.{◌≡◌, inl, inr, ◌++◌, ◌-◌, ◌+◌, ◌∙◌, ℕ, Bool, List, [], length, take, drop, map, Some, IfSome, sym, ap, subst}
+use Rattle.std.specs.Option.{unwrap_or}
+use Rattle.std.proofs.Math.Seq.{take-length}
+use Rattle.std.proofs.lemmas.List.{append-nil, append_cancel_left, length-drop, length-append, map-append, append_assoc}
+use Rattle.batcher_types.specs.declared.messages.Attestation.{Attestation}
+use Rattle.batcher_types.specs.declared.messages.Subject.{Subject}
+use Rattle.batcher_verdicts.specs.Recorded.{Recorded, Begins, Asks, IsKnown, AreTrue, Adds}
+
+pub some_same : {X : Type 0} {a b : X} → Some a ≡ Some b → a ≡ b
+some_same {a = a} h = ap (λ o. unwrap_or o a) h
+
+-- what is left of a list, as a slice of it
+pub rest_is : {X : Type 0} (xs : List X) (n : ℕ) → take (length xs - n) (drop n xs) ≡ drop n xs
+rest_is xs n = ap (λ k. take k (drop n xs)) (sym (length-drop n xs)) ∙ take-length (drop n xs)
+
+module _ {G D : Type 0} (r : Recorded G D) (subject : Subject D) (waiting : List (Attestation G)) where
+  -- what begins is followed by one list alone
+  one_rest : (others more : List (Attestation G)) → Begins r subject waiting others
+      → Begins r subject waiting more → others ≡ more
+  one_rest others more b c =
+      append_cancel_left r.list others more (sym b.listed ∙ c.listed)
+
+  pub asks_rest : (n : ℕ) → IsKnown r subject waiting n → Asks r subject waiting (drop n waiting)
+  asks_rest n (inl h) =
+      record {
+        after = λ others b. one_rest _ others h.1 b;
+        all = λ no. absurd (no _ h.1);
+      }
+  asks_rest n (inr h) =
+      record {
+        after = λ others b. absurd (h.1 others b);
+        all = λ no. ap (λ k. drop k waiting) h.0;
+      }
+
+  module _ (n : ℕ) (known : IsKnown r subject waiting n)
+      (even : length r.verdicts ≡ length r.list)
+      (list rest : List (Attestation G)) (next : drop n waiting ≡ list ++ rest)
+      (verdicts : List Bool) where
+    -- what is left of what was recorded is all of it, or nothing
+    parted : (n : ℕ) → IsKnown r subject waiting n → take n r.list ++ drop n waiting ≡ waiting
+    parted n (inl h) =
+        ap (λ l. l ++ drop n waiting) (ap (λ k. take k r.list) h.0 ∙ take-length r.list)
+        ∙ sym h.1.listed
+    parted n (inr h) = ap (λ k. take k r.list ++ drop k waiting) h.0
+
+    abbrev IsAfter : ℕ → List (Attestation G) → List Bool → Type 0
+    IsAfter n all of_all =
+        (all ≡ take n r.list ++ list) × (of_all ≡ take n r.verdicts ++ verdicts)
+
+    kept_after : (n : ℕ) (all : List (Attestation G)) (of_all : List Bool)
+        → IsKnown r subject waiting n → IsAfter n all of_all → (others : List (Attestation G))
+        → Begins r subject waiting others
+        → (all ≡ r.list ++ list) × (of_all ≡ r.verdicts ++ verdicts)
+    kept_after n all of_all (inl h) are others b = (
+      are.0 ∙ ap (λ l. l ++ list) (ap (λ k. take k r.list) h.0 ∙ take-length r.list),
+      are.1 ∙ ap (λ l. l ++ verdicts)
+          (ap (λ k. take k r.verdicts) (h.0 ∙ sym even) ∙ take-length r.verdicts),
+    )
+    kept_after n all of_all (inr h) are others b = absurd (h.1 others b)
+
+    alone : (n : ℕ) (all : List (Attestation G)) (of_all : List Bool)
+        → IsKnown r subject waiting n → IsAfter n all of_all
+        → ((others : List (Attestation G)) → Begins r subject waiting others → ⊥)
+        → (all ≡ list) × (of_all ≡ verdicts)
+    alone n all of_all (inl h) are none = absurd (none _ h.1)
+    alone n all of_all (inr h) are none = (
+      are.0 ∙ ap (λ k. take k r.list ++ list) h.0,
+      are.1 ∙ ap (λ k. take k r.verdicts ++ verdicts) h.0,
+    )
+
+    pub added : (new : Recorded G D) → new.subject ≡ Some subject
+        → new.list ≡ take n r.list ++ list → new.verdicts ≡ take n r.verdicts ++ verdicts
+        → Adds r new subject waiting list verdicts
+    added new about list_is verdicts_are =
+        record {
+          about = about;
+          listed = (
+            rest,
+            sym (parted n known) ∙ ap (λ l. take n r.list ++ l) next
+                ∙ sym (append_assoc (take n r.list) list rest) ∙ ap (λ l. l ++ rest) (sym list_is),
+          );
+          after = kept_after n new.list new.verdicts known (list_is, verdicts_are);
+          anew = alone n new.list new.verdicts known (list_is, verdicts_are);
+        }
+
+    -- as many verdicts as attestations are kept
+    pub even_after : (all : List (Attestation G)) (of_all : List Bool)
+        → length verdicts ≡ length list → all ≡ take n r.list ++ list
+        → of_all ≡ take n r.verdicts ++ verdicts → length of_all ≡ length all
+    even_after all of_all one_each list_is verdicts_are =
+        even_by n known all of_all one_each (list_is, verdicts_are)
+      where
+        even_by : (n : ℕ) → IsKnown r subject waiting n → (all : List (Attestation G))
+            (of_all : List Bool) → length verdicts ≡ length list → IsAfter n all of_all
+            → length of_all ≡ length all
+        even_by n (inl h) all of_all one_each are =
+            let both = kept_after n all of_all (inl h) are (drop n waiting) h.1 in
+            ap length both.1 ∙ length-append r.verdicts verdicts
+            ∙ ap (λ k. k + length verdicts) even ∙ ap (λ k. length r.list + k) one_each
+            ∙ sym (length-append r.list list) ∙ ap length (sym both.0)
+        even_by n (inr h) all of_all one_each are =
+            let both = alone n all of_all (inr h) are h.1 in
+            ap length both.1 ∙ one_each ∙ ap length (sym both.0)
+
+    module _ (attests : Subject D → Attestation G → Bool) (true_before : AreTrue attests r)
+        (true_now : verdicts ≡ map (attests subject) list) where
+      true_by : (n : ℕ) (all : List (Attestation G)) (of_all : List Bool)
+          → IsKnown r subject waiting n → IsAfter n all of_all → of_all ≡ map (attests subject) all
+      true_by n all of_all (inl h) are =
+          let both = kept_after n all of_all (inl h) are (drop n waiting) h.1 in
+          let before : r.verdicts ≡ map (attests subject) r.list =
+          subst (λ o. IfSome o (λ s. r.verdicts ≡ map (attests s) r.list)) h.1.about true_before in
+          both.1 ∙ ap (λ l. l ++ verdicts) before
+          ∙ ap (λ l. map (attests subject) r.list ++ l) true_now
+          ∙ sym (map-append (attests subject) r.list list)
+          ∙ ap (map (attests subject)) (sym both.0)
+      true_by n all of_all (inr h) are =
+          let both = alone n all of_all (inr h) are h.1 in
+          both.1 ∙ true_now ∙ ap (map (attests subject)) (sym both.0)
+
+      pub true_after : (all : List (Attestation G)) (of_all : List Bool)
+          → all ≡ take n r.list ++ list → of_all ≡ take n r.verdicts ++ verdicts
+          → of_all ≡ map (attests subject) all
+      true_after all of_all list_is verdicts_are =
+          true_by n all of_all known (list_is, verdicts_are)
+
+module _ {G D : Type 0} (r : Recorded G D) (subject : Subject D) (waiting : List (Attestation G)) where
+  -- where nothing is asked about, what is recorded is on all that waits
+  pub whole_list : (n : ℕ) → IsKnown r subject waiting n → Asks r subject waiting []
+      → waiting ≡ take n r.list
+  whole_list n (inl h) asks =
+      let none : [] ≡ drop n waiting = asks.after _ h.1 in
+      h.1.listed ∙ ap (λ l. r.list ++ l) (sym none) ∙ append-nil r.list
+      ∙ sym (ap (λ k. take k r.list) h.0 ∙ take-length r.list)
+  whole_list n (inr h) asks = sym (asks.all h.1) ∙ ap (λ k. take k r.list) (sym h.0)
+
+  pub none_asked : (n : ℕ) → IsKnown r subject waiting n → waiting ≡ take n r.list
+      → Asks r subject waiting []
+  none_asked n (inl h) all =
+      let whole : take n r.list ≡ r.list = ap (λ k. take k r.list) h.0 ∙ take-length r.list in
+      record {
+        after = λ others b. append_cancel_left r.list [] others
+            (append-nil r.list ∙ sym whole ∙ sym all ∙ b.listed);
+        all = λ none. absurd (none _ h.1);
+      }
+  none_asked n (inr h) all =
+      record {
+        after = λ others b. absurd (h.1 others b);
+        all = λ none. ap (λ k. take k r.list) (sym h.0) ∙ sym all;
+      }

@@ -1,0 +1,8 @@
+//! Verdicts that come in parts: those on attestations that wait are kept until each has one, and
+//! no attestation is asked about twice while it waits for one subject.
+#![tactic(auto)]
+
+mod recorded;
+mod rounds;
+
+pub use rounds::Verdicts;
