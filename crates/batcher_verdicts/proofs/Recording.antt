@@ -1,10 +1,13 @@
 -- What is asked about, and what is recorded after what was.
-use Rattle.std.proofs.Common.{◌≡◌, inl, inr, ◌++◌, ◌-◌, ◌+◌, ◌∙◌, ℕ, Bool, List, [], length, take, drop, map, Some, IfSome, sym, ap, subst}
+use Rattle.std.proofs.Common.{◌≡◌, inl, inr, ◌++◌, ◌-◌, ◌+◌, ◌∙◌, ℕ, Bool, List, [], length, take, drop, map, Option, None, Some, IfSome, sym, ap, subst}
 use Rattle.std.specs.Option.{unwrap_or}
 use Rattle.std.proofs.Math.Seq.{take-length}
-use Rattle.std.proofs.lemmas.List.{append-nil, append_cancel_left, length-drop, length-append, map-append, append_assoc}
+use Rattle.std.proofs.lemmas.List.{append-nil, append_cancel_left, length-drop, length-append, map-append, take-map, append_assoc}
 use Rattle.batcher_types.specs.declared.messages.Attestation.{Attestation}
 use Rattle.batcher_types.specs.declared.messages.Subject.{Subject}
+use Rattle.batcher_types.specs.declared.messages.Kind.TheVariants.{Notarization, Nullification, Finalization}
+use Rattle.batcher_votes.specs.RoundState.{PerKind}
+use Rattle.batcher_verdicts.specs.Rounds.{AllTrue}
 use Rattle.batcher_verdicts.specs.Recorded.{Recorded, Begins, Asks, IsKnown, AreTrue, Adds}
 
 pub some_same : {X : Type 0} {a b : X} → Some a ≡ Some b → a ≡ b
@@ -149,3 +152,29 @@ module _ {G D : Type 0} (r : Recorded G D) (subject : Subject D) (waiting : List
         after = λ others b. absurd (h.1 others b);
         all = λ none. ap (λ k. take k r.list) (sym h.0) ∙ sym all;
       }
+
+  -- the verdicts on the first ones are the scheme's
+  pub true_first : (attests : Subject D → Attestation G → Bool) (n : ℕ)
+      → IsKnown r subject waiting n → AreTrue attests r
+      → take n r.verdicts ≡ map (attests subject) (take n r.list)
+  true_first attests n (inl h) before =
+      let all : r.verdicts ≡ map (attests subject) r.list =
+      subst (λ o. IfSome o (λ s. r.verdicts ≡ map (attests s) r.list)) h.1.about before in
+      ap (take n) all ∙ take-map (attests subject) n r.list
+  true_first attests n (inr h) before =
+      ap (λ k. take k r.verdicts) h.0 ∙ sym (ap (λ k. map (attests subject) (take k r.list)) h.0)
+
+-- where none is recorded, none is wrong
+pub none_true : {G D : Type 0} (attests : Subject D → Attestation G → Bool) (r : Recorded G D)
+    → r.list ≡ [] → r.verdicts ≡ [] → AreTrue attests r
+none_true {D = D} attests r list verdicts = by_subject r.subject where
+  by_subject : (o : Option (Subject D)) → IfSome o (λ s. r.verdicts ≡ map (attests s) r.list)
+  by_subject (Some s) = verdicts ∙ sym (ap (map (attests s)) list)
+  by_subject None = tt
+
+pub each_true : {G D : Type 0} (attests : Subject D → Attestation G → Bool)
+    (all : PerKind (Recorded G D)) → AreTrue attests all.notarize → AreTrue attests all.nullify
+    → AreTrue attests all.finalize → AllTrue attests all
+each_true attests all notarize nullify finalize Notarization = notarize
+each_true attests all notarize nullify finalize Nullification = nullify
+each_true attests all notarize nullify finalize Finalization = finalize

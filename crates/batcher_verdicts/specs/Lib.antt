@@ -1,2 +1,3 @@
 pub mod Recorded
 pub mod Rounds
+pub mod Nodes

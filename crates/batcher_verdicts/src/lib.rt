@@ -2,6 +2,7 @@
 //! no attestation is asked about twice while it waits for one subject.
 #![tactic(auto)]
 
+mod nodes;
 mod recorded;
 mod rounds;
 

@@ -77,7 +77,8 @@ impl<G: Identical, D: Digest> KindVerdicts<G, D> {
     /// Forgets all. It takes no memory.
     pub(crate) fn forget(&mut self)
         ensures list { self.new.list ≡ [] }
-        ensures verdicts { self.new.verdicts ≡ [] }
+        ensures truths { (attests : TheSubject D → TheAttestation G → Bool)
+            → AreTrue attests self.new }
     {
         self.list.clear();
         self.verdicts.clear();

@@ -1,6 +1,6 @@
 //! Verdicts that come late, as from another thread, while votes go on to come.
 
-ghost use Rattle.std.specs.Prelude.{◌≡◌, ◌≢◌, ◌++◌, [], true, false, Bool, List, length, map, None, Some, Ok, is_some, IfOk, IfSome, OnErr};
+ghost use Rattle.std.specs.Prelude.{◌≡◌, ◌≢◌, ◌≤◌, ◌++◌, [], true, false, Bool, List, length, map, None, Some, Ok, is_some, IfOk, IfSome, OnErr};
 ghost use Rattle.std.specs.Option.{option_map};
 ghost use Rattle.batcher_types.specs.declared.messages.Attestation.{Attestation as TheAttestation};
 ghost use Rattle.batcher_types.specs.declared.messages.Kind.{Kind as TheKind};
@@ -8,7 +8,7 @@ ghost use Rattle.batcher_types.specs.declared.messages.Subject.{Subject as TheSu
 ghost use Rattle.batcher_round.specs.RoundWords.{of_kind, subject_next, pending_next, verified_next, SameRound, IfGiven, BatchCertifies, IsRefusedForNeed, SimulatesAlways, ConstructCall, ConstructAnswer, AfterConstruct};
 ghost use Rattle.batcher_round.specs.Verdicts.{judged};
 ghost use Rattle.rand_core.specs.Stream.{Stream};
-ghost use Rattle.batcher_verdicts.specs.Recorded.{Asks, AreTrue, Adds};
+ghost use Rattle.batcher_verdicts.specs.Recorded.{Asks, AreTrue, Adds, IsKnown};
 ghost use Rattle.batcher_verdicts.specs.Rounds.{recorded_of, kind_attested, AllTrue, AreComplete, AsksNext, Forgets, Records};
 
 use crate::recorded::KindVerdicts;
@@ -56,7 +56,7 @@ impl<G: Identical, D: Digest> Verdicts<G, D> {
     }
 
     // Those on what attests the subject.
-    fn of(&self, subject: &Subject<D>) -> &KindVerdicts<G, D>
+    pub(crate) fn of(&self, subject: &Subject<D>) -> &KindVerdicts<G, D>
         ensures { result.now ≡ recorded_of self.now subject.now }
     {
         match subject {
@@ -64,6 +64,23 @@ impl<G: Identical, D: Digest> Verdicts<G, D> {
             Subject::Nullify { .. } => &self.nullify,
             Subject::Finalize { .. } => &self.finalize,
         }
+    }
+
+    // What the next construction of the round is about, and on how many attestations that it looks
+    // at, from the first on, a verdict is recorded.
+    pub(crate) fn known_next<S: Scheme<D, Signature = G>>(
+        &self,
+        round: &Round<S, D>,
+    ) -> Option<(Subject<D>, usize)>
+        ensures subject { option_map (λ k. k.0) result
+            ≡ subject_next (⟦<S as RoundConfigs<D>>⟧.of round.now) round.now.holds }
+        ensures known { IfSome result (λ k. IsKnown (recorded_of self.now k.0) k.0
+            (pending_next (⟦<S as RoundConfigs<D>>⟧.of round.now) round.now.holds) k.1) }
+        ensures within { IfSome result (λ k. k.1 ≤ length (recorded_of self.now k.0).list) }
+    {
+        let next = round.next_attempt()?;
+        let known = self.of(&next.subject).known(&next.subject, next.pending);
+        Some((next.subject, known))
     }
 
     // Records verdicts on a list, of what waits for the subject. False where the list isn't what is
@@ -100,13 +117,16 @@ impl<G: Identical, D: Digest> Verdicts<G, D> {
         }
     }
 
-    // Forgets those on what attests the subject.
-    fn forget(&mut self, subject: &Subject<D>)
-        ensures forgotten { (recorded_of self.new subject.now).list ≡ [] }
-        ensures verdicts { (recorded_of self.new subject.now).verdicts ≡ [] }
-        ensures others { (kind : TheKind) → kind ≢ kind_attested subject.now
-            → of_kind self.new kind ≡ of_kind self.old kind }
+    // Forgets those on what attests the subject, once the construction is made by them.
+    pub(crate) fn forget(&mut self, subject: &Subject<D>, is_made: bool)
+        ensures forgets { is_made ≡ true → Forgets self.old self.new subject.now }
+        ensures keeps { is_made ≡ false → self.new ≡ self.old }
+        ensures truths { (attests : TheSubject D → TheAttestation G → Bool)
+            → AllTrue attests self.old → AllTrue attests self.new }
     {
+        if !is_made {
+            return;
+        }
         match subject {
             Subject::Notarize { .. } => self.notarize.forget(),
             Subject::Nullify { .. } => self.nullify.forget(),
@@ -199,17 +219,12 @@ impl<G: Identical, D: Digest> Verdicts<G, D> {
         ensures refused { OnErr result ((self.new ≡ self.old) × (round.new ≡ round.old)) }
         ensures same { SameRound round.old round.new }
     {
-        let Some(next) = round.next_attempt() else {
+        let Some((subject, known)) = self.known_next(round) else {
             return Ok(None);
         };
-        let subject = next.subject;
-        let recorded = self.of(&subject);
-        let known = recorded.known(&subject, next.pending);
-        let (list, verdicts) = recorded.first(known);
+        let (list, verdicts) = self.of(&subject).first(known);
         let given = round.conclude(subject, list, verdicts)?;
-        if given.is_some() {
-            self.forget(&subject);
-        }
+        self.forget(&subject, given.is_some());
         Ok(given)
     }
 }
