@@ -1,31 +1,42 @@
--- A quorum of attestations that attest each has passed.
-use Rattle.std.proofs.Common.{◌≡◌, ℕ, List, refl}
-use Rattle.std.specs.List.{AllPass}
+-- A quorum of attestations that attest each, or pass as a whole, has passed.
+use Rattle.std.proofs.Common.{◌≡◌, ◌||◌, ℕ, Bool, true, false, List, refl}
+use Rattle.std.specs.List.{AllPass, list_all}
 use Rattle.std.proofs.lemmas.List.Sums.{list_all-from_AllPass}
 use Rattle.batcher_types.specs.Attestations.{IsQuorum}
 use Rattle.batcher_types.specs.declared.messages.Attestation.{Attestation}
 use Rattle.batcher_types.specs.declared.messages.Sha256Digest.{Sha256Digest}
 use Rattle.batcher_types.specs.declared.messages.Subject.{Subject}
-use Rattle.batcher_bytes.specs.Listings.{Listing, Passed, attests}
+use Rattle.batcher_bytes.specs.Listings.{Passed, attests, listing_of}
 use Rattle.batcher_bytes.specs.declared.signature.Keys.{Keys}
 use Rattle.batcher_bytes.specs.declared.signature.Signature.{Signature}
 use Rattle.batcher_bytes.specs.declared.truth.Truth.{Ghosts}
 
-module _ {T : Type 0} (truth : Ghosts T) (keys : Keys) (subject : Subject Sha256Digest) where
-  abbrev listing : ℕ → List (Attestation Signature) → Listing
-  listing n all =
-      record { keys = keys; participants = n; subject = subject; attestations = all }
+or_true : (b : Bool) → (b || true) ≡ true
+or_true true = refl
+or_true false = refl
 
-  each_passed : (n : ℕ) (all : List (Attestation Signature)) → IsQuorum n all
-      → AllPass (attests truth keys n subject) all → Passed truth (listing n all)
-  each_passed n all quorum pass =
+module _ {T : Type 0} (truth : Ghosts T) (keys : Keys) (subject : Subject Sha256Digest) (n : ℕ)
+    (all : List (Attestation Signature)) (quorum : IsQuorum n all) where
+  pub each_passed : AllPass (attests truth keys n subject) all
+      → Passed truth (listing_of keys n subject all)
+  each_passed pass =
       record {
         quorum = quorum;
         passed = rw (list_all-from_AllPass (attests truth keys n subject) all pass) refl;
       }
 
-  pub passed_by_each : (n count : ℕ) (all items : List (Attestation Signature))
-      → count ≡ n → items ≡ all → IsQuorum n all → AllPass (attests truth keys n subject) all
-      → Passed truth (listing count items)
-  passed_by_each n count all items count_is items_are quorum pass =
-      rw (count_is, items_are) (each_passed n all quorum pass)
+  pub together_passed : truth.passes keys subject all ≡ true
+      → Passed truth (listing_of keys n subject all)
+  together_passed passes =
+      record {
+        quorum = quorum;
+        passed = rw passes (or_true (list_all (attests truth keys n subject) all));
+      }
+
+-- the same of values that are equal to these
+pub same_passed : {T : Type 0} (truth : Ghosts T) (keys : Keys) (subject : Subject Sha256Digest)
+    (n count : ℕ) (all items : List (Attestation Signature)) → count ≡ n → items ≡ all
+    → Passed truth (listing_of keys n subject all)
+    → Passed truth (listing_of keys count subject items)
+same_passed truth keys subject n count all items count_is items_are passed =
+    rw (count_is, items_are) passed

@@ -16,6 +16,10 @@ pub record Listing : Type 0 where
   pub subject : Subject Sha256Digest
   pub attestations : List (Attestation Signature)
 
+abbrev pub listing_of : Keys → ℕ → Subject Sha256Digest → List (Attestation Signature) → Listing
+listing_of keys n subject all =
+    record { keys = keys; participants = n; subject = subject; attestations = all }
+
 module _ {T : Type 0} (truth : Ghosts T) where
   -- a participant's, that attests
   abbrev pub attests : Keys → ℕ → Subject Sha256Digest → Attestation Signature → Bool

@@ -7,7 +7,7 @@ use Rattle.batcher_types.specs.declared.messages.Attestation.{Attestation}
 use Rattle.batcher_types.specs.declared.messages.Sha256Digest.{Sha256Digest}
 use Rattle.batcher_types.specs.declared.messages.Subject.{Subject}
 use Rattle.batcher_bytes.specs.Keys.{same_keys, same_digest}
-use Rattle.batcher_bytes.specs.Listings.{attests}
+use Rattle.batcher_bytes.specs.Listings.{listing_of, attests}
 use Rattle.batcher_bytes.specs.declared.certificates.Content.{Content}
 use Rattle.batcher_bytes.specs.declared.certificates.Content.TheVariants.{Made, Received}
 use Rattle.batcher_bytes.specs.declared.signature.Keys.{Keys}
@@ -28,8 +28,7 @@ module _ {T : Type 0} (truth : Ghosts T) (keys : Keys) (n : ℕ) where
 
   -- the attestations as a certificate
   abbrev pub made_of : Subject Sha256Digest → List (Attestation Signature) → Content T truth
-  made_of subject all =
-      Made (record { keys = keys; participants = n; subject = subject; attestations = all })
+  made_of subject all = Made (listing_of keys n subject all)
 
   -- the same where all pending ones attest, and the stream, which is left as it was
   abbrev pub made_at_once : Subject Sha256Digest → List (Attestation Signature)

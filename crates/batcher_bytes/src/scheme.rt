@@ -4,7 +4,7 @@ ghost use Rattle.std.specs.Prelude.{◌≡◌, ◌++◌, ◌≤◌, true, length
 ghost use Rattle.std.specs.Result.{result_ok};
 ghost use Rattle.std.specs.List.{AllPass};
 ghost use Rattle.batcher_types.specs.Attestations.{Sorts, IsQuorum};
-ghost use Rattle.batcher_bytes.specs.Listings.{attests};
+ghost use Rattle.batcher_bytes.specs.Listings.{Passed, attests, listing_of};
 ghost use Rattle.batcher_bytes.specs.Meanings.{certifies, made_of, made_at_once};
 
 use crate::certificates::{Content, Listed};
@@ -39,6 +39,48 @@ impl<T: Truth, const BATCHABLE: bool> Bytes<T, BATCHABLE> {
             keys,
             of: PhantomData,
         }
+    }
+
+    /// The certificate of a quorum that passes as a whole, of a scheme that aggregates: the
+    /// attestations that were verified before, and fresh ones. A round takes it by `conclude_with`.
+    pub fn together(
+        &self,
+        alloc: Global,
+        subject: Subject<Sha256Digest>,
+        prior: &[Attestation<Signature>],
+        fresh: &[Attestation<Signature>],
+    ) -> Result<Content<T>, AllocError>
+        requires quorum { IsQuorum (length self.now.participants) (prior.now ++ fresh.now) }
+        requires passes { T.passes self.now.keys subject (prior.now ++ fresh.now) ≡ true }
+        ensures made { IfOk result (λ certificate. certificate
+            ≡ made_of T.Truth self.now.keys (length self.now.participants) subject
+            (prior.now ++ fresh.now)) }
+        ensures certifies { IfOk result (λ certificate. certifies T.Truth self.now.keys
+            (length self.now.participants) subject certificate ≡ true) }
+    {
+        let certificate = self.listed(alloc, subject, prior, fresh)?;
+        Ok(certificate)
+    }
+
+    // A certificate of what has passed.
+    fn listed(
+        &self,
+        alloc: Global,
+        subject: Subject<Sha256Digest>,
+        prior: &[Attestation<Signature>],
+        fresh: &[Attestation<Signature>],
+    ) -> Result<Content<T>, AllocError>
+        requires { Passed T.Truth (listing_of self.now.keys (length self.now.participants) subject
+            (prior.now ++ fresh.now)) }
+        ensures { IfOk result (λ certificate. certificate
+            ≡ made_of T.Truth self.now.keys (length self.now.participants) subject
+            (prior.now ++ fresh.now)) }
+    {
+        let mut all = Vec::with_capacity(alloc, prior.len().saturating_add(fresh.len()))?;
+        all.extend_from_slice(prior)?;
+        all.extend_from_slice(fresh)?;
+        let participants = self.participants.len() as u32;
+        Ok(Content::Made(Listed::new(self.keys, participants, subject, all)))
     }
 }
 
@@ -138,11 +180,7 @@ impl<T: Truth, const BATCHABLE: bool> Scheme<Sha256Digest> for Bytes<T, BATCHABL
             ≡ made_of T.Truth self.now.keys (length self.now.participants) subject
             (prior.now ++ fresh.now)) }
     {
-        let mut all = Vec::with_capacity(alloc, prior.len().saturating_add(fresh.len()))?;
-        all.extend_from_slice(prior)?;
-        all.extend_from_slice(fresh)?;
-        let participants = self.participants.len() as u32;
-        Ok(Content::Made(Listed::new(self.keys, participants, subject, all)))
+        self.listed(alloc, subject, prior, fresh)
     }
 
     fn verify_certificate(&self, subject: Subject<Sha256Digest>, certificate: &Content<T>) -> bool

@@ -4,6 +4,7 @@
 
 mod marked;
 mod play;
+mod together;
 mod verifying;
 
 use anyhow::Result;

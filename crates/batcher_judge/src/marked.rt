@@ -10,11 +10,11 @@ pub struct Marked;
 
 impl Truth for Marked {
     ghost use Rattle.std.specs.Prelude.{false};
-    ghost use Rattle.batcher_judge.specs.Marks.{is_marked};
+    ghost use Rattle.batcher_judge.specs.Marks.{is_marked, are_marked};
 
     ghost attests = { is_marked };
 
-    ghost passes = { λ keys subject list. false };
+    ghost passes = { are_marked };
 
     ghost certifies = { λ keys subject bytes. false };
 }

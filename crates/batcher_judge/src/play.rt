@@ -6,6 +6,7 @@ ghost use Rattle.batcher_judge.specs.contracts.marked.MarkedTruth.TheImpl.{ghost
 ghost use Rattle.batcher_verdicts.specs.Rounds.{AllTrue};
 
 use crate::marked::{Marked, sign};
+use crate::together::play_together;
 use crate::verifying::verify;
 use anyhow::{Result, bail};
 use batcher::messages::{Nullify, Sha256Digest, Vote};
@@ -17,13 +18,13 @@ use batcher_verdicts::Verdicts;
 use std::alloc::Global;
 use std::rc::Rc;
 
-type Scheme = Bytes<Marked, true>;
+pub type TheScheme = Bytes<Marked, true>;
 
-type TheRound = Round<Scheme, Sha256Digest>;
+pub type TheRound = Round<TheScheme, Sha256Digest>;
 
 /// Three nullifies come, all by the keys of sevens. While they are verified a fourth one comes.
 pub fn play(rt: &impl Print, alloc: Global, keys: Keys) -> Result<()> {
-    let scheme = Rc::new(alloc, Scheme::new(names(alloc, 4)?, keys))?;
+    let scheme = Rc::new(alloc, TheScheme::new(names(alloc, 4)?, keys))?;
     if scheme.participants.len() == 0 {
         bail!("a round needs a participant");
     }
@@ -31,10 +32,14 @@ pub fn play(rt: &impl Print, alloc: Global, keys: Keys) -> Result<()> {
     let mut round = Round::new(alloc, number, Rc::clone(&scheme)?, true);
     let played = hear_all(rt, alloc, &mut round, &scheme);
     std::mem::drop(round);
+    played?;
+    let mut round = Round::new(alloc, number, Rc::clone(&scheme)?, true);
+    let played = play_together(rt, alloc, &mut round, &scheme);
+    std::mem::drop(round);
     played
 }
 
-fn hear_all(rt: &impl Print, alloc: Global, round: &mut TheRound, scheme: &Scheme) -> Result<()>
+fn hear_all(rt: &impl Print, alloc: Global, round: &mut TheRound, scheme: &TheScheme) -> Result<()>
     requires { round.old.scheme ≡ scheme.now }
 {
     let mut verdicts = Verdicts::new(alloc);
@@ -45,8 +50,8 @@ fn hear_all(rt: &impl Print, alloc: Global, round: &mut TheRound, scheme: &Schem
     judge(rt, alloc, round, scheme, &mut verdicts, None)
 }
 
-// A peer sends a nullify.
-fn hear(rt: &impl Print, round: &mut TheRound, signer: u32) -> Result<()>
+/// A peer sends a nullify.
+pub fn hear(rt: &impl Print, round: &mut TheRound, signer: u32) -> Result<()>
     ensures { IfOk result (λ _. round.new.scheme ≡ round.old.scheme) }
 {
     let vote = Vote::Nullify(Nullify {
@@ -77,7 +82,7 @@ fn judge(
     rt: &impl Print,
     alloc: Global,
     round: &mut TheRound,
-    scheme: &Scheme,
+    scheme: &TheScheme,
     verdicts: &mut Verdicts<batcher_bytes::Signature, Sha256Digest>,
     comes: Option<u32>,
 ) -> Result<()>

@@ -2,6 +2,7 @@
 
 ghost use Rattle.std.specs.Prelude.{◌≡◌, length, map, IfOk};
 ghost use Rattle.batcher_bytes.specs.Listings.{attests};
+ghost use Rattle.batcher_judge.specs.Marks.{are_marked};
 ghost use Rattle.batcher_judge.specs.contracts.marked.MarkedTruth.TheImpl.{ghosts};
 
 use crate::marked::Marked;
@@ -39,4 +40,16 @@ fn attests_one(
     let _ = subject;
     let takes_part = (attestation.signer.0 as usize) < scheme.participants.len();
     takes_part && attestation.signature.bytes[0] == scheme.keys.0[0]
+}
+
+/// Whether they pass as a whole.
+pub fn pass(
+    scheme: &Bytes<Marked, true>,
+    subject: Subject<Sha256Digest>,
+    list: &[Attestation<Signature>],
+) -> bool
+    ensures { result ≡ are_marked scheme.now.keys subject list.now }
+{
+    let _ = subject;
+    list.iter().all(|attestation| attestation.signature.bytes[0] == scheme.keys.0[0])
 }

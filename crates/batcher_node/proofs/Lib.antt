@@ -7,7 +7,7 @@ pub mod Representation
 pub mod Answering
 pub mod Forwarding
 pub mod Promising
-mod Lowest
+pub mod Lowest
 mod Blocking
 mod Causing
 mod Tending

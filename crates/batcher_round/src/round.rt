@@ -1,6 +1,6 @@
 //! One round: what it answers to votes, and the certificates that it makes of them.
 
-ghost use Rattle.std.specs.Prelude.{◌≡◌, ◌≤◌, ◌<◌, ◌||◌, ◌↔◌, not, None, Some, true, false, [], length, map, is_some, if◌then◌else◌, Ok, Err, IfOk, IfErr, IfSome, OnOk, OnErr, IsTrue, IsOk};
+ghost use Rattle.std.specs.Prelude.{◌≡◌, ◌≤◌, ◌<◌, ◌||◌, ◌↔◌, ◌++◌, not, None, Some, true, false, [], length, map, is_some, if◌then◌else◌, Ok, Err, IfOk, IfErr, IfSome, OnOk, OnErr, IsTrue, IsOk};
 ghost use Rattle.std.specs.Option.{option_map};
 ghost use Rattle.batcher_round.specs.RoundWords.{NullifyKind, TheKind, IfGiven, attestation_of, subject_of, round_in, subject_certified, of_kind, kept_vote, selected_in, nothing_held, missing_in, leader_set_answer, forward_answer};
 ghost use Rattle.batcher_round.specs.RoundWords.{admission, SameRound, kind_tried, restored_with, own_result, fault_or_memory, is_added, has_block_held, has_block, is_certified, leader_of, selected_proposal, keeps_nullify, own_answer};
@@ -10,6 +10,8 @@ ghost use Rattle.batcher_round.specs.RoundWords.{ForwardAnswer, MissingAnswer, C
 ghost use Rattle.rand_core.specs.Stream.{Stream};
 ghost use Rattle.batcher_round.specs.Verdicts.{judged, judged_with, LooksAtNext, MayBeQuorumNext};
 ghost use Rattle.batcher_votes.specs.VerifierSteps.{certificate_for};
+ghost use Rattle.batcher_types.specs.Attestations.{index_of_signer};
+ghost use Rattle.batcher_types.specs.Lists.{EachOnce};
 
 mod answers;
 mod ballots;
@@ -389,6 +391,8 @@ impl<S: Scheme<D>, D: Digest> Round<S, D> {
             ≡ pending_next (⟦<S as RoundConfigs<D>>⟧.of self.now) self.now.holds) }
         ensures verified { IfSome result (λ a. a.verified.now
             ≡ verified_next (⟦<S as RoundConfigs<D>>⟧.of self.now) self.now.holds) }
+        ensures once { IfSome result (λ a.
+            EachOnce index_of_signer (a.verified.now ++ a.pending.now)) }
     {
         let verifier = self.ballots.verifier();
         if let Some(attempt) = verifier.next_attempt(Kind::Notarization) {

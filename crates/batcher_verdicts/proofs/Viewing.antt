@@ -1,5 +1,5 @@
 -- A node's next view, and what is known of its round.
-use Rattle.std.proofs.Common.{◌≡◌, ◌<◌, ◌∙◌, arith, ℕ, true, false, List, take, Option, Some, None, IfSome, is_some, refl, sym, ap, subst}
+use Rattle.std.proofs.Common.{◌≡◌, ◌∙◌, ℕ, true, false, List, take, Option, Some, None, IfSome, is_some, refl, sym, ap, subst}
 use Rattle.std.specs.Option.{option_map}
 use Rattle.std.proofs.lemmas.Bool.{true≢false}
 use Rattle.batcher_types.specs.declared.messages.Attestation.{Attestation}
@@ -10,6 +10,7 @@ use Rattle.batcher_round.specs.Next.{subject_next, pending_next}
 use Rattle.batcher_node.specs.Nodes.{IsNext, slot_at}
 use Rattle.batcher_node.specs.Verdicts.{LooksAtThere}
 use Rattle.batcher_node.specs.declared.slot.Slot.{Slot}
+use Rattle.batcher_node.proofs.Lowest.{one_next}
 use Rattle.batcher_verdicts.specs.Recorded.{Recorded, IsKnown}
 use Rattle.batcher_verdicts.specs.Rounds.{recorded_of, AreComplete}
 use Rattle.batcher_verdicts.specs.Nodes.{AreCompleteThere, KnownThere}
@@ -18,19 +19,6 @@ use Rattle.batcher_verdicts.proofs.Completing.{looks_at_all, asks_nothing}
 
 module _ {S D K G C : Type 0} (round_config : RoundView S G D → Config D K G C)
     (rounds : List (ℕ × Slot (RoundView S G D))) (all : PerKind (Recorded G D)) where
-  -- one view at most is next
-  not_both : (one other : ℕ) → IsNext rounds one → IsNext rounds other → one < other → ⊥
-  not_both one other next after below =
-      let at = next.changed in
-      let rests = subst (λ o. IfSome o (λ slot. slot.changed ≡ false)) at.there (after.lowest one below) in
-      true≢false (sym at.changed ∙ rests)
-
-  one_next : (one other : ℕ) → IsNext rounds one → IsNext rounds other → one ≡ other
-  one_next one other next after =
-      let first : one < other → ⊥ = not_both one other next after in
-      let second : other < one → ⊥ = not_both other one after next in
-      grind (arith, first, second)
-
   abbrev IsLent : RoundView S G D → ℕ → Type 0
   IsLent round view = Some round ≡ option_map (λ slot. slot.round) (slot_at rounds view)
 
@@ -69,7 +57,7 @@ module _ {S D K G C : Type 0} (round_config : RoundView S G D → Config D K G C
   is_known view round None next lent about other subject after there =
       let t = lent_there view round (slot_at rounds view) refl lent in
       let same : there.slot ≡ t.0 = some_same
-      (sym there.there ∙ ap (slot_at rounds) (one_next other view after next) ∙ t.1.0) in
+      (sym there.there ∙ ap (slot_at rounds) (one_next rounds other view after next) ∙ t.1.0) in
       let ready = subst (λ r. subject_next (round_config r) r.holds ≡ Some subject)
       (ap (λ s. s.round) same ∙ t.1.1) there.complete.next in
       absurd (true≢false (ap is_some (sym ready ∙ sym about)))
@@ -79,7 +67,7 @@ module _ {S D K G C : Type 0} (round_config : RoundView S G D → Config D K G C
       (list_is : list ≡ take n (recorded_of all subject).list) (view : ℕ)
       (next : IsNext rounds view) where
     at_view : slot_at rounds view ≡ Some k.slot
-    at_view = ap (slot_at rounds) (one_next view k.view next k.next) ∙ k.there
+    at_view = ap (slot_at rounds) (one_next rounds view k.view next k.next) ∙ k.there
 
     pub looks_there : (asked : Subject D)
         → AreCompleteThere round_config (slot_at rounds view) all asked

@@ -9,6 +9,7 @@ ghost use Rattle.batcher_votes.specs.declared.verifier.ProposalState.TheVariants
 ghost use Rattle.batcher_types.specs.Quorum.{quorum_of};
 ghost use Rattle.std.specs.List.{AllPass};
 ghost use Rattle.batcher_types.specs.Lists.{EachOnce};
+ghost use Rattle.batcher_types.specs.Attestations.{index_of_signer};
 ghost use Rattle.batcher_types.specs.Votes.{is_kind, kind_of, is_of_kind, has_proposals, signer_of, subject_of, attestation_of, is_eligible};
 ghost use Rattle.batcher_votes.specs.ProposalStates.{proposal_of, selects, updated, same_selected, replaces};
 ghost use Rattle.batcher_votes.specs.RoundState.{of_kind, SameVerifier};
@@ -499,6 +500,8 @@ impl<S: Scheme<D>, D: Digest> Verifier<S, D> {
             ≡ pending_tried self.now.quorum self.now.holds kind) }
         ensures verified { IfSome result (λ a. a.verified.now
             ≡ verified_tried self.now.holds kind) }
+        ensures once { IfSome result (λ a.
+            EachOnce index_of_signer (a.verified.now ++ a.pending.now)) }
     {
         let subject = self.subject_ready(kind)?;
         let certification = self.kinds.get(kind);

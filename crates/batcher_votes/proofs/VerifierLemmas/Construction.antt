@@ -27,8 +27,8 @@ use Rattle.batcher_types.specs.Meaning.{Meaning, IsLawful}
 use Rattle.batcher_types.specs.Votes.{is_kind, is_of_kind, signer_of, subject_of, attestation_of, proposal_in, same_subject, subject_certified, content_of}
 use Rattle.batcher_votes.specs.ProposalStates.{proposal_of}
 use Rattle.batcher_votes.specs.RoundState.{of_kind, VerifierState}
-use Rattle.batcher_types.specs.Attempts.{AttemptResult, attempt_of}
-use Rattle.batcher_types.proofs.CountLemmas.{count-map}
+use Rattle.batcher_types.specs.Attempts.{AttemptResult, attempt_of, checked}
+use Rattle.batcher_types.proofs.CountLemmas.{count-map, once_front}
 use Rattle.batcher_types.proofs.KindLemmas.{is_kind-true, is_kind-refl}
 use Rattle.batcher_types.proofs.VoteLemmas.{same_subject-true, same_subject-refl}
 use Rattle.batcher_types.proofs.OptionLemmas.{given, is_some-option_map, is_some-false}
@@ -451,6 +451,14 @@ fine_attempt m lawful same number q old kind subject s about before after t atte
     let it = fine m lawful subject q (attestations_of verified) (attestations_of pending) s.some s.enough
     (once_attestations verified pending (s.kinds kind).once) (attested_about m same number subject verified about (s.kinds kind).attested) before in
     subst (λ x. IsFine m subject x) (sym (ap (λ r. r.0) attempted)) it
+
+-- what an attempt looks at is a part of what waits
+pub once_checked : {G : Type 0} (q : ℕ) (xs ys : List (Attestation G))
+    → EachOnce index_of_signer (xs ++ ys) → EachOnce index_of_signer (xs ++ checked q xs ys)
+once_checked q xs ys once = looked (nat_le q (length xs)) where
+  looked : (b : Bool) → EachOnce index_of_signer (xs ++ cond b [] ys)
+  looked true = subst (EachOnce index_of_signer) (sym (append-nil xs)) (once_front index_of_signer xs ys once)
+  looked false = once
 
 -- What a construction answers and leaves.
 pub record Constructs {D K G C : Type 0} (m : Meaning D K G C) (same : D → D → Bool)

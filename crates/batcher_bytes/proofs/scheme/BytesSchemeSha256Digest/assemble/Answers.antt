@@ -1,10 +1,10 @@
-use Rattle.std.proofs.Common.{rules, ◌≡◌, ◌++◌, length}
-use Rattle.batcher_bytes.proofs.Passing.{passed_by_each}
+use Rattle.std.proofs.Common.{arith, ◌++◌, length}
+use Rattle.batcher_bytes.proofs.Passing.{each_passed}
 use Rattle.batcher_bytes.proofs.scheme.BytesSchemeSha256Digest.assemble.Goals as goal
 
-pub new-requires : goal.new-requires
-new-requires g c =
-    let copied : c.extend_from_slice-2.new.self.items ≡ c.args.prior.now ++ c.args.fresh.now = search rules in
-    passed_by_each g.T.Truth c.args.self.now.keys c.args.subject (length c.args.self.now.participants) _
-    (c.args.prior.now ++ c.args.fresh.now) _ c.len-participants.ensures.count copied
-    c.requires.quorum c.requires.attested
+pub listed-requires : goal.listed-requires
+listed-requires g c = (
+  omega arith,
+  each_passed g.T.Truth c.args.self.now.keys c.args.subject (length c.args.self.now.participants)
+      (c.args.prior.now ++ c.args.fresh.now) c.requires.quorum c.requires.attested,
+)
