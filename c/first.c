@@ -134,6 +134,8 @@ static int mistakes(void) {
     struct batcher_admission admission;
     struct batcher_step step;
     bool flag;
+    for (int code = BATCHER_DONE; code <= BATCHER_RESTS; code++)
+        CHECK(strcmp(batcher_code_text((uint8_t)code), batcher_code_text(255)) != 0);
     CHECK(batcher_round_add_network(&round, 0, &vote, &admission) == BATCHER_NONE);
     CHECK(construct(&round, &step) == BATCHER_NONE);
     CHECK(batcher_round_set_leader(&round, 1) == BATCHER_NONE);

@@ -1,5 +1,5 @@
 /* Rounds and nodes of a verified vote batcher, and evidence. Link libbatcher_c.a, and what defines
- * `rattle_alloc`, `rattle_dealloc` and `rattle_realloc`, from which it takes its memory.
+ * `rattle_alloc`, `rattle_dealloc` and `rattle_realloc` below, as c/heap.c does.
  *
  * What a caller owes, which nothing here can test:
  *   - a handle, a `struct batcher_round` or `struct batcher_node`, begins as {0}, is in one call at a
@@ -17,6 +17,10 @@
 #include <stdbool.h>
 #include <stddef.h>
 #include <stdint.h>
+
+#ifdef __cplusplus
+extern "C" {
+#endif
 
 struct batcher_round {
     void *at; /* null: none */
@@ -73,10 +77,10 @@ enum batcher_block {
 };
 
 /* Why a node has blocked a participant, if it has: for a vote, by the numbers of `enum batcher_block`,
- * or for one of two more reasons. */
+ * which are below 64, or for one of two more reasons. */
 enum batcher_cause {
     BATCHER_CAUSE_NONE,
-    BATCHER_CAUSE_CERTIFICATE = 11, /* it sent a certificate that doesn't certify what it names */
+    BATCHER_CAUSE_CERTIFICATE = 64, /* it sent a certificate that doesn't certify what it names */
     BATCHER_CAUSE_SIGNATURE /* a construction found that a vote that it sent doesn't attest */
 };
 
@@ -136,6 +140,49 @@ struct batcher_step {
     bool certified;
     bool fallback; /* the pending votes had to be verified one by one */
 };
+
+/* Does nothing. Its name has the version of this header, so a library of another one doesn't link. */
+void batcher_abi_1(void);
+__attribute__((used)) static void (*const batcher_abi)(void) = batcher_abi_1;
+
+/* The library takes its memory by these three, which a program defines: c/heap.c does, over malloc. A block
+ * is aligned by 16, and `at` is never null, also where the request is refused. */
+struct rattle_block {
+    bool ok; /* false: memory is refused */
+    void *at;
+};
+
+struct rattle_block rattle_alloc(size_t size, size_t align);
+struct rattle_block rattle_realloc(void *at, size_t kept, size_t size, size_t align);
+void rattle_dealloc(void *at);
+
+/* What a code says, as text for people. */
+static inline const char *batcher_code_text(uint8_t code) {
+    switch (code) {
+    case BATCHER_DONE: return "done";
+    case BATCHER_NONE: return "the handle is empty";
+    case BATCHER_MALFORMED: return "malformed";
+    case BATCHER_ELSEWHERE: return "of another round, or outside of the window";
+    case BATCHER_OUT_OF_MEMORY: return "out of memory";
+    case BATCHER_LEADER_CHANGED: return "another leader was named before";
+    case BATCHER_NOT_VERIFIED: return "no verdict says that the own vote attests";
+    case BATCHER_DUPLICATE_NOTARIZE: return "a notarize of its signer is kept";
+    case BATCHER_DUPLICATE_FINALIZE: return "a finalize of its signer is kept";
+    case BATCHER_CONFLICTING: return "an earlier vote of its kind and signer was for another proposal";
+    case BATCHER_NULLIFY_AFTER_FINALIZE: return "its signer has finalized before";
+    case BATCHER_FINALIZE_AFTER_NULLIFY: return "its signer has nullified before";
+    case BATCHER_IDLE: return "nothing is to be done, or there is none";
+    case BATCHER_VERIFY: return "verdicts are wanted";
+    case BATCHER_VERIFY_TOGETHER: return "one verdict on all is wanted";
+    case BATCHER_DROPPED: return "its peer is blocked";
+    case BATCHER_UNKNOWN: return "its peer takes no part";
+    case BATCHER_PASSED: return "the view is before the finalized one";
+    case BATCHER_KNOWN: return "one of its kind was there";
+    case BATCHER_FORGED: return "the certificate doesn't certify what it names";
+    case BATCHER_RESTS: return "the view rests";
+    default: return "no code of this version";
+    }
+}
 
 /* A round of so many participants, whose keys are 0, 1, .. in this order. A batchable scheme waits for a
  * quorum before it wants verdicts; where it aggregates, a quorum may pass as a whole. Where it is DONE, the
@@ -299,5 +346,9 @@ uint8_t batcher_node_missing_voters(struct batcher_node *node, uint64_t view,
 uint8_t batcher_convicted(uint32_t participants, const struct batcher_vote *first,
                           const struct batcher_vote *second, bool first_attests,
                           bool second_attests, uint32_t *out);
+
+#ifdef __cplusplus
+}
+#endif
 
 #endif

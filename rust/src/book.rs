@@ -168,13 +168,15 @@ impl<G: Clone + Eq> Book<G> {
         vote: &Vote<G>,
     ) -> Result<Option<Activity<G>>, Error> {
         Ok(match answer.report {
-            0 => None,
+            code::REPORT_NONE => None,
             // Of one vote it is this one, which is new.
-            1..=3 => Some(match vote {
-                Vote::Notarize(vote) => Activity::Notarize(vote.clone()),
-                Vote::Nullify(vote) => Activity::Nullify(vote.clone()),
-                Vote::Finalize(vote) => Activity::Finalize(vote.clone()),
-            }),
+            code::REPORT_NOTARIZE | code::REPORT_NULLIFY | code::REPORT_FINALIZE => {
+                Some(match vote {
+                    Vote::Notarize(vote) => Activity::Notarize(vote.clone()),
+                    Vote::Nullify(vote) => Activity::Nullify(vote.clone()),
+                    Vote::Finalize(vote) => Activity::Finalize(vote.clone()),
+                })
+            }
             _ => Some(self.contradiction(answer, numbered, vote)?),
         })
     }
@@ -197,13 +199,13 @@ impl<G: Clone + Eq> Book<G> {
             }
         };
         match (answer.report, of(&answer.first)?, of(&answer.second)?) {
-            (4, Vote::Notarize(first), Vote::Notarize(second)) => {
+            (code::REPORT_CONFLICTING_NOTARIZE, Vote::Notarize(first), Vote::Notarize(second)) => {
                 Ok(Activity::ConflictingNotarize(first, second))
             }
-            (5, Vote::Finalize(first), Vote::Finalize(second)) => {
+            (code::REPORT_CONFLICTING_FINALIZE, Vote::Finalize(first), Vote::Finalize(second)) => {
                 Ok(Activity::ConflictingFinalize(first, second))
             }
-            (6, Vote::Nullify(first), Vote::Finalize(second)) => {
+            (code::REPORT_NULLIFY_FINALIZE, Vote::Nullify(first), Vote::Finalize(second)) => {
                 Ok(Activity::NullifyFinalize(first, second))
             }
             (other, _, _) => Err(Error::Unknown(other)),

@@ -9,9 +9,12 @@ use std::ptr;
 
 pub(crate) mod node;
 
-/// Codes that calls answer.
+/// The numbers of the header: answers of calls, kinds, modes, block reasons, causes and reports.
+#[allow(dead_code)]
 pub(crate) mod code {
     pub(crate) const DONE: u8 = 0;
+    pub(crate) const NONE: u8 = 1;
+    pub(crate) const MALFORMED: u8 = 2;
     pub(crate) const ELSEWHERE: u8 = 3;
     pub(crate) const OUT_OF_MEMORY: u8 = 4;
     pub(crate) const LEADER_CHANGED: u8 = 5;
@@ -30,6 +33,33 @@ pub(crate) mod code {
     pub(crate) const KNOWN: u8 = 18;
     pub(crate) const FORGED: u8 = 19;
     pub(crate) const RESTS: u8 = 20;
+    pub(crate) const NOTARIZATION: u8 = 0;
+    pub(crate) const NULLIFICATION: u8 = 1;
+    pub(crate) const FINALIZATION: u8 = 2;
+    pub(crate) const RETAINING: u8 = 0;
+    pub(crate) const RELEASING: u8 = 1;
+    pub(crate) const SKIPPED: u8 = 2;
+    pub(crate) const BLOCK_NONE: u8 = 0;
+    pub(crate) const BLOCK_UNKNOWN_PARTICIPANT: u8 = 1;
+    pub(crate) const BLOCK_NOTARIZE_SIGNER_MISMATCH: u8 = 2;
+    pub(crate) const BLOCK_NULLIFY_SIGNER_MISMATCH: u8 = 3;
+    pub(crate) const BLOCK_FINALIZE_SIGNER_MISMATCH: u8 = 4;
+    pub(crate) const BLOCK_CONFLICTING_NOTARIZE: u8 = 5;
+    pub(crate) const BLOCK_CONFLICTING_NULLIFY: u8 = 6;
+    pub(crate) const BLOCK_CONFLICTING_FINALIZE: u8 = 7;
+    pub(crate) const BLOCK_INVALID_SIGNATURE: u8 = 8;
+    pub(crate) const BLOCK_NULLIFY_AFTER_FINALIZE: u8 = 9;
+    pub(crate) const BLOCK_FINALIZE_AFTER_NULLIFY: u8 = 10;
+    pub(crate) const CAUSE_NONE: u8 = 0;
+    pub(crate) const CAUSE_CERTIFICATE: u8 = 64;
+    pub(crate) const CAUSE_SIGNATURE: u8 = 65;
+    pub(crate) const REPORT_NONE: u8 = 0;
+    pub(crate) const REPORT_NOTARIZE: u8 = 1;
+    pub(crate) const REPORT_NULLIFY: u8 = 2;
+    pub(crate) const REPORT_FINALIZE: u8 = 3;
+    pub(crate) const REPORT_CONFLICTING_NOTARIZE: u8 = 4;
+    pub(crate) const REPORT_CONFLICTING_FINALIZE: u8 = 5;
+    pub(crate) const REPORT_NULLIFY_FINALIZE: u8 = 6;
 }
 
 /// `struct batcher_proposal`
@@ -103,6 +133,9 @@ pub(crate) struct Round {
 
 // No function here unwinds: Rattle has no panics. A slice is a pointer and its length.
 unsafe extern "C" {
+    /// Its name has the version of the header, so a library of another one doesn't link.
+    safe fn batcher_abi_1();
+
     fn batcher_round_new(
         round: *mut RoundHandle,
         epoch: u64,
@@ -233,6 +266,7 @@ impl Round {
             at: ptr::null_mut(),
         });
         let round = Round { handle };
+        batcher_abi_1();
         // SAFETY: as above; an empty handle is a null pointer.
         let answer = unsafe {
             batcher_round_new(

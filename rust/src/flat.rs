@@ -1,6 +1,6 @@
 //! The library's flat values, to and from this crate's.
 
-use crate::answers::{BlockReason, Error, OwnFault};
+use crate::answers::{BlockReason, Error, Mode, OwnFault};
 use crate::ffi::{self, code};
 use crate::messages::{Kind, Proposal, Sha256Digest, Subject, Vote};
 use crate::positions::{Epoch, Round, View};
@@ -41,7 +41,7 @@ pub(crate) fn flat_vote<G>(vote: &Vote<G>, listed: ffi::Attestation) -> ffi::Vot
     ffi::Vote {
         proposal,
         attestation: listed,
-        kind: kind as u8,
+        kind: kind_code(kind),
     }
 }
 
@@ -57,11 +57,27 @@ pub(crate) fn proposal_of(flat: &ffi::Proposal) -> Proposal {
     )
 }
 
+pub(crate) fn kind_code(kind: Kind) -> u8 {
+    match kind {
+        Kind::Notarization => code::NOTARIZATION,
+        Kind::Nullification => code::NULLIFICATION,
+        Kind::Finalization => code::FINALIZATION,
+    }
+}
+
+pub(crate) fn mode_code(mode: Mode) -> u8 {
+    match mode {
+        Mode::Retaining => code::RETAINING,
+        Mode::Releasing => code::RELEASING,
+        Mode::Skipped => code::SKIPPED,
+    }
+}
+
 pub(crate) fn kind_of(flat: u8) -> Result<Kind, Error> {
     match flat {
-        0 => Ok(Kind::Notarization),
-        1 => Ok(Kind::Nullification),
-        2 => Ok(Kind::Finalization),
+        code::NOTARIZATION => Ok(Kind::Notarization),
+        code::NULLIFICATION => Ok(Kind::Nullification),
+        code::FINALIZATION => Ok(Kind::Finalization),
         other => Err(Error::Unknown(other)),
     }
 }
@@ -84,17 +100,17 @@ pub(crate) fn subject_of(kind: Kind, flat: &ffi::Proposal) -> Subject {
 #[inline]
 pub(crate) fn block_of(flat: u8) -> Result<Option<BlockReason>, Error> {
     Ok(Some(match flat {
-        0 => return Ok(None),
-        1 => BlockReason::UnknownParticipant,
-        2 => BlockReason::NotarizeSignerMismatch,
-        3 => BlockReason::NullifySignerMismatch,
-        4 => BlockReason::FinalizeSignerMismatch,
-        5 => BlockReason::ConflictingNotarize,
-        6 => BlockReason::ConflictingNullify,
-        7 => BlockReason::ConflictingFinalize,
-        8 => BlockReason::InvalidSignature,
-        9 => BlockReason::NullifyAfterFinalize,
-        10 => BlockReason::FinalizeAfterNullify,
+        code::BLOCK_NONE => return Ok(None),
+        code::BLOCK_UNKNOWN_PARTICIPANT => BlockReason::UnknownParticipant,
+        code::BLOCK_NOTARIZE_SIGNER_MISMATCH => BlockReason::NotarizeSignerMismatch,
+        code::BLOCK_NULLIFY_SIGNER_MISMATCH => BlockReason::NullifySignerMismatch,
+        code::BLOCK_FINALIZE_SIGNER_MISMATCH => BlockReason::FinalizeSignerMismatch,
+        code::BLOCK_CONFLICTING_NOTARIZE => BlockReason::ConflictingNotarize,
+        code::BLOCK_CONFLICTING_NULLIFY => BlockReason::ConflictingNullify,
+        code::BLOCK_CONFLICTING_FINALIZE => BlockReason::ConflictingFinalize,
+        code::BLOCK_INVALID_SIGNATURE => BlockReason::InvalidSignature,
+        code::BLOCK_NULLIFY_AFTER_FINALIZE => BlockReason::NullifyAfterFinalize,
+        code::BLOCK_FINALIZE_AFTER_NULLIFY => BlockReason::FinalizeAfterNullify,
         other => return Err(Error::Unknown(other)),
     }))
 }

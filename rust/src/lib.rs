@@ -54,6 +54,9 @@
 #![deny(missing_docs)]
 #![deny(unsafe_code)]
 
+#[cfg(not(all(target_arch = "x86_64", target_os = "linux")))]
+compile_error!("the static library of this crate is built for x86-64 Linux alone");
+
 mod answers;
 mod book;
 mod books;

@@ -55,7 +55,7 @@ use crate::book::{Library, Wanted, WantedTogether, reserve_each};
 use crate::books::Books;
 use crate::ffi::{self, code, node};
 use crate::flat::{
-    block_of, done, error_of, flat_proposal, flat_subject, flat_vote, proposal_of, some,
+    block_of, done, error_of, flat_proposal, flat_subject, flat_vote, kind_code, proposal_of, some,
 };
 use crate::messages::{Activity, Certificate, Kind, Proposal, Vote};
 use crate::positions::{self, Epoch, Participant, View};
@@ -472,7 +472,7 @@ impl<S: Scheme> Node<S> {
         let mut selected_anew = false;
         let answer = self.library.receive_certificate(
             u64::from(sender.get()),
-            kind as u8,
+            kind_code(kind),
             &proposal,
             number,
             certifies,
@@ -823,7 +823,7 @@ impl<S: Scheme> Node<S> {
         let mut has = false;
         let answer = self
             .library
-            .has_certificate(view.get(), kind as u8, &mut has);
+            .has_certificate(view.get(), kind_code(kind), &mut has);
         answer == code::DONE && has
     }
 
@@ -1054,8 +1054,8 @@ impl<S: Scheme> fmt::Debug for Node<S> {
 
 fn cause_of(flat: u8) -> Option<Cause> {
     match flat {
-        11 => Some(Cause::Certificate),
-        12 => Some(Cause::Signature),
+        code::CAUSE_CERTIFICATE => Some(Cause::Certificate),
+        code::CAUSE_SIGNATURE => Some(Cause::Signature),
         other => block_of(other).ok()?.map(Cause::Vote),
     }
 }

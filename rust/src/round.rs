@@ -4,7 +4,9 @@ use crate::answers::{Admission, Batch, Error, Mode, Outcome};
 use crate::book::{Book, Library, reserve_each};
 pub use crate::book::{Wanted, WantedTogether};
 use crate::ffi::{self, code};
-use crate::flat::{done, error_of, flat_proposal, flat_subject, flat_vote, proposal_of, some};
+use crate::flat::{
+    done, error_of, flat_proposal, flat_subject, flat_vote, kind_code, mode_code, proposal_of, some,
+};
 use crate::messages::{Certificate, Kind, Proposal, Vote};
 use crate::positions::{self, Participant};
 use crate::scheme::Scheme;
@@ -126,7 +128,7 @@ impl<S: Scheme> Round<S> {
             round.epoch.get(),
             round.view.get(),
             participants,
-            mode as u8,
+            mode_code(mode),
             scheme.is_batchable(),
             scheme.aggregates(),
         )
@@ -410,12 +412,14 @@ impl<S: Scheme> Round<S> {
         let (kind, number) = (certificate.kind(), self.numbers.unused());
         let proposal = flat_subject(&certificate.subject());
         let mut selected_anew = false;
-        done(
-            self.library
-                .record_certificate(kind as u8, &proposal, number, &mut selected_anew),
-        )?;
+        done(self.library.record_certificate(
+            kind_code(kind),
+            &proposal,
+            number,
+            &mut selected_anew,
+        ))?;
         // The votes of a certificate that isn't handed over yet are needed until it is.
-        let is_needed = |step: ffi::Step| step.certified && step.kind == kind as u8;
+        let is_needed = |step: ffi::Step| step.certified && step.kind == kind_code(kind);
         if !self.unfinished.is_some_and(is_needed) {
             self.book.certified(kind);
         }
@@ -486,7 +490,7 @@ impl<S: Scheme> Round<S> {
     /// Whether a certificate of the kind is there.
     pub fn has_certificate(&self, kind: Kind) -> bool {
         let mut has = false;
-        self.library.has_certificate(kind as u8, &mut has) == code::DONE && has
+        self.library.has_certificate(kind_code(kind), &mut has) == code::DONE && has
     }
 
     /// Whether the signer's nullify is kept in full.

@@ -82,12 +82,12 @@ pub const BLOCK_NULLIFY_AFTER_FINALIZE: u8 = 9;
 pub const BLOCK_FINALIZE_AFTER_NULLIFY: u8 = 10;
 
 /// Why a participant of a node is blocked, if it is: for a vote, by the codes above, or for one of
-/// these.
+/// these, which leave room for more reasons.
 pub const CAUSE_NONE: u8 = 0;
 
-pub const CAUSE_CERTIFICATE: u8 = 11;
+pub const CAUSE_CERTIFICATE: u8 = 64;
 
-pub const CAUSE_SIGNATURE: u8 = 12;
+pub const CAUSE_SIGNATURE: u8 = 65;
 
 /// What a report is of, if there is one.
 pub const REPORT_NONE: u8 = 0;

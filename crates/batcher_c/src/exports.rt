@@ -16,6 +16,11 @@ use crate::handle::{RoundHandle, Session};
 use crate::rounds;
 use std::alloc::Global;
 
+/// Does nothing. Its name has the version of the header, so that a library of another one doesn't
+/// link.
+#[unsafe(no_mangle)]
+pub extern "C" fn batcher_abi_1() {}
+
 /// Makes a round in which nothing has happened. The handle's earlier one is freed.
 #[unsafe(no_mangle)]
 pub extern "C" fn batcher_round_new(

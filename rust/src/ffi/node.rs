@@ -145,6 +145,7 @@ impl Node {
             at: ptr::null_mut(),
         });
         let node = Node { handle };
+        super::batcher_abi_1();
         // SAFETY: as of a round; an empty handle is a null pointer.
         let answer = unsafe {
             batcher_node_new(
