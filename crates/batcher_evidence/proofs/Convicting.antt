@@ -1,6 +1,7 @@
 -- A report that convicts a participant holds a proof.
-use Rattle.std.proofs.Common.{◌≡◌, ◌==◌, Bool, true, false, cond, Option, Some, None, refl, ap, sym, ◌∙◌}
+use Rattle.std.proofs.Common.{◌≡◌, ◌==◌, ◌&&◌, Bool, true, false, cond, Option, Some, None, refl, ap, sym, ◌∙◌}
 use Rattle.std.specs.Prelude.{IfSome, IfOk, Result, Ok, Err, option_and_then}
+use Rattle.std.proofs.Math.Bool.{and_assoc}
 use Rattle.std.proofs.lemmas.Bool.{and_parts, eqb-true}
 use Rattle.std.proofs.lemmas.Option.{same_Some}
 use Rattle.batcher.specs.Meaning.{Meaning}
@@ -9,7 +10,7 @@ use Rattle.batcher.specs.Reports.{subjects_contradict, evidence_in}
 use Rattle.batcher.specs.positions.Participant.{Participant}
 use Rattle.batcher.specs.messages.Vote.{Vote}
 use Rattle.batcher.specs.messages.Activity.{Activity}
-use Rattle.batcher_evidence.specs.Convictions.{both_attest, convicts, convicted_by, IsProof}
+use Rattle.batcher_evidence.specs.Convictions.{both_attest, convicts, convicted_by, convicted_where, may_convict, AreVerdicts, IsProof}
 
 module _ {D K G C : Type 0} (m : Meaning D K G C) (same : D → D → Bool) where
   proof_of :
@@ -42,7 +43,7 @@ module _ {D K G C : Type 0} (m : Meaning D K G C) (same : D → D → Bool) wher
   by_evidence report (Some pair) e i found =
       proof_of report pair.0 pair.1 e i (convicts m same pair.0 pair.1) refl found
 
-  convicted_proves :
+  pub convicted_proves :
       (report : Activity G D) (found : Option Participant) → found ≡ convicted_by m same report
       → IfSome found (IsProof m same report)
   convicted_proves report None e = tt
@@ -54,3 +55,25 @@ module _ {D K G C : Type 0} (m : Meaning D K G C) (same : D → D → Bool) wher
       → IfOk r (λ found. IfSome found (IsProof m same report))
   convicted_if_ok report (Ok found) e = convicted_proves report found e
   convicted_if_ok report (Err fault) e = tt
+
+  -- by verdicts that are the scheme's
+  by_pair : (o : Option (Vote G D × Vote G D)) (first second : Bool)
+      → IfSome o (λ pair. (first ≡ m.attests (subject_of pair.0) (attestation_of pair.0))
+      × (second ≡ m.attests (subject_of pair.1) (attestation_of pair.1)))
+      → option_and_then (λ pair. cond (may_convict same pair.0 pair.1 && (first && second))
+      (Some (attestation_of pair.0).signer) None) o
+      ≡ option_and_then (λ pair. cond (convicts m same pair.0 pair.1)
+      (Some (attestation_of pair.0).signer) None) o
+  by_pair None first second are = refl
+  by_pair (Some pair) first second are =
+      let a = signer_of pair.0 == signer_of pair.1 in
+      let b = subjects_contradict same (subject_of pair.0) (subject_of pair.1) in
+      ap (λ t. cond t (Some (attestation_of pair.0).signer) None)
+      (ap (λ t. (a && b) && (t && second)) are.0
+      ∙ ap (λ t. (a && b) && (m.attests (subject_of pair.0) (attestation_of pair.0) && t)) are.1
+      ∙ and_assoc a b (both_attest m pair.0 pair.1))
+
+  pub convicted_where_is : (report : Activity G D) (first second : Bool)
+      → AreVerdicts m report first second
+      → convicted_where same report (first && second) ≡ convicted_by m same report
+  convicted_where_is report first second are = by_pair (evidence_in report) first second are

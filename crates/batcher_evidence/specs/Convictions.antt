@@ -1,5 +1,5 @@
 -- Whom a report convicts.
-use Rattle.std.specs.Prelude.{◌≡◌, ◌==◌, ◌&&◌, Bool, true, cond, [], ◌∷◌, Option, Some, None, option_and_then}
+use Rattle.std.specs.Prelude.{◌≡◌, ◌==◌, ◌&&◌, Bool, true, cond, [], ◌∷◌, Option, Some, None, IfSome, option_and_then}
 use Rattle.std.specs.Option.{option_map_or}
 use Rattle.rand_core.specs.Stream.{Stream}
 use Rattle.batcher.specs.Lists.{is_some_and}
@@ -19,6 +19,15 @@ module _ {G D : Type 0} (same : D → D → Bool) where
   -- whether a report holds two such votes
   abbrev pub has_to_verify : Activity G D → Bool
   has_to_verify report = is_some_and (evidence_in report) (λ pair. may_convict pair.0 pair.1)
+
+-- whom a report convicts where both of its votes attest, or not
+abbrev pub convicted_where : {G D : Type 0} → (D → D → Bool) → Activity G D → Bool
+    → Option Participant
+convicted_where same report both =
+    option_and_then
+    (λ pair. cond (may_convict same pair.0 pair.1 && both)
+    (Some (attestation_of pair.0).signer) None)
+    (evidence_in report)
 
 module _ {D K G C : Type 0} (m : Meaning D K G C) where
   -- whether both votes attest
@@ -56,6 +65,13 @@ module _ {D K G C : Type 0} (m : Meaning D K G C) where
       option_and_then
       (λ pair. cond (convicts same pair.0 pair.1) (Some (attestation_of pair.0).signer) None)
       (evidence_in report)
+
+  -- Of a report of two votes these are what the scheme says of each.
+  abbrev pub AreVerdicts : Activity G D → Bool → Bool → Type 0
+  AreVerdicts report first second =
+      IfSome (evidence_in report) (λ pair.
+      (first ≡ m.attests (subject_of pair.0) (attestation_of pair.0))
+      × (second ≡ m.attests (subject_of pair.1) (attestation_of pair.1)))
 
   -- The report holds two votes of the participant that attest and contradict each other.
   pub record IsProof (same : D → D → Bool) (report : Activity G D) (i : Participant) : Type 0 where

@@ -16,7 +16,7 @@ mod theorems;
 use batcher::messages::{Attestation, Digest};
 use batcher::scheme::Scheme;
 pub use certificates::{Culprit, culprits};
-pub use reports::convicted;
+pub use reports::{convicted, convicted_with};
 pub use subjects::{certificates_contradict, contradict};
 pub use theorems::{forks_take_contradicting_votes, reports_convict, rounds_are_accountable};
 

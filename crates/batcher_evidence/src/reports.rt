@@ -1,8 +1,8 @@
 //! Whom a report of a round convicts.
 
-ghost use Rattle.std.specs.Prelude.{◌≡◌, cond, true, IfOk, IfSome, OnOk, OnErr, Some, None};
+ghost use Rattle.std.specs.Prelude.{◌≡◌, ◌&&◌, cond, true, IfOk, IfSome, OnOk, OnErr, Some, None};
 ghost use Rattle.batcher.specs.Votes.{subject_of, attestation_of};
-ghost use Rattle.batcher_evidence.specs.Convictions.{IsProof, convicts, convicted_by, may_convict, has_to_verify, left_by, left_by_both, left_by_convicting};
+ghost use Rattle.batcher_evidence.specs.Convictions.{AreVerdicts, IsProof, convicts, convicted_by, convicted_where, may_convict, has_to_verify, left_by, left_by_both, left_by_convicting};
 
 use crate::subjects::contradict;
 use batcher::messages::{Activity, Digest, Vote};
@@ -34,6 +34,64 @@ pub fn convicted<S: Scheme<D>, D: Digest, R: CryptoRng>(
     ensures needed { OnErr result (has_to_verify D.eq report.now ≡ true) }
 {
     convicted_exactly(alloc, scheme, rng, report)
+}
+
+/// The same by verdicts from elsewhere: whether each of the report's two votes attests, in their
+/// order. It takes no memory. The scheme is asked nothing; the verdicts have to be its own.
+pub fn convicted_with<S: Scheme<D>, D: Digest>(
+    scheme: &S,
+    report: &Activity<S::Signature, D>,
+    first_attests: bool,
+    second_attests: bool,
+) -> Option<Participant>
+    requires { AreVerdicts (S.meaning scheme.now) report.now first_attests second_attests }
+    ensures exact { result ≡ convicted_by (S.meaning scheme.now) D.eq report.now }
+    ensures proof { IfSome result (IsProof (S.meaning scheme.now) D.eq report.now) }
+{
+    let _ = scheme;
+    convicted_if(report, first_attests, second_attests)
+}
+
+// The same, by whether each vote attests.
+fn convicted_if<G: Copy, D: Digest>(
+    report: &Activity<G, D>,
+    first: bool,
+    second: bool,
+) -> Option<Participant>
+    ensures { result ≡ convicted_where D.eq report.now (first && second) }
+{
+    match *report {
+        Activity::ConflictingNotarize(a, b) => {
+            signer_if(&Vote::Notarize(a), &Vote::Notarize(b), first, second)
+        }
+        Activity::ConflictingFinalize(a, b) => {
+            signer_if(&Vote::Finalize(a), &Vote::Finalize(b), first, second)
+        }
+        Activity::NullifyFinalize(a, b) => {
+            signer_if(&Vote::Nullify(a), &Vote::Finalize(b), first, second)
+        }
+        Activity::Notarize(_) | Activity::Nullify(_) | Activity::Finalize(_) => None,
+    }
+}
+
+// The signer of two votes that contradict each other, if both attest.
+fn signer_if<G: Copy, D: Digest>(
+    a: &Vote<G, D>,
+    b: &Vote<G, D>,
+    first: bool,
+    second: bool,
+) -> Option<Participant>
+    ensures { result ≡ cond (may_convict D.eq a.now b.now && (first && second))
+        (Some (attestation_of a.now).signer) None }
+{
+    if !may_convict(a, b) {
+        return None;
+    }
+    if first && second {
+        Some(a.signer())
+    } else {
+        None
+    }
 }
 
 // The same, but for the proof.
@@ -98,13 +156,20 @@ fn convicts<S: Scheme<D>, D: Digest, R: CryptoRng>(
         (left_by_both (S.meaning scheme.now) a.now b.now (R.stream rng.old)) (R.stream rng.old)) }
     ensures needed { OnErr result (may_convict D.eq a.now b.now ≡ true) }
 {
-    if a.signer().0 != b.signer().0 || !contradict(a.subject(), b.subject()) {
+    if !may_convict(a, b) {
         return Ok(false);
     }
     if !attests(alloc, scheme, rng, a)? {
         return Ok(false);
     }
     attests(alloc, scheme, rng, b)
+}
+
+// Whether two votes are of one signer and contradict each other.
+fn may_convict<G: Copy, D: Digest>(a: &Vote<G, D>, b: &Vote<G, D>) -> bool
+    ensures { result ≡ may_convict D.eq a.now b.now }
+{
+    a.signer().0 == b.signer().0 && contradict(a.subject(), b.subject())
 }
 
 // Whether the vote's attestation attests what it votes for.

@@ -2,6 +2,7 @@
 //! attestation is asked about once. The same votes are good by one list of keys and bad by another.
 #![tactic(auto)]
 
+mod convicting;
 mod marked;
 mod play;
 mod together;

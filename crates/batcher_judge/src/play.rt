@@ -5,6 +5,7 @@ ghost use Rattle.batcher_bytes.specs.Listings.{attests};
 ghost use Rattle.batcher_judge.specs.contracts.marked.MarkedTruth.TheImpl.{ghosts};
 ghost use Rattle.batcher_verdicts.specs.Rounds.{AllTrue};
 
+use crate::convicting::play_conviction;
 use crate::marked::{Marked, sign};
 use crate::together::play_together;
 use crate::verifying::verify;
@@ -35,6 +36,10 @@ pub fn play(rt: &impl Print, alloc: Global, keys: Keys) -> Result<()> {
     played?;
     let mut round = Round::new(alloc, number, Rc::clone(&scheme)?, true);
     let played = play_together(rt, alloc, &mut round, &scheme);
+    std::mem::drop(round);
+    played?;
+    let mut round = Round::new(alloc, number, Rc::clone(&scheme)?, true);
+    let played = play_conviction(rt, &mut round, &scheme);
     std::mem::drop(round);
     played
 }

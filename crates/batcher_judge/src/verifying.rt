@@ -28,7 +28,8 @@ pub fn verify(
     Ok(verdicts)
 }
 
-fn attests_one(
+/// Whether one attests.
+pub fn attests_one(
     scheme: &Bytes<Marked, true>,
     subject: Subject<Sha256Digest>,
     attestation: &Attestation<Signature>,

@@ -1,3 +1,4 @@
 pub mod Recording
 pub mod Completing
 pub mod Viewing
+pub mod Waiting

@@ -1,3 +1,4 @@
 pub mod Recorded
 pub mod Rounds
 pub mod Nodes
+pub mod Waiting

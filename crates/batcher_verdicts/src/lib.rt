@@ -5,5 +5,7 @@
 mod nodes;
 mod recorded;
 mod rounds;
+mod theorems;
 
 pub use rounds::Verdicts;
+pub use theorems::verdicts_stay_while_they_wait;
