@@ -29,7 +29,7 @@ module _ {T : Type 0} (truth : Ghosts T) (keys : Keys) (n : ℕ)
   in_range a h = Prim.grind (arith, nat_tests, h)
 
   pub made : (all : List (Attestation Signature))
-      → certifies truth keys n subject (made_of truth keys n subject all) ≡ true
+      → certifies {T = T} keys n subject (made_of keys n subject all) ≡ true
   made all =
       let keys_same : same_keys keys keys ≡ true = same_as_itself keys.0 in
       let subject_same = same_subject-refl same_digest (λ d. same_as_itself d.0) subject in
@@ -37,28 +37,28 @@ module _ {T : Type 0} (truth : Ghosts T) (keys : Keys) (n : ℕ)
       rw (count_same, keys_same, subject_same) refl
 
   pub at_once_certifies : (pending verified : List (Attestation Signature)) (stream : Stream)
-      (c : Content T truth) → (made_at_once truth keys n subject pending verified stream).0 ≡ Some c
-      → certifies truth keys n subject c ≡ true
+      (c : Content T) → (made_at_once keys n truth subject pending verified stream).0 ≡ Some c
+      → certifies keys n subject c ≡ true
   at_once_certifies pending verified stream c e =
       given (list_all (attests truth keys n subject) pending) (verified ++ pending) c e
     where
-      given : (b : Bool) (all : List (Attestation Signature)) (c : Content T truth)
-          → cond b (Some (made_of truth keys n subject all)) None ≡ Some c
-          → certifies truth keys n subject c ≡ true
+      given : (b : Bool) (all : List (Attestation Signature)) (c : Content T)
+          → cond b (Some (made_of keys n subject all)) None ≡ Some c
+          → certifies keys n subject c ≡ true
       given true all c e =
-          let same : made_of truth keys n subject all ≡ c = cc in
-          subst (λ content. certifies truth keys n subject content ≡ true) same (made all)
+          let same : made_of keys n subject all ≡ c = cc in
+          subst (λ content. certifies keys n subject content ≡ true) same (made all)
       given false all c e = absurd (cc)
 
   pub at_once_gives : (pending verified : List (Attestation Signature)) (stream : Stream)
       → AllPass (attests truth keys n subject) pending
-      → is_some (made_at_once truth keys n subject pending verified stream).0 ≡ true
+      → is_some (made_at_once keys n truth subject pending verified stream).0 ≡ true
   at_once_gives pending verified stream pass =
       gives (list_all (attests truth keys n subject) pending)
-      (made_of truth keys n subject (verified ++ pending))
+      (made_of keys n subject (verified ++ pending))
       (list_all-from_AllPass (attests truth keys n subject) pending pass)
     where
-      gives : (all : Bool) (c : Content T truth) → all ≡ true
+      gives : (all : Bool) (c : Content T) → all ≡ true
           → is_some (cond all (Some c) None) ≡ true
       gives true c e = refl
       gives false c e = absurd (cc)

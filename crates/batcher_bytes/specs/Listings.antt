@@ -16,6 +16,13 @@ pub record Listing : Type 0 where
   pub subject : Subject Sha256Digest
   pub attestations : List (Attestation Signature)
 
+-- a certificate from elsewhere, among participants with these keys
+pub record Received : Type 0 where
+  pub keys : Keys
+  pub subject : Subject Sha256Digest
+  pub bytes : List ℕ
+  pub certifies : Bool
+
 abbrev pub listing_of : Keys → ℕ → Subject Sha256Digest → List (Attestation Signature) → Listing
 listing_of keys n subject all =
     record { keys = keys; participants = n; subject = subject; attestations = all }

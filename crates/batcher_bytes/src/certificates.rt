@@ -97,23 +97,43 @@ impl<T: Truth> Listed<T> {
     }
 }
 
-/// A certificate from elsewhere: its bytes, and whether they are one of its subject.
+/// A certificate from elsewhere: its bytes, and whether they are one of its subject. Contracts see
+/// these, and whose it is.
 #[derive(Drop)]
 pub struct Verified<T: Truth> {
-    pub keys: Keys,
-    pub subject: Subject<Sha256Digest>,
-    pub bytes: Vec<u8>,
-    pub certifies: bool,
+    keys: Keys,
+    subject: Subject<Sha256Digest>,
+    bytes: Vec<u8>,
+    certifies: bool,
     of: PhantomData<T>,
-    ghost agrees: { T.certifies keys subject bytes.items ≡ certifies },
+}
+
+impl<T: Truth> Model for Verified<T> {
+    ghost use Rattle.std.specs.Prelude.{◌≡◌};
+    ghost use Rattle.batcher_bytes.specs.Listings.{Received};
+
+    ghost Value = { Received };
+
+    ghost view = { λ v. record {
+      keys = v.keys;
+      subject = v.subject;
+      bytes = v.bytes.items;
+      certifies = v.certifies;
+    } };
+
+    ghost invariant = { λ v. T.certifies v.keys v.subject v.bytes.items ≡ v.certifies };
 }
 
 impl<T: Truth> Verified<T> {
     /// A certificate with its verdict, which is to be true.
     pub fn new(keys: Keys, subject: Subject<Sha256Digest>, bytes: Vec<u8>, certifies: bool) -> Self
         requires { T.certifies keys subject bytes.items ≡ certifies }
-        ensures subject { (result.keys ≡ keys) × (result.subject ≡ subject) }
-        ensures verdict { (result.bytes ≡ bytes) × (result.certifies ≡ certifies) }
+        ensures { result ≡ record {
+          keys = keys;
+          subject = subject;
+          bytes = bytes.items;
+          certifies = certifies;
+        } }
     {
         Verified {
             keys,
@@ -122,6 +142,21 @@ impl<T: Truth> Verified<T> {
             certifies,
             of: PhantomData,
         }
+    }
+
+    /// Whether the bytes are a certificate of the subject, which is true.
+    pub fn certifies(&self) -> bool
+        ensures verdict { result ≡ self.now.certifies }
+        ensures agrees { T.certifies self.now.keys self.now.subject self.now.bytes ≡ result }
+    {
+        self.certifies
+    }
+
+    /// The bytes.
+    pub fn bytes(&self) -> &[u8]
+        ensures { result.now ≡ self.now.bytes }
+    {
+        self.bytes.as_slice()
     }
 
     // Whether it certifies the subject, among participants with these keys.

@@ -53,9 +53,9 @@ impl<T: Truth, const BATCHABLE: bool> Bytes<T, BATCHABLE> {
         requires quorum { IsQuorum (length self.now.participants) (prior.now ++ fresh.now) }
         requires passes { T.passes self.now.keys subject (prior.now ++ fresh.now) ≡ true }
         ensures made { IfOk result (λ certificate. certificate
-            ≡ made_of T.Truth self.now.keys (length self.now.participants) subject
+            ≡ made_of self.now.keys (length self.now.participants) subject
             (prior.now ++ fresh.now)) }
-        ensures certifies { IfOk result (λ certificate. certifies T.Truth self.now.keys
+        ensures certifies { IfOk result (λ certificate. certifies self.now.keys
             (length self.now.participants) subject certificate ≡ true) }
     {
         let certificate = self.listed(alloc, subject, prior, fresh)?;
@@ -73,7 +73,7 @@ impl<T: Truth, const BATCHABLE: bool> Bytes<T, BATCHABLE> {
         requires { Passed T.Truth (listing_of self.now.keys (length self.now.participants) subject
             (prior.now ++ fresh.now)) }
         ensures { IfOk result (λ certificate. certificate
-            ≡ made_of T.Truth self.now.keys (length self.now.participants) subject
+            ≡ made_of self.now.keys (length self.now.participants) subject
             (prior.now ++ fresh.now)) }
     {
         let mut all = Vec::with_capacity(alloc, prior.len().saturating_add(fresh.len()))?;
@@ -95,11 +95,11 @@ impl<T: Truth, const BATCHABLE: bool> Scheme<Sha256Digest> for Bytes<T, BATCHABL
       participants = s.participants;
       batchable = BATCHABLE;
       attests = λ subject a. attests T.Truth s.keys (length s.participants) subject a;
-      certifies = λ subject c. certifies T.Truth s.keys (length s.participants) subject c;
+      certifies = λ subject c. certifies s.keys (length s.participants) subject c;
       left_by_verifying = λ subject pending stream. stream;
-      assembled_at_once = λ subject pending verified stream. made_at_once T.Truth s.keys
-          (length s.participants) subject pending verified stream;
-      assembled = λ subject prior fresh. made_of T.Truth s.keys (length s.participants) subject
+      assembled_at_once = λ subject pending verified stream. made_at_once s.keys
+          (length s.participants) T.Truth subject pending verified stream;
+      assembled = λ subject prior fresh. made_of s.keys (length s.participants) subject
           (prior ++ fresh);
     } };
 
@@ -154,7 +154,7 @@ impl<T: Truth, const BATCHABLE: bool> Scheme<Sha256Digest> for Bytes<T, BATCHABL
         ensures sorts { IfOk result (λ answer. IfErr answer (Sorts (attests T.Truth self.now.keys
             (length self.now.participants) subject) pending.now)) }
         ensures function { IfOk result (λ answer. (result_ok answer, R.stream rng.new)
-            ≡ made_at_once T.Truth self.now.keys (length self.now.participants) subject
+            ≡ made_at_once self.now.keys (length self.now.participants) T.Truth subject
             pending.now verified.now (R.stream rng.old)) }
     {
         let _ = alloc;
@@ -177,14 +177,14 @@ impl<T: Truth, const BATCHABLE: bool> Scheme<Sha256Digest> for Bytes<T, BATCHABL
         requires attested { AllPass (attests T.Truth self.now.keys (length self.now.participants)
             subject) (prior.now ++ fresh.now) }
         ensures function { IfOk result (λ certificate. certificate
-            ≡ made_of T.Truth self.now.keys (length self.now.participants) subject
+            ≡ made_of self.now.keys (length self.now.participants) subject
             (prior.now ++ fresh.now)) }
     {
         self.listed(alloc, subject, prior, fresh)
     }
 
     fn verify_certificate(&self, subject: Subject<Sha256Digest>, certificate: &Content<T>) -> bool
-        ensures { result ≡ certifies T.Truth self.now.keys (length self.now.participants) subject
+        ensures { result ≡ certifies self.now.keys (length self.now.participants) subject
             certificate.now }
     {
         match certificate {

@@ -1,8 +1,11 @@
-//! A round whose votes somebody else verifies, as in another thread: verdicts come late, and each
-//! attestation is asked about once. The same votes are good by one list of keys and bad by another.
+//! Rounds over signatures as bytes, which somebody else verifies, as in another thread.
+//!
+//! Verdicts are on votes, and come late, on a quorum as a whole, on two votes that contradict each
+//! other, and on certificates. What is good by one list of keys is bad by another.
 #![tactic(auto)]
 
 mod convicting;
+mod elsewhere;
 mod marked;
 mod play;
 mod together;

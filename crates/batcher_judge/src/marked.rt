@@ -9,14 +9,13 @@ use batcher_bytes::{Keys, Signature, Truth};
 pub struct Marked;
 
 impl Truth for Marked {
-    ghost use Rattle.std.specs.Prelude.{false};
-    ghost use Rattle.batcher_judge.specs.Marks.{is_marked, are_marked};
+    ghost use Rattle.batcher_judge.specs.Marks.{is_marked, are_marked, is_certificate};
 
     ghost attests = { is_marked };
 
     ghost passes = { are_marked };
 
-    ghost certifies = { λ keys subject bytes. false };
+    ghost certifies = { is_certificate };
 }
 
 /// A signature by the keys, whatever it is of.

@@ -1,4 +1,4 @@
-//! A round that is handed verdicts.
+//! The rounds that are played, and one that is handed verdicts which come late.
 
 ghost use Rattle.std.specs.Prelude.{◌≡◌, length, IfOk};
 ghost use Rattle.batcher_bytes.specs.Listings.{attests};
@@ -6,6 +6,7 @@ ghost use Rattle.batcher_judge.specs.contracts.marked.MarkedTruth.TheImpl.{ghost
 ghost use Rattle.batcher_verdicts.specs.Rounds.{AllTrue};
 
 use crate::convicting::play_conviction;
+use crate::elsewhere::play_certificates;
 use crate::marked::{Marked, sign};
 use crate::together::play_together;
 use crate::verifying::verify;
@@ -23,7 +24,7 @@ pub type TheScheme = Bytes<Marked, true>;
 
 pub type TheRound = Round<TheScheme, Sha256Digest>;
 
-/// Three nullifies come, all by the keys of sevens. While they are verified a fourth one comes.
+/// Plays four rounds of participants with these keys. All votes are signed by the keys of sevens.
 pub fn play(rt: &impl Print, alloc: Global, keys: Keys) -> Result<()> {
     let scheme = Rc::new(alloc, TheScheme::new(names(alloc, 4)?, keys))?;
     if scheme.participants.len() == 0 {
@@ -41,9 +42,14 @@ pub fn play(rt: &impl Print, alloc: Global, keys: Keys) -> Result<()> {
     let mut round = Round::new(alloc, number, Rc::clone(&scheme)?, true);
     let played = play_conviction(rt, &mut round, &scheme);
     std::mem::drop(round);
+    played?;
+    let mut round = Round::new(alloc, number, Rc::clone(&scheme)?, true);
+    let played = play_certificates(rt, alloc, &mut round, &scheme);
+    std::mem::drop(round);
     played
 }
 
+// Three nullifies come, and while they are verified a fourth one.
 fn hear_all(rt: &impl Print, alloc: Global, round: &mut TheRound, scheme: &TheScheme) -> Result<()>
     requires { round.old.scheme ≡ scheme.now }
 {

@@ -5,7 +5,6 @@ ghost use Rattle.batcher.specs.Attestations.{IsQuorum, index_of_signer};
 ghost use Rattle.batcher.specs.Lists.{EachOnce};
 ghost use Rattle.batcher.specs.Quorum.{quorum_of};
 ghost use Rattle.batcher_bytes.specs.Meanings.{certifies};
-ghost use Rattle.batcher_judge.specs.contracts.marked.MarkedTruth.TheImpl.{ghosts};
 
 use crate::marked::Marked;
 use crate::play::{TheRound, TheScheme, hear};
@@ -58,7 +57,7 @@ fn certify(
     pending: &[Attestation<Signature>],
 ) -> Result<Option<Content<Marked>>, AllocError>
     requires { EachOnce index_of_signer (verified.now ++ pending.now) }
-    ensures { IfOk result (λ made. IfSome made (λ certificate. certifies ghosts scheme.now.keys
+    ensures { IfOk result (λ made. IfSome made (λ certificate. certifies scheme.now.keys
         (length scheme.now.participants) subject certificate ≡ true)) }
 {
     let mut all = Vec::from_slice(alloc, verified)?;

@@ -15,5 +15,5 @@ pub returns-clause-certifies : goal.returns-clause-certifies
 returns-clause-certifies g c =
     let keys = c.args.self.now.keys in
     let n = length c.args.self.now.participants in
-    subst (λ m. certifies g.T.Truth keys n c.args.subject m ≡ true) (sym c.in_ok-certificate.ensures)
+    subst (λ m. certifies keys n c.args.subject m ≡ true) (sym c.in_ok-certificate.ensures)
     (made g.T.Truth keys n c.args.subject (c.args.prior.now ++ c.args.fresh.now))
