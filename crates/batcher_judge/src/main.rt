@@ -10,6 +10,7 @@ mod marked;
 mod play;
 mod together;
 mod verifying;
+mod views;
 
 use anyhow::Result;
 use batcher_bytes::Keys;

@@ -10,6 +10,7 @@ use crate::elsewhere::play_certificates;
 use crate::marked::{Marked, sign};
 use crate::together::play_together;
 use crate::verifying::verify;
+use crate::views::play_views;
 use anyhow::{Result, bail};
 use batcher::messages::{Nullify, Sha256Digest, Vote};
 use batcher::positions::{Epoch, Participant, Round as Number, View};
@@ -24,7 +25,8 @@ pub type TheScheme = Bytes<Marked, true>;
 
 pub type TheRound = Round<TheScheme, Sha256Digest>;
 
-/// Plays four rounds of participants with these keys. All votes are signed by the keys of sevens.
+/// Plays rounds and a node of participants with these keys. All votes are signed by the keys of
+/// sevens.
 pub fn play(rt: &impl Print, alloc: Global, keys: Keys) -> Result<()> {
     let scheme = Rc::new(alloc, TheScheme::new(names(alloc, 4)?, keys))?;
     if scheme.participants.len() == 0 {
@@ -46,7 +48,8 @@ pub fn play(rt: &impl Print, alloc: Global, keys: Keys) -> Result<()> {
     let mut round = Round::new(alloc, number, Rc::clone(&scheme)?, true);
     let played = play_certificates(rt, alloc, &mut round, &scheme);
     std::mem::drop(round);
-    played
+    played?;
+    play_views(rt, alloc, &scheme)
 }
 
 // Three nullifies come, and while they are verified a fourth one.
