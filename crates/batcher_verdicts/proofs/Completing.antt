@@ -1,5 +1,6 @@
 -- A construction is made where nothing is asked about any more, and just there.
 use Rattle.std.proofs.Common.{◌≡◌, ◌∙◌, ℕ, List, [], take, Some, sym, subst}
+use Rattle.std.proofs.lemmas.Option.{same_Some}
 use Rattle.batcher_types.specs.declared.messages.Attestation.{Attestation}
 use Rattle.batcher_types.specs.declared.messages.Subject.{Subject}
 use Rattle.batcher_votes.specs.RoundState.{PerKind, RoundState}
@@ -8,7 +9,7 @@ use Rattle.batcher_round.specs.Next.{subject_next, pending_next}
 use Rattle.batcher_round.specs.Verdicts.{LooksAtNext}
 use Rattle.batcher_verdicts.specs.Recorded.{Recorded, Asks, IsKnown}
 use Rattle.batcher_verdicts.specs.Rounds.{recorded_of, AsksNext}
-use Rattle.batcher_verdicts.proofs.Recording.{some_same, whole_list, none_asked}
+use Rattle.batcher_verdicts.proofs.Recording.{whole_list, none_asked}
 
 module _ {D K G C : Type 0} (x : Config D K G C) (held : RoundState G D)
     (all : PerKind (Recorded G D)) (subject : Subject D) (n : ℕ) (list : List (Attestation G))
@@ -17,7 +18,7 @@ module _ {D K G C : Type 0} (x : Config D K G C) (held : RoundState G D)
   pub looks_at_all : (asked : Subject D) → subject_next x held ≡ Some subject
       → AsksNext x held all asked [] → LooksAtNext x held subject list
   looks_at_all asked next complete =
-      let same : asked ≡ subject = some_same (sym complete.next ∙ next) in
+      let same : asked ≡ subject = same_Some _ _ (sym complete.next ∙ next) in
       let asks = subst (λ s. Asks (recorded_of all s) s (pending_next x held) []) same complete.asks in (
         next,
         whole_list (recorded_of all subject) subject (pending_next x held) n known asks ∙ sym list_is,

@@ -1,6 +1,5 @@
 -- What is asked about, and what is recorded after what was.
 use Rattle.std.proofs.Common.{◌≡◌, inl, inr, ◌++◌, ◌-◌, ◌+◌, ◌∙◌, ℕ, Bool, List, [], length, take, drop, map, Option, None, Some, IfSome, sym, ap, subst}
-use Rattle.std.specs.Option.{unwrap_or}
 use Rattle.std.proofs.Math.Seq.{take-length}
 use Rattle.std.proofs.lemmas.List.{append-nil, append_cancel_left, length-drop, length-append, map-append, take-map, append_assoc}
 use Rattle.batcher_types.specs.declared.messages.Attestation.{Attestation}
@@ -9,9 +8,6 @@ use Rattle.batcher_types.specs.declared.messages.Kind.TheVariants.{Notarization,
 use Rattle.batcher_votes.specs.RoundState.{PerKind}
 use Rattle.batcher_verdicts.specs.Rounds.{AllTrue}
 use Rattle.batcher_verdicts.specs.Recorded.{Recorded, Begins, Asks, IsKnown, AreTrue, Adds}
-
-pub some_same : {X : Type 0} {a b : X} → Some a ≡ Some b → a ≡ b
-some_same {a = a} h = ap (λ o. unwrap_or o a) h
 
 -- what is left of a list, as a slice of it
 pub rest_is : {X : Type 0} (xs : List X) (n : ℕ) → take (length xs - n) (drop n xs) ≡ drop n xs

@@ -2,6 +2,7 @@
 use Rattle.std.proofs.Common.{◌≡◌, ◌∙◌, ℕ, true, false, List, take, Option, Some, None, IfSome, is_some, refl, sym, ap, subst}
 use Rattle.std.specs.Option.{option_map}
 use Rattle.std.proofs.lemmas.Bool.{true≢false}
+use Rattle.std.proofs.lemmas.Option.{same_Some}
 use Rattle.batcher_types.specs.declared.messages.Attestation.{Attestation}
 use Rattle.batcher_types.specs.declared.messages.Subject.{Subject}
 use Rattle.batcher_votes.specs.RoundState.{PerKind, RoundView}
@@ -14,7 +15,6 @@ use Rattle.batcher_node.proofs.Lowest.{one_next}
 use Rattle.batcher_verdicts.specs.Recorded.{Recorded, IsKnown}
 use Rattle.batcher_verdicts.specs.Rounds.{recorded_of, AreComplete}
 use Rattle.batcher_verdicts.specs.Nodes.{AreCompleteThere, KnownThere}
-use Rattle.batcher_verdicts.proofs.Recording.{some_same}
 use Rattle.batcher_verdicts.proofs.Completing.{looks_at_all, asks_nothing}
 
 module _ {S D K G C : Type 0} (round_config : RoundView S G D → Config D K G C)
@@ -26,7 +26,7 @@ module _ {S D K G C : Type 0} (round_config : RoundView S G D → Config D K G C
   lent_there : (view : ℕ) (round : RoundView S G D) (o : Option (Slot (RoundView S G D)))
       → slot_at rounds view ≡ o → Some round ≡ option_map (λ slot. slot.round) o
       → (slot : Slot (RoundView S G D)) × ((slot_at rounds view ≡ Some slot) × (slot.round ≡ round))
-  lent_there view round (Some slot) at is = (slot, (at, sym (some_same is)))
+  lent_there view round (Some slot) at is = (slot, (at, sym (same_Some _ _ is)))
   lent_there view round None at is = absurd (true≢false (ap is_some is))
 
   pub known_there : (view : ℕ) (round : RoundView S G D) (known : Option (Subject D × ℕ))
@@ -56,7 +56,7 @@ module _ {S D K G C : Type 0} (round_config : RoundView S G D → Config D K G C
   is_known view round (Some k) next lent about other subject after there = refl
   is_known view round None next lent about other subject after there =
       let t = lent_there view round (slot_at rounds view) refl lent in
-      let same : there.slot ≡ t.0 = some_same
+      let same : there.slot ≡ t.0 = same_Some _ _
       (sym there.there ∙ ap (slot_at rounds) (one_next rounds other view after next) ∙ t.1.0) in
       let ready = subst (λ r. subject_next (round_config r) r.holds ≡ Some subject)
       (ap (λ s. s.round) same ∙ t.1.1) there.complete.next in
@@ -73,7 +73,7 @@ module _ {S D K G C : Type 0} (round_config : RoundView S G D → Config D K G C
         → AreCompleteThere round_config (slot_at rounds view) all asked
         → LooksAtThere round_config (slot_at rounds view) subject list
     looks_there asked there =
-        let same : there.slot ≡ k.slot = some_same (sym there.there ∙ at_view) in
+        let same : there.slot ≡ k.slot = same_Some _ _ (sym there.there ∙ at_view) in
         record {
           slot = k.slot;
           there = at_view;
@@ -86,7 +86,7 @@ module _ {S D K G C : Type 0} (round_config : RoundView S G D → Config D K G C
     pub complete_there : LooksAtThere round_config (slot_at rounds view) subject list
         → AreCompleteThere round_config (slot_at rounds view) all subject
     complete_there looks =
-        let same : looks.slot ≡ k.slot = some_same (sym looks.there ∙ at_view) in
+        let same : looks.slot ≡ k.slot = same_Some _ _ (sym looks.there ∙ at_view) in
         record {
           slot = looks.slot;
           there = looks.there;
