@@ -1,14 +1,12 @@
 -- What waits keeps its place while a round is called.
-use Rattle.std.proofs.Common.{◌≡◌, ◌⊎◌, inl, inr, ◌++◌, ◌∙◌, ◌+◌, ◌≤◌, ◌&&◌, ◌||◌, ℕ, Bool, true, false, not, cond, List, [], ◌∷◌, Option, Some, None, map, refl, sym, ap, subst, arith}
+use Rattle.std.proofs.Common.{◌≡◌, ◌⊎◌, inl, inr, ◌++◌, ◌∙◌, ◌≤◌, ◌&&◌, ◌||◌, Bool, true, false, not, cond, List, [], ◌∷◌, Option, Some, None, refl, ap, subst, arith}
 use Rattle.std.specs.Prelude.{filter}
 use Rattle.std.proofs.lemmas.Bool.{false≢true}
 use Rattle.std.proofs.lemmas.List.{append_assoc, map-append}
 use Rattle.std.proofs.lemmas.List.Elements.{filter-append}
-use Rattle.batcher_types.specs.declared.messages.Attestation.{Attestation}
 use Rattle.batcher_types.specs.declared.messages.Kind.{Kind}
 use Rattle.batcher_types.specs.declared.messages.Kind.TheVariants.{Nullification}
 use Rattle.batcher_types.specs.declared.messages.Proposal.{Proposal}
-use Rattle.batcher_types.specs.declared.messages.Subject.{Subject}
 use Rattle.batcher_types.specs.declared.messages.Vote.{Vote}
 use Rattle.batcher_types.specs.declared.messages.Vote.TheVariants.{Notarize as NotarizeVote, Nullify as NullifyVote, Finalize as FinalizeVote}
 use Rattle.batcher_types.specs.Lists.{count}
@@ -21,10 +19,9 @@ use Rattle.batcher_histories.specs.Config.{Config}
 use Rattle.batcher_histories.specs.History.{History, Event, sent_votes}
 use Rattle.batcher_histories.specs.FirstVotes.{first_votes}
 use Rattle.batcher_histories.specs.Eligible.{fresh_votes, eligible_votes, eligible_among, is_trusted, was_eligible, trials}
-use Rattle.batcher_histories.specs.Represents.{Represents, Simulates, tries_kind, arrivals, pending_after}
+use Rattle.batcher_histories.specs.Represents.{Represents, Simulates, tries_kind, arrivals}
 use Rattle.batcher_histories.specs.Selection.{is_certified, is_restored, selected_proposal}
 use Rattle.batcher_histories.proofs.History.Past.{open_eligible}
-use Rattle.batcher_verdicts.specs.Recorded.{Recorded, Begins}
 use Rattle.batcher_verdicts.specs.Waiting.{GoesOnWaiting, VerdictsStay}
 
 never : (k e n : Bool) → (k ≡ true → e ≡ true → n ≡ true) → (k && (e && not n)) ≡ false
