@@ -1,0 +1,90 @@
+-- The round of a node's next view, as the node lends it.
+use Rattle.std.proofs.Common.{◌≡◌, ◌∙◌, ℕ, Bool, true, false, List, Option, Some, None, IfSome, is_some, refl, sym, ap, subst}
+use Rattle.std.specs.Option.{option_map}
+use Rattle.std.proofs.lemmas.Bool.{true≢false}
+use Rattle.std.proofs.lemmas.Option.{same_Some}
+use Rattle.batcher.specs.Config.{Config}
+use Rattle.batcher.specs.RoundState.{PerKind, RoundView}
+use Rattle.batcher.specs.messages.Attestation.{Attestation}
+use Rattle.batcher.specs.messages.Subject.{Subject}
+use Rattle.batcher_round.specs.Next.{subject_next}
+use Rattle.batcher_node.proofs.Lowest.{one_next}
+use Rattle.batcher_node.specs.Nodes.{IsNext, slot_at}
+use Rattle.batcher_node.specs.declared.slot.Slot.{Slot}
+use Rattle.batcher_verdicts.specs.Nodes.{AreCompleteThere}
+use Rattle.batcher_verdicts.specs.Recorded.{Recorded}
+use Rattle.batcher_verdicts.specs.Rounds.{AreComplete, AsksNext}
+use Rattle.batcher_any.specs.NextRounds.{IsNextRound}
+
+-- What holds of the round that is lent holds of that of the slot.
+pub of_lent : {R : Type 0} (P : R → Type 0) (round : R) (o : Option (Slot R))
+    → Some round ≡ option_map (λ slot. slot.round) o → P round → IfSome o (λ slot. P slot.round)
+of_lent P round (Some slot) is holds = subst P (same_Some _ _ is) holds
+of_lent P round None is holds = tt
+
+-- A view is next only where not all of them rest.
+pub changed_there : {R : Type 0} (rounds : List (ℕ × Slot R)) (view : ℕ) → IsNext rounds view
+    → IfSome (slot_at rounds view) (λ slot. slot.changed ≡ false) → ⊥
+changed_there rounds view next rests =
+    let at = next.changed in
+    let calm : at.slot.changed ≡ false =
+    subst (λ o. IfSome o (λ slot. slot.changed ≡ false)) at.there rests in
+    true≢false (sym at.changed ∙ calm)
+
+module _ {R : Type 0} (rounds : List (ℕ × Slot R)) where
+  lent_there : (view : ℕ) (round : R) (o : Option (Slot (R)))
+      → slot_at rounds view ≡ o → Some round ≡ option_map (λ slot. slot.round) o
+      → (slot : Slot (R))
+      × ((slot_at rounds view ≡ Some slot) × (slot.round ≡ round))
+  lent_there view round (Some slot) at is = (slot, (at, sym (same_Some _ _ is)))
+  lent_there view round None at is = absurd (true≢false (ap is_some is))
+
+  pub is_next_round : (view : ℕ) (round : R) → IsNext rounds view
+      → Some round ≡ option_map (λ slot. slot.round) (slot_at rounds view)
+      → IsNextRound rounds view round
+  is_next_round view round next lent =
+      let t = lent_there view round (slot_at rounds view) refl lent in
+      record { next = next; slot = t.0; there = t.1.0; its = t.1.1 }
+
+  -- Two that are next are one.
+  pub only : (view other : ℕ) (round its : R) → IsNextRound rounds view round
+      → IsNextRound rounds other its → its ≡ round
+  only view other round its r n =
+      let same : n.slot ≡ r.slot = same_Some _ _
+      (sym n.there ∙ ap (slot_at rounds) (one_next rounds other view n.next r.next) ∙ r.there) in
+      sym n.its ∙ (ap (λ s. s.round) same ∙ r.its)
+
+module _ {S D K G C : Type 0} (round_config : RoundView S G D → Config D K G C)
+    (rounds : List (ℕ × Slot (RoundView S G D))) (all : PerKind (Recorded G D)) where
+  pub asked_here : (view other : ℕ) (round its : RoundView S G D) (subject : Subject D)
+      (list : List (Attestation G)) → IsNextRound rounds view round
+      → IsNextRound rounds other its
+      → AsksNext (round_config its) its.holds all subject list
+      → AsksNext (round_config round) round.holds all subject list
+  asked_here view other round its subject list r n asks =
+      subst (λ o. AsksNext (round_config o) o.holds all subject list)
+      (only rounds view other round its r n) asks
+
+  pub complete_there : (other : ℕ) (its : RoundView S G D) (subject : Subject D)
+      → IsNextRound rounds other its → AreComplete (round_config its) its.holds all subject
+      → AreCompleteThere round_config (slot_at rounds other) all subject
+  complete_there other its subject n complete = record {
+    slot = n.slot;
+    there = n.there;
+    complete = subst (λ o. AreComplete (round_config o) o.holds all subject) (sym n.its) complete;
+  }
+
+  -- Where a kind is ready in the next view, the next construction is about something.
+  pub ready_there : (view other : ℕ) (its : RoundView S G D) (b : Bool) → IsNext rounds view
+      → IfSome (slot_at rounds view) (λ slot. b
+      ≡ is_some (subject_next (round_config slot.round) slot.round.holds)) → b ≡ true
+      → IsNextRound rounds other its → subject_next (round_config its) its.holds ≡ None → ⊥
+  ready_there view other its b next there is n none =
+      let at : slot_at rounds view ≡ Some n.slot =
+      ap (slot_at rounds) (one_next rounds view other next n.next) ∙ n.there in
+      let ready : b ≡ is_some (subject_next (round_config n.slot.round) n.slot.round.holds) =
+      subst (λ o. IfSome o (λ slot. b
+      ≡ is_some (subject_next (round_config slot.round) slot.round.holds))) at there in
+      let its_none : subject_next (round_config n.slot.round) n.slot.round.holds ≡ None =
+      subst (λ r. subject_next (round_config r) r.holds ≡ None) (sym n.its) none in
+      true≢false (sym is ∙ ready ∙ ap is_some its_none)
