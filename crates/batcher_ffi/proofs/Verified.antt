@@ -1,0 +1,69 @@
+-- What a caller has verified, by what the scheme of its round means.
+use Rattle.std.proofs.Common.{◌≡◌, ◌∙◌, ◌&&◌, nat_lt, Bool, true, false, List, [], ◌∷◌, Option, Some, map, ap, refl, sym}
+use Rattle.std.specs.List.{list_all}
+use Rattle.std.specs.Prelude.{length}
+use Rattle.std.proofs.lemmas.List.{length-map}
+use Rattle.batcher_types.specs.declared.messages.Attestation.{Attestation}
+use Rattle.batcher_types.specs.declared.messages.Sha256Digest.{Sha256Digest}
+use Rattle.batcher_types.specs.declared.messages.Subject.{Subject}
+use Rattle.batcher_bytes.specs.declared.signature.Signature.{Signature}
+use Rattle.batcher_any.specs.Judging.{SameAny, keys_in}
+use Rattle.batcher_any.specs.declared.either.Either.TheVariants.{Batchable, OneByOne}
+use Rattle.batcher_ffi.specs.Flat.{AreIn, attestation_in}
+use Rattle.batcher_ffi.specs.Rounds.{CRound, config_of}
+use Rattle.batcher_ffi.specs.Truths.{is_attested}
+use Rattle.batcher_ffi.specs.declared.flat.FlatAttestation.{FlatAttestation}
+
+pub attests_if : (r : CRound) (subject : Subject Sha256Digest) (a : Attestation Signature)
+    → (config_of r).meaning.attests subject a
+    ≡ (nat_lt a.signer.0 (length (config_of r).meaning.participants)
+    && is_attested (keys_in r) subject a)
+attests_if (Batchable judged) subject a = refl
+attests_if (OneByOne judged) subject a = refl
+
+and_true : (a b : Bool) → a ≡ true → (a && b) ≡ b
+and_true true b h = refl
+and_true false b h = absurd (cc)
+
+both_true : (a b : Bool) → (a && b) ≡ true → (a ≡ true) × (b ≡ true)
+both_true true b h = (refl, h)
+both_true false b h = absurd (cc)
+
+-- Where all signers take part, each verdict is the scheme's.
+pub all_attest : (r : CRound) (subject : Subject Sha256Digest)
+    (all : List (Attestation Signature))
+    → list_all (λ a. nat_lt a.signer.0 (length (config_of r).meaning.participants)) all ≡ true
+    → map (is_attested (keys_in r) subject) all ≡ map ((config_of r).meaning.attests subject) all
+all_attest r subject [] h = refl
+all_attest r subject (a ∷ all) h =
+    let both = both_true (nat_lt a.signer.0 (length (config_of r).meaning.participants))
+    (list_all (λ b. nat_lt b.signer.0 (length (config_of r).meaning.participants)) all) h in
+    let first : (config_of r).meaning.attests subject a ≡ is_attested (keys_in r) subject a =
+    attests_if r subject a ∙ and_true _ _ both.0 in
+    rw (first, all_attest r subject all both.1) refl
+
+-- A call that changes nothing changes nothing of the round.
+pub same_self : (r : CRound) → SameAny r r
+same_self (Batchable judged) = (refl, refl, refl)
+same_self (OneByOne judged) = (refl, refl, refl)
+
+some_both : {A : Type 0} (a b : A) (xs ys : List A)
+    → (Some a ∷ map Some xs) ≡ (Some b ∷ map Some ys) → (a ≡ b) × (map Some xs ≡ map Some ys)
+some_both a b xs ys h = (cc, cc)
+
+-- The attestations of a list are the same, whoever reads it.
+pub same_read : (list : List FlatAttestation) (xs ys : List (Attestation Signature))
+    → AreIn list xs → AreIn list ys → xs ≡ ys
+same_read list xs ys one other = same_of xs ys (sym one ∙ other)
+  where
+    same_of : (xs ys : List (Attestation Signature)) → map Some xs ≡ map Some ys → xs ≡ ys
+    same_of [] [] h = refl
+    same_of [] (b ∷ ys) h = absurd (cc)
+    same_of (a ∷ xs) [] h = absurd (cc)
+    same_of (a ∷ xs) (b ∷ ys) h =
+        let p = some_both a b xs ys h in rw (p.0, same_of xs ys p.1) refl
+
+pub as_long : (list : List FlatAttestation) (xs : List (Attestation Signature)) → AreIn list xs
+    → length list ≡ length xs
+as_long list xs is =
+    sym (length-map list attestation_in) ∙ (ap length is ∙ length-map xs Some)

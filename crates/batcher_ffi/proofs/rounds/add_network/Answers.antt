@@ -1,0 +1,16 @@
+use Rattle.std.proofs.Common.{◌∙◌, sym, rules, arith}
+use Rattle.std.proofs.lemmas.Grind.{common_steps}
+use Rattle.batcher_ffi.proofs.rounds.add_network.Goals as goal
+
+pub returns-in-Ok-Some : goal.returns-in-Ok-Some
+returns-in-Ok-Some c = record {
+  codes = grind (arith, common_steps);
+  malformed = search rules;
+  elsewhere = λ not. rw (sym c.vote.ensures ∙ c.in-Some.is) (search rules);
+  done = λ is. rw (sym c.vote.ensures ∙ c.in-Some.is, c.of.ensures)
+      (rw c.in-Ok-Some.field-0-is at c.in-Ok-Some.ensures.does.meets);
+  needed = search rules;
+  stays = search rules;
+  verdicts = c.in-Ok-Some.ensures.does.verdicts;
+  same = c.in-Ok-Some.ensures.same;
+}

@@ -1,0 +1,50 @@
+use Rattle.std.proofs.Common.{◌≡◌, ◌∙◌, nat_lt, true, Ok, ap, length, rules, sym}
+use Rattle.std.specs.List.{list_all}
+use Rattle.std.proofs.lemmas.Bool.{true≢false}
+use Rattle.batcher_ffi.specs.Rounds.{config_of}
+use Rattle.batcher_ffi.proofs.Verified.{all_attest, as_long, same_read}
+use Rattle.batcher_ffi.proofs.rounds.record_verdicts.Goals as goal
+
+pub call-requires : goal.call-requires
+call-requires c =
+    let items = c.in-Ok-Some.all.items in
+    let read = rw c.in-Ok-Some.field-0-is at c.in-Ok-Some.ensures.read in
+    let given = (rw (sym c.subject_of.ensures ∙ c.in-Some.is) at c.requires) items read
+        (c.if-verdicts-list.false ∙ as_long c.args.list.now items read) in
+    let part : list_all (λ a. nat_lt a.signer.0 (length (config_of c.args.round.now).meaning.participants)) items ≡ true =
+    rw (sym c.participants.ensures, sym c.deref.ensures.value)
+        (sym c.take_part.ensures ∙ c.if-not-take_part.false) in
+    rw c.deref-2.ensures.value (given ∙ all_attest c.args.round.now c.in-Some.subject items part)
+
+pub returns-in-Ok-true : goal.returns-in-Ok-true
+returns-in-Ok-true c = record {
+  codes = search rules;
+  unlike = search rules;
+  records = λ is. rw (sym c.subject_of.ensures ∙ c.in-Some.is) (
+    c.in-Ok-Some.all.items,
+    (
+      rw c.in-Ok-Some.field-0-is at c.in-Ok-Some.ensures.read,
+      rw c.deref-2.ensures.value at (c.in-Ok-true.ensures.does.records (ap Ok c.in-Ok-true.field-0-test)),
+    ),
+  );
+  stale = search rules;
+  stays = search rules;
+  round = c.in-Ok-true.ensures.does.round;
+  same = c.in-Ok-true.ensures.same;
+}
+
+pub returns-in-Ok-false : goal.returns-in-Ok-false
+returns-in-Ok-false c = record {
+  codes = search rules;
+  unlike = search rules;
+  records = search rules;
+  stale = λ is. rw (sym c.subject_of.ensures ∙ c.in-Some.is) (λ all rest there asks.
+      let items : all ≡ c.in-Ok-Some.all.items = same_read c.args.list.now all c.in-Ok-Some.all.items there
+      (rw c.in-Ok-Some.field-0-is at c.in-Ok-Some.ensures.read) in
+      true≢false (sym ((rw c.deref-2.ensures.value at c.in-Ok-false.ensures.does.not_stale) rest
+      (rw items at asks)) ∙ c.in-Ok-false.field-0-test));
+  stays = λ is. c.in-Ok-false.ensures.whole
+      (c.in-Ok-false.ensures.does.stale (ap Ok c.in-Ok-false.field-0-test));
+  round = c.in-Ok-false.ensures.does.round;
+  same = c.in-Ok-false.ensures.same;
+}

@@ -1,0 +1,68 @@
+use Rattle.std.proofs.Common.{◌∙◌, ap, length, refl, rules, sym}
+use Rattle.batcher_ffi.proofs.Verified.{same_self}
+use Rattle.batcher_ffi.proofs.rounds.try_construct.Goals as goal
+
+pub returns-then-not-is_empty : goal.returns-then-not-is_empty
+returns-then-not-is_empty c = record {
+  codes = search rules;
+  wants = λ is. record {
+    subject = c.in-Some.wanted.subject;
+    asked = c.in-Some.wanted.pending.now;
+    asks = c.in-Some.ensures.asked;
+    some = search rules;
+    about = c.write_wanted.ensures.subject;
+    verified = c.write_wanted.ensures.verified ∙ ap length c.in-Some.ensures.verified;
+    listed = c.write_wanted.ensures.listed;
+    known_list = rw (sym c.in-Some.ensures.verified) c.write_wanted.ensures.known;
+    written = c.write_wanted.ensures.list;
+  };
+  complete = search rules;
+  done = search rules;
+  idle = search rules;
+  needed = search rules;
+  forgets = search rules;
+  stays = λ is. refl;
+  untouched = search rules;
+  known_stays = search rules;
+  same = same_self c.args.round.now;
+}
+
+pub returns-in-Ok-Some : goal.returns-in-Ok-Some
+returns-in-Ok-Some c =
+    let does = c.in-Ok-Some.ensures.does in
+    record {
+      codes = search rules;
+      wants = search rules;
+      complete = λ is. rw c.in-Ok-Some.field-0-is at does.made;
+      done = λ is. (
+        c.in-Ok-Some.batch,
+        (
+          c.write_batch.ensures,
+          (rw c.in-Ok-Some.field-0-is at does.certifies, rw c.in-Ok-Some.field-0-is at does.meets),
+        ),
+      );
+      idle = search rules;
+      needed = search rules;
+      forgets = λ is subject about. (rw c.in-Ok-Some.field-0-is at does.forgets) subject about;
+      stays = search rules;
+      untouched = search rules;
+      known_stays = λ is. refl;
+      same = c.in-Ok-Some.ensures.same;
+    }
+
+pub returns-in-Err : goal.returns-in-Err
+returns-in-Err c =
+    let does = c.in-Err.ensures.does in
+    record {
+      codes = search rules;
+      wants = search rules;
+      complete = search rules;
+      done = search rules;
+      idle = search rules;
+      needed = λ is. does.needed;
+      forgets = search rules;
+      stays = λ is. c.in-Err.ensures.whole does.refused;
+      untouched = search rules;
+      known_stays = λ is. refl;
+      same = c.in-Err.ensures.same;
+    }

@@ -1,0 +1,85 @@
+//! The codes of the header's enums, by the same names.
+
+/// It is done; of a construction, that a batch was made.
+pub const DONE: u8 = 0;
+/// The handle is empty.
+pub const NONE: u8 = 1;
+/// A code or a number that means nothing, no participant, or a list of verdicts that isn't as long
+/// as that of attestations.
+pub const MALFORMED: u8 = 2;
+/// It is of another round.
+pub const ELSEWHERE: u8 = 3;
+/// Memory was refused, and all is as it was.
+pub const OUT_OF_MEMORY: u8 = 4;
+/// Another leader was named before.
+pub const LEADER_CHANGED: u8 = 5;
+/// An own vote without a verdict that it attests.
+pub const NOT_VERIFIED: u8 = 6;
+/// A notarize of its signer is kept.
+pub const DUPLICATE_NOTARIZE: u8 = 7;
+/// A finalize of its signer is kept.
+pub const DUPLICATE_FINALIZE: u8 = 8;
+/// An earlier vote of its kind and signer isn't kept, and only one is for the selected proposal.
+pub const CONFLICTING: u8 = 9;
+/// Its signer has finalized before.
+pub const NULLIFY_AFTER_FINALIZE: u8 = 10;
+/// Its signer has nullified before.
+pub const FINALIZE_AFTER_NULLIFY: u8 = 11;
+/// Nothing is to be done, or there is none.
+pub const IDLE: u8 = 12;
+/// Verdicts are wanted on the attestations of the list.
+pub const VERIFY: u8 = 13;
+/// The subject or the list isn't what the next construction is about, or asks about first.
+pub const STALE: u8 = 14;
+
+/// Kinds of votes and certificates.
+pub const NOTARIZATION: u8 = 0;
+
+pub const NULLIFICATION: u8 = 1;
+
+pub const FINALIZATION: u8 = 2;
+
+/// How a round keeps its votes.
+pub const RETAINING: u8 = 0;
+
+pub const RELEASING: u8 = 1;
+
+pub const SKIPPED: u8 = 2;
+
+/// Why a sender is to be blocked, if it is.
+pub const BLOCK_NONE: u8 = 0;
+
+pub const BLOCK_UNKNOWN_PARTICIPANT: u8 = 1;
+
+pub const BLOCK_NOTARIZE_SIGNER_MISMATCH: u8 = 2;
+
+pub const BLOCK_NULLIFY_SIGNER_MISMATCH: u8 = 3;
+
+pub const BLOCK_FINALIZE_SIGNER_MISMATCH: u8 = 4;
+
+pub const BLOCK_CONFLICTING_NOTARIZE: u8 = 5;
+
+pub const BLOCK_CONFLICTING_NULLIFY: u8 = 6;
+
+pub const BLOCK_CONFLICTING_FINALIZE: u8 = 7;
+
+pub const BLOCK_INVALID_SIGNATURE: u8 = 8;
+
+pub const BLOCK_NULLIFY_AFTER_FINALIZE: u8 = 9;
+
+pub const BLOCK_FINALIZE_AFTER_NULLIFY: u8 = 10;
+
+/// What a report is of, if there is one.
+pub const REPORT_NONE: u8 = 0;
+
+pub const REPORT_NOTARIZE: u8 = 1;
+
+pub const REPORT_NULLIFY: u8 = 2;
+
+pub const REPORT_FINALIZE: u8 = 3;
+
+pub const REPORT_CONFLICTING_NOTARIZE: u8 = 4;
+
+pub const REPORT_CONFLICTING_FINALIZE: u8 = 5;
+
+pub const REPORT_NULLIFY_FINALIZE: u8 = 6;

@@ -1,0 +1,398 @@
+//! What crosses to C: structs of numbers, and codes in place of enums.
+
+ghost use Rattle.std.specs.Prelude.{◌≡◌, ◌≢◌, true, Some, None, if◌then◌else◌};
+ghost use Rattle.batcher_ffi.specs.Rounds.{is_one_of, refusals};
+ghost use Rattle.batcher_ffi.specs.Flat.{kind_in, mode_in, block_in, fault_in, round_in, proposal_in, attestation_in, raw_in, vote_in, raw_vote_in, report_in, admission_in, outcome_in, subject_in};
+
+use crate::codes::{
+    BLOCK_CONFLICTING_FINALIZE, BLOCK_CONFLICTING_NOTARIZE, BLOCK_CONFLICTING_NULLIFY,
+    BLOCK_FINALIZE_AFTER_NULLIFY, BLOCK_FINALIZE_SIGNER_MISMATCH, BLOCK_INVALID_SIGNATURE,
+    BLOCK_NONE, BLOCK_NOTARIZE_SIGNER_MISMATCH, BLOCK_NULLIFY_AFTER_FINALIZE,
+    BLOCK_NULLIFY_SIGNER_MISMATCH, BLOCK_UNKNOWN_PARTICIPANT, CONFLICTING, DONE, DUPLICATE_FINALIZE, DUPLICATE_NOTARIZE, ELSEWHERE,
+    FINALIZATION, FINALIZE_AFTER_NULLIFY, MALFORMED, NOT_VERIFIED, NOTARIZATION,
+    NULLIFICATION, NULLIFY_AFTER_FINALIZE, OUT_OF_MEMORY, RELEASING, REPORT_CONFLICTING_FINALIZE,
+    REPORT_CONFLICTING_NOTARIZE, REPORT_FINALIZE, REPORT_NONE, REPORT_NOTARIZE, REPORT_NULLIFY,
+    REPORT_NULLIFY_FINALIZE, RETAINING, SKIPPED,
+};
+use batcher_bytes::{Signature, WIDTH};
+use batcher_histories::answers::{Admission, BlockReason, OwnFault};
+use batcher_types::messages::{
+    Activity, Attestation, Finalize, Kind, Notarize, Nullify, Proposal, Sha256Digest, Subject, Vote,
+};
+use batcher_types::positions::{Epoch, Participant, Round, View};
+use batcher_votes::votes::{Mode, Outcome};
+
+/// A proposal; of a nullify and a nullification its epoch and view alone count.
+#[repr(C)]
+#[derive(Clone, Copy)]
+pub struct FlatProposal {
+    pub epoch: u64,
+    pub view: u64,
+    pub parent: u64,
+    pub payload: [u8; 32],
+}
+
+/// An attestation: a signature of the signer, which is the first `length` of the bytes.
+#[repr(C)]
+#[derive(Clone, Copy)]
+pub struct FlatAttestation {
+    pub signer: u32,
+    pub length: u8,
+    pub bytes: [u8; 96],
+}
+
+/// A vote.
+#[repr(C)]
+#[derive(Clone, Copy)]
+pub struct FlatVote {
+    pub proposal: FlatProposal,
+    pub attestation: FlatAttestation,
+    pub kind: u8,
+}
+
+/// The answer to a vote.
+#[repr(C)]
+#[derive(Clone, Copy)]
+pub struct FlatAdmission {
+    /// The votes of the report: of one that is new the first alone. The others are zero.
+    pub first: FlatVote,
+    pub second: FlatVote,
+    pub report: u8,
+    pub block: u8,
+    pub added: bool,
+    /// Of an own vote, whether votes of its kind are kept in full. False of a vote of a peer.
+    pub retained: bool,
+}
+
+/// What a construction comes to.
+#[repr(C)]
+#[derive(Clone, Copy)]
+pub struct FlatStep {
+    /// What the attestations are to attest, or what the certificate is of.
+    pub proposal: FlatProposal,
+    /// Of a node, which view.
+    pub view: u64,
+    pub processed: u64,
+    /// How many attestations there are, also where the list has room for fewer.
+    pub listed: u64,
+    /// How many of them come first that are known to attest.
+    pub verified: u64,
+    /// How many signers of votes that don't attest there are.
+    pub invalid: u64,
+    pub kind: u8,
+    pub certified: bool,
+    pub fallback: bool,
+}
+
+/// The kind of a code.
+pub fn kind_of(code: u8) -> Option<Kind>
+    ensures { result ≡ kind_in code }
+{
+    match code {
+        NOTARIZATION => Some(Kind::Notarization),
+        NULLIFICATION => Some(Kind::Nullification),
+        FINALIZATION => Some(Kind::Finalization),
+        _ => None,
+    }
+}
+
+/// The mode of a code.
+pub fn mode_of(code: u8) -> Option<Mode>
+    ensures { result ≡ mode_in code }
+{
+    match code {
+        RETAINING => Some(Mode::Retaining),
+        RELEASING => Some(Mode::Releasing),
+        SKIPPED => Some(Mode::Skipped),
+        _ => None,
+    }
+}
+
+// The code of a reason to block, or that there is none.
+fn block_code(block: Option<BlockReason>) -> u8
+    ensures { block_in result ≡ block }
+{
+    let Some(reason) = block else {
+        return BLOCK_NONE;
+    };
+    match reason {
+        BlockReason::UnknownParticipant => BLOCK_UNKNOWN_PARTICIPANT,
+        BlockReason::NotarizeSignerMismatch => BLOCK_NOTARIZE_SIGNER_MISMATCH,
+        BlockReason::NullifySignerMismatch => BLOCK_NULLIFY_SIGNER_MISMATCH,
+        BlockReason::FinalizeSignerMismatch => BLOCK_FINALIZE_SIGNER_MISMATCH,
+        BlockReason::ConflictingNotarize => BLOCK_CONFLICTING_NOTARIZE,
+        BlockReason::ConflictingNullify => BLOCK_CONFLICTING_NULLIFY,
+        BlockReason::ConflictingFinalize => BLOCK_CONFLICTING_FINALIZE,
+        BlockReason::InvalidSignature => BLOCK_INVALID_SIGNATURE,
+        BlockReason::NullifyAfterFinalize => BLOCK_NULLIFY_AFTER_FINALIZE,
+        BlockReason::FinalizeAfterNullify => BLOCK_FINALIZE_AFTER_NULLIFY,
+    }
+}
+
+/// The code of why an own vote is refused, which says nothing else.
+pub fn fault_code(fault: OwnFault) -> u8
+    ensures fault { fault_in result ≡ Some fault }
+    ensures codes { is_one_of refusals result ≡ true }
+    ensures done { result ≢ DONE }
+    ensures malformed { result ≢ MALFORMED }
+    ensures elsewhere { result ≢ ELSEWHERE }
+    ensures not_verified { result ≢ NOT_VERIFIED }
+{
+    match fault {
+        OwnFault::OutOfMemory => OUT_OF_MEMORY,
+        OwnFault::DuplicateNotarize => DUPLICATE_NOTARIZE,
+        OwnFault::DuplicateFinalize => DUPLICATE_FINALIZE,
+        OwnFault::Conflicting => CONFLICTING,
+        OwnFault::NullifyAfterFinalize => NULLIFY_AFTER_FINALIZE,
+        OwnFault::FinalizeAfterNullify => FINALIZE_AFTER_NULLIFY,
+    }
+}
+
+/// A round number.
+pub fn round_of(epoch: u64, view: u64) -> Round
+    ensures epoch { result.epoch.0 ≡ epoch }
+    ensures view { result.view.0 ≡ view }
+{
+    Round::new(Epoch(epoch), View(view))
+}
+
+impl FlatProposal {
+    /// The proposal.
+    pub fn proposal(&self) -> Proposal<Sha256Digest>
+        ensures { result ≡ proposal_in self.now }
+    {
+        Proposal {
+            round: self.round(),
+            parent: View(self.parent),
+            payload: Sha256Digest(self.payload),
+        }
+    }
+
+    /// The round number.
+    pub fn round(&self) -> Round
+        ensures { result ≡ round_in self.now }
+    {
+        round_of(self.epoch, self.view)
+    }
+
+    /// A proposal, flat.
+    pub fn of(proposal: &Proposal<Sha256Digest>) -> Self
+        ensures { proposal_in result ≡ proposal.now }
+    {
+        FlatProposal {
+            epoch: proposal.round.epoch.0,
+            view: proposal.round.view.0,
+            parent: proposal.parent.0,
+            payload: proposal.payload.0,
+        }
+    }
+
+    /// A round number, flat.
+    pub fn of_round(round: Round) -> Self
+        ensures { round_in result ≡ round }
+    {
+        FlatProposal {
+            epoch: round.epoch.0,
+            view: round.view.0,
+            parent: 0,
+            payload: [0; 32],
+        }
+    }
+}
+
+/// What is signed, flat: its kind and its proposal, or for a nullify its round number.
+pub fn flat_subject(subject: &Subject<Sha256Digest>) -> (u8, FlatProposal)
+    ensures { subject_in result.0 result.1 ≡ Some subject.now }
+{
+    match subject {
+        Subject::Notarize { proposal } => (NOTARIZATION, FlatProposal::of(proposal)),
+        Subject::Nullify { round } => (NULLIFICATION, FlatProposal::of_round(*round)),
+        Subject::Finalize { proposal } => (FINALIZATION, FlatProposal::of(proposal)),
+    }
+}
+
+/// What is signed by votes of the kind for the proposal, where the kind is one.
+pub fn subject_of(kind: u8, proposal: &FlatProposal) -> Option<Subject<Sha256Digest>>
+    ensures { result ≡ subject_in kind proposal.now }
+{
+    match kind_of(kind)? {
+        Kind::Notarization => Some(Subject::Notarize {
+            proposal: proposal.proposal(),
+        }),
+        Kind::Nullification => Some(Subject::Nullify {
+            round: proposal.round(),
+        }),
+        Kind::Finalization => Some(Subject::Finalize {
+            proposal: proposal.proposal(),
+        }),
+    }
+}
+
+impl FlatAttestation {
+    /// The attestation. None where its signature is longer than there are bytes.
+    pub fn attestation(&self) -> Option<Attestation<Signature>>
+        ensures { result ≡ attestation_in self.now }
+    {
+        let length = self.length as usize;
+        if length > WIDTH {
+            return None;
+        }
+        let signature = Signature::new(&self.bytes[..length])?;
+        Some(Attestation {
+            signer: Participant(self.signer),
+            signature,
+        })
+    }
+
+    /// An attestation, flat.
+    pub fn of(attestation: Attestation<Signature>) -> Self
+        ensures { raw_in result ≡ attestation }
+    {
+        let bytes = attestation.signature.bytes;
+        FlatAttestation {
+            signer: attestation.signer.0,
+            length: attestation.signature.length,
+            bytes,
+        }
+    }
+}
+
+impl FlatVote {
+    /// The vote. None where its kind is none, or its signature is longer than there are bytes.
+    pub fn vote(&self) -> Option<Vote<Signature, Sha256Digest>>
+        ensures { result ≡ vote_in self.now }
+    {
+        let attestation = self.attestation.attestation()?;
+        match kind_of(self.kind)? {
+            Kind::Notarization => Some(Vote::Notarize(Notarize {
+                proposal: self.proposal.proposal(),
+                attestation,
+            })),
+            Kind::Nullification => Some(Vote::Nullify(Nullify {
+                round: self.proposal.round(),
+                attestation,
+            })),
+            Kind::Finalization => Some(Vote::Finalize(Finalize {
+                proposal: self.proposal.proposal(),
+                attestation,
+            })),
+        }
+    }
+
+    fn of_notarize(vote: &Notarize<Signature, Sha256Digest>) -> Self
+        ensures { raw_vote_in result ≡ Some (Vote.Notarize vote.now) }
+    {
+        FlatVote {
+            proposal: FlatProposal::of(&vote.proposal),
+            attestation: FlatAttestation::of(vote.attestation),
+            kind: NOTARIZATION,
+        }
+    }
+
+    fn of_nullify(vote: &Nullify<Signature>) -> Self
+        ensures { raw_vote_in result ≡ Some (Vote.Nullify vote.now) }
+    {
+        FlatVote {
+            proposal: FlatProposal::of_round(vote.round),
+            attestation: FlatAttestation::of(vote.attestation),
+            kind: NULLIFICATION,
+        }
+    }
+
+    fn of_finalize(vote: &Finalize<Signature, Sha256Digest>) -> Self
+        ensures { raw_vote_in result ≡ Some (Vote.Finalize vote.now) }
+    {
+        FlatVote {
+            proposal: FlatProposal::of(&vote.proposal),
+            attestation: FlatAttestation::of(vote.attestation),
+            kind: FINALIZATION,
+        }
+    }
+
+    // Zeros, in the place of a vote that a report doesn't have.
+    fn zero() -> Self {
+        FlatVote {
+            proposal: FlatProposal {
+                epoch: 0,
+                view: 0,
+                parent: 0,
+                payload: [0; 32],
+            },
+            attestation: FlatAttestation {
+                signer: 0,
+                length: 0,
+                bytes: [0; 96],
+            },
+            kind: 0,
+        }
+    }
+}
+
+impl FlatAdmission {
+    /// The answer to a vote of a peer, flat.
+    pub fn of(admission: &Admission<Signature, Sha256Digest>) -> Self
+        ensures { admission_in result ≡ admission.now }
+    {
+        FlatAdmission::with(admission.added, false, admission.block, &admission.report)
+    }
+
+    /// The answer to an own vote, flat: it is added, or one of its kind and signer was there.
+    pub fn of_own(added: bool, retained: bool, report: &Option<Activity<Signature, Sha256Digest>>) -> Self
+        ensures outcome { outcome_in result ≡ (if added then Outcome.Added retained else
+            Outcome.Duplicate retained) }
+        ensures report { report_in result ≡ report.now }
+    {
+        FlatAdmission::with(added, retained, None, report)
+    }
+
+    /// An own vote that is to be sent, flat, by what is reported of it: it is added.
+    pub fn of_sent(report: Activity<Signature, Sha256Digest>) -> Self
+        ensures { admission_in result
+            ≡ record { added = true; block = None; report = Some report } }
+    {
+        FlatAdmission::with(true, false, None, &Some(report))
+    }
+
+    fn with(
+        added: bool,
+        retained: bool,
+        block: Option<BlockReason>,
+        report: &Option<Activity<Signature, Sha256Digest>>,
+    ) -> Self
+        ensures added { result.added ≡ added }
+        ensures retained { result.retained ≡ retained }
+        ensures block { block_in result.block ≡ block }
+        ensures report { report_in result ≡ report.now }
+    {
+        let none = FlatVote::zero();
+        let (report, first, second) = match report {
+            None => (REPORT_NONE, none, none),
+            Some(Activity::Notarize(vote)) => (REPORT_NOTARIZE, FlatVote::of_notarize(vote), none),
+            Some(Activity::Nullify(vote)) => (REPORT_NULLIFY, FlatVote::of_nullify(vote), none),
+            Some(Activity::Finalize(vote)) => (REPORT_FINALIZE, FlatVote::of_finalize(vote), none),
+            Some(Activity::ConflictingNotarize(first, second)) => (
+                REPORT_CONFLICTING_NOTARIZE,
+                FlatVote::of_notarize(first),
+                FlatVote::of_notarize(second),
+            ),
+            Some(Activity::ConflictingFinalize(first, second)) => (
+                REPORT_CONFLICTING_FINALIZE,
+                FlatVote::of_finalize(first),
+                FlatVote::of_finalize(second),
+            ),
+            Some(Activity::NullifyFinalize(first, second)) => (
+                REPORT_NULLIFY_FINALIZE,
+                FlatVote::of_nullify(first),
+                FlatVote::of_finalize(second),
+            ),
+        };
+        FlatAdmission {
+            first,
+            second,
+            report,
+            block: block_code(block),
+            added,
+            retained,
+        }
+    }
+}
