@@ -1,3 +1,4 @@
 mod Places
 mod Pointers
 mod Verified
+mod Quorums

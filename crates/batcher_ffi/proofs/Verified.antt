@@ -1,5 +1,5 @@
 -- What a caller has verified, by what the scheme of its round means.
-use Rattle.std.proofs.Common.{◌≡◌, ◌∙◌, ◌&&◌, nat_lt, Bool, true, false, List, [], ◌∷◌, Option, Some, map, ap, refl, sym}
+use Rattle.std.proofs.Common.{◌≡◌, ◌∙◌, ◌&&◌, nat_lt, Bool, true, false, List, [], ◌∷◌, Some, map, ap, refl, sym}
 use Rattle.std.specs.List.{list_all}
 use Rattle.std.specs.Prelude.{length}
 use Rattle.std.proofs.lemmas.List.{length-map}

@@ -142,7 +142,8 @@ subject_of_kind flat Finalization = FinalizeSubject (proposal_in flat)
 abbrev pub subject_in : ℕ → FlatProposal → Option (Subject Sha256Digest)
 subject_in code flat = option_map (subject_of_kind flat) (kind_in code)
 
-abbrev pub as_notarize : Option (Vote Signature Sha256Digest) → Option (Notarize Signature Sha256Digest)
+abbrev pub as_notarize : Option (Vote Signature Sha256Digest)
+    → Option (Notarize Signature Sha256Digest)
 as_notarize (Some (NotarizeVote vote)) = Some vote
 as_notarize other = None
 
@@ -150,7 +151,8 @@ abbrev pub as_nullify : Option (Vote Signature Sha256Digest) → Option (Nullify
 as_nullify (Some (NullifyVote vote)) = Some vote
 as_nullify other = None
 
-abbrev pub as_finalize : Option (Vote Signature Sha256Digest) → Option (Finalize Signature Sha256Digest)
+abbrev pub as_finalize : Option (Vote Signature Sha256Digest)
+    → Option (Finalize Signature Sha256Digest)
 as_finalize (Some (FinalizeVote vote)) = Some vote
 as_finalize other = None
 
@@ -159,8 +161,8 @@ abbrev pub with_both : {A B C : Type 0} → (A → B → C) → Option A → Opt
 with_both f a b = option_and_then (λ x. option_map (f x) b) a
 
 -- the report of a code, of the first vote or of both
-abbrev pub report_by : ℕ → Option (Vote Signature Sha256Digest) → Option (Vote Signature Sha256Digest)
-    → Option (Activity Signature Sha256Digest)
+abbrev pub report_by : ℕ → Option (Vote Signature Sha256Digest)
+    → Option (Vote Signature Sha256Digest) → Option (Activity Signature Sha256Digest)
 report_by code first second =
     if code == REPORT_NOTARIZE then option_map NotarizeReport (as_notarize first) else
     if code == REPORT_NULLIFY then option_map NullifyReport (as_nullify first) else

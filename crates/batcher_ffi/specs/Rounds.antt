@@ -1,5 +1,5 @@
 -- What the calls of a round do and answer, by codes and flat values.
-use Rattle.std.specs.Prelude.{◌≡◌, ◌≢◌, ◌↔◌, ◌≤◌, ◌==◌, ◌++◌, not, ℕ, Bool, true, false, List, [], ◌∷◌, length, map, Option, Some, None, Ok, IfSome, IsSomeAnd}
+use Rattle.std.specs.Prelude.{◌≡◌, ◌≢◌, ◌↔◌, ◌≤◌, ◌==◌, ◌++◌, ⊤, not, ℕ, Bool, true, false, List, [], ◌∷◌, length, map, Option, Some, None, Ok, IfSome, IsSomeAnd}
 use Rattle.std.specs.List.{list_any}
 use Rattle.batcher_types.specs.declared.messages.Sha256Digest.{Sha256Digest}
 use Rattle.batcher_types.specs.declared.positions.Participant.{Participant}
@@ -7,12 +7,11 @@ use Rattle.batcher_types.specs.declared.scheme.keyed.Name.{Name}
 use Rattle.batcher_types.specs.Keys.{participant}
 use Rattle.batcher_types.specs.Votes.{attestation_of, subject_of, subject_certified, content_of, round_in as round_signed}
 use Rattle.batcher_votes.specs.declared.verifier.Batch.{Batch}
-use Rattle.batcher_histories.specs.declared.calls.Call.TheVariants.{Network as NetworkCall, Own as OwnCall, Construct as ConstructCall, Leader as LeaderCall, Forward as ForwardCall, Certificate as CertificateCall, Missing as MissingCall}
+use Rattle.batcher_histories.specs.declared.calls.Call.TheVariants.{Network as NetworkCall, Own as OwnCall, Construct as ConstructCall, Leader as LeaderCall, Forward as ForwardCall, Certificate as CertificateCall}
 use Rattle.batcher_histories.specs.declared.answers.Answer.TheVariants.{Network as NetworkAnswer, Own as OwnAnswer, Construct as ConstructAnswer, Leader as LeaderAnswer, Forward as ForwardAnswer}
-use Rattle.batcher_histories.specs.declared.answers.Answer.TheVariants.{Certificate as CertificateAnswer, Missing as MissingAnswer}
+use Rattle.batcher_histories.specs.declared.answers.Answer.TheVariants.{Certificate as CertificateAnswer}
 use Rattle.batcher_histories.specs.History.{History, Event}
 use Rattle.batcher_histories.specs.Represents.{Represents}
-use Rattle.batcher_histories.specs.Config.{Config}
 use Rattle.batcher_histories.specs.Selection.{leader_of, selected_proposal, is_certified as is_kind_certified}
 use Rattle.batcher_histories.specs.Comparison.{has_block}
 use Rattle.batcher_histories.specs.declared.answers.OwnFault.{OwnFault}
@@ -22,19 +21,16 @@ use Rattle.batcher_round.specs.Next.{subject_next}
 use Rattle.batcher_types.specs.declared.messages.Attestation.{Attestation}
 use Rattle.batcher_types.specs.declared.messages.Kind.{Kind}
 use Rattle.batcher_types.specs.declared.messages.Subject.{Subject}
-use Rattle.batcher_types.specs.declared.messages.Vote.{Vote}
 use Rattle.batcher_votes.specs.RoundState.{of_kind}
-use Rattle.batcher_votes.specs.Verifiers.{BatchCertifies}
 use Rattle.batcher_histories.specs.declared.calls.Call.{Call}
-use Rattle.batcher_round.specs.Next.{pending_next, verified_next}
-use Rattle.batcher_bytes.specs.Listings.{Passed}
+use Rattle.batcher_round.specs.Next.{verified_next}
+use Rattle.batcher_bytes.specs.Listings.{Passed, listing_of}
 use Rattle.batcher_bytes.specs.declared.certificates.Content.{Content}
 use Rattle.batcher_bytes.specs.declared.certificates.Content.TheVariants.{Made as MadeHere, Received}
-use Rattle.batcher_bytes.specs.declared.signature.Keys.{Keys}
 use Rattle.batcher_bytes.specs.declared.signature.Signature.{Signature}
 use Rattle.batcher_verdicts.specs.Rounds.{AreComplete, AsksNext, Forgets, Records as RecordsAsked}
 use Rattle.batcher_any.specs.Calls.{ForEach, GoesOn}
-use Rattle.batcher_any.specs.Judging.{AnyView, BytesConfig, Held, SameAny, config_in, held_in, keys_in}
+use Rattle.batcher_any.specs.Judging.{AnyView, BytesConfig, SameAny, config_in, held_in, keys_in}
 use Rattle.batcher_ffi.specs.Truths.{is_attested, is_passed, is_certified}
 use Rattle.batcher_ffi.specs.contracts.caller.CallerTruth.TheImpl.{ghosts}
 use Rattle.batcher_ffi.specs.declared.caller.Caller.{Caller}
@@ -66,15 +62,16 @@ abbrev pub config_of : CRound → BytesConfig Caller
 config_of r = config_in ghosts r
 
 -- It holds of every history that the round represents.
-abbrev pub AfterAny : CRound → (History Sha256Digest Name Signature (Content Caller) → Type 0) → Type 0
+abbrev pub AfterAny : CRound → (History Sha256Digest Name Signature (Content Caller) → Type 0)
+    → Type 0
 AfterAny r holds = ForEach (config_of r) (held_in r) holds
 
 -- A call may need memory, by every history that the round represents.
 abbrev pub MayNeed : CRound → Call Name Signature (Content Caller) Sha256Digest → Type 0
 MayNeed r call = AfterAny r (λ past. needs_memory (config_of r) past call ≡ true)
 
--- What a caller has verified, by the keys of the round: a vote, a list one by one or as a whole, and
--- a certificate.
+-- What a caller has verified, by the keys of the round: a vote, a list one by one or as a whole,
+-- and a certificate.
 module _ (handle : Option CRound) where
   abbrev pub IsVerified : FlatVote → Bool → Type 0
   IsVerified vote attests = IfSome handle (λ r. IfSome (vote_in vote) (λ typed.
@@ -99,6 +96,18 @@ module _ (handle : Option CRound) where
 abbrev pub IsReceived : List ℕ → Content Caller → Type 0
 IsReceived bytes (MadeHere listing) = ⊥
 IsReceived bytes (Received certificate) = certificate.bytes ≡ bytes
+
+-- A certificate that a round makes shows a quorum of different participants. By the keys of the
+-- round they attest each what it is of, or pass as a whole.
+abbrev pub IsOfQuorum : CRound → Subject Sha256Digest → Content Caller → Type 0
+IsOfQuorum r subject (MadeHere listing) =
+    Passed ghosts (listing_of (keys_in r) (length (config_of r).meaning.participants) subject
+    listing.attestations)
+IsOfQuorum r subject (Received certificate) = ⊤
+
+abbrev pub MakesQuorum : CRound → Batch Made → Type 0
+MakesQuorum r batch = IfSome batch.certificate (λ certificate.
+    IsOfQuorum r (subject_certified certificate) (content_of certificate))
 
 -- a round of these participants and this sort of scheme in which nothing has happened
 pub record IsNew (epoch view participants mode : ℕ) (keys : List ℕ) (batchable : Bool)
@@ -282,7 +291,7 @@ module _ (before : CRound) (code : ℕ) (after : CRound) where
         × AreComplete (config_of before) (held_in before).round (held_in before).verdicts subject
     pub done : code ≡ DONE → (batch : Batch Made)
         × (WritesBatch step room list signers_room signers batch
-        × (BatchCertifies (config_of before).meaning batch
+        × (MakesQuorum before batch
         × Goes (ConstructCall, ConstructAnswer (Some batch))))
     pub idle : code ≡ IDLE
         → subject_next (config_of before) (held_in before).round ≡ None
@@ -302,7 +311,7 @@ module _ (before : CRound) (code : ℕ) (after : CRound) where
     pub codes : is_one_of (DONE ∷ STALE ∷ MALFORMED ∷ OUT_OF_MEMORY ∷ []) code ≡ true
     pub done : code ≡ DONE → (batch : Batch Made)
         × (WritesBatch step [] [] [] [] batch
-        × (BatchCertifies (config_of before).meaning batch
+        × (MakesQuorum before batch
         × Goes (ConstructCall, ConstructAnswer (Some batch))))
     pub stays : code ≢ DONE → (after ≡ before) × (step ≡ old)
     pub verdicts : (held_in after).verdicts ≡ (held_in before).verdicts

@@ -48,7 +48,14 @@ pub extern "C" fn batcher_round_new(
     };
     let number = round_of(options.epoch, options.view);
     let keys = Keys(options.keys);
-    match Round::new(alloc, number, options.participants, keys, mode, options.batchable) {
+    match Round::new(
+        alloc,
+        number,
+        options.participants,
+        keys,
+        mode,
+        options.batchable,
+    ) {
         Ok(Some(made)) => match Box::new(alloc, made) {
             Ok(made) => {
                 round.put(made);

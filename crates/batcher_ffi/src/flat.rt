@@ -8,11 +8,11 @@ use crate::codes::{
     BLOCK_CONFLICTING_FINALIZE, BLOCK_CONFLICTING_NOTARIZE, BLOCK_CONFLICTING_NULLIFY,
     BLOCK_FINALIZE_AFTER_NULLIFY, BLOCK_FINALIZE_SIGNER_MISMATCH, BLOCK_INVALID_SIGNATURE,
     BLOCK_NONE, BLOCK_NOTARIZE_SIGNER_MISMATCH, BLOCK_NULLIFY_AFTER_FINALIZE,
-    BLOCK_NULLIFY_SIGNER_MISMATCH, BLOCK_UNKNOWN_PARTICIPANT, CONFLICTING, DONE, DUPLICATE_FINALIZE, DUPLICATE_NOTARIZE, ELSEWHERE,
-    FINALIZATION, FINALIZE_AFTER_NULLIFY, MALFORMED, NOT_VERIFIED, NOTARIZATION,
-    NULLIFICATION, NULLIFY_AFTER_FINALIZE, OUT_OF_MEMORY, RELEASING, REPORT_CONFLICTING_FINALIZE,
-    REPORT_CONFLICTING_NOTARIZE, REPORT_FINALIZE, REPORT_NONE, REPORT_NOTARIZE, REPORT_NULLIFY,
-    REPORT_NULLIFY_FINALIZE, RETAINING, SKIPPED,
+    BLOCK_NULLIFY_SIGNER_MISMATCH, BLOCK_UNKNOWN_PARTICIPANT, CONFLICTING, DONE,
+    DUPLICATE_FINALIZE, DUPLICATE_NOTARIZE, ELSEWHERE, FINALIZATION, FINALIZE_AFTER_NULLIFY,
+    MALFORMED, NOT_VERIFIED, NOTARIZATION, NULLIFICATION, NULLIFY_AFTER_FINALIZE, OUT_OF_MEMORY,
+    RELEASING, REPORT_CONFLICTING_FINALIZE, REPORT_CONFLICTING_NOTARIZE, REPORT_FINALIZE,
+    REPORT_NONE, REPORT_NOTARIZE, REPORT_NULLIFY, REPORT_NULLIFY_FINALIZE, RETAINING, SKIPPED,
 };
 use batcher_bytes::{Signature, WIDTH};
 use batcher_histories::answers::{Admission, BlockReason, OwnFault};
@@ -70,12 +70,10 @@ pub struct FlatAdmission {
 pub struct FlatStep {
     /// What the attestations are to attest, or what the certificate is of.
     pub proposal: FlatProposal,
-    /// Of a node, which view.
-    pub view: u64,
     pub processed: u64,
     /// How many attestations there are, also where the list has room for fewer.
     pub listed: u64,
-    /// How many of them come first that are known to attest.
+    /// How many others are known to attest.
     pub verified: u64,
     /// How many signers of votes that don't attest there are.
     pub invalid: u64,
@@ -337,7 +335,11 @@ impl FlatAdmission {
     }
 
     /// The answer to an own vote, flat: it is added, or one of its kind and signer was there.
-    pub fn of_own(added: bool, retained: bool, report: &Option<Activity<Signature, Sha256Digest>>) -> Self
+    pub fn of_own(
+        added: bool,
+        retained: bool,
+        report: &Option<Activity<Signature, Sha256Digest>>,
+    ) -> Self
         ensures outcome { outcome_in result ≡ (if added then Outcome.Added retained else
             Outcome.Duplicate retained) }
         ensures report { report_in result ≡ report.now }

@@ -31,12 +31,7 @@ use batcher_votes::votes::Outcome;
 use std::alloc::Global;
 
 /// Takes in a vote of the peer whose key is the number.
-pub fn add_network(
-    round: &mut Round,
-    sender: u64,
-    vote: &FlatVote,
-    out: &mut FlatAdmission,
-) -> u8
+pub fn add_network(round: &mut Round, sender: u64, vote: &FlatVote, out: &mut FlatAdmission) -> u8
     ensures { AddsNetwork round.old result round.new sender vote.now out.old out.new }
 {
     let Some(typed) = vote.vote() else {
@@ -68,12 +63,7 @@ pub fn set_leader(round: &mut Round, leader: u32) -> u8
 }
 
 /// Takes in a vote of the node's own, by the caller's verdict on it.
-pub fn accept_vote(
-    round: &mut Round,
-    vote: &FlatVote,
-    attests: bool,
-    out: &mut FlatAdmission,
-) -> u8
+pub fn accept_vote(round: &mut Round, vote: &FlatVote, attests: bool, out: &mut FlatAdmission) -> u8
     requires { IsVerified (Some round.old) vote.now attests }
     ensures { AcceptsVote round.old result round.new vote.now attests out.old out.new }
 {

@@ -10,10 +10,10 @@ call-requires c =
     let items = c.in-Ok-Some.all.items in
     let read = rw c.in-Ok-Some.field-0-is at c.in-Ok-Some.ensures.read in
     let given = (rw (sym c.subject_of.ensures ∙ c.in-Some.is) at c.requires) items read
-        (c.if-verdicts-list.false ∙ as_long c.args.list.now items read) in
+    (c.if-verdicts-list.false ∙ as_long c.args.list.now items read) in
     let part : list_all (λ a. nat_lt a.signer.0 (length (config_of c.args.round.now).meaning.participants)) items ≡ true =
     rw (sym c.participants.ensures, sym c.deref.ensures.value)
-        (sym c.take_part.ensures ∙ c.if-not-take_part.false) in
+    (sym c.take_part.ensures ∙ c.if-not-take_part.false) in
     rw c.deref-2.ensures.value (given ∙ all_attest c.args.round.now c.in-Some.subject items part)
 
 pub returns-in-Ok-true : goal.returns-in-Ok-true

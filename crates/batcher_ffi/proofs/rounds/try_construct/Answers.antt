@@ -1,4 +1,5 @@
 use Rattle.std.proofs.Common.{◌∙◌, ap, length, refl, rules, sym}
+use Rattle.batcher_ffi.proofs.Quorums.{makes_quorum}
 use Rattle.batcher_ffi.proofs.Verified.{same_self}
 use Rattle.batcher_ffi.proofs.rounds.try_construct.Goals as goal
 
@@ -38,7 +39,11 @@ returns-in-Ok-Some c =
         c.in-Ok-Some.batch,
         (
           c.write_batch.ensures,
-          (rw c.in-Ok-Some.field-0-is at does.certifies, rw c.in-Ok-Some.field-0-is at does.meets),
+          (
+            makes_quorum c.args.round.now _ _ _ c.in-Ok-Some.batch
+                (rw c.in-Ok-Some.field-0-is at does.certifies) c.write_batch.ensures.certificate,
+            rw c.in-Ok-Some.field-0-is at does.meets,
+          ),
         ),
       );
       idle = search rules;

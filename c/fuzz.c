@@ -1,0 +1,238 @@
+/* Rounds under any order of calls, sizes and bytes, by seeds 0, 1, .. up to the one that is named. What is answered is
+ * compared with what holds of every call, and each certificate with the votes that were handed in. It ends with 0, or with
+ * 1 where a check fails, and names its line and the seed. */
+#include "batcher_rounds.h"
+#include "heap.c"
+#include <stdio.h>
+#include <string.h>
+
+#define MOST 7
+#define CHECK(holds)                                                                                \
+    do {                                                                                            \
+        if (!(holds)) return __LINE__;                                                              \
+    } while (0)
+
+static uint64_t state;
+
+/* How many certificates were made by single verdicts, and as a whole, and how many votes were bad. */
+static uint64_t certified, passed, bad;
+
+/* A number below a bound. */
+static uint64_t below(uint64_t bound) {
+    state = state * 6364136223846793005u + 1442695040888963407u;
+    return (state >> 33) % bound;
+}
+
+/* As a rule one of those that mean something, and sometimes any. */
+static uint32_t mostly_below(uint32_t bound) { return below(20) != 0 ? (uint32_t)below(bound) : (uint32_t)below(300); }
+
+/* A signature is good where its first byte isn't 0. So a verdict depends on the bytes alone. */
+static bool attests(const struct batcher_attestation *it) { return it->length != 0 && it->bytes[0] != 0; }
+
+static struct batcher_proposal any_proposal(void) {
+    struct batcher_proposal proposal;
+    memset(&proposal, 0, sizeof proposal);
+    proposal.epoch = below(20) == 0;
+    proposal.view = below(20) != 0;
+    proposal.payload[0] = (uint8_t)below(2);
+    return proposal;
+}
+
+static struct batcher_attestation any_attestation(uint32_t participants) {
+    struct batcher_attestation it;
+    memset(&it, (int)below(3), sizeof it);
+    it.signer = mostly_below(participants);
+    it.length = below(20) != 0 ? 64 : (uint8_t)below(256);
+    if (it.bytes[0] == 0 && below(4) != 0) it.bytes[0] = 1;
+    return it;
+}
+
+static struct batcher_vote any_vote(uint32_t participants) {
+    struct batcher_vote vote;
+    vote.proposal = any_proposal();
+    vote.attestation = any_attestation(participants);
+    vote.kind = (uint8_t)mostly_below(3);
+    return vote;
+}
+
+/* Of a certificate: a quorum of different participants, who attest each. */
+static int quorum(const struct batcher_step *step, const struct batcher_attestation *list, uint32_t participants) {
+    CHECK(step->kind <= BATCHER_FINALIZATION && step->proposal.epoch == 0 && step->proposal.view == 1);
+    CHECK(step->listed >= participants - (participants - 1) / 3 && step->listed <= participants);
+    for (uint64_t i = 0; i < step->listed; i++) {
+        CHECK(list[i].signer < participants && attests(&list[i]));
+        for (uint64_t j = 0; j < i; j++) CHECK(list[i].signer != list[j].signer);
+    }
+    return 0;
+}
+
+/* All that the construction looks at, as a whole, where the list has room for it and all attest. Where a verdict is
+ * recorded on a part of it, the list isn't all of it. */
+static int together(struct batcher_round *round, const struct batcher_step *wanted,
+                    const struct batcher_attestation *known, size_t known_room,
+                    const struct batcher_attestation *list, size_t room, uint32_t participants) {
+    struct batcher_attestation all[MOST];
+    struct batcher_step step;
+    size_t count = 0;
+    if (wanted->verified > known_room || wanted->listed > room) return 0;
+    for (size_t i = 0; i < wanted->verified; i++) all[count++] = known[i];
+    for (size_t i = 0; i < wanted->listed; i++) all[count++] = list[i];
+    for (size_t i = 0; i < count; i++)
+        if (!attests(&all[i])) return 0;
+    uint8_t code = batcher_round_construct_together(round, wanted->kind, &wanted->proposal, all, count, &step);
+    CHECK(code == BATCHER_DONE || code == BATCHER_STALE);
+    CHECK(code == BATCHER_STALE || (step.certified && step.listed == count && step.invalid == 0));
+    passed += code == BATCHER_DONE;
+    return code == BATCHER_DONE ? quorum(&step, all, participants) : 0;
+}
+
+/* The next construction with rooms of any size. What was written is right, and the rest as it was. */
+static int construct(struct batcher_round *round, uint32_t participants, bool answers) {
+    struct batcher_attestation known[MOST], list[MOST], before;
+    uint32_t signers[MOST];
+    bool verdicts[MOST];
+    struct batcher_step step;
+    size_t known_room = below(3) != 0 ? MOST : below(MOST), room = below(3) != 0 ? MOST : below(MOST);
+    size_t signers_room = below(3) != 0 ? MOST : below(MOST);
+    memset(list, 0x5a, sizeof list);
+    memset(known, 0x5a, sizeof known);
+    memset(&step, 0, sizeof step);
+    before = list[0];
+    uint8_t code = batcher_round_try_construct(round, &step, known, known_room, list, room, signers, signers_room);
+    if (code == BATCHER_VERIFY) {
+        CHECK(step.listed >= 1 && step.listed + step.verified <= participants);
+        for (size_t i = step.listed; i < MOST; i++) CHECK(memcmp(&list[i], &before, sizeof before) == 0);
+        size_t count = step.listed < room ? step.listed : room;
+        for (size_t i = 0; i < count; i++) verdicts[i] = attests(&list[i]);
+        for (size_t i = 0; i < step.verified && i < known_room; i++) CHECK(attests(&known[i]));
+        if (!answers) return together(round, &step, known, known_room, list, room, participants);
+        if (count > 1) count = 1 + below(count);
+        CHECK(batcher_round_record_verdicts(round, step.kind, &step.proposal, list, count, verdicts, count)
+              == BATCHER_DONE);
+        return 0;
+    }
+    if (code == BATCHER_DONE) {
+        CHECK(step.processed <= participants && step.invalid <= participants);
+        for (size_t i = 0; i < step.invalid && i < signers_room; i++) CHECK(signers[i] < participants);
+        bad += step.invalid;
+        certified += step.certified;
+        if (step.certified && room == MOST) return quorum(&step, list, participants);
+        return 0;
+    }
+    CHECK(code == BATCHER_IDLE);
+    for (size_t i = 0; i < MOST; i++) CHECK(memcmp(&list[i], &before, sizeof before) == 0);
+    return 0;
+}
+
+/* A call that isn't about what the construction is about: any list, with true verdicts. */
+static int record_any(struct batcher_round *round, uint32_t participants) {
+    struct batcher_attestation list[MOST];
+    bool verdicts[MOST];
+    struct batcher_step step;
+    struct batcher_proposal proposal = any_proposal();
+    size_t count = below(MOST + 1);
+    uint8_t kind = (uint8_t)mostly_below(3);
+    bool all = true;
+    for (size_t i = 0; i < count; i++) {
+        list[i] = any_attestation(participants);
+        verdicts[i] = attests(&list[i]);
+        all = all && verdicts[i];
+    }
+    size_t given = below(10) != 0 ? count : below(MOST + 1);
+    uint8_t code = batcher_round_record_verdicts(round, kind, &proposal, list, count, verdicts, given);
+    CHECK(code == BATCHER_DONE || code == BATCHER_STALE || code == BATCHER_MALFORMED);
+    CHECK(given == count || code == BATCHER_MALFORMED);
+    if (!all) return 0;
+    code = batcher_round_construct_together(round, kind, &proposal, list, count, &step);
+    CHECK(code == BATCHER_DONE || code == BATCHER_STALE || code == BATCHER_MALFORMED);
+    CHECK(code != BATCHER_DONE || (step.certified && step.listed == count));
+    return 0;
+}
+
+static int questions(struct batcher_round *round, uint32_t participants) {
+    uint32_t leader = 0, missing[MOST];
+    uint64_t count = 0;
+    bool flag = false;
+    struct batcher_proposal proposal = any_proposal();
+    size_t room = below(MOST + 1);
+    CHECK(batcher_round_leader(round, &leader) <= BATCHER_IDLE);
+    CHECK(batcher_round_has_nullify(round, (uint32_t)below(300), &flag) == BATCHER_DONE);
+    CHECK(batcher_round_is_missing_voter(round, &proposal, (uint32_t)below(300), &flag) == BATCHER_DONE);
+    CHECK(batcher_round_missing_voters(round, &proposal, missing, room, &count) == BATCHER_DONE);
+    CHECK(count <= participants);
+    for (size_t i = 1; i < count && i < room; i++) CHECK(missing[i - 1] < missing[i] && missing[i] < participants);
+    uint8_t kind = (uint8_t)mostly_below(3);
+    CHECK((batcher_round_has_certificate(round, kind, &flag) == BATCHER_MALFORMED) == (kind > 2));
+    uint8_t code = batcher_round_try_forward_proposal(round, mostly_below(participants), &proposal);
+    CHECK(code == BATCHER_DONE || code == BATCHER_IDLE);
+    return 0;
+}
+
+static int one_call(struct batcher_round *round, uint32_t participants) {
+    struct batcher_admission admission;
+    struct batcher_vote vote = any_vote(participants);
+    uint8_t bytes[8] = {0}, code;
+    bool anew = false;
+    memset(&admission, 0x5a, sizeof admission);
+    struct batcher_admission untouched = admission;
+    switch (below(9)) {
+    case 0:
+    case 1:
+    case 2:
+        code = batcher_round_add_network(round, below(10) != 0 ? vote.attestation.signer : below(300), &vote, &admission);
+        CHECK(code == BATCHER_DONE || memcmp(&admission, &untouched, sizeof untouched) == 0);
+        CHECK((code == BATCHER_MALFORMED) == (vote.kind > 2 || vote.attestation.length > 96));
+        if (code == BATCHER_DONE && admission.added) CHECK(admission.block == BATCHER_BLOCK_NONE);
+        return 0;
+    case 3:
+        code = batcher_round_accept_vote(round, &vote, attests(&vote.attestation), &admission);
+        CHECK(code == BATCHER_DONE || memcmp(&admission, &untouched, sizeof untouched) == 0);
+        if (code == BATCHER_DONE) CHECK(attests(&vote.attestation) && vote.attestation.signer < participants);
+        return 0;
+    case 4:
+        code = batcher_round_set_leader(round, mostly_below(participants));
+        CHECK(code == BATCHER_DONE || code == BATCHER_LEADER_CHANGED);
+        return 0;
+    case 5:
+        if (below(10) != 0) return questions(round, participants);
+        code = batcher_round_record_certificate(round, (uint8_t)mostly_below(3), &vote.proposal, bytes, below(9), &anew);
+        CHECK(code == BATCHER_DONE || code == BATCHER_ELSEWHERE || code == BATCHER_MALFORMED);
+        return 0;
+    case 6: return record_any(round, participants);
+    default: return construct(round, participants, below(4) != 0);
+    }
+}
+
+static int one_round(uint64_t seed) {
+    struct batcher_round round = {0};
+    struct batcher_round_options options;
+    state = seed;
+    memset(&options, 0, sizeof options);
+    options.view = 1;
+    options.participants = 1 + (uint32_t)below(MOST);
+    options.mode = (uint8_t)below(3);
+    options.batchable = below(2) != 0;
+    CHECK(one_call(&round, 1) == 0 || round.at == NULL);
+    CHECK(batcher_round_new(&round, &options) == BATCHER_DONE);
+    for (int calls = 0; calls < 200; calls++) {
+        int line = one_call(&round, options.participants);
+        if (line != 0) return line;
+    }
+    if (below(2) != 0) CHECK(batcher_round_new(&round, &options) == BATCHER_DONE);
+    batcher_round_free(&round);
+    return 0;
+}
+
+int main(int count, char **words) {
+    unsigned long long seeds = 0;
+    if (count != 2 || sscanf(words[1], "%llu", &seeds) != 1) return 2;
+    for (uint64_t seed = 0; seed < seeds; seed++) {
+        int line = one_round(seed);
+        if (line != 0) {
+            fprintf(stderr, "fuzz.c:%d: not so with seed %llu\n", line, (unsigned long long)seed);
+            return 1;
+        }
+    }
+    /* Where none of these comes up, nothing was tried. */
+    return seeds != 0 && (certified < seeds / 8 || passed < seeds / 40 || bad < seeds / 16);
+}

@@ -1,0 +1,88 @@
+-- What a certificate shows that certifies.
+use Rattle.std.proofs.Common.{◌≡◌, ◌∙◌, ◌==◌, ◌&&◌, ℕ, Bool, true, false, List, [], ◌∷◌, Option, Some, None, IfSome, ap, refl, subst, sym}
+use Rattle.std.specs.Cmp.Lexicographic.{pointwise}
+use Rattle.std.specs.Prelude.{length}
+use Rattle.std.proofs.lemmas.Bool.{eqb-true}
+use Rattle.batcher_types.proofs.VoteLemmas.{same_subject-true}
+use Rattle.batcher_types.specs.Votes.{content_of, same_subject, subject_certified}
+use Rattle.batcher_types.specs.declared.messages.Sha256Digest.{Sha256Digest}
+use Rattle.batcher_types.specs.declared.messages.Subject.{Subject}
+use Rattle.batcher_votes.specs.Verifiers.{BatchCertifies}
+use Rattle.batcher_votes.specs.declared.verifier.Batch.{Batch}
+use Rattle.batcher_bytes.specs.Keys.{same_digest, same_keys}
+use Rattle.batcher_bytes.specs.Listings.{Listing, Passed, listing_of}
+use Rattle.batcher_bytes.specs.Meanings.{certifies}
+use Rattle.batcher_bytes.specs.declared.certificates.Content.{Content}
+use Rattle.batcher_bytes.specs.declared.certificates.Content.TheVariants.{Made as MadeHere, Received}
+use Rattle.batcher_bytes.specs.declared.signature.Keys.{Keys}
+use Rattle.batcher_any.specs.declared.either.Either.TheVariants.{Batchable, OneByOne}
+use Rattle.batcher_ffi.specs.Output.{Made, WritesCertificate, WritesContent}
+use Rattle.batcher_ffi.specs.Rounds.{CRound, IsOfQuorum, MakesQuorum, config_of}
+use Rattle.batcher_ffi.specs.contracts.caller.CallerTruth.TheImpl.{ghosts}
+use Rattle.batcher_ffi.specs.declared.caller.Caller.{Caller}
+use Rattle.batcher_ffi.specs.declared.flat.FlatAttestation.{FlatAttestation}
+use Rattle.batcher_ffi.specs.declared.flat.FlatStep.{FlatStep}
+
+both_true : (a b : Bool) → (a && b) ≡ true → (a ≡ true) × (b ≡ true)
+both_true true b h = (refl, h)
+both_true false b h = absurd (cc)
+
+same_bytes : (a b : List ℕ) → pointwise (λ x y. x == y) a b ≡ true → a ≡ b
+same_bytes [] [] h = refl
+same_bytes [] (y ∷ b) h = absurd (cc)
+same_bytes (x ∷ a) [] h = absurd (cc)
+same_bytes (x ∷ a) (y ∷ b) h =
+    let both = both_true (x == y) (pointwise (λ x y. x == y) a b) h in
+    rw (eqb-true x y both.0, same_bytes a b both.1) refl
+
+keys_same : (a b : Keys) → same_keys a b ≡ true → a ≡ b
+keys_same a b h = ap (λ bytes. record { 0 = bytes }) (same_bytes a.0 b.0 h)
+
+digest_same : (a b : Sha256Digest) → same_digest a b ≡ true → a ≡ b
+digest_same a b h = ap (λ bytes. record { 0 = bytes }) (same_bytes a.0 b.0 h)
+
+-- What certifies was made for the subject, by participants of these keys.
+pub is_listing_of : (keys : Keys) (n : ℕ) (subject : Subject Sha256Digest) (listing : Listing)
+    → certifies {T = Caller} keys n subject (MadeHere listing) ≡ true
+    → listing ≡ listing_of keys n subject listing.attestations
+is_listing_of keys n subject listing h =
+    let all = both_true (listing.participants == n)
+    (same_keys listing.keys keys && same_subject same_digest subject listing.subject) h in
+    let rest = both_true (same_keys listing.keys keys)
+    (same_subject same_digest subject listing.subject) all.1 in
+    let by : listing.keys ≡ keys = keys_same listing.keys keys rest.0 in
+    let of : listing.participants ≡ n = eqb-true listing.participants n all.0 in
+    let about : listing.subject ≡ subject =
+    sym (same_subject-true same_digest digest_same subject listing.subject rest.1) in
+    ap (λ k. record { keys = k; participants = listing.participants; subject = listing.subject; attestations = listing.attestations }) by
+    ∙ ap (λ m. record { keys = keys; participants = m; subject = listing.subject; attestations = listing.attestations }) of
+    ∙ ap (λ s. record { keys = keys; participants = n; subject = s; attestations = listing.attestations }) about
+
+of_content : (keys : Keys) (n : ℕ) (subject : Subject Sha256Digest) (listing : Listing)
+    → certifies {T = Caller} keys n subject (MadeHere listing) ≡ true → Passed ghosts listing
+    → Passed ghosts (listing_of keys n subject listing.attestations)
+of_content keys n subject listing h passed =
+    subst (λ l. Passed ghosts l) (is_listing_of keys n subject listing h) passed
+
+of_quorum : (r : CRound) (step : FlatStep) (room list : List FlatAttestation)
+    (subject : Subject Sha256Digest) (content : Content Caller)
+    → (config_of r).meaning.certifies subject content ≡ true
+    → WritesContent step room list content → IsOfQuorum r subject content
+of_quorum (Batchable j) step room list subject (MadeHere listing) h written =
+    of_content j.round.scheme.keys (length j.round.scheme.participants) subject listing h written.1.1
+of_quorum (OneByOne j) step room list subject (MadeHere listing) h written =
+    of_content j.round.scheme.keys (length j.round.scheme.participants) subject listing h written.1.1
+of_quorum r step room list subject (Received certificate) h written = tt
+
+-- A batch that certifies makes a quorum, as it is written.
+pub makes_quorum : (r : CRound) (step : FlatStep) (room list : List FlatAttestation)
+    (batch : Batch Made) → BatchCertifies (config_of r).meaning batch
+    → IfSome batch.certificate (WritesCertificate step room list) → MakesQuorum r batch
+makes_quorum r step room list batch h written = of_some batch.certificate h written
+  where
+    of_some : (o : Option Made)
+        → IfSome o (λ c. (config_of r).meaning.certifies (subject_certified c) (content_of c) ≡ true)
+        → IfSome o (WritesCertificate step room list)
+        → IfSome o (λ c. IsOfQuorum r (subject_certified c) (content_of c))
+    of_some (Some c) h w = of_quorum r step room list (subject_certified c) (content_of c) h w.content
+    of_some None h w = tt

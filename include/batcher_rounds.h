@@ -1,0 +1,254 @@
+/* Rounds of a verified vote batcher, over signatures as bytes. Link libbatcher_ffi.a, and what defines
+ * `rattle_alloc`, `rattle_dealloc` and `rattle_realloc` below, as c/heap.c does. A program includes this
+ * header or batcher.h, which has nodes and the rounds of another library, and not both.
+ *
+ * What a caller owes, which nothing here can test:
+ *   - a handle, a `struct batcher_round`, begins as {0}, is in one call at a time, on one thread, and its
+ *     pointer is neither copied nor written;
+ *   - each pointer is to a live value of its type that nobody else writes meanwhile, or to as many as
+ *     the length after it says; a `bool` is 0 or 1; pointers that are written through don't overlap;
+ *   - a verdict is true: of a signature of that participant on that subject, by the keys of the round.
+ * All else is tested: on an empty handle, for a code that means nothing, for a length that is too large
+ * and for a vote of another round a call answers a code, and changes nothing. A leader's index alone
+ * isn't looked at. */
+#ifndef BATCHER_H
+#define BATCHER_H
+
+#include <stdbool.h>
+#include <stddef.h>
+#include <stdint.h>
+
+#ifdef __cplusplus
+extern "C" {
+#endif
+
+/* The most bytes that a signature may have: enough for Ed25519, and for both groups of BLS. */
+#define BATCHER_SIGNATURE_BYTES 96
+
+struct batcher_round {
+    void *at; /* null: none */
+};
+
+/* What calls answer. */
+enum batcher_code {
+    BATCHER_DONE, /* of a construction: a batch was made */
+    BATCHER_NONE, /* the handle is empty */
+    BATCHER_MALFORMED, /* a code or length that means nothing, or a signer that takes no part */
+    BATCHER_ELSEWHERE, /* of another round */
+    BATCHER_OUT_OF_MEMORY, /* all is as it was */
+    BATCHER_LEADER_CHANGED, /* another leader was named before */
+    BATCHER_NOT_VERIFIED, /* an own vote that doesn't attest, or whose signer takes no part */
+    BATCHER_DUPLICATE_NOTARIZE, /* a notarize of its signer is kept */
+    BATCHER_DUPLICATE_FINALIZE, /* a finalize of its signer is kept */
+    BATCHER_CONFLICTING, /* an earlier vote of its kind and signer was for another proposal */
+    BATCHER_NULLIFY_AFTER_FINALIZE, /* its signer has finalized before */
+    BATCHER_FINALIZE_AFTER_NULLIFY, /* its signer has nullified before */
+    BATCHER_IDLE, /* nothing is to be done, or there is none */
+    BATCHER_VERIFY, /* verdicts are wanted on the attestations of the list */
+    BATCHER_STALE /* the subject or the list isn't what is asked about first, so nothing changed */
+};
+
+enum batcher_kind { BATCHER_NOTARIZATION, BATCHER_NULLIFICATION, BATCHER_FINALIZATION };
+
+/* How long votes are kept in full: to the end, until their kind is certified, or never. */
+enum batcher_mode { BATCHER_RETAINING, BATCHER_RELEASING, BATCHER_SKIPPED };
+
+/* Why the sender of a vote is to be blocked, if it is. */
+enum batcher_block {
+    BATCHER_BLOCK_NONE,
+    BATCHER_BLOCK_UNKNOWN_PARTICIPANT,
+    BATCHER_BLOCK_NOTARIZE_SIGNER_MISMATCH,
+    BATCHER_BLOCK_NULLIFY_SIGNER_MISMATCH,
+    BATCHER_BLOCK_FINALIZE_SIGNER_MISMATCH,
+    BATCHER_BLOCK_CONFLICTING_NOTARIZE,
+    BATCHER_BLOCK_CONFLICTING_NULLIFY,
+    BATCHER_BLOCK_CONFLICTING_FINALIZE,
+    BATCHER_BLOCK_INVALID_SIGNATURE,
+    BATCHER_BLOCK_NULLIFY_AFTER_FINALIZE,
+    BATCHER_BLOCK_FINALIZE_AFTER_NULLIFY
+};
+
+/* What a report is of, if there is one. */
+enum batcher_report {
+    BATCHER_REPORT_NONE,
+    BATCHER_REPORT_NOTARIZE,
+    BATCHER_REPORT_NULLIFY,
+    BATCHER_REPORT_FINALIZE,
+    BATCHER_REPORT_CONFLICTING_NOTARIZE, /* the first is the earlier one */
+    BATCHER_REPORT_CONFLICTING_FINALIZE, /* the first is the earlier one */
+    BATCHER_REPORT_NULLIFY_FINALIZE /* the first is the nullify */
+};
+
+/* A proposal. Of a nullify and a nullification its epoch and view alone count. */
+struct batcher_proposal {
+    uint64_t epoch;
+    uint64_t view;
+    uint64_t parent;
+    uint8_t payload[32];
+};
+
+/* An attestation: a signature of a signer on what it signs. It is the first `length` of the bytes, and
+ * what comes after them doesn't count. Signatures with the same bytes are equal. */
+struct batcher_attestation {
+    uint32_t signer;
+    uint8_t length;
+    uint8_t bytes[BATCHER_SIGNATURE_BYTES];
+};
+
+struct batcher_vote {
+    struct batcher_proposal proposal;
+    struct batcher_attestation attestation;
+    uint8_t kind;
+};
+
+/* The answer to a vote. */
+struct batcher_admission {
+    struct batcher_vote first; /* the votes of the report; of a new one the first alone */
+    struct batcher_vote second;
+    uint8_t report;
+    uint8_t block;
+    bool added; /* the first of its kind and signer */
+    bool retained; /* of a round's own vote, whether votes of its kind are kept in full; else false */
+};
+
+/* What a construction comes to. Of one that wants verdicts: what the attestations are to attest, how many
+ * there are, and how many others are known to attest. Of one that was made: the batch, and of a
+ * certificate what it is of and of how many attestations it is made. */
+struct batcher_step {
+    struct batcher_proposal proposal;
+    uint64_t processed; /* how many votes were looked at */
+    uint64_t listed;
+    uint64_t verified;
+    uint64_t invalid; /* how many signers of votes that don't attest there are */
+    uint8_t kind;
+    bool certified;
+    bool fallback; /* the pending votes had to be verified one by one */
+};
+
+/* What a round is made of. */
+struct batcher_round_options {
+    uint64_t epoch;
+    uint64_t view;
+    uint32_t participants; /* whose keys are 0, 1, .. in this order */
+    uint8_t keys[32]; /* distinguishes the list of their keys from other lists, as its hash does */
+    uint8_t mode;
+    bool batchable; /* it waits for a quorum before it wants verdicts */
+};
+
+/* Does nothing. Its name has the version of this header, so a library of another one doesn't link. */
+void batcher_abi_2(void);
+__attribute__((used)) static void (*const batcher_abi)(void) = batcher_abi_2;
+
+/* The library takes its memory by these three, which a program defines: c/heap.c does, over malloc. A block
+ * is aligned by 16, and `at` is never null, also where the request is refused. */
+struct rattle_block {
+    bool ok; /* false: memory is refused */
+    void *at;
+};
+
+struct rattle_block rattle_alloc(size_t size, size_t align);
+struct rattle_block rattle_realloc(void *at, size_t kept, size_t size, size_t align);
+void rattle_dealloc(void *at);
+
+/* What a code says, as text for people. */
+static inline const char *batcher_code_text(uint8_t code) {
+    switch (code) {
+    case BATCHER_DONE: return "done";
+    case BATCHER_NONE: return "the handle is empty";
+    case BATCHER_MALFORMED: return "malformed";
+    case BATCHER_ELSEWHERE: return "of another round";
+    case BATCHER_OUT_OF_MEMORY: return "out of memory";
+    case BATCHER_LEADER_CHANGED: return "another leader was named before";
+    case BATCHER_NOT_VERIFIED: return "the own vote doesn't attest";
+    case BATCHER_DUPLICATE_NOTARIZE: return "a notarize of its signer is kept";
+    case BATCHER_DUPLICATE_FINALIZE: return "a finalize of its signer is kept";
+    case BATCHER_CONFLICTING: return "an earlier vote of its kind and signer was for another proposal";
+    case BATCHER_NULLIFY_AFTER_FINALIZE: return "its signer has finalized before";
+    case BATCHER_FINALIZE_AFTER_NULLIFY: return "its signer has nullified before";
+    case BATCHER_IDLE: return "nothing is to be done, or there is none";
+    case BATCHER_VERIFY: return "verdicts are wanted";
+    case BATCHER_STALE: return "others are asked about first";
+    default: return "no code of this version";
+    }
+}
+
+/* Where it is DONE, the handle's earlier round is freed. */
+uint8_t batcher_round_new(struct batcher_round *round, const struct batcher_round_options *options);
+
+/* Frees the round, if there is one. */
+void batcher_round_free(struct batcher_round *round);
+
+/* A vote of the peer whose key is the sender; of another number, of one that takes no part. */
+uint8_t batcher_round_add_network(struct batcher_round *round, uint64_t sender,
+                                  const struct batcher_vote *vote, struct batcher_admission *out);
+
+/* A vote of the node's own, and whether it attests. It is to be sent only where it is DONE and `added`. */
+uint8_t batcher_round_accept_vote(struct batcher_round *round, const struct batcher_vote *vote,
+                                  bool attests, struct batcher_admission *out);
+
+/* A certificate that the caller has verified, as bytes. It says of a notarization whether another proposal
+ * is selected than before. */
+uint8_t batcher_round_record_certificate(struct batcher_round *round, uint8_t kind,
+                                         const struct batcher_proposal *proposal, const uint8_t *bytes,
+                                         size_t bytes_length, bool *selected_anew);
+
+/* Whether each attestation of a list attests what the construction is about: of those that
+ * `batcher_round_try_construct` listed, from the first on. They may come late, and in parts. STALE: the
+ * list isn't that any more, as where another kind is next. */
+uint8_t batcher_round_record_verdicts(struct batcher_round *round, uint8_t kind,
+                                      const struct batcher_proposal *proposal,
+                                      const struct batcher_attestation *list, size_t list_length,
+                                      const bool *verdicts, size_t verdicts_length);
+
+/* The index isn't looked at, and can't be changed. */
+uint8_t batcher_round_set_leader(struct batcher_round *round, uint32_t leader);
+
+/* IDLE: there is none yet. */
+uint8_t batcher_round_leader(struct batcher_round *round, uint32_t *out);
+
+/* The selected proposal. IDLE: there is none yet. */
+uint8_t batcher_round_proposal(struct batcher_round *round, struct batcher_proposal *out);
+
+/* The selected proposal, to hand on once. IDLE: there is none, or not for this participant. */
+uint8_t batcher_round_try_forward_proposal(struct batcher_round *round, uint32_t me,
+                                           struct batcher_proposal *out);
+
+uint8_t batcher_round_has_certificate(struct batcher_round *round, uint8_t kind, bool *out);
+
+/* Whether a nullify of the signer is kept in full. */
+uint8_t batcher_round_has_nullify(struct batcher_round *round, uint32_t signer, bool *out);
+
+/* Whether the participant isn't known to have the proposal's contents. Of votes that aren't kept in full one
+ * for the selected proposal counts for whichever is asked about. */
+uint8_t batcher_round_is_missing_voter(struct batcher_round *round,
+                                       const struct batcher_proposal *proposal,
+                                       uint32_t participant, bool *out);
+
+/* Those that aren't known to have it. What doesn't fit into the list is left out, but counted; the same of
+ * the lists below. Lists of as many places as there are participants hold all. */
+uint8_t batcher_round_missing_voters(struct batcher_round *round,
+                                     const struct batcher_proposal *proposal, uint32_t *list,
+                                     size_t list_length, uint64_t *count);
+
+/* The next construction. VERIFY: verdicts are wanted on the attestations of the list, and nothing has
+ * changed; `known` has those that are known to attest. A verdict is kept while its attestation waits, and
+ * isn't wanted again. DONE: the list has the attestations of the certificate, if one was made: those of a
+ * quorum of different participants, which attest each or passed as a whole. Make it after all that was
+ * taken in, until it is IDLE. What doesn't fit into a list is left out, but counted. */
+uint8_t batcher_round_try_construct(struct batcher_round *round, struct batcher_step *out,
+                                    struct batcher_attestation *known, size_t known_length,
+                                    struct batcher_attestation *list, size_t list_length,
+                                    uint32_t *signers, size_t signers_length);
+
+/* The next construction, of attestations that pass as a whole, as of a scheme that aggregates: those that
+ * are known to attest, and then all that wait. STALE: the list isn't that, or no quorum. */
+uint8_t batcher_round_construct_together(struct batcher_round *round, uint8_t kind,
+                                         const struct batcher_proposal *proposal,
+                                         const struct batcher_attestation *list, size_t list_length,
+                                         struct batcher_step *out);
+
+#ifdef __cplusplus
+}
+#endif
+
+#endif
