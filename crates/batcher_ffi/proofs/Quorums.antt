@@ -7,7 +7,7 @@ use Rattle.batcher_types.proofs.VoteLemmas.{same_subject-true}
 use Rattle.batcher_types.specs.Votes.{content_of, same_subject, subject_certified}
 use Rattle.batcher_types.specs.declared.messages.Sha256Digest.{Sha256Digest}
 use Rattle.batcher_types.specs.declared.messages.Subject.{Subject}
-use Rattle.batcher_votes.specs.Verifiers.{BatchCertifies}
+use Rattle.batcher_votes.specs.Verifiers.{BatchCertifies, certifies_itself}
 use Rattle.batcher_votes.specs.declared.verifier.Batch.{Batch}
 use Rattle.batcher_bytes.specs.Keys.{same_digest, same_keys}
 use Rattle.batcher_bytes.specs.Listings.{Listing, Passed, listing_of}
@@ -54,9 +54,10 @@ is_listing_of keys n subject listing h =
     let of : listing.participants ≡ n = eqb-true listing.participants n all.0 in
     let about : listing.subject ≡ subject =
     sym (same_subject-true same_digest digest_same subject listing.subject rest.1) in
-    ap (λ k. record { keys = k; participants = listing.participants; subject = listing.subject; attestations = listing.attestations }) by
-    ∙ ap (λ m. record { keys = keys; participants = m; subject = listing.subject; attestations = listing.attestations }) of
-    ∙ ap (λ s. record { keys = keys; participants = n; subject = s; attestations = listing.attestations }) about
+    let of_three : Keys → ℕ → Subject Sha256Digest → Listing =
+    λ k m t. listing_of k m t listing.attestations in
+    ap (λ k. of_three k listing.participants listing.subject) by
+    ∙ ap (λ m. of_three keys m listing.subject) of ∙ ap (λ t. of_three keys n t) about
 
 of_content : (keys : Keys) (n : ℕ) (subject : Subject Sha256Digest) (listing : Listing)
     → certifies {T = Caller} keys n subject (MadeHere listing) ≡ true → Passed ghosts listing
@@ -81,7 +82,7 @@ pub makes_quorum : (r : CRound) (step : FlatStep) (room list : List FlatAttestat
 makes_quorum r step room list batch h written = of_some batch.certificate h written
   where
     of_some : (o : Option Made)
-        → IfSome o (λ c. (config_of r).meaning.certifies (subject_certified c) (content_of c) ≡ true)
+        → IfSome o (λ c. certifies_itself (config_of r).meaning c ≡ true)
         → IfSome o (WritesCertificate step room list)
         → IfSome o (λ c. IsOfQuorum r (subject_certified c) (content_of c))
     of_some (Some c) h w = of_quorum r step room list (subject_certified c) (content_of c) h w.content
