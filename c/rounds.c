@@ -165,6 +165,28 @@ static int repeats(void) {
     return 0;
 }
 
+/* Two votes convict their signer if both attest, each by its own verdict: also where their bytes are the same. */
+static int convictions(void) {
+    uint8_t keys[32];
+    uint32_t signer = 9;
+    struct batcher_vote first = notarize(2, 5, 1), second = notarize(2, 5, 2);
+    memset(keys, 7, sizeof keys);
+    CHECK(batcher_convicted(PARTICIPANTS, keys, &first, &second, true, false, &signer) == BATCHER_IDLE);
+    CHECK(batcher_convicted(PARTICIPANTS, keys, &first, &second, false, true, &signer) == BATCHER_IDLE && signer == 9);
+    CHECK(batcher_convicted(PARTICIPANTS, keys, &first, &second, true, true, &signer) == BATCHER_DONE && signer == 2);
+    CHECK(batcher_convicted(2, keys, &first, &second, true, true, &signer) == BATCHER_IDLE);
+    second.kind = BATCHER_NULLIFICATION;
+    CHECK(batcher_convicted(PARTICIPANTS, keys, &first, &second, true, true, &signer) == BATCHER_IDLE);
+    first.kind = BATCHER_FINALIZATION;
+    CHECK(batcher_convicted(PARTICIPANTS, keys, &first, &second, true, true, &signer) == BATCHER_DONE);
+    CHECK(batcher_convicted(PARTICIPANTS, keys, &second, &first, true, true, &signer) == BATCHER_DONE);
+    second.attestation.signer = 1;
+    CHECK(batcher_convicted(PARTICIPANTS, keys, &first, &second, true, true, &signer) == BATCHER_IDLE);
+    second.kind = 3;
+    CHECK(batcher_convicted(PARTICIPANTS, keys, &first, &second, true, true, &signer) == BATCHER_MALFORMED);
+    return 0;
+}
+
 static int mistakes(void) {
     struct batcher_round round = {0};
     struct batcher_vote vote = nullify(0, 1);
@@ -213,6 +235,7 @@ int main(void) {
     int line = late_verdicts();
     if (line == 0) line = together();
     if (line == 0) line = repeats();
+    if (line == 0) line = convictions();
     if (line == 0) line = mistakes();
     if (line != 0) fprintf(stderr, "rounds.c:%d: not so\n", line);
     return line != 0;

@@ -247,6 +247,13 @@ uint8_t batcher_round_construct_together(struct batcher_round *round, uint8_t ki
                                          const struct batcher_attestation *list, size_t list_length,
                                          struct batcher_step *out);
 
+/* The signer that two votes convict: they are of one of so many participants with these keys, which are 32
+ * bytes as those of a round, contradict each other, and both attest, as the caller has verified. IDLE:
+ * they convict nobody. It takes no round's word. */
+uint8_t batcher_convicted(uint32_t participants, const uint8_t *keys, const struct batcher_vote *first,
+                          const struct batcher_vote *second, bool first_attests, bool second_attests,
+                          uint32_t *out);
+
 #ifdef __cplusplus
 }
 #endif

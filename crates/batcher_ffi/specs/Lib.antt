@@ -5,3 +5,4 @@ pub mod Flat
 pub mod Output
 pub mod Rounds
 pub mod Handles
+pub mod Convictions

@@ -1,6 +1,8 @@
-//! The functions of a round that C calls. Each answers a code of the header.
+//! The functions of a round that C calls, and one that takes no round. Each answers a code of the
+//! header.
 
 ghost use Rattle.std.specs.Prelude.{◌≡◌, None};
+ghost use Rattle.batcher_ffi.specs.Convictions.{AsksConvicted, IsVerifiedBy};
 ghost use Rattle.batcher_ffi.specs.Handles.{OnRound};
 ghost use Rattle.batcher_ffi.specs.Rounds.{MakesRound, IsVerified, AreVerified, PassTogether, Certifies, RecordsVerdicts, AddsNetwork, AcceptsVote, RecordsCertificate, SetsLeader, Forwards, AsksLeader, AsksProposal};
 ghost use Rattle.batcher_ffi.specs.Rounds.{AsksCertificate, AsksNullify, AsksMissing, ListsMissing, Constructs, ConstructsTogether};
@@ -10,7 +12,7 @@ use crate::flat::{
     FlatAdmission, FlatAttestation, FlatProposal, FlatStep, FlatVote, mode_of, round_of,
 };
 use crate::handle::{Round, RoundHandle};
-use crate::rounds;
+use crate::{evidence, rounds};
 use batcher_bytes::Keys;
 use std::alloc::Global;
 
@@ -355,4 +357,33 @@ pub extern "C" fn batcher_round_construct_together(
     let code = rounds::construct_together(&mut taken, alloc, kind, proposal, list, out);
     round.put(taken);
     code
+}
+
+/// Whether two votes convict their signer, among so many participants with these keys.
+#[unsafe(no_mangle)]
+pub extern "C" fn batcher_convicted(
+    participants: u32,
+    keys: &[u8; 32],
+    first: &FlatVote,
+    second: &FlatVote,
+    first_attests: bool,
+    second_attests: bool,
+    out: &mut u32,
+) -> u8
+    requires first { IsVerifiedBy (record { 0 = keys.now }) first.now first_attests }
+    requires second { IsVerifiedBy (record { 0 = keys.now }) second.now second_attests }
+    ensures { AsksConvicted result participants (record { 0 = keys.now }) first.now second.now
+        out.old out.new }
+{
+    let own = *keys;
+    let keys = Keys(own);
+    evidence::convicted(
+        participants,
+        keys,
+        first,
+        second,
+        first_attests,
+        second_attests,
+        out,
+    )
 }

@@ -3,6 +3,7 @@
 
 mod caller;
 mod codes;
+mod evidence;
 mod exports;
 mod flat;
 mod handle;

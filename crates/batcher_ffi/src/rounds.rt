@@ -88,8 +88,8 @@ pub fn accept_vote(round: &mut Round, vote: &FlatVote, attests: bool, out: &mut 
     }
 }
 
-// Whether the vote attests, and its signer takes part.
-fn is_verified(vote: &Vote<Signature, Sha256Digest>, attests: bool, participants: usize) -> bool
+/// Whether the vote attests, and its signer takes part.
+pub fn is_verified(vote: &Vote<Signature, Sha256Digest>, attests: bool, participants: usize) -> bool
     ensures { result ≡ (nat_lt (attestation_of vote.now).signer.0 participants && attests) }
 {
     (vote.attestation().signer.0 as usize) < participants && attests
