@@ -1,7 +1,7 @@
 -- What a caller has verified, by what the scheme of its round means.
 use Rattle.std.proofs.Common.{◌≡◌, ◌∙◌, ◌&&◌, nat_lt, Bool, true, false, List, [], ◌∷◌, Some, map, ap, refl, sym}
-use Rattle.std.specs.List.{list_all}
-use Rattle.std.specs.Prelude.{length}
+use Rattle.std.specs.List.{list_all, list_any}
+use Rattle.std.specs.Prelude.{is_none, length}
 use Rattle.std.proofs.lemmas.List.{length-map}
 use Rattle.batcher_types.specs.declared.messages.Attestation.{Attestation}
 use Rattle.batcher_types.specs.declared.messages.Sha256Digest.{Sha256Digest}
@@ -67,3 +67,13 @@ pub as_long : (list : List FlatAttestation) (xs : List (Attestation Signature)) 
     → length list ≡ length xs
 as_long list xs is =
     sym (length-map list attestation_in) ∙ (ap length is ∙ length-map xs Some)
+
+-- Of what is read none is missing.
+pub none_missing : (list : List FlatAttestation) (xs : List (Attestation Signature))
+    → AreIn list xs → list_any (λ flat. is_none (attestation_in flat)) list ≡ true → ⊥
+none_missing [] xs is any = absurd (cc)
+none_missing (flat ∷ list) [] is any = absurd (cc)
+none_missing (flat ∷ list) (x ∷ xs) is any =
+    let first : attestation_in flat ≡ Some x = cc in
+    let rest : map attestation_in list ≡ map Some xs = cc in
+    none_missing list xs rest (rw first at any)

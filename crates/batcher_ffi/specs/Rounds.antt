@@ -1,6 +1,6 @@
 -- What the calls of a round do and answer, by codes and flat values.
-use Rattle.std.specs.Prelude.{◌≡◌, ◌≢◌, ◌↔◌, ◌≤◌, ◌==◌, ◌++◌, ⊤, not, ℕ, Bool, true, false, List, [], ◌∷◌, length, map, Option, Some, None, Ok, IfSome, IsSomeAnd}
-use Rattle.std.specs.List.{list_any}
+use Rattle.std.specs.Prelude.{◌≡◌, ◌≢◌, ◌↔◌, ◌≤◌, ◌==◌, ◌++◌, ⊤, not, ℕ, Bool, true, false, List, [], ◌∷◌, length, map, Option, Some, None, Ok, IfSome, IsSomeAnd, is_some, nat_lt}
+use Rattle.std.specs.List.{list_all, list_any}
 use Rattle.batcher_types.specs.declared.messages.Sha256Digest.{Sha256Digest}
 use Rattle.batcher_types.specs.declared.positions.Participant.{Participant}
 use Rattle.batcher_types.specs.declared.scheme.keyed.Name.{Name}
@@ -32,6 +32,7 @@ use Rattle.batcher_verdicts.specs.Rounds.{AreComplete, AsksNext, Forgets, Record
 use Rattle.batcher_any.specs.Calls.{ForEach, GoesOn}
 use Rattle.batcher_any.specs.Judging.{AnyView, BytesConfig, SameAny, config_in, held_in, keys_in}
 use Rattle.batcher_ffi.specs.Truths.{is_attested, is_passed, is_certified}
+use Rattle.batcher_any.specs.Wholes.{MayBeWhole}
 use Rattle.batcher_ffi.specs.contracts.caller.CallerTruth.TheImpl.{ghosts}
 use Rattle.batcher_ffi.specs.declared.caller.Caller.{Caller}
 use Rattle.batcher_ffi.specs.declared.codes.TheConstants.{DONE, MALFORMED, ELSEWHERE, OUT_OF_MEMORY, LEADER_CHANGED, NOT_VERIFIED, DUPLICATE_NOTARIZE, DUPLICATE_FINALIZE, CONFLICTING}
@@ -92,6 +93,12 @@ module _ (handle : Option CRound) where
   Certifies kind proposal bytes = IfSome handle (λ r. IfSome (subject_in kind proposal) (λ subject.
       is_certified (keys_in r) subject bytes ≡ true))
 
+-- Each of the list is an attestation, of a participant.
+abbrev pub AreOfParticipants : CRound → List FlatAttestation → Type 0
+AreOfParticipants r list =
+    (all : List (Attestation Signature)) × (AreIn list all
+    × (list_all (λ a. nat_lt a.signer.0 (length (config_of r).meaning.participants)) all ≡ true))
+
 -- A certificate came from elsewhere, as these bytes.
 abbrev pub IsReceived : List ℕ → Content Caller → Type 0
 IsReceived bytes (MadeHere listing) = ⊥
@@ -126,6 +133,7 @@ pub record MakesRound (old new : Option CRound) (code : ℕ) (epoch view partici
     (keys : List ℕ) (batchable : Bool) : Type 0 where
   pub codes : is_one_of (DONE ∷ MALFORMED ∷ OUT_OF_MEMORY ∷ []) code ≡ true
   pub malformed : mode_in mode ≡ None → code ≡ MALFORMED
+  pub refused : code ≡ MALFORMED → is_some (mode_in mode) ≡ true → participants ≡ 0
   pub some : code ≡ DONE → 1 ≤ participants
   pub done : code ≡ DONE
       → IsSomeAnd new (IsNew epoch view participants mode keys batchable)
@@ -253,6 +261,8 @@ module _ (before : CRound) (code : ℕ) (after : CRound) where
       (verdicts : List Bool) : Type 0 where
     pub codes : is_one_of (DONE ∷ MALFORMED ∷ STALE ∷ OUT_OF_MEMORY ∷ []) code ≡ true
     pub unlike : length verdicts ≢ length list → code ≡ MALFORMED
+    pub malformed : code ≡ MALFORMED → is_some (subject_in kind proposal) ≡ true
+        → AreOfParticipants before list → length verdicts ≢ length list
     pub records : code ≡ DONE → IfSome (subject_in kind proposal) (λ subject.
         (all : List (Attestation Signature)) × (AreIn list all
         × RecordsAsked (config_of before) (held_in before).round (held_in before).verdicts
@@ -309,6 +319,11 @@ module _ (before : CRound) (code : ℕ) (after : CRound) where
   pub record ConstructsTogether (kind : ℕ) (proposal : FlatProposal) (list : List FlatAttestation)
       (old step : FlatStep) : Type 0 where
     pub codes : is_one_of (DONE ∷ STALE ∷ MALFORMED ∷ OUT_OF_MEMORY ∷ []) code ≡ true
+    pub stale : code ≡ STALE → IfSome (subject_in kind proposal) (λ subject.
+        (all : List (Attestation Signature)) → AreIn list all
+        → MayBeWhole (config_of before) (held_in before).round subject all → ⊥)
+    pub malformed : code ≡ MALFORMED → is_some (subject_in kind proposal) ≡ true
+        → (all : List (Attestation Signature)) → AreIn list all → ⊥
     pub done : code ≡ DONE → (batch : Batch Made)
         × (WritesBatch step [] [] [] [] batch
         × (MakesQuorum before batch

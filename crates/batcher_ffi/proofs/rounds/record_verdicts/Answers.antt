@@ -1,8 +1,8 @@
-use Rattle.std.proofs.Common.{◌≡◌, ◌∙◌, nat_lt, true, Ok, ap, length, rules, sym}
+use Rattle.std.proofs.Common.{◌≡◌, ◌∙◌, nat_lt, true, false, Ok, ap, length, refl, rules, sym}
 use Rattle.std.specs.List.{list_all}
 use Rattle.std.proofs.lemmas.Bool.{true≢false}
 use Rattle.batcher_ffi.specs.Rounds.{config_of}
-use Rattle.batcher_ffi.proofs.Verified.{all_attest, as_long, same_read}
+use Rattle.batcher_ffi.proofs.Verified.{all_attest, as_long, none_missing, same_read, same_self}
 use Rattle.batcher_ffi.proofs.rounds.record_verdicts.Goals as goal
 
 pub call-requires : goal.call-requires
@@ -20,6 +20,7 @@ pub returns-in-Ok-true : goal.returns-in-Ok-true
 returns-in-Ok-true c = record {
   codes = search rules;
   unlike = search rules;
+  malformed = search rules;
   records = λ is. rw (sym c.subject_of.ensures ∙ c.in-Some.is) (
     c.in-Ok-Some.all.items,
     (
@@ -37,6 +38,7 @@ pub returns-in-Ok-false : goal.returns-in-Ok-false
 returns-in-Ok-false c = record {
   codes = search rules;
   unlike = search rules;
+  malformed = search rules;
   records = search rules;
   stale = λ is. rw (sym c.subject_of.ensures ∙ c.in-Some.is) (λ all rest there asks.
       let items : all ≡ c.in-Ok-Some.all.items = same_read c.args.list.now all c.in-Ok-Some.all.items there
@@ -47,4 +49,35 @@ returns-in-Ok-false c = record {
       (c.in-Ok-false.ensures.does.stale (ap Ok c.in-Ok-false.field-0-test));
   round = c.in-Ok-false.ensures.does.round;
   same = c.in-Ok-false.ensures.same;
+}
+
+pub returns-in-Ok-None : goal.returns-in-Ok-None
+returns-in-Ok-None c = record {
+  codes = search rules;
+  unlike = search rules;
+  malformed = λ is some parts alike. none_missing c.args.list.now parts.0 parts.1.0
+      (c.in-Ok-None.ensures.none (ap Ok c.in-Ok-None.field-0-is));
+  records = search rules;
+  stale = search rules;
+  stays = search rules;
+  round = refl;
+  same = same_self c.args.round.now;
+}
+
+pub returns-then-not-take_part : goal.returns-then-not-take_part
+returns-then-not-take_part c = record {
+  codes = search rules;
+  unlike = search rules;
+  malformed = λ is some parts alike.
+      let items : parts.0 ≡ c.in-Ok-Some.all.items = same_read c.args.list.now parts.0 c.in-Ok-Some.all.items
+      parts.1.0 (rw c.in-Ok-Some.field-0-is at c.in-Ok-Some.ensures.read) in
+      let part : list_all (λ a. nat_lt a.signer.0 (length (config_of c.args.round.now).meaning.participants)) c.in-Ok-Some.all.items ≡ false =
+      rw (sym c.participants.ensures, sym c.deref.ensures.value)
+      (sym c.take_part.ensures ∙ c.if-not-take_part.true) in
+      true≢false (sym (rw items at parts.1.1) ∙ part);
+  records = search rules;
+  stale = search rules;
+  stays = search rules;
+  round = refl;
+  same = same_self c.args.round.now;
 }
