@@ -1,9 +1,9 @@
-/* Rounds under any order of calls, sizes and bytes, by seeds 0, 1, .. up to the one that is named. What is answered is
- * compared with what holds of every call, and each certificate with the votes that were handed in. It ends with 0, or with
- * 1 where a check fails, and names its line and the seed. */
+/* Rounds under any order of calls, sizes and bytes, by seeds 0, 1, .. up to the one that is named, while memory is refused
+ * now and then. What is answered is compared with what holds of every call, and each certificate with the votes that were
+ * handed in. It ends with 0, or with 1 where a check fails, and names its line and the seed. */
 #include "batcher_rounds.h"
-#include "heap.c"
 #include <stdio.h>
+#include <stdlib.h>
 #include <string.h>
 
 #define MOST 7
@@ -14,14 +14,43 @@
 
 static uint64_t state;
 
-/* How many certificates were made by single verdicts, and as a whole, and how many votes were bad. */
-static uint64_t certified, passed, bad;
+/* How many certificates were made by single verdicts and as a whole, votes were bad, and calls were out of memory. */
+static uint64_t certified, passed, bad, out_of_memory;
 
 /* A number below a bound. */
 static uint64_t below(uint64_t bound) {
     state = state * 6364136223846793005u + 1442695040888963407u;
     return (state >> 33) % bound;
 }
+
+/* Whether memory may be refused in this call, and whether it was. */
+static bool may_refuse, refused;
+
+static bool refuses(void) {
+    if (!may_refuse || below(4) != 0) return false;
+    refused = true;
+    return true;
+}
+
+static void *tried_malloc(size_t size) { return refuses() ? NULL : malloc(size); }
+
+static void *tried_realloc(void *at, size_t size) { return refuses() ? NULL : realloc(at, size); }
+
+#define malloc tried_malloc
+#define realloc tried_realloc
+#include "heap.c"
+#undef malloc
+#undef realloc
+
+/* A call is out of memory only where memory was refused in it. */
+#define MADE(code)                                                                                  \
+    do {                                                                                            \
+        if ((code) == BATCHER_OUT_OF_MEMORY) {                                                      \
+            CHECK(refused);                                                                         \
+            out_of_memory++;                                                                        \
+            return 0;                                                                               \
+        }                                                                                           \
+    } while (0)
 
 /* As a rule one of those that mean something, and sometimes any. */
 static uint32_t mostly_below(uint32_t bound) { return below(20) != 0 ? (uint32_t)below(bound) : (uint32_t)below(300); }
@@ -80,6 +109,7 @@ static int together(struct batcher_round *round, const struct batcher_step *want
     for (size_t i = 0; i < count; i++)
         if (!attests(&all[i])) return 0;
     uint8_t code = batcher_round_construct_together(round, wanted->kind, &wanted->proposal, all, count, &step);
+    MADE(code);
     CHECK(code == BATCHER_DONE || code == BATCHER_STALE);
     CHECK(code == BATCHER_STALE || (step.certified && step.listed == count && step.invalid == 0));
     passed += code == BATCHER_DONE;
@@ -107,8 +137,9 @@ static int construct(struct batcher_round *round, uint32_t participants, bool an
         for (size_t i = 0; i < step.verified && i < known_room; i++) CHECK(attests(&known[i]));
         if (!answers) return together(round, &step, known, known_room, list, room, participants);
         if (count > 1) count = 1 + below(count);
-        CHECK(batcher_round_record_verdicts(round, step.kind, &step.proposal, list, count, verdicts, count)
-              == BATCHER_DONE);
+        code = batcher_round_record_verdicts(round, step.kind, &step.proposal, list, count, verdicts, count);
+        MADE(code);
+        CHECK(code == BATCHER_DONE);
         return 0;
     }
     if (code == BATCHER_DONE) {
@@ -119,8 +150,9 @@ static int construct(struct batcher_round *round, uint32_t participants, bool an
         if (step.certified && room == MOST) return quorum(&step, list, participants);
         return 0;
     }
-    CHECK(code == BATCHER_IDLE);
+    CHECK(code == BATCHER_IDLE || code == BATCHER_OUT_OF_MEMORY);
     for (size_t i = 0; i < MOST; i++) CHECK(memcmp(&list[i], &before, sizeof before) == 0);
+    MADE(code);
     return 0;
 }
 
@@ -140,10 +172,12 @@ static int record_any(struct batcher_round *round, uint32_t participants) {
     }
     size_t given = below(10) != 0 ? count : below(MOST + 1);
     uint8_t code = batcher_round_record_verdicts(round, kind, &proposal, list, count, verdicts, given);
+    MADE(code);
     CHECK(code == BATCHER_DONE || code == BATCHER_STALE || code == BATCHER_MALFORMED);
     CHECK(given == count || code == BATCHER_MALFORMED);
     if (!all) return 0;
     code = batcher_round_construct_together(round, kind, &proposal, list, count, &step);
+    MADE(code);
     CHECK(code == BATCHER_DONE || code == BATCHER_STALE || code == BATCHER_MALFORMED);
     CHECK(code != BATCHER_DONE || (step.certified && step.listed == count));
     return 0;
@@ -158,12 +192,13 @@ static int questions(struct batcher_round *round, uint32_t participants) {
     CHECK(batcher_round_leader(round, &leader) <= BATCHER_IDLE);
     CHECK(batcher_round_has_nullify(round, (uint32_t)below(300), &flag) == BATCHER_DONE);
     CHECK(batcher_round_is_missing_voter(round, &proposal, (uint32_t)below(300), &flag) == BATCHER_DONE);
-    CHECK(batcher_round_missing_voters(round, &proposal, missing, room, &count) == BATCHER_DONE);
-    CHECK(count <= participants);
+    uint8_t code = batcher_round_missing_voters(round, &proposal, missing, room, &count);
+    MADE(code);
+    CHECK(code == BATCHER_DONE && count <= participants);
     for (size_t i = 1; i < count && i < room; i++) CHECK(missing[i - 1] < missing[i] && missing[i] < participants);
     uint8_t kind = (uint8_t)mostly_below(3);
     CHECK((batcher_round_has_certificate(round, kind, &flag) == BATCHER_MALFORMED) == (kind > 2));
-    uint8_t code = batcher_round_try_forward_proposal(round, mostly_below(participants), &proposal);
+    code = batcher_round_try_forward_proposal(round, mostly_below(participants), &proposal);
     CHECK(code == BATCHER_DONE || code == BATCHER_IDLE);
     return 0;
 }
@@ -173,6 +208,8 @@ static int one_call(struct batcher_round *round, uint32_t participants) {
     struct batcher_vote vote = any_vote(participants);
     uint8_t bytes[8] = {0}, code;
     bool anew = false;
+    may_refuse = below(4) == 0;
+    refused = false;
     memset(&admission, 0x5a, sizeof admission);
     struct batcher_admission untouched = admission;
     switch (below(9)) {
@@ -181,12 +218,14 @@ static int one_call(struct batcher_round *round, uint32_t participants) {
     case 2:
         code = batcher_round_add_network(round, below(10) != 0 ? vote.attestation.signer : below(300), &vote, &admission);
         CHECK(code == BATCHER_DONE || memcmp(&admission, &untouched, sizeof untouched) == 0);
+        MADE(code);
         CHECK((code == BATCHER_MALFORMED) == (vote.kind > 2 || vote.attestation.length > 96));
         if (code == BATCHER_DONE && admission.added) CHECK(admission.block == BATCHER_BLOCK_NONE);
         return 0;
     case 3:
         code = batcher_round_accept_vote(round, &vote, attests(&vote.attestation), &admission);
         CHECK(code == BATCHER_DONE || memcmp(&admission, &untouched, sizeof untouched) == 0);
+        MADE(code);
         if (code == BATCHER_DONE) CHECK(attests(&vote.attestation) && vote.attestation.signer < participants);
         return 0;
     case 4:
@@ -196,6 +235,7 @@ static int one_call(struct batcher_round *round, uint32_t participants) {
     case 5:
         if (below(10) != 0) return questions(round, participants);
         code = batcher_round_record_certificate(round, (uint8_t)mostly_below(3), &vote.proposal, bytes, below(9), &anew);
+        MADE(code);
         CHECK(code == BATCHER_DONE || code == BATCHER_ELSEWHERE || code == BATCHER_MALFORMED);
         return 0;
     case 6: return record_any(round, participants);
@@ -213,13 +253,19 @@ static int one_round(uint64_t seed) {
     options.mode = (uint8_t)below(3);
     options.batchable = below(2) != 0;
     CHECK(one_call(&round, 1) == 0 || round.at == NULL);
+    may_refuse = false;
     CHECK(batcher_round_new(&round, &options) == BATCHER_DONE);
     for (int calls = 0; calls < 200; calls++) {
         int line = one_call(&round, options.participants);
         if (line != 0) return line;
     }
-    if (below(2) != 0) CHECK(batcher_round_new(&round, &options) == BATCHER_DONE);
+    void *at = round.at;
+    may_refuse = below(2) != 0;
+    refused = false;
+    uint8_t code = batcher_round_new(&round, &options);
+    CHECK(code == BATCHER_DONE || (code == BATCHER_OUT_OF_MEMORY && refused && round.at == at));
     batcher_round_free(&round);
+    CHECK(round.at == NULL);
     return 0;
 }
 
@@ -234,5 +280,5 @@ int main(int count, char **words) {
         }
     }
     /* Where none of these comes up, nothing was tried. */
-    return seeds != 0 && (certified < seeds / 8 || passed < seeds / 40 || bad < seeds / 16);
+    return seeds != 0 && (certified < seeds / 8 || passed < seeds / 40 || bad < seeds / 16 || out_of_memory < seeds);
 }
