@@ -17,6 +17,7 @@ use Rattle.batcher_histories.specs.Comparison.{has_block}
 use Rattle.batcher_histories.specs.declared.answers.OwnFault.{OwnFault}
 use Rattle.batcher_histories.specs.Steps.{fault_or_memory, leader_set_answer}
 use Rattle.batcher_histories.specs.Answers.{keeps_nullify, missing_after, needs_memory, own_answer}
+use Rattle.batcher.specs.RunContract.{IsPromised}
 use Rattle.batcher_round.specs.Next.{subject_next}
 use Rattle.batcher_types.specs.declared.messages.Attestation.{Attestation}
 use Rattle.batcher_types.specs.declared.messages.Kind.{Kind}
@@ -313,6 +314,8 @@ module _ (before : CRound) (code : ℕ) (after : CRound) where
     pub untouched : is_one_of (IDLE ∷ OUT_OF_MEMORY ∷ []) code ≡ true
         → (step ≡ old) × ((list ≡ room) × (signers ≡ signers_room))
     pub known_stays : code ≢ VERIFY → known ≡ known_room
+    -- All that is promised of a round holds of each history that this one represents.
+    pub promised : AfterAny before (λ past. IsPromised (config_of before) past)
     pub same : SameAny before after
 
   -- A construction of a quorum that passes as a whole.

@@ -20,8 +20,8 @@ use crate::handle::Round;
 use crate::writing::{attestations_of, write_batch, write_signers, write_wanted};
 use batcher_any::{
     AcceptVote, AddNetwork, Conclude, ConcludeTogether, Forward, HasCertificate, HasNullify,
-    IsMissingVoter, Leader, MissingVoters, OwnRefusal, RecordCertificate, RecordVerdicts, Selected,
-    SetLeader,
+    IsMissingVoter, Leader, MissingVoters, OwnRefusal, Promises, RecordCertificate, RecordVerdicts,
+    Selected, SetLeader,
 };
 use batcher_bytes::{Content, Signature, Verified};
 use batcher_types::messages::{Attestation, Certificate, Sha256Digest, Vote};
@@ -296,6 +296,8 @@ pub fn try_construct(
     ensures { Constructs round.old result round.new step.old step.new known.old known.new list.old
         list.new signers.old signers.new }
 {
+    // Nothing is done here, and its contract says what is promised.
+    round.ask(Promises);
     let Some(wanted) = round.wanted() else {
         return IDLE;
     };

@@ -25,6 +25,7 @@ returns-then-not-is_empty c = record {
   stays = λ is. refl;
   untouched = search rules;
   known_stays = search rules;
+  promised = c.ask.ensures;
   same = same_self c.args.round.now;
 }
 
@@ -52,6 +53,7 @@ returns-in-Ok-Some c =
       stays = search rules;
       untouched = search rules;
       known_stays = λ is. refl;
+      promised = c.ask.ensures;
       same = c.in-Ok-Some.ensures.same;
     }
 
@@ -69,5 +71,6 @@ returns-in-Err c =
       stays = λ is. c.in-Err.ensures.whole does.refused;
       untouched = search rules;
       known_stays = λ is. refl;
+      promised = c.ask.ensures;
       same = c.in-Err.ensures.same;
     }
