@@ -54,7 +54,7 @@ pub struct FlatVote {
 #[repr(C)]
 #[derive(Clone, Copy)]
 pub struct FlatAdmission {
-    /// The votes of the report: of one that is new the first alone. The others are zero.
+    /// The votes of the report: of one that is new the first alone. The others stay as they were.
     pub first: FlatVote,
     pub second: FlatVote,
     pub report: u8,
@@ -306,95 +306,75 @@ impl FlatVote {
             kind: FINALIZATION,
         }
     }
-
-    // Zeros, in the place of a vote that a report doesn't have.
-    fn zero() -> Self {
-        FlatVote {
-            proposal: FlatProposal {
-                epoch: 0,
-                view: 0,
-                parent: 0,
-                payload: [0; 32],
-            },
-            attestation: FlatAttestation {
-                signer: 0,
-                length: 0,
-                bytes: [0; 96],
-            },
-            kind: 0,
-        }
-    }
 }
 
 impl FlatAdmission {
-    /// The answer to a vote of a peer, flat.
-    pub fn of(admission: &Admission<Signature, Sha256Digest>) -> Self
-        ensures { admission_in result ≡ admission.now }
+    /// Writes the answer to a vote of a peer.
+    pub fn write(&mut self, admission: &Admission<Signature, Sha256Digest>)
+        ensures { admission_in self.new ≡ admission.now }
     {
-        FlatAdmission::with(admission.added, false, admission.block, &admission.report)
+        self.set(admission.added, false, admission.block, &admission.report);
     }
 
-    /// The answer to an own vote, flat: it is added, or one of its kind and signer was there.
-    pub fn of_own(
+    /// Writes the answer to an own vote: it is added, or one of its kind and signer was there.
+    pub fn write_own(
+        &mut self,
         added: bool,
         retained: bool,
         report: &Option<Activity<Signature, Sha256Digest>>,
-    ) -> Self
-        ensures outcome { outcome_in result ≡ (if added then Outcome.Added retained else
+    )
+        ensures outcome { outcome_in self.new ≡ (if added then Outcome.Added retained else
             Outcome.Duplicate retained) }
-        ensures report { report_in result ≡ report.now }
+        ensures report { report_in self.new ≡ report.now }
     {
-        FlatAdmission::with(added, retained, None, report)
+        self.set(added, retained, None, report);
     }
 
-    /// An own vote that is to be sent, flat, by what is reported of it: it is added.
-    pub fn of_sent(report: Activity<Signature, Sha256Digest>) -> Self
-        ensures { admission_in result
-            ≡ record { added = true; block = None; report = Some report } }
-    {
-        FlatAdmission::with(true, false, None, &Some(report))
-    }
-
-    fn with(
+    // A vote that the report doesn't have stays as it was: it takes as long to write as all else.
+    fn set(
+        &mut self,
         added: bool,
         retained: bool,
         block: Option<BlockReason>,
         report: &Option<Activity<Signature, Sha256Digest>>,
-    ) -> Self
-        ensures added { result.added ≡ added }
-        ensures retained { result.retained ≡ retained }
-        ensures block { block_in result.block ≡ block }
-        ensures report { report_in result ≡ report.now }
+    )
+        ensures added { self.new.added ≡ added }
+        ensures retained { self.new.retained ≡ retained }
+        ensures block { block_in self.new.block ≡ block }
+        ensures report { report_in self.new ≡ report.now }
     {
-        let none = FlatVote::zero();
-        let (report, first, second) = match report {
-            None => (REPORT_NONE, none, none),
-            Some(Activity::Notarize(vote)) => (REPORT_NOTARIZE, FlatVote::of_notarize(vote), none),
-            Some(Activity::Nullify(vote)) => (REPORT_NULLIFY, FlatVote::of_nullify(vote), none),
-            Some(Activity::Finalize(vote)) => (REPORT_FINALIZE, FlatVote::of_finalize(vote), none),
-            Some(Activity::ConflictingNotarize(first, second)) => (
-                REPORT_CONFLICTING_NOTARIZE,
-                FlatVote::of_notarize(first),
-                FlatVote::of_notarize(second),
-            ),
-            Some(Activity::ConflictingFinalize(first, second)) => (
-                REPORT_CONFLICTING_FINALIZE,
-                FlatVote::of_finalize(first),
-                FlatVote::of_finalize(second),
-            ),
-            Some(Activity::NullifyFinalize(first, second)) => (
-                REPORT_NULLIFY_FINALIZE,
-                FlatVote::of_nullify(first),
-                FlatVote::of_finalize(second),
-            ),
-        };
-        FlatAdmission {
-            first,
-            second,
-            report,
-            block: block_code(block),
-            added,
-            retained,
+        self.added = added;
+        self.retained = retained;
+        self.block = block_code(block);
+        match report {
+            None => self.report = REPORT_NONE,
+            Some(Activity::Notarize(vote)) => {
+                self.report = REPORT_NOTARIZE;
+                self.first = FlatVote::of_notarize(vote);
+            }
+            Some(Activity::Nullify(vote)) => {
+                self.report = REPORT_NULLIFY;
+                self.first = FlatVote::of_nullify(vote);
+            }
+            Some(Activity::Finalize(vote)) => {
+                self.report = REPORT_FINALIZE;
+                self.first = FlatVote::of_finalize(vote);
+            }
+            Some(Activity::ConflictingNotarize(first, second)) => {
+                self.report = REPORT_CONFLICTING_NOTARIZE;
+                self.first = FlatVote::of_notarize(first);
+                self.second = FlatVote::of_notarize(second);
+            }
+            Some(Activity::ConflictingFinalize(first, second)) => {
+                self.report = REPORT_CONFLICTING_FINALIZE;
+                self.first = FlatVote::of_finalize(first);
+                self.second = FlatVote::of_finalize(second);
+            }
+            Some(Activity::NullifyFinalize(first, second)) => {
+                self.report = REPORT_NULLIFY_FINALIZE;
+                self.first = FlatVote::of_nullify(first);
+                self.second = FlatVote::of_finalize(second);
+            }
         }
     }
 }

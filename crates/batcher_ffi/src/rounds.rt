@@ -43,7 +43,7 @@ pub fn add_network(round: &mut Round, sender: u64, vote: &FlatVote, out: &mut Fl
     };
     match round.call(call) {
         Ok(Some(admission)) => {
-            *out = FlatAdmission::of(&admission);
+            out.write(&admission);
             DONE
         }
         Ok(None) => ELSEWHERE,
@@ -76,11 +76,11 @@ pub fn accept_vote(round: &mut Round, vote: &FlatVote, attests: bool, out: &mut 
     };
     match round.call(call) {
         Ok((Outcome::Added { retained }, report)) => {
-            *out = FlatAdmission::of_own(true, retained, &report);
+            out.write_own(true, retained, &report);
             DONE
         }
         Ok((Outcome::Duplicate { retained }, report)) => {
-            *out = FlatAdmission::of_own(false, retained, &report);
+            out.write_own(false, retained, &report);
             DONE
         }
         Ok((Outcome::Conflicting, _)) => CONFLICTING,

@@ -18,7 +18,7 @@ returns-in-Ok-Added-default c =
       codes = grind (arith, common_steps);
       malformed = search rules;
       elsewhere = rw read (search rules);
-      done = λ is. rw (read, c.of_own.ensures.outcome, c.of_own.ensures.report)
+      done = λ is. rw (read, c.write_own.ensures.outcome, c.write_own.ensures.report)
           (rw c.in-Ok-Added-default.field-0-0-is at c.in-Ok-Added-default.ensures.does.meets);
       verified = λ is. rw read (verified ∙ c.in-Ok-Added-default.ensures.does.verified);
       not_verified = search rules;

@@ -7,7 +7,7 @@ returns-in-Ok-Some c = record {
   codes = grind (arith, common_steps);
   malformed = search rules;
   elsewhere = λ not. rw (sym c.vote.ensures ∙ c.in-Some.is) (search rules);
-  done = λ is. rw (sym c.vote.ensures ∙ c.in-Some.is, c.of.ensures)
+  done = λ is. rw (sym c.vote.ensures ∙ c.in-Some.is, c.write.ensures)
       (rw c.in-Ok-Some.field-0-is at c.in-Ok-Some.ensures.does.meets);
   needed = search rules;
   stays = search rules;
