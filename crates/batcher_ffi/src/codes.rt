@@ -4,8 +4,8 @@
 pub const DONE: u8 = 0;
 /// The handle is empty.
 pub const NONE: u8 = 1;
-/// A code or a number that means nothing, no participant, or a list of verdicts that isn't as long
-/// as that of attestations.
+/// A code or a length that means nothing, no participant, a signer that takes no part, or a list of
+/// verdicts that isn't as long as that of attestations.
 pub const MALFORMED: u8 = 2;
 /// It is of another round.
 pub const ELSEWHERE: u8 = 3;
@@ -13,7 +13,7 @@ pub const ELSEWHERE: u8 = 3;
 pub const OUT_OF_MEMORY: u8 = 4;
 /// Another leader was named before.
 pub const LEADER_CHANGED: u8 = 5;
-/// An own vote without a verdict that it attests.
+/// An own vote that doesn't attest, or whose signer takes no part.
 pub const NOT_VERIFIED: u8 = 6;
 /// A notarize of its signer is kept.
 pub const DUPLICATE_NOTARIZE: u8 = 7;

@@ -296,7 +296,7 @@ pub fn try_construct(
     ensures { Constructs round.old result round.new step.old step.new known.old known.new list.old
         list.new signers.old signers.new }
 {
-    // Nothing is done here, and its contract says what is promised.
+    // It does nothing, and its contract says what is promised.
     round.ask(Promises);
     let Some(wanted) = round.wanted() else {
         return IDLE;
