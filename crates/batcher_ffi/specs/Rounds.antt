@@ -261,6 +261,7 @@ module _ (before : CRound) (code : ℕ) (after : CRound) where
   pub record RecordsVerdicts (kind : ℕ) (proposal : FlatProposal) (list : List FlatAttestation)
       (verdicts : List Bool) : Type 0 where
     pub codes : is_one_of (DONE ∷ MALFORMED ∷ STALE ∷ OUT_OF_MEMORY ∷ []) code ≡ true
+    pub meaningless : subject_in kind proposal ≡ None → code ≡ MALFORMED
     pub unlike : length verdicts ≢ length list → code ≡ MALFORMED
     pub malformed : code ≡ MALFORMED → is_some (subject_in kind proposal) ≡ true
         → AreOfParticipants before list → length verdicts ≢ length list
@@ -322,6 +323,7 @@ module _ (before : CRound) (code : ℕ) (after : CRound) where
   pub record ConstructsTogether (kind : ℕ) (proposal : FlatProposal) (list : List FlatAttestation)
       (old step : FlatStep) : Type 0 where
     pub codes : is_one_of (DONE ∷ STALE ∷ MALFORMED ∷ OUT_OF_MEMORY ∷ []) code ≡ true
+    pub meaningless : subject_in kind proposal ≡ None → code ≡ MALFORMED
     pub stale : code ≡ STALE → IfSome (subject_in kind proposal) (λ subject.
         (all : List (Attestation Signature)) → AreIn list all
         → MayBeWhole (config_of before) (held_in before).round subject all → ⊥)

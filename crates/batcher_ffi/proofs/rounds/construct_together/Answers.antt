@@ -6,6 +6,7 @@ use Rattle.batcher_ffi.proofs.rounds.construct_together.Goals as goal
 pub returns-in-Ok-None : goal.returns-in-Ok-None
 returns-in-Ok-None c = record {
   codes = search rules;
+  meaningless = search rules;
   stale = search rules;
   malformed = λ is some all there. none_missing c.args.list.now all there
       (c.in-Ok-None.ensures.none (ap Ok c.in-Ok-None.field-0-is));
@@ -20,6 +21,7 @@ returns-in-Ok-None-call c =
     let does = c.in-Ok-None-call.ensures.does in
     record {
       codes = search rules;
+      meaningless = search rules;
       stale = λ is. rw (sym c.subject_of.ensures ∙ c.in-Some.is) (λ all there may.
           let items : all ≡ c.in-Ok-Some.all.items = same_read c.args.list.now all c.in-Ok-Some.all.items there
           (rw c.in-Ok-Some.field-0-is at c.in-Ok-Some.ensures.read) in

@@ -19,6 +19,7 @@ call-requires c =
 pub returns-in-Ok-true : goal.returns-in-Ok-true
 returns-in-Ok-true c = record {
   codes = search rules;
+  meaningless = search rules;
   unlike = search rules;
   malformed = search rules;
   records = λ is. rw (sym c.subject_of.ensures ∙ c.in-Some.is) (
@@ -37,6 +38,7 @@ returns-in-Ok-true c = record {
 pub returns-in-Ok-false : goal.returns-in-Ok-false
 returns-in-Ok-false c = record {
   codes = search rules;
+  meaningless = search rules;
   unlike = search rules;
   malformed = search rules;
   records = search rules;
@@ -54,6 +56,7 @@ returns-in-Ok-false c = record {
 pub returns-in-Ok-None : goal.returns-in-Ok-None
 returns-in-Ok-None c = record {
   codes = search rules;
+  meaningless = search rules;
   unlike = search rules;
   malformed = λ is some parts alike. none_missing c.args.list.now parts.0 parts.1.0
       (c.in-Ok-None.ensures.none (ap Ok c.in-Ok-None.field-0-is));
@@ -67,6 +70,7 @@ returns-in-Ok-None c = record {
 pub returns-then-not-take_part : goal.returns-then-not-take_part
 returns-then-not-take_part c = record {
   codes = search rules;
+  meaningless = search rules;
   unlike = search rules;
   malformed = λ is some parts alike.
       let items : parts.0 ≡ c.in-Ok-Some.all.items = same_read c.args.list.now parts.0 c.in-Ok-Some.all.items
