@@ -2,7 +2,7 @@
 use Rattle.std.proofs.Common.{◌≡◌, ◌∙◌, ◌==◌, ◌&&◌, ℕ, Bool, true, false, List, [], ◌∷◌, Option, Some, None, IfSome, ap, refl, subst, sym}
 use Rattle.std.specs.Cmp.Lexicographic.{pointwise}
 use Rattle.std.specs.Prelude.{length}
-use Rattle.std.proofs.lemmas.Bool.{eqb-true}
+use Rattle.std.proofs.lemmas.Bool.{and_parts, eqb-true}
 use Rattle.batcher_types.proofs.VoteLemmas.{same_subject-true}
 use Rattle.batcher_types.specs.Votes.{content_of, same_subject, subject_certified}
 use Rattle.batcher_types.specs.declared.messages.Sha256Digest.{Sha256Digest}
@@ -23,16 +23,12 @@ use Rattle.batcher_ffi.specs.declared.caller.Caller.{Caller}
 use Rattle.batcher_ffi.specs.declared.flat.FlatAttestation.{FlatAttestation}
 use Rattle.batcher_ffi.specs.declared.flat.FlatStep.{FlatStep}
 
-both_true : (a b : Bool) → (a && b) ≡ true → (a ≡ true) × (b ≡ true)
-both_true true b h = (refl, h)
-both_true false b h = absurd (cc)
-
 same_bytes : (a b : List ℕ) → pointwise (λ x y. x == y) a b ≡ true → a ≡ b
 same_bytes [] [] h = refl
 same_bytes [] (y ∷ b) h = absurd (cc)
 same_bytes (x ∷ a) [] h = absurd (cc)
 same_bytes (x ∷ a) (y ∷ b) h =
-    let both = both_true (x == y) (pointwise (λ x y. x == y) a b) h in
+    let both = and_parts (x == y) (pointwise (λ x y. x == y) a b) h in
     rw (eqb-true x y both.0, same_bytes a b both.1) refl
 
 keys_same : (a b : Keys) → same_keys a b ≡ true → a ≡ b
@@ -46,9 +42,9 @@ pub is_listing_of : (keys : Keys) (n : ℕ) (subject : Subject Sha256Digest) (li
     → certifies {T = Caller} keys n subject (MadeHere listing) ≡ true
     → listing ≡ listing_of keys n subject listing.attestations
 is_listing_of keys n subject listing h =
-    let all = both_true (listing.participants == n)
+    let all = and_parts (listing.participants == n)
     (same_keys listing.keys keys && same_subject same_digest subject listing.subject) h in
-    let rest = both_true (same_keys listing.keys keys)
+    let rest = and_parts (same_keys listing.keys keys)
     (same_subject same_digest subject listing.subject) all.1 in
     let by : listing.keys ≡ keys = keys_same listing.keys keys rest.0 in
     let of : listing.participants ≡ n = eqb-true listing.participants n all.0 in

@@ -2,6 +2,7 @@
 use Rattle.std.proofs.Common.{◌≡◌, ◌∙◌, ◌&&◌, nat_lt, Bool, true, false, List, [], ◌∷◌, Some, map, ap, refl, sym}
 use Rattle.std.specs.List.{list_all, list_any}
 use Rattle.std.specs.Prelude.{is_none, length}
+use Rattle.std.proofs.lemmas.Bool.{and_parts}
 use Rattle.std.proofs.lemmas.List.{length-map}
 use Rattle.batcher_types.specs.declared.messages.Attestation.{Attestation}
 use Rattle.batcher_types.specs.declared.messages.Sha256Digest.{Sha256Digest}
@@ -25,10 +26,6 @@ and_true : (a b : Bool) → a ≡ true → (a && b) ≡ b
 and_true true b h = refl
 and_true false b h = absurd (cc)
 
-both_true : (a b : Bool) → (a && b) ≡ true → (a ≡ true) × (b ≡ true)
-both_true true b h = (refl, h)
-both_true false b h = absurd (cc)
-
 -- Where all signers take part, each verdict is the scheme's.
 pub all_attest : (r : CRound) (subject : Subject Sha256Digest)
     (all : List (Attestation Signature))
@@ -36,7 +33,7 @@ pub all_attest : (r : CRound) (subject : Subject Sha256Digest)
     → map (is_attested (keys_in r) subject) all ≡ map ((config_of r).meaning.attests subject) all
 all_attest r subject [] h = refl
 all_attest r subject (a ∷ all) h =
-    let both = both_true (nat_lt a.signer.0 (length (config_of r).meaning.participants))
+    let both = and_parts (nat_lt a.signer.0 (length (config_of r).meaning.participants))
     (list_all (λ b. nat_lt b.signer.0 (length (config_of r).meaning.participants)) all) h in
     let first : (config_of r).meaning.attests subject a ≡ is_attested (keys_in r) subject a =
     attests_if r subject a ∙ and_true _ _ both.0 in
