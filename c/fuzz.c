@@ -1,7 +1,7 @@
-/* Rounds under any order of calls, sizes and bytes, by seeds 0, 1, .. up to the one that is named, while memory is refused
+/* Rounds and nodes under any order of calls, sizes and bytes, by seeds 0, 1, .. up to the one that is named, while memory is refused
  * now and then. What is answered is compared with what holds of every call, and each certificate with the votes that were
  * handed in. It ends with 0, or with 1 where a check fails, and names its line and the seed. */
-#include "batcher_rounds.h"
+#include "batcher.h"
 #include <stdio.h>
 #include <stdlib.h>
 #include <string.h>
@@ -85,8 +85,9 @@ static struct batcher_vote any_vote(uint32_t participants) {
 }
 
 /* Of a certificate: a quorum of different participants, who attest each. */
-static int quorum(const struct batcher_step *step, const struct batcher_attestation *list, uint32_t participants) {
-    CHECK(step->kind <= BATCHER_FINALIZATION && step->proposal.epoch == 0 && step->proposal.view == 1);
+static int quorum(const struct batcher_step *step, uint64_t view, const struct batcher_attestation *list,
+                  uint32_t participants) {
+    CHECK(step->kind <= BATCHER_FINALIZATION && step->proposal.epoch == 0 && step->proposal.view == view);
     CHECK(step->listed >= participants - (participants - 1) / 3 && step->listed <= participants);
     for (uint64_t i = 0; i < step->listed; i++) {
         CHECK(list[i].signer < participants && attests(&list[i]));
@@ -113,7 +114,7 @@ static int together(struct batcher_round *round, const struct batcher_step *want
     CHECK(code == BATCHER_DONE || code == BATCHER_STALE);
     CHECK(code == BATCHER_STALE || (step.certified && step.listed == count && step.invalid == 0));
     passed += code == BATCHER_DONE;
-    return code == BATCHER_DONE ? quorum(&step, all, participants) : 0;
+    return code == BATCHER_DONE ? quorum(&step, 1, all, participants) : 0;
 }
 
 /* The next construction with rooms of any size. What was written is right, and the rest as it was. */
@@ -147,7 +148,7 @@ static int construct(struct batcher_round *round, uint32_t participants, bool an
         for (size_t i = 0; i < step.invalid && i < signers_room; i++) CHECK(signers[i] < participants);
         bad += step.invalid;
         certified += step.certified;
-        if (step.certified && room == MOST) return quorum(&step, list, participants);
+        if (step.certified && room == MOST) return quorum(&step, 1, list, participants);
         return 0;
     }
     CHECK(code == BATCHER_IDLE || code == BATCHER_OUT_OF_MEMORY);
@@ -269,11 +270,181 @@ static int one_round(uint64_t seed) {
     return 0;
 }
 
+/* A proposal of a view that a node may have in its window. */
+static struct batcher_proposal view_proposal(void) {
+    struct batcher_proposal proposal = any_proposal();
+    proposal.view = below(6);
+    return proposal;
+}
+
+static int together_in(struct batcher_node *node, const struct batcher_step *wanted,
+                       const struct batcher_attestation *known, const struct batcher_attestation *list,
+                       uint32_t participants) {
+    struct batcher_attestation all[MOST];
+    struct batcher_step step;
+    size_t count = 0;
+    for (size_t i = 0; i < wanted->verified; i++) all[count++] = known[i];
+    for (size_t i = 0; i < wanted->listed; i++) all[count++] = list[i];
+    for (size_t i = 0; i < count; i++)
+        if (!attests(&all[i])) return 0;
+    uint8_t code = batcher_node_construct_together(node, wanted->kind, &wanted->proposal, all, count, &step);
+    MADE(code);
+    CHECK(code == BATCHER_DONE || code == BATCHER_STALE);
+    CHECK(code == BATCHER_STALE || (step.view == wanted->view && step.certified && step.listed == count));
+    passed += code == BATCHER_DONE;
+    return code == BATCHER_DONE ? quorum(&step, step.view, all, participants) : 0;
+}
+
+/* The next construction of a node. Whose votes it finds not to attest is blocked then. */
+static int construct_in(struct batcher_node *node, uint32_t participants, bool answers) {
+    struct batcher_attestation known[MOST], list[MOST];
+    uint32_t signers[MOST];
+    uint8_t causes[MOST];
+    uint64_t count;
+    bool verdicts[MOST];
+    struct batcher_step step;
+    size_t room = below(3) != 0 ? MOST : below(MOST);
+    memset(&step, 0, sizeof step);
+    uint8_t code = batcher_node_try_construct(node, &step, known, MOST, list, room, signers, MOST);
+    if (code == BATCHER_VERIFY) {
+        CHECK(step.listed >= 1 && step.listed + step.verified <= participants && step.proposal.view == step.view);
+        if (!answers && room == MOST) return together_in(node, &step, known, list, participants);
+        size_t answered = step.listed < room ? step.listed : room;
+        for (size_t i = 0; i < answered; i++) verdicts[i] = attests(&list[i]);
+        if (answered > 1) answered = 1 + below(answered);
+        code = batcher_node_record_verdicts(node, step.kind, &step.proposal, list, answered, verdicts, answered);
+        MADE(code);
+        CHECK(code == BATCHER_DONE);
+        return 0;
+    }
+    if (code == BATCHER_DONE) {
+        CHECK(step.processed <= participants && step.invalid <= participants);
+        CHECK(batcher_node_blocked(node, causes, MOST, &count) == BATCHER_DONE && count == participants);
+        for (size_t i = 0; i < step.invalid; i++)
+            CHECK(signers[i] < participants && causes[signers[i]] != BATCHER_CAUSE_NONE);
+        bad += step.invalid;
+        certified += step.certified;
+        return step.certified && room == MOST ? quorum(&step, step.view, list, participants) : 0;
+    }
+    CHECK(code == BATCHER_IDLE || code == BATCHER_RESTS || code == BATCHER_OUT_OF_MEMORY);
+    MADE(code);
+    return 0;
+}
+
+static int node_questions(struct batcher_node *node, uint32_t participants) {
+    uint32_t leader = 0, missing[MOST];
+    uint64_t count = 0, view = below(7);
+    bool flag = false;
+    struct batcher_proposal proposal = view_proposal();
+    size_t room = below(MOST + 1);
+    CHECK(batcher_node_leader(node, view, &leader) <= BATCHER_IDLE);
+    CHECK(batcher_node_proposal(node, view, &proposal) <= BATCHER_IDLE);
+    CHECK(batcher_node_has_nullify(node, view, (uint32_t)below(300), &flag) == BATCHER_DONE);
+    CHECK(batcher_node_is_missing_voter(node, view, &proposal, (uint32_t)below(300), &flag) == BATCHER_DONE);
+    uint8_t code = batcher_node_missing_voters(node, view, &proposal, missing, room, &count);
+    MADE(code);
+    CHECK(code == BATCHER_IDLE || (code == BATCHER_DONE && count <= participants));
+    uint8_t kind = (uint8_t)mostly_below(3);
+    CHECK((batcher_node_has_certificate(node, view, kind, &flag) == BATCHER_MALFORMED) == (kind > 2));
+    code = batcher_node_try_forward_proposal(node, view, mostly_below(participants), &proposal);
+    CHECK(code == BATCHER_DONE || code == BATCHER_IDLE);
+    return 0;
+}
+
+/* What a peer sent isn't looked at where it takes no part, is blocked, or is outside of the window. */
+static int heard(uint8_t code, uint64_t peer, uint32_t participants, const uint8_t *causes, bool is_within) {
+    bool takes_part = peer < participants, is_blocked = takes_part && causes[peer] != BATCHER_CAUSE_NONE;
+    CHECK((code == BATCHER_UNKNOWN) == !takes_part);
+    CHECK((code == BATCHER_DROPPED) == is_blocked);
+    CHECK((code == BATCHER_ELSEWHERE) == (takes_part && !is_blocked && !is_within));
+    return 0;
+}
+
+static int one_node_call(struct batcher_node *node, uint32_t participants) {
+    struct batcher_admission admission;
+    struct batcher_vote vote = any_vote(participants);
+    uint64_t finalized, current, ahead, count, peer, view = below(7);
+    uint8_t bytes[8] = {0}, causes[MOST], code;
+    bool anew = false;
+    vote.proposal = view_proposal();
+    CHECK(batcher_node_window(node, &finalized, &current, &ahead) == BATCHER_DONE && finalized <= current);
+    CHECK(batcher_node_blocked(node, causes, MOST, &count) == BATCHER_DONE && count == participants);
+    CHECK(batcher_node_rounds_kept(node, &count) == BATCHER_DONE && count <= current - finalized + ahead + 1);
+    bool is_within = vote.proposal.epoch == 0 && finalized <= vote.proposal.view
+        && vote.proposal.view <= current + ahead;
+    may_refuse = below(4) == 0;
+    refused = false;
+    memset(&admission, 0x5a, sizeof admission);
+    struct batcher_admission untouched = admission;
+    switch (below(10)) {
+    case 0:
+    case 1:
+    case 2:
+    case 3:
+        peer = below(10) != 0 ? vote.attestation.signer : below(300);
+        code = batcher_node_receive_vote(node, peer, &vote, &admission);
+        CHECK(code == BATCHER_DONE || memcmp(&admission, &untouched, sizeof untouched) == 0);
+        MADE(code);
+        CHECK((code == BATCHER_MALFORMED) == (vote.kind > 2 || vote.attestation.length > 96));
+        return code == BATCHER_MALFORMED ? 0 : heard(code, peer, participants, causes, is_within);
+    case 4:
+        code = batcher_node_cast_vote(node, &vote, attests(&vote.attestation), &admission);
+        CHECK(code == BATCHER_DONE || memcmp(&admission, &untouched, sizeof untouched) == 0);
+        MADE(code);
+        if (code == BATCHER_DONE) CHECK(is_within && attests(&vote.attestation) && vote.attestation.signer < participants);
+        return 0;
+    case 5:
+        code = batcher_node_enter(node, view, mostly_below(participants));
+        MADE(code);
+        CHECK((code == BATCHER_PASSED) == (view < finalized));
+        CHECK(code == BATCHER_DONE || code == BATCHER_PASSED || code == BATCHER_LEADER_CHANGED);
+        return 0;
+    case 6:
+        if (below(10) != 0) return node_questions(node, participants);
+        view = finalized + below(2);
+        CHECK(batcher_node_finalize(node, view) == BATCHER_DONE);
+        CHECK(batcher_node_window(node, &finalized, &current, &ahead) == BATCHER_DONE && finalized == view);
+        return 0;
+    case 7:
+        if (below(5) != 0) return construct_in(node, participants, true);
+        peer = mostly_below(participants);
+        vote.kind = (uint8_t)below(3);
+        code = batcher_node_receive_certificate(node, peer, vote.kind, &vote.proposal, bytes, below(9), false, &anew);
+        MADE(code);
+        CHECK(!anew && code != BATCHER_DONE);
+        return heard(code, peer, participants, causes, is_within);
+    default: return construct_in(node, participants, below(4) != 0);
+    }
+}
+
+static int one_node(uint64_t seed) {
+    struct batcher_node node = {0};
+    struct batcher_node_options options;
+    struct batcher_step step;
+    state = seed;
+    may_refuse = false;
+    memset(&options, 0, sizeof options);
+    options.participants = 1 + (uint32_t)below(MOST);
+    options.ahead = below(4);
+    options.track_historical_votes = below(2) != 0;
+    options.batchable = below(2) != 0;
+    CHECK(batcher_node_try_construct(&node, &step, NULL, 0, NULL, 0, NULL, 0) == BATCHER_NONE);
+    CHECK(batcher_node_new(&node, &options) == BATCHER_DONE);
+    for (int calls = 0; calls < 200; calls++) {
+        int line = one_node_call(&node, options.participants);
+        if (line != 0) return line;
+    }
+    batcher_node_free(&node);
+    CHECK(node.at == NULL);
+    return 0;
+}
+
 int main(int count, char **words) {
     unsigned long long seeds = 0;
     if (count != 2 || sscanf(words[1], "%llu", &seeds) != 1) return 2;
     for (uint64_t seed = 0; seed < seeds; seed++) {
         int line = one_round(seed);
+        if (line == 0) line = one_node(seed);
         if (line != 0) {
             fprintf(stderr, "fuzz.c:%d: not so with seed %llu\n", line, (unsigned long long)seed);
             return 1;

@@ -1,4 +1,4 @@
-/* The three functions by which libbatcher_c.a asks for memory, over malloc. A program has one of these, or its own. A
+/* The three functions by which libbatcher_ffi.a asks for memory, over malloc. A program has one of these, or its own. A
  * block is aligned as malloc aligns it, which is by 16: no more is asked for. */
 #include "batcher.h"
 #include <stdlib.h>

@@ -1,5 +1,5 @@
 /* Plays two views of a node in C: a proposal that is notarized, and a view that is given up, with a vote that doesn't
- * attest in it; then evidence, and what a caller may do wrong. It ends with 0, or with 1 where a check fails, and names
+ * attest in it; then what a caller may do wrong. It ends with 0, or with 1 where a check fails, and names
  * its line. */
 #include "votes.h"
 #include <stdio.h>
@@ -9,12 +9,29 @@
         if (!(holds)) return __LINE__;                                                              \
     } while (0)
 
-static struct batcher_attestation list[PARTICIPANTS];
+static struct batcher_attestation known[PARTICIPANTS], list[PARTICIPANTS];
 static uint32_t signers[PARTICIPANTS];
 
 static uint8_t construct(struct batcher_node *node, struct batcher_step *step) {
-    return batcher_node_try_construct(node, step, list, PARTICIPANTS, signers, PARTICIPANTS);
+    return batcher_node_try_construct(node, step, known, PARTICIPANTS, list, PARTICIPANTS, signers, PARTICIPANTS);
 }
+
+static uint8_t record(struct batcher_node *node, const struct batcher_step *step, const bool *verdicts, size_t count) {
+    return batcher_node_record_verdicts(node, step->kind, &step->proposal, list, step->listed, verdicts, count);
+}
+
+static uint8_t open_node(struct batcher_node *node, uint32_t participants, uint64_t finalized, uint64_t ahead,
+                         bool batchable) {
+    struct batcher_node_options options = {0};
+    options.finalized = finalized;
+    options.ahead = ahead;
+    options.participants = participants;
+    memset(options.keys, 7, sizeof options.keys);
+    options.batchable = batchable;
+    return batcher_node_new(node, &options);
+}
+
+static const uint8_t bytes[] = {1, 2, 3};
 
 static int two_views(void) {
     struct batcher_node node = {0};
@@ -26,7 +43,8 @@ static int two_views(void) {
     uint64_t finalized, current, ahead, count;
     uint32_t leader;
     bool flag = true;
-    CHECK(batcher_node_new(&node, 0, PARTICIPANTS, 0, 4, false, true, false) == BATCHER_DONE);
+    const bool good[] = {true, true};
+    CHECK(open_node(&node, PARTICIPANTS, 0, 4, true) == BATCHER_DONE);
     CHECK(batcher_node_enter(&node, 1, 2) == BATCHER_DONE);
     CHECK(batcher_node_leader(&node, 1, &leader) == BATCHER_DONE && leader == 2);
     CHECK(batcher_node_proposal(&node, 1, &proposal) == BATCHER_IDLE);
@@ -40,13 +58,12 @@ static int two_views(void) {
     CHECK(batcher_node_try_forward_proposal(&node, 1, 0, &proposal) == BATCHER_IDLE);
     /* An own vote, of which a verdict says that it attests, is to be sent once. */
     vote = vote_of(BATCHER_NOTARIZATION, 1, 0, 7);
-    CHECK(batcher_node_cast_vote(&node, &vote, &admission) == BATCHER_NOT_VERIFIED);
-    CHECK(batcher_node_record_verdict(&node, vote.attestation.number, true) == BATCHER_DONE);
-    CHECK(batcher_node_cast_vote(&node, &vote, &admission) == BATCHER_DONE && admission.added);
-    CHECK(batcher_node_cast_vote(&node, &vote, &admission) == BATCHER_DUPLICATE_NOTARIZE);
-    CHECK(construct(&node, &step) == BATCHER_VERIFY && step.view == 1 && step.listed == 2);
-    for (uint64_t place = 0; place < step.listed; place++)
-        CHECK(batcher_node_record_verdict(&node, list[place].number, true) == BATCHER_DONE);
+    CHECK(batcher_node_cast_vote(&node, &vote, false, &admission) == BATCHER_NOT_VERIFIED);
+    CHECK(batcher_node_cast_vote(&node, &vote, true, &admission) == BATCHER_DONE && admission.added);
+    CHECK(batcher_node_cast_vote(&node, &vote, true, &admission) == BATCHER_DUPLICATE_NOTARIZE);
+    CHECK(construct(&node, &step) == BATCHER_VERIFY && step.view == 1 && step.listed == 2 && step.verified == 1);
+    CHECK(known[0].signer == 0 && record(&node, &step, good, 2) == BATCHER_DONE);
+    CHECK(record(&node, &step, good, 2) == BATCHER_STALE);
     CHECK(construct(&node, &step) == BATCHER_DONE && step.view == 1 && step.certified);
     CHECK(step.kind == BATCHER_NOTARIZATION && step.listed == 3 && step.proposal.payload[0] == 7);
     CHECK(construct(&node, &step) == BATCHER_RESTS && step.view == 1);
@@ -65,8 +82,8 @@ static int two_views(void) {
     CHECK(construct(&node, &step) == BATCHER_VERIFY && step.view == 2 && step.listed == 3);
     const bool verdicts[] = {false, true, true};
     CHECK(list[0].signer == 1 && list[1].signer == 2 && list[2].signer == 3);
-    CHECK(batcher_node_record_verdicts(&node, list, 3, verdicts, 2) == BATCHER_MALFORMED);
-    CHECK(batcher_node_record_verdicts(&node, list, 3, verdicts, 3) == BATCHER_DONE);
+    CHECK(record(&node, &step, verdicts, 2) == BATCHER_MALFORMED);
+    CHECK(record(&node, &step, verdicts, 3) == BATCHER_DONE);
     CHECK(construct(&node, &step) == BATCHER_DONE && step.invalid == 1 && signers[0] == 1 && !step.certified);
     CHECK(batcher_node_blocked(&node, causes, PARTICIPANTS, &count) == BATCHER_DONE && count == PARTICIPANTS);
     CHECK(causes[1] == BATCHER_CAUSE_SIGNATURE && causes[2] == BATCHER_CAUSE_NONE);
@@ -74,14 +91,14 @@ static int two_views(void) {
     CHECK(batcher_node_receive_vote(&node, 1, &vote, &admission) == BATCHER_DROPPED);
     /* A certificate of a peer, which is forged at first. */
     proposal.view = 2;
-    CHECK(batcher_node_receive_certificate(&node, 3, BATCHER_NULLIFICATION, &proposal, 5000, false, &flag)
+    CHECK(batcher_node_receive_certificate(&node, 3, BATCHER_NULLIFICATION, &proposal, bytes, 3, false, &flag)
           == BATCHER_FORGED);
-    CHECK(batcher_node_receive_certificate(&node, 3, BATCHER_NULLIFICATION, &proposal, 5001, true, &flag)
+    CHECK(batcher_node_receive_certificate(&node, 3, BATCHER_NULLIFICATION, &proposal, bytes, 3, true, &flag)
           == BATCHER_DROPPED);
-    CHECK(batcher_node_receive_certificate(&node, 2, BATCHER_NULLIFICATION, &proposal, 5001, true, &flag)
+    CHECK(batcher_node_receive_certificate(&node, 2, BATCHER_NULLIFICATION, &proposal, bytes, 3, true, &flag)
           == BATCHER_DONE);
     CHECK(!flag);
-    CHECK(batcher_node_receive_certificate(&node, 2, BATCHER_NULLIFICATION, &proposal, 5001, true, &flag)
+    CHECK(batcher_node_receive_certificate(&node, 2, BATCHER_NULLIFICATION, &proposal, bytes, 3, true, &flag)
           == BATCHER_KNOWN);
     CHECK(batcher_node_has_certificate(&node, 2, BATCHER_NULLIFICATION, &flag) == BATCHER_DONE && flag);
     CHECK(batcher_node_blocked(&node, causes, PARTICIPANTS, &count) == BATCHER_DONE);
@@ -98,37 +115,23 @@ static int two_views(void) {
     return 0;
 }
 
-/* One verdict on a quorum, where the scheme aggregates. */
+/* A quorum that passes as a whole. */
 static int together(void) {
     struct batcher_node node = {0};
     struct batcher_admission admission;
     struct batcher_step step;
-    CHECK(batcher_node_new(&node, 0, PARTICIPANTS, 8, 0, true, true, true) == BATCHER_DONE);
+    CHECK(open_node(&node, PARTICIPANTS, 8, 0, true) == BATCHER_DONE);
     for (uint32_t peer = 0; peer < 3; peer++) {
         struct batcher_vote vote = vote_of(BATCHER_NULLIFICATION, 8, peer, 0);
         CHECK(batcher_node_receive_vote(&node, peer, &vote, &admission) == BATCHER_DONE && admission.added);
     }
-    CHECK(construct(&node, &step) == BATCHER_VERIFY_TOGETHER && step.view == 8 && step.listed == 3);
-    CHECK(batcher_node_record_verdict_together(&node, list, 3, true) == BATCHER_DONE);
-    CHECK(construct(&node, &step) == BATCHER_DONE && step.certified && step.listed == 3 && step.processed == 3);
+    CHECK(construct(&node, &step) == BATCHER_VERIFY && step.view == 8 && step.listed == 3);
+    /* A part of them is no quorum. */
+    CHECK(batcher_node_construct_together(&node, step.kind, &step.proposal, list, 2, &step) == BATCHER_STALE);
+    CHECK(batcher_node_construct_together(&node, step.kind, &step.proposal, list, 3, &step) == BATCHER_DONE);
+    CHECK(step.view == 8 && step.certified && step.listed == 3 && step.processed == 3);
+    CHECK(construct(&node, &step) == BATCHER_RESTS && construct(&node, &step) == BATCHER_IDLE);
     batcher_node_free(&node);
-    return 0;
-}
-
-static int evidence(void) {
-    struct batcher_vote first = vote_of(BATCHER_NOTARIZATION, 1, 3, 1), second = vote_of(BATCHER_NOTARIZATION, 1, 3, 2);
-    uint32_t signer = 9;
-    CHECK(batcher_convicted(PARTICIPANTS, &first, &second, true, false, &signer) == BATCHER_IDLE);
-    CHECK(batcher_convicted(PARTICIPANTS, &first, &first, true, true, &signer) == BATCHER_IDLE && signer == 9);
-    CHECK(batcher_convicted(PARTICIPANTS, &first, &second, true, true, &signer) == BATCHER_DONE && signer == 3);
-    second = vote_of(BATCHER_NOTARIZATION, 1, 2, 2);
-    CHECK(batcher_convicted(PARTICIPANTS, &first, &second, true, true, &signer) == BATCHER_IDLE);
-    first = vote_of(BATCHER_FINALIZATION, 1, 2, 1);
-    second = vote_of(BATCHER_NULLIFICATION, 1, 2, 0);
-    CHECK(batcher_convicted(PARTICIPANTS, &first, &second, true, true, &signer) == BATCHER_DONE && signer == 2);
-    CHECK(batcher_convicted(0, &first, &second, true, true, &signer) == BATCHER_MALFORMED);
-    second.kind = 3;
-    CHECK(batcher_convicted(PARTICIPANTS, &first, &second, true, true, &signer) == BATCHER_MALFORMED);
     return 0;
 }
 
@@ -140,12 +143,11 @@ static int mistakes(void) {
     bool flag = false;
     CHECK(batcher_node_receive_vote(&node, 0, &vote, &admission) == BATCHER_NONE);
     CHECK(construct(&node, &step) == BATCHER_NONE && batcher_node_finalize(&node, 1) == BATCHER_NONE);
-    CHECK(batcher_node_new(&node, 0, 0, 0, 4, false, true, false) == BATCHER_MALFORMED && node.at == NULL);
-    CHECK(batcher_node_new(&node, 0, PARTICIPANTS, 0, 4, false, true, false) == BATCHER_DONE);
+    CHECK(open_node(&node, 0, 0, 4, true) == BATCHER_MALFORMED && node.at == NULL);
+    CHECK(open_node(&node, PARTICIPANTS, 0, 4, true) == BATCHER_DONE);
     /* Beyond the window, of another epoch, and of one that takes no part. */
     CHECK(batcher_node_receive_vote(&node, 0, &vote, &admission) == BATCHER_ELSEWHERE);
-    CHECK(batcher_node_record_verdict(&node, vote.attestation.number, true) == BATCHER_DONE);
-    CHECK(batcher_node_cast_vote(&node, &vote, &admission) == BATCHER_ELSEWHERE);
+    CHECK(batcher_node_cast_vote(&node, &vote, true, &admission) == BATCHER_ELSEWHERE);
     vote = vote_of(BATCHER_NULLIFICATION, 1, 0, 0);
     CHECK(batcher_node_receive_vote(&node, PARTICIPANTS, &vote, &admission) == BATCHER_UNKNOWN);
     vote.proposal.epoch = 1;
@@ -153,10 +155,11 @@ static int mistakes(void) {
     vote.proposal.epoch = 0;
     vote.kind = 3;
     CHECK(batcher_node_receive_vote(&node, 0, &vote, &admission) == BATCHER_MALFORMED);
-    CHECK(batcher_node_receive_certificate(&node, 0, 3, &vote.proposal, 1, true, &flag) == BATCHER_MALFORMED);
+    CHECK(batcher_node_receive_certificate(&node, 0, 3, &vote.proposal, bytes, 3, true, &flag) == BATCHER_MALFORMED);
+    CHECK(batcher_node_receive_certificate(&node, 0, 0, &vote.proposal, NULL, 0, true, &flag) == BATCHER_DONE);
     CHECK(batcher_node_has_certificate(&node, 1, 3, &flag) == BATCHER_MALFORMED);
     /* An earlier node of the handle is freed. */
-    CHECK(batcher_node_new(&node, 0, PARTICIPANTS, 0, 4, false, false, false) == BATCHER_DONE);
+    CHECK(open_node(&node, PARTICIPANTS, 0, 4, false) == BATCHER_DONE);
     batcher_node_free(&node);
     batcher_node_free(&node);
     return 0;
@@ -165,7 +168,6 @@ static int mistakes(void) {
 int main(void) {
     int line = two_views();
     if (line == 0) line = together();
-    if (line == 0) line = evidence();
     if (line == 0) line = mistakes();
     if (line != 0) fprintf(stderr, "node.c:%d: not so\n", line);
     return line != 0;

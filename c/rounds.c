@@ -1,7 +1,6 @@
 /* Rounds over signatures as bytes, in C: verdicts that come late, a quorum as a whole, other keys, and what a caller may
  * do wrong. It ends with 0, or with 1 where a check fails, and names its line. */
-#include "batcher_rounds.h"
-#include "heap.c"
+#include "batcher.h"
 #include <stdio.h>
 #include <string.h>
 

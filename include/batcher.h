@@ -1,16 +1,16 @@
-/* Rounds and nodes of a verified vote batcher, and evidence. Link libbatcher_c.a, and what defines
- * `rattle_alloc`, `rattle_dealloc` and `rattle_realloc` below, as c/heap.c does.
+/* Rounds and nodes of a verified vote batcher, over signatures as bytes. Link libbatcher_ffi.a, and what
+ * defines `rattle_alloc`, `rattle_dealloc` and `rattle_realloc` below, as c/heap.c does.
  *
  * What a caller owes, which nothing here can test:
- *   - a handle, a `struct batcher_round` or `struct batcher_node`, begins as {0}, is in one call at a
+ *   - a handle, a `struct batcher_round` or a `struct batcher_node`, begins as {0}, is in one call at a
  *     time, on one thread, and its pointer is neither copied nor written;
  *   - each pointer is to a live value of its type that nobody else writes meanwhile, or to as many as
  *     the length after it says; a `bool` is 0 or 1; pointers that are written through don't overlap;
- *   - of one number a handle is always given the same verdict, also after a call that was refused, of
- *     a list as a whole too, and a round is given only certificates that certify what they name.
- * All else is tested: on an empty handle, for a code that means nothing and for a vote of another
- * round a call answers a code, and changes nothing. A leader's index alone isn't looked at. What a
- * validator owes besides, as which votes it may cast and send, is in `docs/RUST.md`. */
+ *   - a verdict is true: of a signature of that participant on that subject, by the keys of the round
+ *     or node.
+ * All else is tested: on an empty handle, for a code that means nothing, for a length that is too large
+ * and for a vote of another round a call answers a code, and changes nothing. A leader's index alone
+ * isn't looked at, and nor is whether a view is final. */
 #ifndef BATCHER_H
 #define BATCHER_H
 
@@ -21,6 +21,9 @@
 #ifdef __cplusplus
 extern "C" {
 #endif
+
+/* The most bytes that a signature may have: enough for Ed25519, and for both groups of BLS. */
+#define BATCHER_SIGNATURE_BYTES 96
 
 struct batcher_round {
     void *at; /* null: none */
@@ -34,11 +37,11 @@ struct batcher_node {
 enum batcher_code {
     BATCHER_DONE, /* of a construction: a batch was made */
     BATCHER_NONE, /* the handle is empty */
-    BATCHER_MALFORMED, /* a code that means nothing, no participants, or not one verdict for each */
-    BATCHER_ELSEWHERE, /* of another round; of a node, of another epoch or outside of its window */
-    BATCHER_OUT_OF_MEMORY, /* all is as it was, but verdicts may have to be recorded again */
+    BATCHER_MALFORMED, /* a code or length that means nothing, or a signer that takes no part */
+    BATCHER_ELSEWHERE, /* of another round, or of a view outside of the window */
+    BATCHER_OUT_OF_MEMORY, /* all is as it was */
     BATCHER_LEADER_CHANGED, /* another leader was named before */
-    BATCHER_NOT_VERIFIED, /* an own vote without a verdict that it attests */
+    BATCHER_NOT_VERIFIED, /* an own vote that doesn't attest, or whose signer takes no part */
     BATCHER_DUPLICATE_NOTARIZE, /* a notarize of its signer is kept */
     BATCHER_DUPLICATE_FINALIZE, /* a finalize of its signer is kept */
     BATCHER_CONFLICTING, /* an earlier vote of its kind and signer was for another proposal */
@@ -46,14 +49,13 @@ enum batcher_code {
     BATCHER_FINALIZE_AFTER_NULLIFY, /* its signer has nullified before */
     BATCHER_IDLE, /* nothing is to be done, or there is none */
     BATCHER_VERIFY, /* verdicts are wanted on the attestations of the list */
-    BATCHER_VERIFY_TOGETHER, /* one verdict is wanted on those of the list as a whole */
-    /* Of nodes alone. */
+    BATCHER_STALE, /* the subject or the list isn't what is asked about first, so nothing changed */
     BATCHER_DROPPED, /* of a peer that was blocked before, so it wasn't looked at */
     BATCHER_UNKNOWN, /* of a peer that takes no part, so it wasn't looked at */
     BATCHER_PASSED, /* the view is before the finalized one */
-    BATCHER_KNOWN, /* one of its kind was there, so an own vote isn't to be sent */
-    BATCHER_FORGED, /* a certificate that doesn't certify what it names, so its peer is blocked */
-    BATCHER_RESTS /* a construction gave no batch, so its view rests; others may not */
+    BATCHER_KNOWN, /* one of its kind was there, so it isn't to be sent, or wasn't looked at */
+    BATCHER_FORGED, /* the certificate doesn't certify what it names, and its peer is blocked */
+    BATCHER_RESTS /* the construction gave no batch, so its view rests; others may not */
 };
 
 enum batcher_kind { BATCHER_NOTARIZATION, BATCHER_NULLIFICATION, BATCHER_FINALIZATION };
@@ -76,12 +78,12 @@ enum batcher_block {
     BATCHER_BLOCK_FINALIZE_AFTER_NULLIFY
 };
 
-/* Why a node has blocked a participant, if it has: for a vote, by the numbers of `enum batcher_block`,
- * which are below 64, or for one of two more reasons. */
+/* Why a participant of a node is blocked, if it is: for a vote, as by `enum batcher_block`, or for one of
+ * these, which leave room for more reasons. */
 enum batcher_cause {
     BATCHER_CAUSE_NONE,
-    BATCHER_CAUSE_CERTIFICATE = 64, /* it sent a certificate that doesn't certify what it names */
-    BATCHER_CAUSE_SIGNATURE /* a construction found that a vote that it sent doesn't attest */
+    BATCHER_CAUSE_CERTIFICATE = 64, /* it sent one that doesn't certify */
+    BATCHER_CAUSE_SIGNATURE /* it sent a vote that doesn't attest */
 };
 
 /* What a report is of, if there is one. */
@@ -103,11 +105,12 @@ struct batcher_proposal {
     uint8_t payload[32];
 };
 
-/* An attestation: a number that the caller gives to a signature of a signer on what it signs, to equal
- * ones the same number, and to others another. */
+/* An attestation: a signature of a signer on what it signs. It is the first `length` of the bytes, and
+ * what comes after them doesn't count. Signatures with the same bytes are equal. */
 struct batcher_attestation {
-    uint64_t number;
     uint32_t signer;
+    uint8_t length;
+    uint8_t bytes[BATCHER_SIGNATURE_BYTES];
 };
 
 struct batcher_vote {
@@ -127,11 +130,11 @@ struct batcher_admission {
 };
 
 /* What a construction comes to. Of one that wants verdicts: what the attestations are to attest, how many
- * there are, and how many of them come first that are known to attest. Of one that was made: the batch,
- * and of a certificate what it is of and of how many attestations it is made. */
+ * there are, and how many others are known to attest. Of one that was made: the batch, and of a
+ * certificate what it is of and of how many attestations it is made. */
 struct batcher_step {
     struct batcher_proposal proposal;
-    uint64_t view; /* of a node, which view */
+    uint64_t view; /* of a node's construction; that of a round leaves it as it was */
     uint64_t processed; /* how many votes were looked at */
     uint64_t listed;
     uint64_t verified;
@@ -141,9 +144,30 @@ struct batcher_step {
     bool fallback; /* the pending votes had to be verified one by one */
 };
 
+/* What a round is made of. */
+struct batcher_round_options {
+    uint64_t epoch;
+    uint64_t view;
+    uint32_t participants; /* whose keys are 0, 1, .. in this order */
+    uint8_t keys[32]; /* distinguishes the list of their keys from other lists, as its hash does */
+    uint8_t mode;
+    bool batchable; /* it waits for a quorum before it wants verdicts */
+};
+
+/* What a node is made of. */
+struct batcher_node_options {
+    uint64_t epoch;
+    uint64_t finalized; /* the view that is final, which is the current one at first */
+    uint64_t ahead; /* how many views beyond the current one are of its window */
+    uint32_t participants;
+    uint8_t keys[32];
+    bool track_historical_votes; /* votes are kept in full to their round's end */
+    bool batchable;
+};
+
 /* Does nothing. Its name has the version of this header, so a library of another one doesn't link. */
-void batcher_abi_1(void);
-__attribute__((used)) static void (*const batcher_abi)(void) = batcher_abi_1;
+void batcher_abi_2(void);
+__attribute__((used)) static void (*const batcher_abi)(void) = batcher_abi_2;
 
 /* The library takes its memory by these three, which a program defines: c/heap.c does, over malloc. A block
  * is aligned by 16, and `at` is never null, also where the request is refused. */
@@ -165,7 +189,7 @@ static inline const char *batcher_code_text(uint8_t code) {
     case BATCHER_ELSEWHERE: return "of another round, or outside of the window";
     case BATCHER_OUT_OF_MEMORY: return "out of memory";
     case BATCHER_LEADER_CHANGED: return "another leader was named before";
-    case BATCHER_NOT_VERIFIED: return "no verdict says that the own vote attests";
+    case BATCHER_NOT_VERIFIED: return "the own vote doesn't attest";
     case BATCHER_DUPLICATE_NOTARIZE: return "a notarize of its signer is kept";
     case BATCHER_DUPLICATE_FINALIZE: return "a finalize of its signer is kept";
     case BATCHER_CONFLICTING: return "an earlier vote of its kind and signer was for another proposal";
@@ -173,7 +197,7 @@ static inline const char *batcher_code_text(uint8_t code) {
     case BATCHER_FINALIZE_AFTER_NULLIFY: return "its signer has nullified before";
     case BATCHER_IDLE: return "nothing is to be done, or there is none";
     case BATCHER_VERIFY: return "verdicts are wanted";
-    case BATCHER_VERIFY_TOGETHER: return "one verdict on all is wanted";
+    case BATCHER_STALE: return "others are asked about first";
     case BATCHER_DROPPED: return "its peer is blocked";
     case BATCHER_UNKNOWN: return "its peer takes no part";
     case BATCHER_PASSED: return "the view is before the finalized one";
@@ -184,42 +208,33 @@ static inline const char *batcher_code_text(uint8_t code) {
     }
 }
 
-/* A round of so many participants, whose keys are 0, 1, .. in this order. A batchable scheme waits for a
- * quorum before it wants verdicts; where it aggregates, a quorum may pass as a whole. Where it is DONE, the
- * handle's earlier round is freed. */
-uint8_t batcher_round_new(struct batcher_round *round, uint64_t epoch, uint64_t view,
-                          uint32_t participants, uint8_t mode, bool batchable, bool aggregates);
+/* Where it is DONE, the handle's earlier round is freed. */
+uint8_t batcher_round_new(struct batcher_round *round, const struct batcher_round_options *options);
 
+/* Frees the round, if there is one. */
 void batcher_round_free(struct batcher_round *round);
-
-/* Whether the attestation of a number attests what it is of. Verdicts on numbers that ascend cost least,
- * and a peer that can choose numbers can make others slow to look up. */
-uint8_t batcher_round_record_verdict(struct batcher_round *round, uint64_t number, bool attests);
-
-/* The same of each attestation of a list: of all, or of none. */
-uint8_t batcher_round_record_verdicts(struct batcher_round *round,
-                                      const struct batcher_attestation *list, size_t list_length,
-                                      const bool *verdicts, size_t verdicts_length);
-
-/* Whether these attestations pass as a whole, in place of such a verdict before. */
-uint8_t batcher_round_record_verdict_together(struct batcher_round *round,
-                                              const struct batcher_attestation *list,
-                                              size_t list_length, bool passes);
 
 /* A vote of the peer whose key is the sender; of another number, of one that takes no part. */
 uint8_t batcher_round_add_network(struct batcher_round *round, uint64_t sender,
                                   const struct batcher_vote *vote, struct batcher_admission *out);
 
-/* A vote of the node's own, of which a verdict says that it attests. It is to be sent only where it is DONE
- * and `added`. */
+/* A vote of the node's own, and whether it attests. It is to be sent only where it is DONE and `added`. */
 uint8_t batcher_round_accept_vote(struct batcher_round *round, const struct batcher_vote *vote,
-                                  struct batcher_admission *out);
+                                  bool attests, struct batcher_admission *out);
 
-/* A certificate that the caller has verified, under a number of its own. It says of a notarization whether
- * another proposal is selected than before. */
+/* A certificate that the caller has verified, as bytes. It says of a notarization whether another proposal
+ * is selected than before. */
 uint8_t batcher_round_record_certificate(struct batcher_round *round, uint8_t kind,
-                                         const struct batcher_proposal *proposal, uint64_t number,
-                                         bool *selected_anew);
+                                         const struct batcher_proposal *proposal, const uint8_t *bytes,
+                                         size_t bytes_length, bool *selected_anew);
+
+/* Whether each attestation of a list attests what the construction is about: of those that
+ * `batcher_round_try_construct` listed, from the first on. They may come late, and in parts. STALE: the
+ * list isn't that any more, as where another kind is next. */
+uint8_t batcher_round_record_verdicts(struct batcher_round *round, uint8_t kind,
+                                      const struct batcher_proposal *proposal,
+                                      const struct batcher_attestation *list, size_t list_length,
+                                      const bool *verdicts, size_t verdicts_length);
 
 /* The index isn't looked at, and can't be changed. */
 uint8_t batcher_round_set_leader(struct batcher_round *round, uint32_t leader);
@@ -251,45 +266,42 @@ uint8_t batcher_round_missing_voters(struct batcher_round *round,
                                      const struct batcher_proposal *proposal, uint32_t *list,
                                      size_t list_length, uint64_t *count);
 
-/* The next construction. It is made by the verdicts that were recorded since the last one; where it wants
- * others it says so, and nothing changes. Made again with those it goes on. It forgets all verdicts where it
- * wants none. Make it after all that was taken in, until it is IDLE. */
+/* The next construction. VERIFY: verdicts are wanted on the attestations of the list, and nothing has
+ * changed; `known` has those that are known to attest. A verdict is kept while its attestation waits, and
+ * isn't wanted again. DONE: the list has the attestations of the certificate, if one was made: those of a
+ * quorum of different participants, which attest each or passed as a whole. Make it after all that was
+ * taken in, until it is IDLE. What doesn't fit into a list is left out, but counted. */
 uint8_t batcher_round_try_construct(struct batcher_round *round, struct batcher_step *out,
+                                    struct batcher_attestation *known, size_t known_length,
                                     struct batcher_attestation *list, size_t list_length,
                                     uint32_t *signers, size_t signers_length);
 
-/* A validator's rounds over the views of a window: from the one that was finalized last to so many
- * beyond the current one. Its participants, its scheme and its verdicts are as those of a round; one
- * number isn't given to two attestations of different views either. Votes are kept in full to their
- * round's end where historical votes are tracked, else until their kind is certified. */
-uint8_t batcher_node_new(struct batcher_node *node, uint64_t epoch, uint32_t participants,
-                         uint64_t finalized, uint64_t ahead, bool track_historical_votes,
-                         bool batchable, bool aggregates);
+/* The next construction, of attestations that pass as a whole, as of a scheme that aggregates: those that
+ * are known to attest, and then all that wait. STALE: the list isn't that, or no quorum. */
+uint8_t batcher_round_construct_together(struct batcher_round *round, uint8_t kind,
+                                         const struct batcher_proposal *proposal,
+                                         const struct batcher_attestation *list, size_t list_length,
+                                         struct batcher_step *out);
 
+/* A validator's rounds over the views of a window: from the one that was finalized last to so many beyond
+ * the current one. Where it is DONE, the handle's earlier node is freed. */
+uint8_t batcher_node_new(struct batcher_node *node, const struct batcher_node_options *options);
+
+/* Frees the node, if there is one. */
 void batcher_node_free(struct batcher_node *node);
-
-uint8_t batcher_node_record_verdict(struct batcher_node *node, uint64_t number, bool attests);
-
-uint8_t batcher_node_record_verdicts(struct batcher_node *node,
-                                     const struct batcher_attestation *list, size_t list_length,
-                                     const bool *verdicts, size_t verdicts_length);
-
-uint8_t batcher_node_record_verdict_together(struct batcher_node *node,
-                                             const struct batcher_attestation *list,
-                                             size_t list_length, bool passes);
 
 /* A vote of the peer whose key is the number. Where it gives cause, the peer is blocked from then on. */
 uint8_t batcher_node_receive_vote(struct batcher_node *node, uint64_t peer,
                                   const struct batcher_vote *vote, struct batcher_admission *out);
 
-/* A certificate of a peer, under a number of its own, and whether it certifies what it names. DONE: it
- * is recorded, as that of a round is. Where it is FORGED, the peer is blocked from then on. */
+/* A certificate of a peer, as bytes, and whether it certifies what it names. DONE: it is recorded, as that
+ * of a round is. FORGED: the peer is blocked from then on. */
 uint8_t batcher_node_receive_certificate(struct batcher_node *node, uint64_t peer, uint8_t kind,
-                                         const struct batcher_proposal *proposal, uint64_t number,
-                                         bool certifies, bool *selected_anew);
+                                         const struct batcher_proposal *proposal, const uint8_t *bytes,
+                                         size_t bytes_length, bool certifies, bool *selected_anew);
 
-/* A vote of the node's own, of which a verdict says that it attests. DONE: it is to be sent. */
-uint8_t batcher_node_cast_vote(struct batcher_node *node, const struct batcher_vote *vote,
+/* A vote of the node's own, and whether it attests. DONE: it is to be sent. Nothing else says so. */
+uint8_t batcher_node_cast_vote(struct batcher_node *node, const struct batcher_vote *vote, bool attests,
                                struct batcher_admission *out);
 
 /* A view that passes over others makes their rounds skipped ones, where nothing was said there yet. The
@@ -300,11 +312,25 @@ uint8_t batcher_node_enter(struct batcher_node *node, uint64_t view, uint32_t le
  * are freed. An earlier view than the last one changes nothing. */
 uint8_t batcher_node_finalize(struct batcher_node *node, uint64_t view);
 
+/* Verdicts on what the next construction wants, as those of a round. STALE also where another view is next.
+ * On what waits in other views they are wanted once that is next. */
+uint8_t batcher_node_record_verdicts(struct batcher_node *node, uint8_t kind,
+                                     const struct batcher_proposal *proposal,
+                                     const struct batcher_attestation *list, size_t list_length,
+                                     const bool *verdicts, size_t verdicts_length);
+
 /* The next construction, as that of a round, in the lowest view that changed: which one is in out. IDLE:
  * all views rest. Whose votes a batch found not to attest is blocked from then on. */
 uint8_t batcher_node_try_construct(struct batcher_node *node, struct batcher_step *out,
+                                   struct batcher_attestation *known, size_t known_length,
                                    struct batcher_attestation *list, size_t list_length,
                                    uint32_t *signers, size_t signers_length);
+
+/* The next construction, of attestations that pass as a whole, as that of a round. */
+uint8_t batcher_node_construct_together(struct batcher_node *node, uint8_t kind,
+                                        const struct batcher_proposal *proposal,
+                                        const struct batcher_attestation *list, size_t list_length,
+                                        struct batcher_step *out);
 
 uint8_t batcher_node_try_forward_proposal(struct batcher_node *node, uint64_t view, uint32_t me,
                                           struct batcher_proposal *out);
@@ -340,12 +366,12 @@ uint8_t batcher_node_missing_voters(struct batcher_node *node, uint64_t view,
                                     const struct batcher_proposal *proposal, uint32_t *list,
                                     size_t list_length, uint64_t *count);
 
-/* The signer that two votes convict: they are of one of so many participants, contradict each other,
- * and both attest, as the caller has verified. IDLE: they convict nobody. It takes no node's word. The two
- * have different numbers: of equal ones the first verdict would count for both. */
-uint8_t batcher_convicted(uint32_t participants, const struct batcher_vote *first,
-                          const struct batcher_vote *second, bool first_attests,
-                          bool second_attests, uint32_t *out);
+/* The signer that two votes convict: they are of one of so many participants with these keys, which are 32
+ * bytes as those of a round, contradict each other, and both attest, as the caller has verified. IDLE:
+ * they convict nobody. It takes no round's word. */
+uint8_t batcher_convicted(uint32_t participants, const uint8_t *keys, const struct batcher_vote *first,
+                          const struct batcher_vote *second, bool first_attests, bool second_attests,
+                          uint32_t *out);
 
 #ifdef __cplusplus
 }

@@ -1,5 +1,5 @@
-//! Links the static library `libbatcher_c.a`. `BATCHER_LIB` names it, or the folder that it is in;
-//! by default it is where `tools/prove batcher_c` builds it.
+//! Links the static library `libbatcher_ffi.a`. `BATCHER_LIB` names it, or the folder that it is in;
+//! by default it is where `tools/prove batcher_ffi` builds it.
 
 use std::env::var;
 use std::path::{Path, PathBuf, absolute};
@@ -8,14 +8,14 @@ fn main() {
     println!("cargo::rerun-if-env-changed=BATCHER_LIB");
     let library = match var("BATCHER_LIB") {
         Ok(named) => PathBuf::from(named),
-        Err(_) => Path::new(env!("CARGO_MANIFEST_DIR")).join("../crates/batcher_c/out"),
+        Err(_) => Path::new(env!("CARGO_MANIFEST_DIR")).join("../crates/batcher_ffi/out"),
     };
     let is_absolute = library.is_absolute();
     let library = absolute(&library).unwrap_or(library);
     let (folder, file) = if library.extension().is_some_and(|it| it == "a") {
         (library.parent().unwrap_or(&library).to_path_buf(), library)
     } else {
-        (library.clone(), library.join("libbatcher_c.a"))
+        (library.clone(), library.join("libbatcher_ffi.a"))
     };
     // `cargo check` and `cargo doc` don't link, so it is no error here.
     if !file.is_file() {
@@ -25,13 +25,13 @@ fn main() {
             ", which is relative, and cargo runs this in the crate's folder"
         };
         println!(
-            "cargo::warning=no library at {}{relative}: run tools/prove batcher_c, or set \
-             BATCHER_LIB to an absolute path, of libbatcher_c.a or of its folder. Without it \
+            "cargo::warning=no library at {}{relative}: run tools/prove batcher_ffi, or set \
+             BATCHER_LIB to an absolute path, of libbatcher_ffi.a or of its folder. Without it \
              nothing is linked.",
             file.display()
         );
     }
     println!("cargo::rerun-if-changed={}", file.display());
     println!("cargo::rustc-link-search=native={}", folder.display());
-    println!("cargo::rustc-link-lib=static=batcher_c");
+    println!("cargo::rustc-link-lib=static=batcher_ffi");
 }

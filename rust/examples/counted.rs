@@ -29,6 +29,10 @@ impl<const BYTES: usize> Scheme for Trusting<BYTES> {
         &self.0
     }
 
+    fn keys(&self) -> [u8; 32] {
+        [0; 32]
+    }
+
     fn verify_attestations(
         &self,
         _: &Subject,
@@ -43,6 +47,10 @@ impl<const BYTES: usize> Scheme for Trusting<BYTES> {
 
     fn verify_certificate(&self, _: &Subject, certificate: &usize) -> bool {
         *certificate >= batcher::quorum(self.0.len()) as usize
+    }
+
+    fn certificate_bytes(&self, certificate: &usize) -> impl AsRef<[u8]> {
+        certificate.to_be_bytes()
     }
 }
 

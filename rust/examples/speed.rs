@@ -23,6 +23,10 @@ impl Scheme for Trusting {
         &self.0
     }
 
+    fn keys(&self) -> [u8; 32] {
+        [0; 32]
+    }
+
     fn verify_attestations(
         &self,
         _: &Subject,
@@ -37,6 +41,10 @@ impl Scheme for Trusting {
 
     fn verify_certificate(&self, _: &Subject, certificate: &usize) -> bool {
         *certificate >= batcher::quorum(self.0.len()) as usize
+    }
+
+    fn certificate_bytes(&self, certificate: &usize) -> impl AsRef<[u8]> {
+        certificate.to_be_bytes()
     }
 }
 

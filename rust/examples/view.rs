@@ -6,12 +6,19 @@ use batcher::{
     Attestation, Certificate, Epoch, Error, Outcome, Proposal, Round, Scheme, Set, Sha256Digest,
     Subject, View, Vote, quorum,
 };
+use std::hash::{DefaultHasher, Hash, Hasher};
 use std::sync::Arc;
 
 type Key = &'static str;
 
-/// A signature says who signs what, which protects nothing: yours can't be made by others.
-type Signature = (Key, Subject);
+/// A signature is a hash of who signs what, which protects nothing: yours can't be made by others.
+type Signature = [u8; 8];
+
+fn signature_of(key: Key, subject: &Subject) -> Signature {
+    let mut hasher = DefaultHasher::new();
+    (key, subject).hash(&mut hasher);
+    hasher.finish().to_be_bytes()
+}
 
 struct Plain {
     participants: Set<Key>,
@@ -21,12 +28,15 @@ impl Plain {
     // A participant's index is the place of its key in the set, which is sorted.
     fn sign(&self, key: Key, subject: Subject) -> Vote<Signature> {
         let signer = self.participants.index(&key).expect("takes part");
-        Vote::new(subject, Attestation::new(signer, (key, subject)))
+        Vote::new(
+            subject,
+            Attestation::new(signer, signature_of(key, &subject)),
+        )
     }
 
     fn attests(&self, subject: &Subject, it: &Attestation<Signature>) -> bool {
         let key = self.participants.key(it.signer);
-        key.is_some_and(|key| it.signature == (*key, *subject))
+        key.is_some_and(|key| it.signature == signature_of(key, subject))
     }
 }
 
@@ -37,6 +47,11 @@ impl Scheme for Plain {
 
     fn participants(&self) -> &Set<Key> {
         &self.participants
+    }
+
+    // There is one list of keys here. Else it is the hash of theirs.
+    fn keys(&self) -> [u8; 32] {
+        [0; 32]
     }
 
     fn verify_attestations(
@@ -57,6 +72,13 @@ impl Scheme for Plain {
         certificate.len() >= quorum(self.participants.len()) as usize
             && certificate.is_sorted_by(|one, next| one.signer < next.signer)
             && certificate.iter().all(|it| self.attests(subject, it))
+    }
+
+    fn certificate_bytes(&self, certificate: &Self::Certificate) -> impl AsRef<[u8]> {
+        certificate
+            .iter()
+            .flat_map(|it| it.signature)
+            .collect::<Vec<_>>()
     }
 }
 
@@ -136,7 +158,7 @@ fn main() -> Result<(), Box<dyn std::error::Error>> {
     let finalize = Subject::Finalize { proposal };
     hear(round, "dot", scheme.sign("dot", finalize))?;
     let signer = scheme.sign("cyd", finalize).signer();
-    let bad = Attestation::new(signer, ("nobody", finalize));
+    let bad = Attestation::new(signer, signature_of("nobody", &finalize));
     hear(round, "cyd", Vote::new(finalize, bad))?;
     cast(round, scheme.sign("ada", finalize))?;
 

@@ -162,6 +162,12 @@ pub enum Error {
     Forged,
     /// The own vote is refused beside an earlier one.
     Own(OwnFault),
+    /// The bytes of a signature are more than 96, or the scheme doesn't make the same signature of
+    /// them again.
+    SignatureBytes,
+    /// What the scheme assembled of a quorum doesn't certify, as it says itself. It isn't handed out,
+    /// since peers would block this node for it.
+    BadAssembly,
     /// The thread on which the value lives has ended, or a job of it has panicked, which took the
     /// value with it. Where that was a round or a node, what it knew of own votes is gone too: see
     /// [`Round::accept_vote`](crate::Round::accept_vote) and [`Node::new`](crate::Node::new).
@@ -185,6 +191,8 @@ impl fmt::Display for Error {
             Error::NotVerified => f.write_str("own vote doesn't attest"),
             Error::Forged => f.write_str("certificate doesn't certify"),
             Error::Own(fault) => fault.fmt(f),
+            Error::SignatureBytes => f.write_str("signature isn't its bytes"),
+            Error::BadAssembly => f.write_str("assembled certificate doesn't certify"),
             Error::Gone => f.write_str("what lived on the thread is gone"),
             Error::NoThread => f.write_str("the system gives no thread"),
             Error::Unknown(code) => write!(f, "the library answered {code}, which isn't known"),

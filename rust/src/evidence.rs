@@ -55,15 +55,10 @@ pub fn convicted<S: Scheme>(
     if participants == 0 {
         return Err(Error::NoParticipants);
     }
-    let flat = |vote: &Vote<S::Signature>, number| {
-        let signer = vote.signer().get();
-        flat_vote(vote, ffi::Attestation { number, signer })
-    };
-    // Two votes that contradict each other differ, so they have two numbers.
-    let flat = [flat(&first, 0), flat(&second, 1)];
+    let (keys, flat) = (scheme.keys(), [flat_vote(&first)?, flat_vote(&second)?]);
     let ask = |attest: [bool; 2]| {
         let mut convicted = 0;
-        match ffi::convicted(participants, flat.each_ref(), attest, &mut convicted) {
+        match ffi::convicted(participants, &keys, flat.each_ref(), attest, &mut convicted) {
             code::DONE => Ok(Some(Participant::new(convicted))),
             code::IDLE => Ok(None),
             answer => Err(error_of(answer)),

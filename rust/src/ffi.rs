@@ -2,6 +2,7 @@
 //! the heap that the static library takes its memory from. `tools/header` compares the declarations
 //! with the header.
 
+use crate::construct::Library;
 use std::alloc::{Layout, alloc, dealloc, realloc};
 use std::cell::UnsafeCell;
 use std::ffi::c_void;
@@ -26,7 +27,7 @@ pub(crate) mod code {
     pub(crate) const FINALIZE_AFTER_NULLIFY: u8 = 11;
     pub(crate) const IDLE: u8 = 12;
     pub(crate) const VERIFY: u8 = 13;
-    pub(crate) const VERIFY_TOGETHER: u8 = 14;
+    pub(crate) const STALE: u8 = 14;
     pub(crate) const DROPPED: u8 = 15;
     pub(crate) const UNKNOWN: u8 = 16;
     pub(crate) const PASSED: u8 = 17;
@@ -74,10 +75,21 @@ pub(crate) struct Proposal {
 
 /// `struct batcher_attestation`
 #[repr(C)]
-#[derive(Clone, Copy, Debug, Default, PartialEq, Eq)]
+#[derive(Clone, Copy, PartialEq, Eq)]
 pub(crate) struct Attestation {
-    pub(crate) number: u64,
     pub(crate) signer: u32,
+    pub(crate) length: u8,
+    pub(crate) bytes: [u8; 96],
+}
+
+impl Default for Attestation {
+    fn default() -> Self {
+        Attestation {
+            signer: 0,
+            length: 0,
+            bytes: [0; 96],
+        }
+    }
 }
 
 /// `struct batcher_vote`
@@ -116,6 +128,17 @@ pub(crate) struct Step {
     pub(crate) fallback: bool,
 }
 
+/// `struct batcher_round_options`
+#[repr(C)]
+pub(crate) struct RoundOptions {
+    pub(crate) epoch: u64,
+    pub(crate) view: u64,
+    pub(crate) participants: u32,
+    pub(crate) keys: [u8; 32],
+    pub(crate) mode: u8,
+    pub(crate) batchable: bool,
+}
+
 /// `struct batcher_round`
 #[repr(C)]
 struct RoundHandle {
@@ -134,32 +157,10 @@ pub(crate) struct Round {
 // No function here unwinds: Rattle has no panics. A slice is a pointer and its length.
 unsafe extern "C" {
     /// Its name has the version of the header, so a library of another one doesn't link.
-    safe fn batcher_abi_1();
+    safe fn batcher_abi_2();
 
-    fn batcher_round_new(
-        round: *mut RoundHandle,
-        epoch: u64,
-        view: u64,
-        participants: u32,
-        mode: u8,
-        batchable: bool,
-        aggregates: bool,
-    ) -> u8;
+    fn batcher_round_new(round: *mut RoundHandle, options: *const RoundOptions) -> u8;
     fn batcher_round_free(round: *mut RoundHandle);
-    fn batcher_round_record_verdict(round: *mut RoundHandle, number: u64, attests: bool) -> u8;
-    fn batcher_round_record_verdicts(
-        round: *mut RoundHandle,
-        list: *const Attestation,
-        list_length: usize,
-        verdicts: *const bool,
-        verdicts_length: usize,
-    ) -> u8;
-    fn batcher_round_record_verdict_together(
-        round: *mut RoundHandle,
-        list: *const Attestation,
-        length: usize,
-        passes: bool,
-    ) -> u8;
     fn batcher_round_add_network(
         round: *mut RoundHandle,
         sender: u64,
@@ -169,14 +170,25 @@ unsafe extern "C" {
     fn batcher_round_accept_vote(
         round: *mut RoundHandle,
         vote: *const Vote,
+        attests: bool,
         admission: *mut Admission,
     ) -> u8;
     fn batcher_round_record_certificate(
         round: *mut RoundHandle,
         kind: u8,
         proposal: *const Proposal,
-        number: u64,
+        bytes: *const u8,
+        bytes_length: usize,
         selected_anew: *mut bool,
+    ) -> u8;
+    fn batcher_round_record_verdicts(
+        round: *mut RoundHandle,
+        kind: u8,
+        proposal: *const Proposal,
+        list: *const Attestation,
+        list_length: usize,
+        verdicts: *const bool,
+        verdicts_length: usize,
     ) -> u8;
     fn batcher_round_set_leader(round: *mut RoundHandle, leader: u32) -> u8;
     fn batcher_round_leader(round: *mut RoundHandle, leader: *mut u32) -> u8;
@@ -204,13 +216,24 @@ unsafe extern "C" {
     fn batcher_round_try_construct(
         round: *mut RoundHandle,
         step: *mut Step,
+        known: *mut Attestation,
+        known_length: usize,
         list: *mut Attestation,
         list_length: usize,
         signers: *mut u32,
         signers_length: usize,
     ) -> u8;
+    fn batcher_round_construct_together(
+        round: *mut RoundHandle,
+        kind: u8,
+        proposal: *const Proposal,
+        list: *const Attestation,
+        list_length: usize,
+        step: *mut Step,
+    ) -> u8;
     fn batcher_convicted(
         participants: u32,
+        keys: *const u8,
         first: *const Vote,
         second: *const Vote,
         first_attests: bool,
@@ -219,9 +242,10 @@ unsafe extern "C" {
     ) -> u8;
 }
 
-/// Whom two votes convict, where each attests or doesn't.
+/// Whom two votes of participants with these keys convict, where each attests or doesn't.
 pub(crate) fn convicted(
     participants: u32,
+    keys: &[u8; 32],
     [first, second]: [&Vote; 2],
     [first_attests, second_attests]: [bool; 2],
     convicted: &mut u32,
@@ -231,6 +255,7 @@ pub(crate) fn convicted(
     unsafe {
         batcher_convicted(
             participants,
+            keys.as_ptr(),
             first,
             second,
             first_attests,
@@ -254,64 +279,16 @@ impl Drop for Round {
 // writes, and a length is that of its slice. No call keeps a pointer.
 impl Round {
     /// A round, or the code that was answered.
-    pub(crate) fn new(
-        epoch: u64,
-        view: u64,
-        participants: u32,
-        mode: u8,
-        batchable: bool,
-        aggregates: bool,
-    ) -> Result<Self, u8> {
+    pub(crate) fn new(options: &RoundOptions) -> Result<Self, u8> {
         let handle = UnsafeCell::new(RoundHandle {
             at: ptr::null_mut(),
         });
         let round = Round { handle };
-        batcher_abi_1();
+        batcher_abi_2();
         // SAFETY: as above; an empty handle is a null pointer.
-        let answer = unsafe {
-            batcher_round_new(
-                round.handle.get(),
-                epoch,
-                view,
-                participants,
-                mode,
-                batchable,
-                aggregates,
-            )
-        };
-        match answer {
+        match unsafe { batcher_round_new(round.handle.get(), options) } {
             code::DONE => Ok(round),
             answer => Err(answer),
-        }
-    }
-
-    pub(crate) fn record_verdict(&mut self, number: u64, attests: bool) -> u8 {
-        // SAFETY: as above.
-        unsafe { batcher_round_record_verdict(self.handle.get(), number, attests) }
-    }
-
-    pub(crate) fn record_verdicts(&mut self, list: &[Attestation], verdicts: &[bool]) -> u8 {
-        // SAFETY: as above.
-        unsafe {
-            batcher_round_record_verdicts(
-                self.handle.get(),
-                list.as_ptr(),
-                list.len(),
-                verdicts.as_ptr(),
-                verdicts.len(),
-            )
-        }
-    }
-
-    pub(crate) fn record_verdict_together(&mut self, list: &[Attestation], passes: bool) -> u8 {
-        // SAFETY: as above.
-        unsafe {
-            batcher_round_record_verdict_together(
-                self.handle.get(),
-                list.as_ptr(),
-                list.len(),
-                passes,
-            )
         }
     }
 
@@ -326,16 +303,21 @@ impl Round {
         unsafe { batcher_round_add_network(self.handle.get(), sender, vote, admission) }
     }
 
-    pub(crate) fn accept_vote(&mut self, vote: &Vote, admission: &mut Admission) -> u8 {
+    pub(crate) fn accept_vote(
+        &mut self,
+        vote: &Vote,
+        attests: bool,
+        admission: &mut Admission,
+    ) -> u8 {
         // SAFETY: as above.
-        unsafe { batcher_round_accept_vote(self.handle.get(), vote, admission) }
+        unsafe { batcher_round_accept_vote(self.handle.get(), vote, attests, admission) }
     }
 
     pub(crate) fn record_certificate(
         &mut self,
         kind: u8,
         proposal: &Proposal,
-        number: u64,
+        bytes: &[u8],
         selected_anew: &mut bool,
     ) -> u8 {
         // SAFETY: as above.
@@ -344,7 +326,8 @@ impl Round {
                 self.handle.get(),
                 kind,
                 proposal,
-                number,
+                bytes.as_ptr(),
+                bytes.len(),
                 selected_anew,
             )
         }
@@ -409,10 +392,34 @@ impl Round {
             )
         }
     }
+}
 
-    pub(crate) fn try_construct(
+impl Library for Round {
+    fn record_verdicts(
+        &mut self,
+        kind: u8,
+        proposal: &Proposal,
+        list: &[Attestation],
+        verdicts: &[bool],
+    ) -> u8 {
+        // SAFETY: as above.
+        unsafe {
+            batcher_round_record_verdicts(
+                self.handle.get(),
+                kind,
+                proposal,
+                list.as_ptr(),
+                list.len(),
+                verdicts.as_ptr(),
+                verdicts.len(),
+            )
+        }
+    }
+
+    fn try_construct(
         &mut self,
         step: &mut Step,
+        known: &mut [Attestation],
         list: &mut [Attestation],
         signers: &mut [u32],
     ) -> u8 {
@@ -421,10 +428,32 @@ impl Round {
             batcher_round_try_construct(
                 self.handle.get(),
                 step,
+                known.as_mut_ptr(),
+                known.len(),
                 list.as_mut_ptr(),
                 list.len(),
                 signers.as_mut_ptr(),
                 signers.len(),
+            )
+        }
+    }
+
+    fn construct_together(
+        &mut self,
+        kind: u8,
+        proposal: &Proposal,
+        list: &[Attestation],
+        step: &mut Step,
+    ) -> u8 {
+        // SAFETY: as above.
+        unsafe {
+            batcher_round_construct_together(
+                self.handle.get(),
+                kind,
+                proposal,
+                list.as_ptr(),
+                list.len(),
+                step,
             )
         }
     }

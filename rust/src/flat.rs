@@ -2,8 +2,10 @@
 
 use crate::answers::{BlockReason, Error, Mode, OwnFault};
 use crate::ffi::{self, code};
-use crate::messages::{Kind, Proposal, Sha256Digest, Subject, Vote};
-use crate::positions::{Epoch, Round, View};
+use crate::messages::{
+    Activity, Attestation, Finalize, Kind, Notarize, Nullify, Proposal, Sha256Digest, Subject, Vote,
+};
+use crate::positions::{Epoch, Participant, Round, View};
 
 pub(crate) fn flat_proposal(proposal: &Proposal) -> ffi::Proposal {
     ffi::Proposal {
@@ -31,18 +33,105 @@ fn flat_round(round: &Round) -> ffi::Proposal {
     }
 }
 
+/// An attestation, by the bytes of its signature.
 #[inline]
-pub(crate) fn flat_vote<G>(vote: &Vote<G>, listed: ffi::Attestation) -> ffi::Vote {
+pub(crate) fn flat_attestation<G: AsRef<[u8]>>(
+    attestation: &Attestation<G>,
+) -> Result<ffi::Attestation, Error> {
+    let signature = attestation.signature.as_ref();
+    let mut flat = ffi::Attestation {
+        signer: attestation.signer.get(),
+        ..ffi::Attestation::default()
+    };
+    flat.bytes
+        .get_mut(..signature.len())
+        .ok_or(Error::SignatureBytes)?
+        .copy_from_slice(signature);
+    flat.length = signature.len() as u8;
+    Ok(flat)
+}
+
+/// The attestation of these bytes.
+pub(crate) fn attestation_of<G: for<'b> TryFrom<&'b [u8]>>(
+    flat: &ffi::Attestation,
+) -> Result<Attestation<G>, Error> {
+    let signature = flat.bytes.get(..usize::from(flat.length));
+    let signature = signature.and_then(|bytes| G::try_from(bytes).ok());
+    let signature = signature.ok_or(Error::SignatureBytes)?;
+    Ok(Attestation::new(Participant::new(flat.signer), signature))
+}
+
+#[inline]
+pub(crate) fn flat_vote<G: AsRef<[u8]>>(vote: &Vote<G>) -> Result<ffi::Vote, Error> {
     let (kind, proposal) = match vote {
         Vote::Notarize(vote) => (Kind::Notarization, flat_proposal(&vote.proposal)),
         Vote::Nullify(vote) => (Kind::Nullification, flat_round(&vote.round)),
         Vote::Finalize(vote) => (Kind::Finalization, flat_proposal(&vote.proposal)),
     };
-    ffi::Vote {
+    Ok(ffi::Vote {
         proposal,
-        attestation: listed,
+        attestation: flat_attestation(vote.attestation())?,
         kind: kind_code(kind),
-    }
+    })
+}
+
+/// What is reported of a vote.
+#[inline]
+pub(crate) fn report_of<G: Clone + for<'b> TryFrom<&'b [u8]>>(
+    answer: &ffi::Admission,
+    vote: &Vote<G>,
+) -> Result<Option<Activity<G>>, Error> {
+    Ok(match answer.report {
+        code::REPORT_NONE => None,
+        // Of one vote it is this one, which is new.
+        code::REPORT_NOTARIZE | code::REPORT_NULLIFY | code::REPORT_FINALIZE => Some(match vote {
+            Vote::Notarize(vote) => Activity::Notarize(vote.clone()),
+            Vote::Nullify(vote) => Activity::Nullify(vote.clone()),
+            Vote::Finalize(vote) => Activity::Finalize(vote.clone()),
+        }),
+        _ => Some(contradiction_of(answer)?),
+    })
+}
+
+/// The report of two votes.
+#[cold]
+fn contradiction_of<G: for<'b> TryFrom<&'b [u8]>>(
+    answer: &ffi::Admission,
+) -> Result<Activity<G>, Error> {
+    let (first, second) = (&answer.first, &answer.second);
+    Ok(match answer.report {
+        code::REPORT_CONFLICTING_NOTARIZE => {
+            Activity::ConflictingNotarize(notarize_of(first)?, notarize_of(second)?)
+        }
+        code::REPORT_CONFLICTING_FINALIZE => {
+            Activity::ConflictingFinalize(finalize_of(first)?, finalize_of(second)?)
+        }
+        code::REPORT_NULLIFY_FINALIZE => {
+            Activity::NullifyFinalize(nullify_of(first)?, finalize_of(second)?)
+        }
+        other => return Err(Error::Unknown(other)),
+    })
+}
+
+fn notarize_of<G: for<'b> TryFrom<&'b [u8]>>(flat: &ffi::Vote) -> Result<Notarize<G>, Error> {
+    Ok(Notarize {
+        proposal: proposal_of(&flat.proposal),
+        attestation: attestation_of(&flat.attestation)?,
+    })
+}
+
+fn nullify_of<G: for<'b> TryFrom<&'b [u8]>>(flat: &ffi::Vote) -> Result<Nullify<G>, Error> {
+    Ok(Nullify {
+        round: round_of(&flat.proposal),
+        attestation: attestation_of(&flat.attestation)?,
+    })
+}
+
+fn finalize_of<G: for<'b> TryFrom<&'b [u8]>>(flat: &ffi::Vote) -> Result<Finalize<G>, Error> {
+    Ok(Finalize {
+        proposal: proposal_of(&flat.proposal),
+        attestation: attestation_of(&flat.attestation)?,
+    })
 }
 
 fn round_of(flat: &ffi::Proposal) -> Round {

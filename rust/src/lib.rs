@@ -2,9 +2,9 @@
 //!
 //! A batcher takes in the votes of a view. It keeps the first vote of each kind per signer, names
 //! peers that equivocate, so that they can be blocked, and makes certificates out of quorums. What
-//! it answers is computed by a static library that is proved; this crate holds the signatures, has
-//! them verified, and hands the verdicts on. `docs/RUST.md` of its repository says what is proved,
-//! and what a caller owes.
+//! it answers is computed by a static library that is proved, and that keeps signatures as their
+//! bytes; this crate has them verified, and hands the verdicts on. `docs/RUST.md` of its repository
+//! says what is proved, and what a caller owes.
 //!
 //! A [`Scheme`] says what signatures are worth, and a [`Round`] is one view: votes go in by
 //! [`Round::add_network`] and [`Round::accept_vote`], certificates come out of
@@ -58,8 +58,7 @@
 compile_error!("the static library of this crate is built for x86-64 Linux alone");
 
 mod answers;
-mod book;
-mod books;
+mod construct;
 mod evidence;
 #[allow(unsafe_code)]
 mod ffi;
@@ -69,7 +68,6 @@ pub mod node;
 pub mod positions;
 pub mod round;
 mod scheme;
-mod table;
 pub mod thread;
 
 pub use answers::{Admission, Batch, BlockReason, Error, Mode, Outcome, OwnFault};

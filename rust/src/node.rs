@@ -50,18 +50,17 @@
 //!
 //! A node stays on its thread, as a round does; [`crate::thread`] has a handle that doesn't.
 
-use crate::answers::{Admission, Batch, BlockReason, Error, Mode};
-use crate::book::{Library, Wanted, WantedTogether, reserve_each};
-use crate::books::Books;
+use crate::answers::{Admission, Batch, BlockReason, Error};
+use crate::construct::{Constructions, Next, Wanted, WantedTogether, reserve_each};
 use crate::ffi::{self, code, node};
 use crate::flat::{
-    block_of, done, error_of, flat_proposal, flat_subject, flat_vote, kind_code, proposal_of, some,
+    block_of, done, error_of, flat_proposal, flat_subject, flat_vote, kind_code, proposal_of,
+    report_of, some,
 };
 use crate::messages::{Activity, Certificate, Kind, Proposal, Vote};
 use crate::positions::{self, Epoch, Participant, View};
-use crate::round::identity;
+use crate::round::{attests, name_of};
 use crate::scheme::Scheme;
-use crate::table::{Found, Numbers};
 use std::fmt;
 use std::sync::Arc;
 
@@ -78,9 +77,6 @@ pub enum Receipt<A> {
     /// The peer takes no part, so the message wasn't looked at.
     Unknown,
 }
-
-/// A certificate has no signer that is likely to have sent it.
-const NOT_LIKELY: Participant = Participant::new(u32::MAX);
 
 /// What became of a peer's certificate.
 #[derive(Clone, Copy, Debug, PartialEq, Eq, Hash)]
@@ -201,21 +197,11 @@ pub struct Node<S: Scheme> {
     library: node::Node,
     scheme: Arc<S>,
     epoch: Epoch,
-    mode: Mode,
-    identity: u64,
-    numbers: Numbers,
-    /// Of each view in which something was said, also where the library refused it.
-    books: Books<S::Signature>,
+    constructions: Constructions,
     /// As the library says.
     window: Window,
     /// Of each participant why it is blocked, as the library says.
     causes: Vec<u8>,
-    /// A batch that the library has made, and that memory was refused for here. It is in the lists.
-    unfinished: Option<ffi::Step>,
-    // Where the library lists attestations and signers: a place for each participant, once one is
-    // wanted.
-    list: Vec<ffi::Attestation>,
-    signers: Vec<u32>,
     // Where the library answers to a vote.
     answer: ffi::Admission,
 }
@@ -249,38 +235,27 @@ impl<S: Scheme> Node<S> {
         }
         let mut causes = Vec::new();
         reserve_each(&mut causes, participants, 0)?;
-        let sort = [scheme.is_batchable(), scheme.aggregates()];
-        let library = node::Node::new(
-            epoch.get(),
-            participants,
-            finalized.get(),
+        let library = node::Node::new(&node::NodeOptions {
+            epoch: epoch.get(),
+            finalized: finalized.get(),
             ahead,
+            participants,
+            keys: scheme.keys(),
             track_historical_votes,
-            sort,
-        )
+            batchable: scheme.is_batchable(),
+        })
         .map_err(error_of)?;
-        let mode = if track_historical_votes {
-            Mode::Retaining
-        } else {
-            Mode::Releasing
-        };
         Ok(Node {
             library,
             scheme,
             epoch,
-            mode,
-            identity: identity(),
-            numbers: Numbers::new(),
-            books: Books::new(),
+            constructions: Constructions::new(),
             window: Window {
                 finalized,
                 current: finalized,
                 ahead,
             },
             causes,
-            unfinished: None,
-            list: Vec::new(),
-            signers: Vec::new(),
             answer: ffi::Admission::default(),
         })
     }
@@ -338,19 +313,11 @@ impl<S: Scheme> Node<S> {
         peer: &S::PublicKey,
         vote: Vote<S::Signature>,
     ) -> Result<Receipt<Admission<S::Signature>>, Error> {
-        let sender = match self.look_at(peer, vote.signer(), vote.round()) {
-            Ok(sender) => sender,
-            Err(receipt) => return Ok(receipt),
-        };
-        let view = vote.round().view;
-        let participants = self.scheme.participants().len();
-        self.books.reserve()?;
-        let book = self.books.open(view, self.mode_of(view));
-        let numbered = book.number(&vote, Some(sender), || self.numbers.unused(), participants)?;
-        let flat = flat_vote(&vote, numbered.listed);
+        let sender = self.scheme.participants().index_near(peer, vote.signer());
+        let flat = flat_vote(&vote)?;
         match self
             .library
-            .receive_vote(u64::from(sender.get()), &flat, &mut self.answer)
+            .receive_vote(name_of(sender), &flat, &mut self.answer)
         {
             code::DONE => {}
             code::ELSEWHERE => return Ok(Receipt::Outside),
@@ -358,11 +325,15 @@ impl<S: Scheme> Node<S> {
             code::UNKNOWN => return Ok(Receipt::Unknown),
             other => return Err(error_of(other)),
         }
-        let admission = book.admission(&self.answer, numbered, vote)?;
-        if admission.block.is_some() {
+        let block = block_of(self.answer.block)?;
+        if block.is_some() {
             self.note_blocked()?;
         }
-        Ok(Receipt::Answered(admission))
+        Ok(Receipt::Answered(Admission {
+            added: self.answer.added,
+            block,
+            report: report_of(&self.answer, &vote)?,
+        }))
     }
 
     /// Takes in a certificate that a peer sent: the scheme verifies it, and it is recorded in the
@@ -414,13 +385,17 @@ impl<S: Scheme> Node<S> {
         peer: &S::PublicKey,
         certificate: &Certificate<S::Certificate>,
     ) -> Option<Receipt<Verdict>> {
-        let (round, kind) = (certificate.round(), certificate.kind());
-        match self.look_at(peer, NOT_LIKELY, round) {
-            Err(receipt) => Some(receipt),
-            Ok(_) => self
-                .has_certificate(round.view, kind)
-                .then_some(Receipt::Answered(Verdict::Known)),
+        let Some(sender) = self.scheme.participants().index(peer) else {
+            return Some(Receipt::Unknown);
+        };
+        if self.blocked(sender).is_some() {
+            return Some(Receipt::Dropped);
         }
+        if !self.belongs_certificate(certificate) {
+            return Some(Receipt::Outside);
+        }
+        self.has_certificate(certificate.round().view, certificate.kind())
+            .then_some(Receipt::Answered(Verdict::Known))
     }
 
     /// The same as [`Node::receive_certificate`], of a certificate of which the caller says whether
@@ -460,29 +435,23 @@ impl<S: Scheme> Node<S> {
         certificate: &Certificate<S::Certificate>,
         certifies: bool,
     ) -> Result<Receipt<Verdict>, Error> {
-        let round = certificate.round();
-        let sender = match self.look_at(peer, NOT_LIKELY, round) {
-            Ok(sender) => sender,
-            Err(receipt) => return Ok(receipt),
-        };
-        let (kind, view) = (certificate.kind(), round.view);
-        let (number, mode) = (self.numbers.unused(), self.mode_of(view));
-        let proposal = flat_subject(&certificate.subject());
-        self.books.reserve()?;
+        // What isn't looked at takes no memory.
+        if let Some(receipt) = self.answers_unverified(peer, certificate) {
+            return Ok(receipt);
+        }
         let mut selected_anew = false;
         let answer = self.library.receive_certificate(
-            u64::from(sender.get()),
-            kind_code(kind),
-            &proposal,
-            number,
+            name_of(self.scheme.participants().index(peer)),
+            kind_code(certificate.kind()),
+            &flat_subject(&certificate.subject()),
+            self.scheme
+                .certificate_bytes(certificate.content())
+                .as_ref(),
             certifies,
             &mut selected_anew,
         );
         Ok(Receipt::Answered(match answer {
-            code::DONE => {
-                self.books.open(view, mode).certified(kind);
-                Verdict::Recorded(selected_anew)
-            }
+            code::DONE => Verdict::Recorded(selected_anew),
             code::KNOWN => Verdict::Known,
             code::FORGED => {
                 self.note_blocked()?;
@@ -535,18 +504,8 @@ impl<S: Scheme> Node<S> {
     /// `OutOfMemory`, after which the same call can be made again, `NotVerified` where the scheme
     /// says that it doesn't attest, and `Own`.
     pub fn cast_vote(&mut self, vote: Vote<S::Signature>) -> Result<Cast<S::Signature>, Error> {
-        if self.scheme.participants().key(vote.signer()).is_none() {
-            return Err(Error::NotVerified);
-        }
-        let attestation = std::slice::from_ref(vote.attestation());
-        if self
-            .scheme
-            .verify_attestations(&vote.subject(), attestation)
-            != [true]
-        {
-            return Err(Error::NotVerified);
-        }
-        self.cast_verified_vote(vote)
+        let attests = attests(&*self.scheme, &vote);
+        self.cast(vote, attests)
     }
 
     /// The same of a vote of which the caller knows that it attests, as it has just signed it. What
@@ -554,39 +513,29 @@ impl<S: Scheme> Node<S> {
     ///
     /// # Errors
     ///
-    /// As of [`Node::cast_vote`]. `NotVerified` where its signer takes no part, or where the very
-    /// same vote was found not to attest before.
+    /// As of [`Node::cast_vote`]. `NotVerified` where its signer takes no part.
     pub fn cast_verified_vote(
         &mut self,
         vote: Vote<S::Signature>,
     ) -> Result<Cast<S::Signature>, Error> {
-        let participants = self.scheme.participants();
-        if participants.key(vote.signer()).is_none() {
-            return Err(Error::NotVerified);
-        }
-        let participants = participants.len();
-        if !self.belongs(&vote) {
-            return Ok(Cast::Outside);
-        }
-        let (kind, signer, view) = (vote.kind(), Some(vote.signer()), vote.round().view);
-        self.books.reserve()?;
-        let book = self.books.open(view, self.mode_of(view));
-        let numbered = book.number(&vote, signer, || self.numbers.unused_own(), participants)?;
-        book.record_verdict(&mut self.library, kind, numbered.listed, true)?;
-        let flat = flat_vote(&vote, numbered.listed);
-        match self.library.cast_vote(&flat, &mut self.answer) {
+        self.cast(vote, true)
+    }
+
+    fn cast(
+        &mut self,
+        vote: Vote<S::Signature>,
+        attests: bool,
+    ) -> Result<Cast<S::Signature>, Error> {
+        let flat = flat_vote(&vote)?;
+        match self.library.cast_vote(&flat, attests, &mut self.answer) {
             code::DONE => {}
             code::KNOWN => return Ok(Cast::Known),
             code::ELSEWHERE => return Ok(Cast::Outside),
             other => return Err(error_of(other)),
         }
-        match book.report(&self.answer, numbered, &vote)? {
-            Some(report) => {
-                book.keep(numbered, vote, Found::Recorded(true));
-                Ok(Cast::ToSend(report))
-            }
-            None => Err(Error::Unknown(code::DONE)),
-        }
+        // A vote that is to be sent is reported.
+        let report = report_of(&self.answer, &vote)?.ok_or(Error::Unknown(code::DONE))?;
+        Ok(Cast::ToSend(report))
     }
 
     /// Enters a view with its leader. Views that are passed over by it, and in which nothing was
@@ -623,10 +572,7 @@ impl<S: Scheme> Node<S> {
         if self.scheme.participants().key(leader).is_none() {
             return Err(Error::UnknownParticipant);
         }
-        let mode = self.mode_of(view);
-        self.books.reserve()?;
         done(self.library.enter(view.get(), leader.get()))?;
-        self.books.open(view, mode);
         self.note_window();
         Ok(())
     }
@@ -643,7 +589,6 @@ impl<S: Scheme> Node<S> {
     pub fn finalize(&mut self, view: View) -> Result<(), Error> {
         done(self.library.finalize(view.get()))?;
         self.note_window();
-        self.forget_passed();
         Ok(())
     }
 
@@ -668,7 +613,7 @@ impl<S: Scheme> Node<S> {
                     let verdicts = self
                         .scheme
                         .verify_attestations(wanted.subject(), wanted.attestations());
-                    self.record_verdicts(&wanted, &verdicts)?;
+                    let _ = self.record_verdicts(&wanted, &verdicts)?;
                 }
                 Step::VerifyTogether(wanted) => {
                     let passes = self.scheme.verify_together(
@@ -695,45 +640,38 @@ impl<S: Scheme> Node<S> {
     ///
     /// `OutOfMemory`.
     pub fn step(&mut self) -> Result<Step<S::Signature, S::Certificate>, Error> {
-        let participants = self.scheme.participants().len();
-        reserve_each(&mut self.list, participants, ffi::Attestation::default())?;
-        reserve_each(&mut self.signers, participants, 0)?;
-        if let Some(step) = self.unfinished {
-            return self.finish(step);
+        let next = self.constructions.step(&*self.scheme, &mut self.library);
+        // A batch that isn't handed over may have blocked somebody too.
+        let blocks = match &next {
+            Ok(Next::Made(_, batch)) => !batch.invalid.is_empty(),
+            Ok(_) => false,
+            Err(_) => true,
+        };
+        if blocks {
+            self.note_blocked()?;
         }
-        loop {
-            let mut step = ffi::Step::default();
-            let answer = self
-                .library
-                .try_construct(&mut step, &mut self.list, &mut self.signers);
-            let view = View::new(step.view);
-            match answer {
-                code::IDLE => return Ok(Step::Idle),
-                code::RESTS => return Ok(Step::Made(Construction { view, batch: None })),
-                code::DONE => return self.finish(step),
-                code::VERIFY | code::VERIFY_TOGETHER => {}
-                answer => return Err(error_of(answer)),
-            }
-            let list = &self.list[..step.listed as usize];
-            // What is to be verified are votes of the view, which the crate keeps.
-            let book = self.books.get_mut(view).ok_or(Error::Unknown(answer))?;
-            if answer == code::VERIFY_TOGETHER {
-                let wanted = book.wanted_together(&step, list, self.identity)?;
-                return Ok(Step::VerifyTogether(wanted));
-            }
-            let wanted = book.wanted(&mut self.library, &step, list, self.identity)?;
-            if let Some(wanted) = wanted {
-                return Ok(Step::Verify(wanted));
-            }
-        }
+        Ok(match next? {
+            Next::Idle => Step::Idle,
+            Next::Rests(view) => Step::Made(Construction { view, batch: None }),
+            Next::Verify(wanted) => Step::Verify(wanted),
+            Next::VerifyTogether(wanted) => Step::VerifyTogether(wanted),
+            Next::Made(view, batch) => Step::Made(Construction {
+                view,
+                batch: Some(batch),
+            }),
+        })
     }
 
-    /// Records a verdict on each of the attestations that a step has handed out, in their order.
-    /// Then step again. **A verdict can't be taken back, and after false the next batch has its
-    /// signer blocked**, unless a certificate comes first. Of two verdicts on one attestation the
-    /// first counts, also where memory was refused for it. Those of a view that was finalized
-    /// meanwhile change nothing. Where the verification failed to run, record nothing, and step
-    /// again.
+    /// Records a verdict on each of the attestations that a step has handed out, in their order, and
+    /// says whether they are recorded. Then step again.
+    ///
+    /// They aren't recorded where something else is wanted first by now, as in a lower view, or
+    /// after a certificate, other verdicts on some of them, or a view that was finalized: what is
+    /// still wanted of them a later step hands out again.
+    ///
+    /// **A verdict can't be taken back, and after false the next batch has its signer blocked**,
+    /// unless a certificate comes first. Where the verification failed to run, record nothing, and
+    /// step again.
     ///
     /// # Errors
     ///
@@ -747,20 +685,9 @@ impl<S: Scheme> Node<S> {
         &mut self,
         wanted: &Wanted<S::Signature>,
         verdicts: &[bool],
-    ) -> Result<(), Error> {
-        assert_eq!(
-            wanted.listed.len(),
-            verdicts.len(),
-            "there isn't one verdict for each"
-        );
-        if wanted.owner != self.identity {
-            return Err(Error::Elsewhere);
-        }
-        match self.books.get_mut(wanted.subject().round().view) {
-            Some(book) => book.record_verdicts(&mut self.library, wanted, verdicts),
-            // A later view was finalized meanwhile.
-            None => Ok(()),
-        }
+    ) -> Result<bool, Error> {
+        self.constructions
+            .record_verdicts(&mut self.library, wanted, verdicts)
     }
 
     /// Records whether the attestations that a step has handed out pass as a whole. Then step
@@ -776,14 +703,7 @@ impl<S: Scheme> Node<S> {
         wanted: &WantedTogether<S::Signature>,
         passes: bool,
     ) -> Result<(), Error> {
-        if wanted.wanted.owner != self.identity {
-            return Err(Error::Elsewhere);
-        }
-        match self.books.get_mut(wanted.subject().round().view) {
-            Some(book) => book.record_verdict_together(&mut self.library, wanted, passes),
-            // A later view was finalized meanwhile.
-            None => Ok(()),
-        }
+        self.constructions.record_verdict_together(wanted, passes)
     }
 
     /// The selected proposal of a view, to be handed on by participant `me`: once at most, and not
@@ -940,72 +860,8 @@ impl<S: Scheme> Node<S> {
         cause_of(*self.causes.get(usize::from(participant))?)
     }
 
-    /// How many votes the crate keeps, each with its signature.
-    pub fn votes_kept(&self) -> usize {
-        self.books.votes_kept()
-    }
-
-    // Hands over a batch that the library has made.
-    fn finish(&mut self, step: ffi::Step) -> Result<Step<S::Signature, S::Certificate>, Error> {
-        self.unfinished = Some(step);
-        let view = View::new(step.view);
-        let list = &self.list[..step.listed as usize];
-        let signers = &self.signers[..step.invalid as usize];
-        let book = self.books.get_mut(view).ok_or(Error::Unknown(code::DONE))?;
-        let made = book.made(&*self.scheme, &step, list, signers);
-        if !matches!(made, Err(Error::OutOfMemory)) {
-            self.unfinished = None;
-            self.forget_passed();
-        }
-        let batch = made?;
-        if !batch.invalid.is_empty() {
-            self.note_blocked()?;
-        }
-        Ok(Step::Made(Construction {
-            view,
-            batch: Some(batch),
-        }))
-    }
-
-    // Forgets the votes of views before the window. Those of a batch that isn't finished are needed
-    // until it is.
-    fn forget_passed(&mut self) {
-        let finalized = self.window.finalized;
-        let unfinished = self.unfinished.map(|step| View::new(step.view));
-        self.books
-            .drop_before(unfinished.map_or(finalized, |view| view.min(finalized)));
-    }
-
     fn is_within(&self, round: positions::Round) -> bool {
         round.epoch == self.epoch && self.window.contains(round.view)
-    }
-
-    // The mode of a round that is made now.
-    fn mode_of(&self, view: View) -> Mode {
-        if view < self.window.current {
-            Mode::Skipped
-        } else {
-            self.mode
-        }
-    }
-
-    // The participant that sent a message, where the message is looked at.
-    fn look_at<A>(
-        &self,
-        peer: &S::PublicKey,
-        likely: Participant,
-        round: positions::Round,
-    ) -> Result<Participant, Receipt<A>> {
-        let Some(sender) = self.scheme.participants().index_near(peer, likely) else {
-            return Err(Receipt::Unknown);
-        };
-        if self.blocked(sender).is_some() {
-            return Err(Receipt::Dropped);
-        }
-        if !self.is_within(round) {
-            return Err(Receipt::Outside);
-        }
-        Ok(sender)
     }
 
     // Asks the library for its window, after a call that may have moved it.
@@ -1027,27 +883,12 @@ impl<S: Scheme> Node<S> {
     }
 }
 
-impl Library for node::Node {
-    fn record_verdict(&mut self, number: u64, attests: bool) -> u8 {
-        node::Node::record_verdict(self, number, attests)
-    }
-
-    fn record_verdicts(&mut self, list: &[ffi::Attestation], verdicts: &[bool]) -> u8 {
-        node::Node::record_verdicts(self, list, verdicts)
-    }
-
-    fn record_verdict_together(&mut self, list: &[ffi::Attestation], passes: bool) -> u8 {
-        node::Node::record_verdict_together(self, list, passes)
-    }
-}
-
 impl<S: Scheme> fmt::Debug for Node<S> {
     fn fmt(&self, f: &mut fmt::Formatter<'_>) -> fmt::Result {
         f.debug_struct("Node")
             .field("epoch", &self.epoch)
             .field("window", &self.window())
             .field("rounds_kept", &self.rounds_kept())
-            .field("votes_kept", &self.votes_kept())
             .finish_non_exhaustive()
     }
 }

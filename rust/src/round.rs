@@ -1,27 +1,25 @@
 //! One round: what it answers to votes, and the certificates that it makes of them.
 
 use crate::answers::{Admission, Batch, Error, Mode, Outcome};
-use crate::book::{Book, Library, reserve_each};
-pub use crate::book::{Wanted, WantedTogether};
+use crate::construct::{Constructions, Next, reserve_each};
+pub use crate::construct::{Wanted, WantedTogether};
 use crate::ffi::{self, code};
 use crate::flat::{
-    done, error_of, flat_proposal, flat_subject, flat_vote, kind_code, mode_code, proposal_of, some,
+    block_of, done, error_of, flat_proposal, flat_subject, flat_vote, kind_code, mode_code,
+    proposal_of, report_of, some,
 };
 use crate::messages::{Certificate, Kind, Proposal, Vote};
 use crate::positions::{self, Participant};
 use crate::scheme::Scheme;
-use crate::table::{Found, Numbers};
 use std::fmt;
 use std::sync::Arc;
-use std::sync::atomic::{AtomicU64, Ordering};
 
 /// What the library is given for a sender that is no participant. All of these have lower names.
 const NOBODY: u64 = u64::MAX;
 
-/// A number that distinguishes a round, or a node, from all others of the process.
-pub(crate) fn identity() -> u64 {
-    static NEXT: AtomicU64 = AtomicU64::new(0);
-    NEXT.fetch_add(1, Ordering::Relaxed)
+/// What the library is given as the name of a sender.
+pub(crate) fn name_of(sender: Option<Participant>) -> u64 {
+    sender.map_or(NOBODY, |index| u64::from(index.get()))
 }
 
 /// What a construction comes to.
@@ -67,16 +65,7 @@ pub struct Round<S: Scheme> {
     scheme: Arc<S>,
     number: positions::Round,
     mode: Mode,
-    identity: u64,
-    book: Book<S::Signature>,
-    numbers: Numbers,
-    /// A batch that the library has made, and that memory was refused for here. It is in the
-    /// lists.
-    unfinished: Option<ffi::Step>,
-    // Where the library lists attestations and signers: a place for each participant, once one is
-    // wanted.
-    list: Vec<ffi::Attestation>,
-    signers: Vec<u32>,
+    constructions: Constructions,
     // Where the library answers to a vote.
     answer: ffi::Admission,
 }
@@ -124,26 +113,21 @@ impl<S: Scheme> Round<S> {
         if participants == 0 {
             return Err(Error::NoParticipants);
         }
-        let library = ffi::Round::new(
-            round.epoch.get(),
-            round.view.get(),
+        let library = ffi::Round::new(&ffi::RoundOptions {
+            epoch: round.epoch.get(),
+            view: round.view.get(),
             participants,
-            mode_code(mode),
-            scheme.is_batchable(),
-            scheme.aggregates(),
-        )
+            keys: scheme.keys(),
+            mode: mode_code(mode),
+            batchable: scheme.is_batchable(),
+        })
         .map_err(error_of)?;
         Ok(Round {
             library,
             scheme,
             number: round,
             mode,
-            identity: identity(),
-            book: Book::new(mode),
-            numbers: Numbers::new(),
-            unfinished: None,
-            list: Vec::new(),
-            signers: Vec::new(),
+            constructions: Constructions::new(),
             answer: ffi::Admission::default(),
         })
     }
@@ -210,18 +194,17 @@ impl<S: Scheme> Round<S> {
         sender: &S::PublicKey,
         vote: Vote<S::Signature>,
     ) -> Result<Admission<S::Signature>, Error> {
-        if !self.belongs(&vote) {
-            return Err(Error::Elsewhere);
-        }
-        let participants = self.scheme.participants();
-        let sender = participants.index_near(sender, vote.signer());
-        let name = sender.map_or(NOBODY, |index| u64::from(index.get()));
-        let numbered =
-            self.book
-                .number(&vote, sender, || self.numbers.unused(), participants.len())?;
-        let flat = flat_vote(&vote, numbered.listed);
-        done(self.library.add_network(name, &flat, &mut self.answer))?;
-        self.book.admission(&self.answer, numbered, vote)
+        let sender = self.scheme.participants().index_near(sender, vote.signer());
+        let flat = flat_vote(&vote)?;
+        done(
+            self.library
+                .add_network(name_of(sender), &flat, &mut self.answer),
+        )?;
+        Ok(Admission {
+            added: self.answer.added,
+            block: block_of(self.answer.block)?,
+            report: report_of(&self.answer, &vote)?,
+        })
     }
 
     /// Takes in a vote of the node's own, which the scheme is asked to verify. **It is to be sent
@@ -278,18 +261,8 @@ impl<S: Scheme> Round<S> {
         if !self.belongs(&vote) {
             return Err(Error::Elsewhere);
         }
-        if self.scheme.participants().key(vote.signer()).is_none() {
-            return Err(Error::NotVerified);
-        }
-        let attestation = std::slice::from_ref(vote.attestation());
-        if self
-            .scheme
-            .verify_attestations(&vote.subject(), attestation)
-            != [true]
-        {
-            return Err(Error::NotVerified);
-        }
-        self.accept_verified_vote(vote)
+        let attests = attests(&*self.scheme, &vote);
+        self.accept(vote, attests)
     }
 
     /// The same of a vote of which the caller knows that it attests, as it has just signed it. What
@@ -297,36 +270,27 @@ impl<S: Scheme> Round<S> {
     ///
     /// # Errors
     ///
-    /// As of [`Round::accept_vote`]. `NotVerified` where its signer takes no part, or where the
-    /// very same vote was found not to attest before.
+    /// As of [`Round::accept_vote`]. `NotVerified` where its signer takes no part.
     pub fn accept_verified_vote(
         &mut self,
         vote: Vote<S::Signature>,
     ) -> Result<Outcome<S::Signature>, Error> {
-        if !self.belongs(&vote) {
-            return Err(Error::Elsewhere);
-        }
-        if self.scheme.participants().key(vote.signer()).is_none() {
-            return Err(Error::NotVerified);
-        }
-        let kind = vote.kind();
-        let participants = self.scheme.participants().len();
-        let signer = Some(vote.signer());
-        let numbered =
-            self.book
-                .number(&vote, signer, || self.numbers.unused_own(), participants)?;
-        self.book
-            .record_verdict(&mut self.library, kind, numbered.listed, true)?;
-        let flat = flat_vote(&vote, numbered.listed);
-        done(self.library.accept_vote(&flat, &mut self.answer))?;
-        let report = self.book.report(&self.answer, numbered, &vote)?;
+        self.accept(vote, true)
+    }
+
+    fn accept(
+        &mut self,
+        vote: Vote<S::Signature>,
+        attests: bool,
+    ) -> Result<Outcome<S::Signature>, Error> {
+        let flat = flat_vote(&vote)?;
+        done(self.library.accept_vote(&flat, attests, &mut self.answer))?;
         let retained = self.answer.retained;
         if !self.answer.added {
             return Ok(Outcome::Duplicate { retained });
         }
         // A vote that was added is reported.
-        let report = report.ok_or(Error::Unknown(code::DONE))?;
-        self.book.keep(numbered, vote, Found::Recorded(true));
+        let report = report_of(&self.answer, &vote)?.ok_or(Error::Unknown(code::DONE))?;
         Ok(Outcome::ToSend { report, retained })
     }
 
@@ -409,20 +373,20 @@ impl<S: Scheme> Round<S> {
         &mut self,
         certificate: &Certificate<S::Certificate>,
     ) -> Result<bool, Error> {
-        let (kind, number) = (certificate.kind(), self.numbers.unused());
-        let proposal = flat_subject(&certificate.subject());
-        let mut selected_anew = false;
-        done(self.library.record_certificate(
-            kind_code(kind),
-            &proposal,
-            number,
-            &mut selected_anew,
-        ))?;
-        // The votes of a certificate that isn't handed over yet are needed until it is.
-        let is_needed = |step: ffi::Step| step.certified && step.kind == kind_code(kind);
-        if !self.unfinished.is_some_and(is_needed) {
-            self.book.certified(kind);
+        if !self.belongs_certificate(certificate) {
+            return Err(Error::Elsewhere);
         }
+        let mut selected_anew = false;
+        done(
+            self.library.record_certificate(
+                kind_code(certificate.kind()),
+                &flat_subject(&certificate.subject()),
+                self.scheme
+                    .certificate_bytes(certificate.content())
+                    .as_ref(),
+                &mut selected_anew,
+            ),
+        )?;
         Ok(selected_anew)
     }
 
@@ -579,7 +543,7 @@ impl<S: Scheme> Round<S> {
                     let verdicts = self
                         .scheme
                         .verify_attestations(wanted.subject(), wanted.attestations());
-                    self.record_verdicts(&wanted, &verdicts)?;
+                    let _ = self.record_verdicts(&wanted, &verdicts)?;
                 }
                 Step::VerifyTogether(wanted) => {
                     let passes = self.scheme.verify_together(
@@ -633,44 +597,26 @@ impl<S: Scheme> Round<S> {
     ///
     /// `OutOfMemory`.
     pub fn step(&mut self) -> Result<Step<S::Signature, S::Certificate>, Error> {
-        let participants = self.scheme.participants().len();
-        reserve_each(&mut self.list, participants, ffi::Attestation::default())?;
-        reserve_each(&mut self.signers, participants, 0)?;
-        if let Some(step) = self.unfinished {
-            return self.finish(step);
-        }
-        loop {
-            let mut step = ffi::Step::default();
-            let answer = self
-                .library
-                .try_construct(&mut step, &mut self.list, &mut self.signers);
-            let list = &self.list[..step.listed as usize];
-            match answer {
-                code::IDLE => return Ok(Step::Idle),
-                code::DONE => return self.finish(step),
-                code::VERIFY => {
-                    let wanted = self
-                        .book
-                        .wanted(&mut self.library, &step, list, self.identity)?;
-                    if let Some(wanted) = wanted {
-                        return Ok(Step::Verify(wanted));
-                    }
-                }
-                code::VERIFY_TOGETHER => {
-                    let wanted = self.book.wanted_together(&step, list, self.identity)?;
-                    return Ok(Step::VerifyTogether(wanted));
-                }
-                answer => return Err(error_of(answer)),
-            }
-        }
+        Ok(
+            match self.constructions.step(&*self.scheme, &mut self.library)? {
+                // A round has no view that rests beside others.
+                Next::Idle | Next::Rests(_) => Step::Idle,
+                Next::Verify(wanted) => Step::Verify(wanted),
+                Next::VerifyTogether(wanted) => Step::VerifyTogether(wanted),
+                Next::Made(_, batch) => Step::Made(batch),
+            },
+        )
     }
 
-    /// Records a verdict on each of the attestations that a step has handed out, in their order.
-    /// Then step again, also where no vote has come.
+    /// Records a verdict on each of the attestations that a step has handed out, in their order, and
+    /// says whether they are recorded. Then step again, also where no vote has come.
+    ///
+    /// They aren't recorded where something else is wanted first by now, as after a certificate or
+    /// after other verdicts on some of them: what is still wanted of them the next step hands out
+    /// again.
     ///
     /// **A verdict can't be taken back, and after false the next batch names its signer**, unless a
-    /// certificate of that kind comes first. Of two verdicts on one attestation the first counts,
-    /// also where memory was refused for it. Where the verification failed to run, record nothing,
+    /// certificate of that kind comes first. Where the verification failed to run, record nothing,
     /// and step again.
     ///
     /// # Errors
@@ -685,16 +631,8 @@ impl<S: Scheme> Round<S> {
         &mut self,
         wanted: &Wanted<S::Signature>,
         verdicts: &[bool],
-    ) -> Result<(), Error> {
-        assert_eq!(
-            wanted.listed.len(),
-            verdicts.len(),
-            "there isn't one verdict for each"
-        );
-        if wanted.owner != self.identity {
-            return Err(Error::Elsewhere);
-        }
-        self.book
+    ) -> Result<bool, Error> {
+        self.constructions
             .record_verdicts(&mut self.library, wanted, verdicts)
     }
 
@@ -714,43 +652,15 @@ impl<S: Scheme> Round<S> {
         wanted: &WantedTogether<S::Signature>,
         passes: bool,
     ) -> Result<(), Error> {
-        if wanted.wanted.owner != self.identity {
-            return Err(Error::Elsewhere);
-        }
-        self.book
-            .record_verdict_together(&mut self.library, wanted, passes)
-    }
-
-    // Hands over a batch that the library has made.
-    fn finish(&mut self, step: ffi::Step) -> Result<Step<S::Signature, S::Certificate>, Error> {
-        self.unfinished = Some(step);
-        let list = &self.list[..step.listed as usize];
-        let signers = &self.signers[..step.invalid as usize];
-        let made = self.book.made(&*self.scheme, &step, list, signers);
-        if !matches!(made, Err(Error::OutOfMemory)) {
-            self.unfinished = None;
-        }
-        made.map(Step::Made)
-    }
-
-    /// How many votes the crate keeps, each with its signature.
-    pub fn votes_kept(&self) -> usize {
-        self.book.len()
+        self.constructions.record_verdict_together(wanted, passes)
     }
 }
 
-impl Library for ffi::Round {
-    fn record_verdict(&mut self, number: u64, attests: bool) -> u8 {
-        ffi::Round::record_verdict(self, number, attests)
-    }
-
-    fn record_verdicts(&mut self, list: &[ffi::Attestation], verdicts: &[bool]) -> u8 {
-        ffi::Round::record_verdicts(self, list, verdicts)
-    }
-
-    fn record_verdict_together(&mut self, list: &[ffi::Attestation], passes: bool) -> u8 {
-        ffi::Round::record_verdict_together(self, list, passes)
-    }
+/// Whether a vote attests, as the scheme says, which isn't asked of a signer that takes no part.
+pub(crate) fn attests<S: Scheme>(scheme: &S, vote: &Vote<S::Signature>) -> bool {
+    let attestation = std::slice::from_ref(vote.attestation());
+    scheme.participants().key(vote.signer()).is_some()
+        && scheme.verify_attestations(&vote.subject(), attestation) == [true]
 }
 
 impl<S: Scheme> fmt::Debug for Round<S> {
@@ -758,7 +668,6 @@ impl<S: Scheme> fmt::Debug for Round<S> {
         f.debug_struct("Round")
             .field("number", &self.number)
             .field("mode", &self.mode)
-            .field("votes_kept", &self.votes_kept())
             .finish_non_exhaustive()
     }
 }

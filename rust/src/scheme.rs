@@ -21,11 +21,16 @@ use crate::positions::Set;
 ///
 /// impl Scheme for Toy {
 ///     type PublicKey = &'static str;
-///     type Signature = (u32, batcher::Kind);
+///     type Signature = [u8; 2];
 ///     type Certificate = Vec<Attestation<Self::Signature>>;
 ///
 ///     fn participants(&self) -> &Set<&'static str> {
 ///         &self.0
+///     }
+///
+///     fn keys(&self) -> [u8; 32] {
+///         // There is one list of keys here. Else it is the hash of theirs.
+///         [0; 32]
 ///     }
 ///
 ///     fn verify_attestations(
@@ -33,7 +38,8 @@ use crate::positions::Set;
 ///         subject: &Subject,
 ///         attestations: &[Attestation<Self::Signature>],
 ///     ) -> Vec<bool> {
-///         let is_good = |it: &Attestation<_>| it.signature == (it.signer.get(), subject.kind());
+///         let signed = |it: &Attestation<_>| [it.signer.get() as u8, subject.kind() as u8];
+///         let is_good = |it: &Attestation<_>| it.signature == signed(it);
 ///         attestations.iter().map(is_good).collect()
 ///     }
 ///
@@ -54,6 +60,10 @@ use crate::positions::Set;
 ///             // and all of which attest.
 ///             && self.verify_attestations(subject, certificate).into_iter().all(|attests| attests)
 ///     }
+///
+///     fn certificate_bytes(&self, certificate: &Self::Certificate) -> impl AsRef<[u8]> {
+///         certificate.iter().flat_map(|it| it.signature).collect::<Vec<_>>()
+///     }
 /// }
 ///
 /// let toy = Toy(Set::new(vec!["ada", "ben", "cyd", "dot"])?);
@@ -61,7 +71,8 @@ use crate::positions::Set;
 ///     round: batcher::positions::Round::new(batcher::Epoch(0), batcher::View(1)),
 /// };
 /// let by = |signers: std::ops::Range<u32>| -> Vec<_> {
-///     let sign = |it| Attestation::new(batcher::Participant(it), (it, subject.kind()));
+///     let signed = |it| [it as u8, subject.kind() as u8];
+///     let sign = |it| Attestation::new(batcher::Participant(it), signed(it));
 ///     signers.map(sign).collect()
 /// };
 /// assert!(toy.verify_certificate(&subject, &by(0..3)));
@@ -73,15 +84,25 @@ pub trait Scheme {
     /// Who a participant is to the network.
     type PublicKey: Ord;
 
-    /// A signature. Equality has to be lawful, and signatures that differ in a byte are to differ:
-    /// a sender whose second vote differs from its first is blocked.
-    type Signature: Clone + Eq;
+    /// A signature: at most 96 bytes, as [`AsRef`] gives them, of which [`TryFrom`] makes it again.
+    /// An array of bytes is one as it is. Signatures with the same bytes are equal: a sender whose
+    /// second vote differs from its first in a byte is blocked.
+    type Signature: Clone + AsRef<[u8]> + for<'b> TryFrom<&'b [u8]>;
 
     /// What a quorum of attestations makes.
     type Certificate;
 
+    /// Whether a certificate is the attestations that it is assembled of, so that each one that is
+    /// assembled certifies. By default it isn't known to be: then a certificate that was assembled
+    /// is verified before it is handed out.
+    const CERTIFICATE_IS_LIST: bool = false;
+
     /// The keys of the participants. They are the same at each call.
     fn participants(&self) -> &Set<Self::PublicKey>;
+
+    /// Bytes that distinguish the list of their keys from each other list of which there is a scheme
+    /// in the process, as its hash does. What is proved is of verdicts by these keys.
+    fn keys(&self) -> [u8; 32];
 
     /// Whether it pays to wait for a quorum before attestations are verified, which is so by
     /// default. A round asks when it is made.
@@ -131,4 +152,8 @@ pub trait Scheme {
     /// of a quorum of participants, each once, of whom each attests.
     /// [`Round::record_certificate`](crate::Round::record_certificate) asks.
     fn verify_certificate(&self, subject: &Subject, certificate: &Self::Certificate) -> bool;
+
+    /// The bytes of a certificate, as of those that the network brings. A certificate that certifies
+    /// has other bytes than one that doesn't.
+    fn certificate_bytes(&self, certificate: &Self::Certificate) -> impl AsRef<[u8]>;
 }

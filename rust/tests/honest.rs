@@ -11,10 +11,10 @@ use batcher::{
 use std::sync::Arc;
 use toy::{KEYS, ROUND, Signature, Toy, bad, finalize, notarize, nullify};
 
-/// Numbers that look like chance, the same in each run.
-struct Numbers(u64);
+/// What looks like chance, the same in each run of a seed.
+struct Random(u64);
 
-impl Numbers {
+impl Random {
     fn below(&mut self, bound: u64) -> u64 {
         self.0 = self
             .0
@@ -29,31 +29,27 @@ impl Numbers {
 }
 
 /// The votes that one honest participant casts: two at most.
-fn honest_votes(signer: u32, numbers: &mut Numbers) -> Vec<Vote<Signature>> {
-    let payload = 1 + numbers.below(2) as u8;
-    let last = match numbers.below(3) {
+fn honest_votes(signer: u32, random: &mut Random) -> Vec<Vote<Signature>> {
+    let payload = 1 + random.below(2) as u8;
+    let last = match random.below(3) {
         0 => finalize(signer, payload),
         _ => nullify(signer),
     };
     vec![notarize(signer, payload), last]
 }
 
-fn any_vote(signer: u32, numbers: &mut Numbers) -> Vote<Signature> {
-    let payload = 1 + numbers.below(3) as u8;
-    let vote = match numbers.below(3) {
+fn any_vote(signer: u32, random: &mut Random) -> Vote<Signature> {
+    let payload = 1 + random.below(3) as u8;
+    let vote = match random.below(3) {
         0 => notarize(signer, payload),
         1 => nullify(signer),
         _ => finalize(signer, payload),
     };
-    if numbers.is_one_in(3) {
-        bad(vote)
-    } else {
-        vote
-    }
+    if random.is_one_in(3) { bad(vote) } else { vote }
 }
 
-fn any_subject(numbers: &mut Numbers) -> Subject {
-    any_vote(0, numbers).subject()
+fn any_subject(random: &mut Random) -> Subject {
+    any_vote(0, random).subject()
 }
 
 /// What was handed out to be verified.
@@ -64,49 +60,49 @@ enum Waiting {
 
 /// One round, in which 1, 2 and so on are honest, 0 is this node, and the last two are anything.
 fn play(seed: u64) {
-    let mut numbers = Numbers(seed);
-    let count = 4 + numbers.below(4) as u32;
-    let scheme = Toy::with(count as usize, !numbers.is_one_in(3), numbers.is_one_in(3));
-    let mode = [Mode::Retaining, Mode::Releasing, Mode::Skipped][numbers.below(3) as usize];
+    let mut random = Random(seed);
+    let count = 4 + random.below(4) as u32;
+    let scheme = Toy::with(count as usize, !random.is_one_in(3), random.is_one_in(3));
+    let mode = [Mode::Retaining, Mode::Releasing, Mode::Skipped][random.below(3) as usize];
     let mut round = Round::in_mode(ROUND, scheme.clone(), mode).unwrap();
     let honest: Vec<_> = (0..count - 2)
-        .map(|signer| honest_votes(signer, &mut numbers))
+        .map(|signer| honest_votes(signer, &mut random))
         .collect();
     let mut waiting = Vec::new();
     for _ in 0..120 {
-        match numbers.below(12) {
+        match random.below(12) {
             0..4 => {
                 // An honest one casts a vote, or repeats it.
-                let signer = 1 + numbers.below(u64::from(count) - 3) as usize;
-                let vote = honest[signer][numbers.below(2) as usize];
+                let signer = 1 + random.below(u64::from(count) - 3) as usize;
+                let vote = honest[signer][random.below(2) as usize];
                 let admission = round.add_network(&KEYS[signer], vote).unwrap();
                 assert_eq!(admission.block, None, "seed {seed}, {vote:?}");
             }
             4..7 => {
                 // The others send what they like, in whose name they like.
-                let sender = count - 1 - numbers.below(2) as u32;
-                let signer = if numbers.is_one_in(3) {
-                    numbers.below(9) as u32
+                let sender = count - 1 - random.below(2) as u32;
+                let signer = if random.is_one_in(3) {
+                    random.below(9) as u32
                 } else {
                     sender
                 };
-                let vote = any_vote(signer, &mut numbers);
+                let vote = any_vote(signer, &mut random);
                 let answer = round.add_network(&KEYS[sender as usize], vote).unwrap();
                 if let Some(activity) = answer.report {
                     assert_eq!(activity.signer(), Participant::new(sender), "seed {seed}");
                 }
             }
             7 => {
-                let vote = honest[0][numbers.below(2) as usize];
+                let vote = honest[0][random.below(2) as usize];
                 // Both of what a node casts once are added once.
                 let _: Result<Outcome<_>, _> = round.accept_vote(vote);
             }
             8 => {
-                let certificate = Certificate::new(any_subject(&mut numbers), Vec::new());
+                let certificate = Certificate::new(any_subject(&mut random), Vec::new());
                 round.record_verified_certificate(&certificate).unwrap();
             }
             9 => {
-                let _ = round.set_leader(Participant::new(numbers.below(u64::from(count)) as u32));
+                let _ = round.set_leader(Participant::new(random.below(u64::from(count)) as u32));
             }
             10 => match round.step().unwrap() {
                 // The verdicts may come late.
@@ -115,7 +111,7 @@ fn play(seed: u64) {
                 Step::Made(batch) => check(&scheme, batch, count),
                 Step::Idle => {}
             },
-            _ => hand_in(&mut round, &scheme, &mut waiting, &mut numbers),
+            _ => hand_in(&mut round, &scheme, &mut waiting, &mut random),
         }
     }
     while let Some(batch) = round.try_construct().unwrap() {
@@ -144,12 +140,12 @@ fn hand_in(
     round: &mut Round<Toy>,
     scheme: &Arc<Toy>,
     waiting: &mut Vec<Waiting>,
-    numbers: &mut Numbers,
+    random: &mut Random,
 ) {
     if waiting.is_empty() {
         return;
     }
-    match waiting.swap_remove(numbers.below(waiting.len() as u64) as usize) {
+    match waiting.swap_remove(random.below(waiting.len() as u64) as usize) {
         Waiting::Each(wanted) => {
             let verdicts = scheme.verify_attestations(wanted.subject(), wanted.attestations());
             round.record_verdicts(&wanted, &verdicts).unwrap();

@@ -12,10 +12,10 @@ use batcher::{
 };
 use toy::{KEYS, Signature, Toy, bad, certificate, vote};
 
-/// Numbers that look like chance, the same in each run.
-struct Numbers(u64);
+/// What looks like chance, the same in each run of a seed.
+struct Random(u64);
 
-impl Numbers {
+impl Random {
     fn below(&mut self, bound: u64) -> u64 {
         self.0 = self
             .0
@@ -40,22 +40,18 @@ fn subject(kind: u64, view: u64, payload: u8) -> Subject {
 }
 
 /// One of the two votes that an honest participant casts in a view.
-fn honest_vote(signer: u32, view: u64, numbers: &mut Numbers) -> Vote<Signature> {
+fn honest_vote(signer: u32, view: u64, random: &mut Random) -> Vote<Signature> {
     let hash = u64::from(signer) * 7 + view * 3;
     let payload = 1 + (hash % 2) as u8;
     let last = 1 + hash / 2 % 2;
-    let kind = if numbers.is_one_in(2) { 0 } else { last };
+    let kind = if random.is_one_in(2) { 0 } else { last };
     vote(subject(kind, view, payload), signer)
 }
 
-fn any_vote(signer: u32, view: u64, numbers: &mut Numbers) -> Vote<Signature> {
-    let subject = subject(numbers.below(3), view, 1 + numbers.below(3) as u8);
+fn any_vote(signer: u32, view: u64, random: &mut Random) -> Vote<Signature> {
+    let subject = subject(random.below(3), view, 1 + random.below(3) as u8);
     let vote = vote(subject, signer);
-    if numbers.is_one_in(3) {
-        bad(vote)
-    } else {
-        vote
-    }
+    if random.is_one_in(3) { bad(vote) } else { vote }
 }
 
 /// What was handed out to be verified.
@@ -69,7 +65,7 @@ fn hand_in(node: &mut Node<Toy>, waiting: &Waiting) -> Result<(), Error> {
     match waiting {
         Waiting::Each(wanted) => {
             let verdicts = scheme.verify_attestations(wanted.subject(), wanted.attestations());
-            node.record_verdicts(wanted, &verdicts)
+            node.record_verdicts(wanted, &verdicts).map(drop)
         }
         Waiting::Together(wanted) => {
             let (subject, attestations) = (wanted.subject(), wanted.attestations());
@@ -81,18 +77,18 @@ fn hand_in(node: &mut Node<Toy>, waiting: &Waiting) -> Result<(), Error> {
 
 /// One node, in which 1, 2 and so on are honest, 0 is this node, and the last two are anything.
 fn play(seed: u64) {
-    let mut numbers = Numbers(seed);
-    let count = 4 + numbers.below(4) as u32;
-    let scheme = Toy::with(count as usize, !numbers.is_one_in(3), numbers.is_one_in(3));
-    let track = numbers.is_one_in(2);
+    let mut random = Random(seed);
+    let count = 4 + random.below(4) as u32;
+    let scheme = Toy::with(count as usize, !random.is_one_in(3), random.is_one_in(3));
+    let track = random.is_one_in(2);
     let mut node = Node::new(Epoch::zero(), scheme.clone(), View::zero(), 3, track).unwrap();
     let (mut waiting, mut sent) = (Vec::new(), Vec::<Vote<Signature>>::new());
     for _ in 0..200 {
-        let view = (node.window().finalized.get() + numbers.below(8)).saturating_sub(1);
-        match numbers.below(14) {
+        let view = (node.window().finalized.get() + random.below(8)).saturating_sub(1);
+        match random.below(14) {
             0..5 => {
-                let signer = 1 + numbers.below(u64::from(count) - 3) as u32;
-                let vote = honest_vote(signer, view, &mut numbers);
+                let signer = 1 + random.below(u64::from(count) - 3) as u32;
+                let vote = honest_vote(signer, view, &mut random);
                 let receipt = node.receive_vote(&KEYS[signer as usize], vote).unwrap();
                 match receipt {
                     Receipt::Answered(admission) => assert_eq!(admission.block, None, "{seed}"),
@@ -101,13 +97,13 @@ fn play(seed: u64) {
                 assert_eq!(node.belongs(&vote), receipt != Receipt::Outside);
             }
             5..8 => {
-                let sender = count - 1 - numbers.below(2) as u32;
-                let signer = if numbers.is_one_in(5) {
-                    numbers.below(9) as u32
+                let sender = count - 1 - random.below(2) as u32;
+                let signer = if random.is_one_in(5) {
+                    random.below(9) as u32
                 } else {
                     sender
                 };
-                let vote = any_vote(signer, view, &mut numbers);
+                let vote = any_vote(signer, view, &mut random);
                 let receipt = node.receive_vote(&KEYS[sender as usize], vote).unwrap();
                 if let Receipt::Answered(admission) = receipt {
                     if let Some(activity) = admission.report {
@@ -118,15 +114,15 @@ fn play(seed: u64) {
                 }
             }
             8 => {
-                let vote = any_vote(0, view, &mut numbers);
+                let vote = any_vote(0, view, &mut random);
                 if let Ok(Cast::ToSend(_)) = node.cast_vote(vote) {
                     sent.push(vote);
                 }
             }
             9 => {
                 // A certificate that certifies comes from anybody, and a forged one from the others.
-                let subject = subject(numbers.below(3), view, 1);
-                let (peer, signers) = if numbers.is_one_in(4) {
+                let subject = subject(random.below(3), view, 1);
+                let (peer, signers) = if random.is_one_in(4) {
                     (count - 1, 0..1)
                 } else {
                     (1, 0..batcher::quorum(count))
@@ -150,7 +146,7 @@ fn play(seed: u64) {
                 );
             }
             11 => {
-                if numbers.is_one_in(4) {
+                if random.is_one_in(4) {
                     node.finalize(View::new(view)).unwrap();
                 }
             }
@@ -162,7 +158,7 @@ fn play(seed: u64) {
             },
             _ if waiting.is_empty() => {}
             _ => {
-                let place = numbers.below(waiting.len() as u64) as usize;
+                let place = random.below(waiting.len() as u64) as usize;
                 hand_in(&mut node, &waiting.swap_remove(place)).unwrap();
             }
         }

@@ -8,7 +8,7 @@ use batcher::{
     Certificate, Epoch, Error, Mode, Participant, Proposal, Round, Sha256Digest, Step, Subject,
     View, Wanted,
 };
-use refusing::{Plain, again, asks, each_refused_in_turn, once, vote};
+use refusing::{Plain, Signature, again, asks, each_refused_in_turn, once, vote};
 
 /// A round with what it has answered, as text.
 struct Player {
@@ -41,12 +41,12 @@ impl Player {
                     let verdicts: Vec<_> = wanted
                         .attestations()
                         .iter()
-                        .map(|it| it.signature)
+                        .map(|it| it.signature == [1])
                         .collect();
                     again(granted, || self.round.record_verdicts(&wanted, &verdicts)).unwrap();
                 }
                 Step::VerifyTogether(wanted) => {
-                    let passes = wanted.attestations().iter().all(|it| it.signature);
+                    let passes = wanted.attestations().iter().all(|it| it.signature == [1]);
                     again(granted, || {
                         self.round.record_verdict_together(&wanted, passes)
                     })
@@ -151,7 +151,7 @@ fn with_three_nullifies(aggregates: bool) -> Round<Plain> {
     round
 }
 
-fn wanted(round: &mut Round<Plain>) -> Wanted<bool> {
+fn wanted(round: &mut Round<Plain>) -> Wanted<Signature> {
     match round.step() {
         Ok(Step::Verify(wanted)) => wanted,
         other => panic!("{other:?}"),
@@ -169,15 +169,14 @@ fn processed(round: &mut Round<Plain>) -> (usize, Vec<u32>) {
     }
 }
 
-/// All are asked for again. The library was handed verdicts, which count where others follow: what
-/// is proved rests on it that a number has one.
+/// All are asked for again, and the verdicts that are handed in then count.
 #[test]
 fn of_a_refused_list_no_verdict_is_recorded() {
     for refused in 0.. {
         let mut round = with_three_nullifies(false);
         let three = wanted(&mut round);
         let answer = once(&mut Some(refused), || {
-            round.record_verdicts(&three, &[true, false, true])
+            round.record_verdicts(&three, &[false; 3])
         });
         if answer.is_ok() {
             assert!(refused > 1, "{refused} requests alone");
@@ -186,35 +185,31 @@ fn of_a_refused_list_no_verdict_is_recorded() {
         assert_eq!(answer, Err(Error::OutOfMemory));
         let again = wanted(&mut round);
         assert_eq!(again.attestations(), three.attestations());
-        round.record_verdicts(&again, &[true; 3]).unwrap();
+        assert_eq!(
+            round.record_verdicts(&again, &[true, false, true]),
+            Ok(true)
+        );
         assert_eq!(processed(&mut round), (3, vec![1]));
     }
 }
 
-/// Nor is one where some have an earlier verdict, so that the others go to the library's map.
+/// Where some have a verdict by then, a list that has these too isn't what is wanted: what is left of it
+/// is handed out again.
 #[test]
-fn of_a_refused_list_no_verdict_is_recorded_beside_earlier_ones() {
-    for refused in 0.. {
-        let mut round = with_three_nullifies(false);
-        let three = wanted(&mut round);
-        hear_nullify(&mut round, 3);
-        let four = wanted(&mut round);
-        round.record_verdicts(&three, &[true, false, true]).unwrap();
-        let answer = once(&mut Some(refused), || {
-            round.record_verdicts(&four, &[true, true, true, false])
-        });
-        if answer.is_ok() {
-            assert!(refused > 3, "{refused} requests alone");
-            return;
-        }
-        assert_eq!(answer, Err(Error::OutOfMemory));
-        // The first three have one.
-        assert_eq!(wanted(&mut round).attestations(), &four.attestations()[3..]);
-        round
-            .record_verdicts(&four, &[true, true, true, false])
-            .unwrap();
-        assert_eq!(processed(&mut round), (4, vec![1, 3]));
-    }
+fn what_is_left_of_a_list_is_wanted_again() {
+    let mut round = with_three_nullifies(false);
+    let three = wanted(&mut round);
+    hear_nullify(&mut round, 3);
+    let four = wanted(&mut round);
+    assert_eq!(
+        round.record_verdicts(&three, &[true, false, true]),
+        Ok(true)
+    );
+    assert_eq!(round.record_verdicts(&four, &[true; 4]), Ok(false));
+    let left = wanted(&mut round);
+    assert_eq!(left.attestations(), &four.attestations()[3..]);
+    assert_eq!(round.record_verdicts(&left, &[false]), Ok(true));
+    assert_eq!(processed(&mut round), (4, vec![1, 3]));
 }
 
 /// A vote of another round isn't looked at, so it takes no memory.
@@ -227,36 +222,7 @@ fn a_vote_of_another_round_takes_no_memory() {
     assert_eq!(answer, (Err(Error::Elsewhere), false));
 }
 
-/// A certificate from outside has the crate forget the votes of its kind, also where a batch without
-/// one isn't handed over yet.
-#[test]
-fn votes_are_forgotten_beside_a_refused_batch() {
-    for refused in 0.. {
-        let mut round = Round::in_mode(NUMBER, Plain::new(4, false), Mode::Releasing).unwrap();
-        round.set_leader(Participant::new(0)).unwrap();
-        let subject = Subject::Notarize {
-            proposal: proposal(1),
-        };
-        for signer in 0..3 {
-            let admission = round.add_network(&signer, vote(subject, signer, true));
-            assert!(admission.unwrap().added);
-        }
-        let three = wanted(&mut round);
-        round.record_verdicts(&three, &[true, false, true]).unwrap();
-        let answer = once(&mut Some(refused), || round.step().map(drop));
-        round
-            .record_verified_certificate(&Certificate::new(subject, 3))
-            .unwrap();
-        assert_eq!(round.votes_kept(), 0);
-        if answer.is_ok() {
-            assert!(refused > 0, "none was refused");
-            return;
-        }
-    }
-}
-
-/// Of two verdicts on the same attestations as a whole the first counts, also where memory was refused
-/// for it.
+/// Of two verdicts on the same attestations as a whole the first counts that memory was there for.
 #[test]
 fn the_first_verdict_on_a_whole_counts() {
     for refused in 0.. {
@@ -269,24 +235,10 @@ fn the_first_verdict_on_a_whole_counts() {
         });
         round.record_verdict_together(&three, true).unwrap();
         let is_asked = matches!(round.step(), Ok(Step::Verify(_)));
-        if refused > 0 {
-            assert!(is_asked, "it passes though it didn't");
-        }
+        assert_eq!(is_asked, answer.is_ok());
         if answer.is_ok() {
-            assert!(refused > 1, "{refused} requests alone");
+            assert!(refused > 0, "none was refused");
             return;
         }
     }
-}
-
-/// The verdict on an own vote, which came from a peer before, counts where it was refused too.
-#[test]
-fn a_refused_verdict_on_an_own_vote_counts() {
-    let mut round = with_three_nullifies(false);
-    let own = vote(Subject::Nullify { round: NUMBER }, 0, true);
-    let answer = once(&mut Some(0), || round.accept_verified_vote(own));
-    assert_eq!(answer, Err(Error::OutOfMemory));
-    let three = wanted(&mut round);
-    round.record_verdicts(&three, &[false; 3]).unwrap();
-    assert_eq!(processed(&mut round), (3, vec![1, 2]));
 }

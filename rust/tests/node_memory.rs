@@ -8,7 +8,7 @@ use batcher::positions::Round as Number;
 use batcher::{
     Certificate, Epoch, Error, Participant, Proposal, Sha256Digest, Subject, View, Vote,
 };
-use refusing::{Plain, again, asks, each_refused_in_turn, once, vote};
+use refusing::{Plain, Signature, again, asks, each_refused_in_turn, once, vote};
 
 fn number(view: u64) -> Number {
     Number::new(Epoch::zero(), View::new(view))
@@ -63,7 +63,7 @@ impl Player<'_> {
         let _ = self.call(|node| node.receive_certificate(&peer, &certificate));
     }
 
-    fn cast(&mut self, vote: Vote<bool>) {
+    fn cast(&mut self, vote: Vote<Signature>) {
         let _ = self.call(|node| node.cast_verified_vote(vote));
     }
 
@@ -74,12 +74,12 @@ impl Player<'_> {
                     let verdicts: Vec<_> = wanted
                         .attestations()
                         .iter()
-                        .map(|it| it.signature)
+                        .map(|it| it.signature == [1])
                         .collect();
                     self.call(|node| node.record_verdicts(&wanted, &verdicts));
                 }
                 Step::VerifyTogether(wanted) => {
-                    let passes = wanted.attestations().iter().all(|it| it.signature);
+                    let passes = wanted.attestations().iter().all(|it| it.signature == [1]);
                     self.call(|node| node.record_verdict_together(&wanted, passes));
                 }
                 Step::Made(construction) => self.answers.push(format!("{construction:?}")),
@@ -140,8 +140,8 @@ fn play(track: bool, aggregates: bool, granted: &mut Option<u32>) -> Vec<String>
         let cause = player.node.blocked(Participant::new(participant));
         player.answers.push(format!("{cause:?}"));
     }
-    let kept = (player.node.rounds_kept(), player.node.votes_kept());
-    player.answers.push(format!("{kept:?}"));
+    let kept = player.node.rounds_kept();
+    player.answers.push(format!("{kept}"));
     player.answers
 }
 
@@ -156,7 +156,7 @@ fn a_refusal_changes_nothing() {
     }
 }
 
-/// All are asked for again, and the verdicts that the library was handed count.
+/// All are asked for again, and the verdicts that are handed in then count.
 #[test]
 fn of_a_refused_list_no_verdict_is_recorded() {
     for refused in 0.. {
@@ -171,10 +171,10 @@ fn of_a_refused_list_no_verdict_is_recorded() {
             panic!("no verdict is wanted");
         };
         let answer = once(&mut Some(refused), || {
-            node.record_verdicts(&wanted, &[true, false, true])
+            node.record_verdicts(&wanted, &[false; 3])
         });
         if answer.is_ok() {
-            assert!(refused > 1, "{refused} requests alone");
+            assert!(refused > 0, "none was refused");
             return;
         }
         assert_eq!(answer, Err(Error::OutOfMemory));
@@ -182,7 +182,7 @@ fn of_a_refused_list_no_verdict_is_recorded() {
             panic!("verdicts are recorded");
         };
         assert_eq!(again.attestations(), wanted.attestations());
-        node.record_verdicts(&again, &[true; 3]).unwrap();
+        assert_eq!(node.record_verdicts(&again, &[true, false, true]), Ok(true));
         assert!(matches!(node.step(), Ok(Step::Made(_))));
         for signer in 0..3 {
             let cause = (signer == 1).then_some(Cause::Signature);
@@ -193,10 +193,10 @@ fn of_a_refused_list_no_verdict_is_recorded() {
 
 /// What of these own votes is to be sent, where memory is refused once. A vote for which it was is cast
 /// again before another.
-fn sent(granted: &mut Option<u32>, written: &[Vote<bool>]) -> Vec<Vote<bool>> {
+fn sent(granted: &mut Option<u32>, written: &[Vote<Signature>]) -> Vec<Vote<Signature>> {
     let mut node = Node::new(Epoch::zero(), Plain::new(4, false), View::zero(), 2, false).unwrap();
     node.enter(View::new(1), Participant::new(0)).unwrap();
-    let is_sent = |own: &&Vote<bool>| {
+    let is_sent = |own: &&Vote<Signature>| {
         let answer = again(granted, || node.cast_verified_vote(**own));
         matches!(answer, Ok(Cast::ToSend(_)))
     };
@@ -269,8 +269,7 @@ fn a_flood_takes_no_memory() {
     assert_eq!(format!("{node:?}"), before);
 }
 
-// What is kept is bounded by the window: each round is of one of its views, and a vote is kept of
-// each kind and signer.
+// What is kept is bounded by the window: each round is of one of its views.
 #[test]
 fn a_flood_within_the_window_is_bounded() {
     let mut node = Node::new(Epoch::zero(), Plain::new(4, false), View::zero(), 3, true).unwrap();
@@ -286,8 +285,6 @@ fn a_flood_within_the_window_is_bounded() {
         }
     }
     assert_eq!(node.rounds_kept(), 1);
-    // Each of them has equivocated in the first view.
-    assert_eq!(node.votes_kept(), 8);
     let mut node = Node::new(Epoch::zero(), Plain::new(4, false), View::zero(), 3, true).unwrap();
     for view in 0..50 {
         for signer in 0..4 {
@@ -298,12 +295,12 @@ fn a_flood_within_the_window_is_bounded() {
             }
         }
     }
-    assert_eq!((node.rounds_kept(), node.votes_kept()), (4, 32));
+    assert_eq!(node.rounds_kept(), 4);
     node.finalize(View::new(3)).unwrap();
-    assert_eq!((node.rounds_kept(), node.votes_kept()), (1, 8));
+    assert_eq!(node.rounds_kept(), 1);
     // Of a forged certificate nothing is kept either.
     let forged = Certificate::new(nullify(5), 2);
     let answer = node.receive_certificate(&1, &forged);
     assert_eq!(answer, Ok(Receipt::Answered(Verdict::Forged)));
-    assert_eq!((node.rounds_kept(), node.votes_kept()), (1, 8));
+    assert_eq!(node.rounds_kept(), 1);
 }

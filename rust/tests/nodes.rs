@@ -99,7 +99,7 @@ fn views_are_apart_and_the_window_moves() {
     assert_eq!(node.try_forward_proposal(View::new(1), me), Ok(None));
     assert_eq!(node.try_forward_proposal(View::new(3), me), Ok(None));
     // What is certified is released, and repeats are repeats.
-    assert_eq!(node.votes_kept(), 0);
+    assert!(!node.has_nullify(View::new(1), Participant::new(1)));
     assert_eq!(hear(&mut node, notarize(1, 1, 7)), Some((false, None)));
     node.finalize(View::new(2)).unwrap();
     assert_eq!(node.rounds_kept(), 1);
@@ -187,7 +187,7 @@ fn certificates_are_verified_once() {
 #[test]
 fn a_certificate_releases_votes() {
     let scheme = Toy::new(4);
-    for (track, left) in [(false, 1), (true, 3)] {
+    for track in [false, true] {
         let mut node = node(&scheme, track);
         for vote in [nullify(1, 1), nullify(1, 2), notarize(1, 1, 7)] {
             assert_eq!(hear(&mut node, vote), Some((true, None)));
@@ -195,10 +195,10 @@ fn a_certificate_releases_votes() {
         let nullification = certificate(&scheme, Subject::Nullify { round: number(1) });
         let answer = node.receive_certificate(&KEYS[3], &nullification);
         assert_eq!(answer, Ok(Receipt::Answered(Verdict::Recorded(false))));
-        assert_eq!(node.votes_kept(), left);
+        assert_eq!(node.has_nullify(View::new(1), Participant::new(1)), track);
         assert_eq!(hear(&mut node, nullify(1, 1)), Some((false, None)));
         assert_eq!(hear(&mut node, nullify(1, 3)), Some((true, None)));
-        assert_eq!(node.votes_kept(), left + usize::from(track));
+        assert_eq!(node.has_nullify(View::new(1), Participant::new(3)), track);
     }
 }
 
@@ -244,7 +244,6 @@ fn passed_views_are_skipped() {
         assert!(node.has_certificate(View::new(2), Kind::Nullification));
         assert!(!node.has_certificate(View::new(3), Kind::Nullification));
         assert!(!node.has_nullify(View::new(3), Participant::new(1)));
-        assert_eq!(node.votes_kept(), if track { 3 } else { 0 });
         // Who contradicts itself there is blocked all the same.
         let Vote::Nullify(first) = nullify(3, 1) else {
             unreachable!()
@@ -363,7 +362,7 @@ fn a_node_that_fell_behind_catches_up() {
     let forged = Certificate::new(Subject::Finalize { proposal }, vec![signer]);
     assert!(!node.verifies(&forged) && node.verifies(&finalization));
     assert_eq!(node.finalize(proposal.round.view), Ok(()));
-    assert_eq!((node.rounds_kept(), node.votes_kept()), (0, 0));
+    assert_eq!(node.rounds_kept(), 0);
     assert_eq!(
         node.receive_certificate(&KEYS[1], &finalization),
         Ok(Receipt::Answered(Verdict::Recorded(false)))
@@ -431,6 +430,6 @@ fn verdicts_may_come_late() {
         Err(Error::Elsewhere)
     );
     node.finalize(View::new(2)).unwrap();
-    assert_eq!(node.record_verdicts(&wanted, &[true; 3]), Ok(()));
+    assert_eq!(node.record_verdicts(&wanted, &[true; 3]), Ok(false));
     assert_eq!(node.try_construct(), Ok(None));
 }

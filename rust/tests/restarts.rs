@@ -19,10 +19,10 @@ const AHEAD: u64 = 3;
 const LIVES: u64 = 3_000;
 const STEPS: u64 = 60;
 
-/// Numbers that look random, by xorshift.
-struct Numbers(u64);
+/// Random that look random, by xorshift.
+struct Random(u64);
 
-impl Numbers {
+impl Random {
     fn below(&mut self, end: u64) -> u64 {
         self.0 ^= self.0 << 13;
         self.0 ^= self.0 >> 7;
@@ -64,11 +64,11 @@ fn leader_of(view: View) -> Participant {
     Participant::new((view.get() % 4) as u32)
 }
 
-fn subject_of(numbers: &mut Numbers, view: u64) -> Subject {
+fn subject_of(random: &mut Random, view: u64) -> Subject {
     let round = number(view);
-    let payload = Sha256Digest([numbers.below(2) as u8; 32]);
+    let payload = Sha256Digest([random.below(2) as u8; 32]);
     let proposal = Proposal::new(round, View::zero(), payload);
-    match numbers.below(3) {
+    match random.below(3) {
         0 => Subject::Notarize { proposal },
         1 => Subject::Nullify { round },
         _ => Subject::Finalize { proposal },
@@ -126,13 +126,13 @@ impl Validator {
     }
 
     /// Writes the finalized view, or drops votes, or both.
-    fn tidy(&mut self, form: Form, numbers: &mut Numbers) {
+    fn tidy(&mut self, form: Form, random: &mut Random) {
         let finalized = self.node.window().finalized;
-        let is_synced = numbers.below(2) == 0;
+        let is_synced = random.below(2) == 0;
         match form {
             Form::AsThePageSays if is_synced => {
                 self.disk.finalized = finalized;
-                if numbers.below(2) == 0 {
+                if random.below(2) == 0 {
                     self.disk.votes.retain(|it| it.round().view >= finalized);
                 }
             }
@@ -143,25 +143,25 @@ impl Validator {
             Form::AsThePageSays => {}
         }
         // An older current view does no harm.
-        if numbers.below(3) == 0 {
+        if random.below(3) == 0 {
             self.disk.current = self.node.window().current;
         }
     }
 
     /// What others do, and what time brings.
-    fn live(&mut self, numbers: &mut Numbers) {
+    fn live(&mut self, random: &mut Random) {
         let window = self.node.window();
-        let view = window.finalized.get() + numbers.below(AHEAD + 3);
-        match numbers.below(8) {
+        let view = window.finalized.get() + random.below(AHEAD + 3);
+        match random.below(8) {
             0..=3 => {
-                let subject = subject_of(numbers, view);
-                let sender = 1 + numbers.below(3) as u32;
+                let subject = subject_of(random, view);
+                let sender = 1 + random.below(3) as u32;
                 let _ = self
                     .node
                     .receive_vote(&KEYS[sender as usize], vote(subject, sender));
             }
             4 => {
-                let subject = subject_of(numbers, view);
+                let subject = subject_of(random, view);
                 let list: Vec<Attestation<Signature>> =
                     (1..4).map(|it| *vote(subject, it).attestation()).collect();
                 let _ = self
@@ -169,10 +169,10 @@ impl Validator {
                     .receive_certificate(&KEYS[1], &Certificate::new(subject, list));
             }
             5 => {
-                let next = View::new(window.current.get() + 1 + numbers.below(2));
+                let next = View::new(window.current.get() + 1 + random.below(2));
                 let _ = self.node.enter(next, leader_of(next));
             }
-            6 if numbers.below(4) == 0 => {
+            6 if random.below(4) == 0 => {
                 self.node.finalize(View::new(view)).unwrap();
             }
             _ => while self.node.try_construct().unwrap().is_some() {},
@@ -196,7 +196,7 @@ fn lives(form: Form) -> (u64, usize, usize) {
     let scheme = Toy::new(4);
     let (mut restarts, mut count, mut broken) = (0, 0, 0);
     for seed in 1..=LIVES {
-        let mut numbers = Numbers(seed.wrapping_mul(0x9E37_79B9_7F4A_7C15));
+        let mut random = Random(seed.wrapping_mul(0x9E37_79B9_7F4A_7C15));
         let mode = seed % 2 == 0;
         let disk = Disk {
             votes: Vec::new(),
@@ -205,23 +205,23 @@ fn lives(form: Form) -> (u64, usize, usize) {
         };
         let (mut it, mut sent) = Validator::start(&scheme, disk, mode);
         for _ in 0..STEPS {
-            match numbers.below(10) {
+            match random.below(10) {
                 0..=2 => {
                     let base = it.node.window().finalized.get();
                     let subject = {
-                        let view = base + numbers.below(AHEAD + 3);
-                        subject_of(&mut numbers, view)
+                        let view = base + random.below(AHEAD + 3);
+                        subject_of(&mut random, view)
                     };
                     sent.extend(it.cast(subject));
                 }
-                3 => it.tidy(form, &mut numbers),
+                3 => it.tidy(form, &mut random),
                 4 => {
                     let (next, again) = Validator::start(&scheme, it.disk.clone(), mode);
                     it = next;
                     sent.extend(again);
                     restarts += 1;
                 }
-                _ => it.live(&mut numbers),
+                _ => it.live(&mut random),
             }
         }
         let subjects: BTreeSet<_> = (0..sent.len()).collect();

@@ -188,7 +188,7 @@ fn repeats_are_never_blocked() {
 // Votes for another proposal than the selected one wait outside of the library's buffers, and come
 // back.
 #[test]
-fn restored_votes_keep_their_numbers_and_verdicts() {
+fn restored_votes_are_verified_again() {
     let scheme = Toy::new(4);
     let mut round = round(&scheme, Mode::Releasing);
     round.set_leader(Participant::new(0)).unwrap();
@@ -198,7 +198,6 @@ fn restored_votes_keep_their_numbers_and_verdicts() {
     hear(&mut round, notarize(2, 2));
     hear(&mut round, notarize(3, 2));
     assert_eq!(scheme.counted(), [1, 1, 0]);
-    // The library forgets verdicts once a batch was made.
     for signer in 1..4 {
         hear(&mut round, nullify(signer));
     }
@@ -214,8 +213,8 @@ fn restored_votes_keep_their_numbers_and_verdicts() {
     let batch = round.try_construct().unwrap().unwrap();
     assert_eq!(batch.processed, 3);
     assert_eq!(batch.certificate.unwrap().proposal(), Some(proposal(2)));
-    // It came back as pending, and isn't verified again.
-    assert_eq!(scheme.counted(), [3, 6, 0]);
+    // The own vote came back as pending too.
+    assert_eq!(scheme.counted(), [3, 7, 0]);
 }
 
 #[test]
@@ -292,7 +291,7 @@ fn own_votes_exclude_each_other() {
     assert_eq!(round.accept_vote(stranger), Err(Error::NotVerified));
 }
 
-// An own vote that came from the network before, where it was found not to attest, is refused.
+// A second one is on nothing that is wanted.
 #[test]
 fn the_first_verdict_counts() {
     let scheme = Toy::with(4, false, false);
@@ -301,19 +300,15 @@ fn the_first_verdict_counts() {
     let Step::Verify(wanted) = round.step().unwrap() else {
         panic!("one vote is enough")
     };
-    round.record_verdicts(&wanted, &[false]).unwrap();
-    round.record_verdicts(&wanted, &[true]).unwrap();
+    assert_eq!(round.record_verdicts(&wanted, &[false]), Ok(true));
+    assert_eq!(round.record_verdicts(&wanted, &[true]), Ok(false));
     let Step::Made(batch) = round.step().unwrap() else {
         panic!("a verdict is there")
     };
     assert_eq!(batch.invalid, [Participant::new(1)]);
-    assert_eq!(
-        round.accept_verified_vote(bad(nullify(1))),
-        Err(Error::NotVerified)
-    );
 }
 
-// Also among verdicts that come at once, of which the others are new.
+// Also among verdicts that come at once: what is left of them is wanted again.
 #[test]
 fn the_first_verdicts_count_among_many() {
     let scheme = Toy::new(4);
@@ -329,8 +324,14 @@ fn the_first_verdicts_count_among_many() {
         panic!("no verdict is there")
     };
     assert_eq!(four.attestations().len(), 4);
-    round.record_verdicts(&three, &[true, false, true]).unwrap();
-    round.record_verdicts(&four, &[true; 4]).unwrap();
+    let found = round.record_verdicts(&three, &[true, false, true]);
+    assert_eq!(found, Ok(true));
+    assert_eq!(round.record_verdicts(&four, &[true; 4]), Ok(false));
+    let Step::Verify(left) = round.step().unwrap() else {
+        panic!("one has no verdict")
+    };
+    assert_eq!(left.attestations(), &four.attestations()[3..]);
+    assert_eq!(round.record_verdicts(&left, &[true]), Ok(true));
     let Step::Made(batch) = round.step().unwrap() else {
         panic!("a verdict on each is there")
     };
@@ -538,29 +539,6 @@ fn a_scheme_that_is_not_batchable_is_asked_at_once() {
         );
     }
     assert_eq!(scheme.counted(), [3, 3, 0]);
-}
-
-#[test]
-fn votes_are_forgotten_with_their_kind() {
-    for (mode, left) in [
-        (Mode::Retaining, 8),
-        (Mode::Releasing, 4),
-        (Mode::Skipped, 0),
-    ] {
-        let scheme = Toy::new(4);
-        let mut round = round(&scheme, mode);
-        for signer in 0..4 {
-            hear(&mut round, nullify(signer));
-            hear(&mut round, notarize(signer, 1));
-        }
-        // A flood of other votes keeps nothing.
-        for payload in 2..200 {
-            hear(&mut round, notarize(1, payload));
-            hear(&mut round, bad(notarize(1, payload)));
-        }
-        round.try_construct().unwrap();
-        assert_eq!(round.votes_kept(), left, "{mode:?}");
-    }
 }
 
 // Verdicts that come when their kind was certified meanwhile do no harm.

@@ -70,7 +70,7 @@ fn a_drop_that_panics_ends_no_other_round() {
     assert_eq!(waits.wait(), Ok(true));
     assert_eq!(value.call(|_| ()), Ok(()));
     drop(value);
-    assert_eq!(round.call(|round| round.votes_kept()), Ok(0));
+    assert_eq!(round.call(|round| round.leader()), Ok(None));
 }
 
 #[test]
@@ -80,7 +80,7 @@ fn rounds_of_a_host_are_apart() {
     let panics = first.call(|_| panic!("a job that panics"));
     assert_eq!(panics, Err::<(), _>(Error::Gone));
     assert_eq!(first.call(|_| ()), Err(Error::Gone));
-    assert_eq!(second.call(|round| round.votes_kept()), Ok(0));
+    assert_eq!(second.call(|round| round.leader()), Ok(None));
     let none = host.start(|| Round::new(ROUND, Toy::new(0), true));
     assert_eq!(none.unwrap_err(), Error::NoParticipants);
     let gone = host.start(|| -> Result<Round<Toy>, Error> { panic!("a maker that panics") });
@@ -113,7 +113,7 @@ fn many_threads_share_a_node() {
     assert_eq!(batch.certificate.unwrap().kind(), Kind::Nullification);
     let panics = mailbox.call(|_| panic!("a job that panics"));
     assert_eq!(panics, Err::<(), _>(Error::Gone));
-    assert_eq!(mailbox.call(|node| node.votes_kept()), Err(Error::Gone));
+    assert_eq!(mailbox.call(|node| node.rounds_kept()), Err(Error::Gone));
 }
 
 // A value is dropped on its thread, with its last mailbox.

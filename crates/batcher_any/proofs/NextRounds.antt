@@ -11,10 +11,13 @@ use Rattle.batcher_round.specs.Next.{subject_next}
 use Rattle.batcher_node.proofs.Lowest.{one_next}
 use Rattle.batcher_node.specs.Nodes.{IsNext, slot_at}
 use Rattle.batcher_node.specs.declared.slot.Slot.{Slot}
+use Rattle.batcher_node.specs.Verdicts.{LooksAtThere, MayBeQuorumThere}
+use Rattle.batcher_round.specs.Verdicts.{LooksAtNext, MayBeQuorumNext}
 use Rattle.batcher_verdicts.specs.Nodes.{AreCompleteThere}
 use Rattle.batcher_verdicts.specs.Recorded.{Recorded}
 use Rattle.batcher_verdicts.specs.Rounds.{AreComplete, AsksNext}
-use Rattle.batcher_any.specs.NextRounds.{IsNextRound}
+use Rattle.batcher_any.specs.NextRounds.{IsNextRound, NoneIsReady}
+use Rattle.batcher_any.specs.Wholes.{MayBeWhole}
 
 -- What holds of the round that is lent holds of that of the slot.
 pub of_lent : {R : Type 0} (P : R → Type 0) (round : R) (o : Option (Slot R))
@@ -88,3 +91,67 @@ module _ {S D K G C : Type 0} (round_config : RoundView S G D → Config D K G C
       let its_none : subject_next (round_config n.slot.round) n.slot.round.holds ≡ None =
       subst (λ r. subject_next (round_config r) r.holds ≡ None) (sym n.its) none in
       true≢false (sym is ∙ ready ∙ ap is_some its_none)
+
+  -- Where the next construction is about nothing, none is ready.
+  pub none_ready : (view : ℕ) (round : RoundView S G D) → IsNextRound rounds view round
+      → subject_next (round_config round) round.holds ≡ None → NoneIsReady round_config rounds
+  none_ready view round r is other its n =
+      subst (λ o. subject_next (round_config o) o.holds ≡ None)
+      (sym (only rounds view other round its r n)) is
+
+  -- A kind is ready in the next view.
+  pub waits_there : (view : ℕ) (b : Bool) → IsNext rounds view
+      → IfSome (slot_at rounds view) (λ slot. b
+      ≡ is_some (subject_next (round_config slot.round) slot.round.holds)) → b ≡ true
+      → (other : ℕ) × (round : RoundView S G D) × (IsNextRound rounds other round)
+      × (is_some (subject_next (round_config round) round.holds) ≡ true)
+  waits_there view b next there is =
+      let at = next.changed in
+      let ready : b ≡ is_some (subject_next (round_config at.slot.round) at.slot.round.holds) =
+      subst (λ o. IfSome o (λ slot. b
+      ≡ is_some (subject_next (round_config slot.round) slot.round.holds))) at.there there in (
+        view,
+        at.slot.round,
+        record { next = next; slot = at.slot; there = at.there; its = refl },
+        sym ready ∙ is,
+      )
+
+-- What all is that the next construction of a node could make a certificate of.
+module _ {S D K G C : Type 0} (round_config : RoundView S G D → Config D K G C)
+    (rounds : List (ℕ × Slot (RoundView S G D))) (view : ℕ) (round : RoundView S G D)
+    (here : IsNextRound rounds view round) (subject : Subject D) (list : List (Attestation G)) where
+  pub whole_here : (other : ℕ) (its : RoundView S G D) → IsNextRound rounds other its
+      → MayBeWhole (round_config its) its.holds subject list
+      → MayBeWhole (round_config round) round.holds subject list
+  whole_here other its n may =
+      subst (λ o. MayBeWhole (round_config o) o.holds subject list)
+      (only rounds view other round its here n) may
+
+  pub looks_there : LooksAtNext (round_config round) round.holds subject list
+      → LooksAtThere round_config (slot_at rounds view) subject list
+  looks_there looks = record {
+    slot = here.slot;
+    there = here.there;
+    looks = subst (λ o. LooksAtNext (round_config o) o.holds subject list) (sym here.its) looks;
+  }
+
+  pub enough_there : MayBeQuorumNext (round_config round) round.holds
+      → MayBeQuorumThere round_config (slot_at rounds view)
+  enough_there enough = record {
+    slot = here.slot;
+    there = here.there;
+    enough = subst (λ o. MayBeQuorumNext (round_config o) o.holds) (sym here.its) enough;
+  }
+
+  pub made_here : {X : Type 0} (at : X → ℕ) (o : Option X)
+      → MayBeWhole (round_config round) round.holds subject list
+      → IfSome o (λ one. IsNext rounds (at one))
+      → IfSome o (λ one. (its : RoundView S G D) × (IsNextRound rounds (at one) its)
+      × (MayBeWhole (round_config its) its.holds subject list))
+  made_here at (Some one) may next = (
+    round,
+    subst (λ v. IsNextRound rounds v round)
+        (sym (one_next rounds (at one) view next here.next)) here,
+    may,
+  )
+  made_here at None may next = tt

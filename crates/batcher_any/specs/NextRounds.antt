@@ -1,10 +1,10 @@
 -- The round in which the next construction of a node is made, and what that wants.
-use Rattle.std.specs.Prelude.{◌≡◌, ℕ, List, Some}
+use Rattle.std.specs.Prelude.{◌≡◌, ℕ, List, Some, None}
 use Rattle.batcher.specs.Config.{Config}
 use Rattle.batcher.specs.RoundState.{PerKind, RoundView}
 use Rattle.batcher.specs.messages.Attestation.{Attestation}
 use Rattle.batcher.specs.messages.Subject.{Subject}
-use Rattle.batcher_round.specs.Next.{verified_next}
+use Rattle.batcher_round.specs.Next.{subject_next, verified_next}
 use Rattle.batcher_node.specs.Nodes.{IsNext, slot_at}
 use Rattle.batcher_node.specs.declared.slot.Slot.{Slot}
 use Rattle.batcher_verdicts.specs.Recorded.{Recorded}
@@ -27,3 +27,10 @@ pub record WantsNext {S D K G C : Type 0} (round_config : RoundView S G D → Co
   pub next : IsNextRound rounds view round
   pub asks : AsksNext (round_config round) round.holds verdicts subject asked
   pub known : verified ≡ verified_next (round_config round) round.holds
+
+-- All views rest, or in the next one no kind is ready.
+abbrev pub NoneIsReady : {S D K G C : Type 0} → (RoundView S G D → Config D K G C)
+    → List (ℕ × Slot (RoundView S G D)) → Type 0
+NoneIsReady {S} {D} {K} {G} {C} round_config rounds =
+    (view : ℕ) (round : RoundView S G D) → IsNextRound rounds view round
+    → subject_next (round_config round) round.holds ≡ None

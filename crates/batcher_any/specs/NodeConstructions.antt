@@ -1,5 +1,5 @@
 -- Verdicts that come to a node, and its constructions by them.
-use Rattle.std.specs.Prelude.{◌≡◌, ◌++◌, ⊤, ℕ, Bool, true, false, List, None, Result, Ok, IfOk, OnErr}
+use Rattle.std.specs.Prelude.{◌≡◌, ◌++◌, ⊤, ℕ, Bool, true, false, List, Option, None, Result, Ok, IfOk, OnErr, is_some}
 use Rattle.batcher.specs.RoundState.{RoundView}
 use Rattle.batcher.specs.messages.Attestation.{Attestation}
 use Rattle.batcher.specs.messages.Sha256Digest.{Sha256Digest}
@@ -12,12 +12,14 @@ use Rattle.batcher_node.specs.Events.{constructed}
 use Rattle.batcher_node.specs.NodePromises.{IsComplete}
 use Rattle.batcher_node.specs.Nodes.{HasChanged, IsAtRest, IsNext, slot_at}
 use Rattle.batcher_node.specs.Represents.{ForEachNodeHistory, Meets}
+use Rattle.batcher_votes.specs.Verifiers.{IfGiven}
 use Rattle.batcher_verdicts.specs.Rounds.{AreComplete, AsksNext, Records as RecordsVerdicts}
 use Rattle.batcher_any.specs.declared.node_construct.Concluded.{Concluded}
 use Rattle.batcher_any.specs.declared.node_construct.Concluded.TheVariants.{Rests, Waits, Made}
 use Rattle.batcher_any.specs.Judging.{BytesConfig}
 use Rattle.batcher_any.specs.NextRounds.{IsNextRound}
 use Rattle.batcher_any.specs.Nodes.{BytesNodeConfig, JudgedNodeView}
+use Rattle.batcher_any.specs.Wholes.{MayBeWhole}
 
 -- of a construction that was made
 abbrev pub IfMade : {T : Type 0} → Concluded T → (Construction (Content T) Sha256Digest → Type 0)
@@ -59,6 +61,10 @@ module _ {T S : Type 0} (x : BytesNodeConfig T)
       pub complete : answer ≡ Ok Rests
           → ForEachNodeHistory x new.node (λ past. IsComplete x past new.node)
       pub waits : answer ≡ Ok Waits → new ≡ old
+      pub waits_for : answer ≡ Ok Waits → (view : ℕ)
+          × (round : RoundView S Signature Sha256Digest)
+          × (IsNextRound old.node.rounds view round)
+          × (is_some (subject_next (round_config round) round.holds) ≡ true)
       pub meets : IfOk answer (λ concluded. IfMade concluded (λ one.
           Meets x old.node (constructed one.view.0 one.batch) new.node))
       pub next : IfOk answer (λ concluded. IfMade concluded (λ one.
@@ -73,3 +79,23 @@ module _ {T S : Type 0} (x : BytesNodeConfig T)
           → IfOk answer (λ concluded. is_made concluded ≡ true)
       pub needed : OnErr answer ((view : ℕ) × HasChanged (slot_at old.node.rounds view))
       pub refused : OnErr answer (new ≡ old)
+
+    -- The next construction, of a quorum that passes as a whole: None where the subject and the
+    -- list aren't those of the next construction, or the list is no quorum.
+    pub record ConcludesNextTogether (subject : Subject Sha256Digest)
+        (list : List (Attestation Signature))
+        (answer : Result (Option (Construction (Content T) Sha256Digest)) E)
+        (new : JudgedNodeView S Signature) : Type 0 where
+      pub not_stale : (view : ℕ) (round : RoundView S Signature Sha256Digest)
+          → IsNextRound old.node.rounds view round
+          → MayBeWhole (round_config round) round.holds subject list
+          → IfOk answer (λ given. is_some given ≡ true)
+      pub made : IfGiven answer (λ one. (round : RoundView S Signature Sha256Digest)
+          × (IsNextRound old.node.rounds one.view.0 round)
+          × (MayBeWhole (round_config round) round.holds subject list))
+      pub gives : IfGiven answer (λ one. is_some one.batch ≡ true)
+      pub meets : IfGiven answer (λ one.
+          Meets x old.node (constructed one.view.0 one.batch) new.node)
+      pub waits : answer ≡ Ok None → new ≡ old
+      pub refused : OnErr answer (new ≡ old)
+      pub verdicts : new.verdicts ≡ old.verdicts

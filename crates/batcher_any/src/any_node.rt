@@ -1,12 +1,12 @@
 //! A node over either sort of scheme.
 
-ghost use Rattle.std.specs.Prelude.{◌≡◌, ◌≤◌, None, IfOk, IfSome, IfNone, length};
+ghost use Rattle.std.specs.Prelude.{◌≡◌, ◌≤◌, [], None, IfOk, IfSome, IfNone, length};
 ghost use Rattle.batcher_node.specs.NodePromises.{KeepsPromises};
 ghost use Rattle.batcher_node.specs.Nodes.{IsAtRest, IsNext, slot_at};
 ghost use Rattle.batcher_node.specs.Represents.{ForEachNodeHistory, ForSomeNodeHistory};
 ghost use Rattle.batcher_node.specs.Windows.{width};
 ghost use Rattle.batcher_any.specs.AnyNodes.{ByEither, OfEither, SameAnyNode, node_config_in, node_keys_in};
-ghost use Rattle.batcher_any.specs.NextRounds.{WantsNext};
+ghost use Rattle.batcher_any.specs.NextRounds.{NoneIsReady, WantsNext};
 ghost use Rattle.batcher_any.specs.Nodes.{InView, IsNewNode};
 
 use crate::calls::Ask;
@@ -109,6 +109,8 @@ impl<T: Truth> AnyNode<T> {
             InView x rounds judged view.0 (λ y past. Q.says question y past answer)) self.now) }
         ensures none { IfNone result (OfEither T.Truth (λ S x rounds judged.
             slot_at judged.node.rounds view.0 ≡ None) self.now) }
+        ensures silent { IfNone result (OfEither T.Truth (λ S x rounds judged.
+            InView x rounds judged view.0 (λ y past. past ≡ [])) self.now) }
     {
         match &self.either {
             Either::Batchable(judged) => ask_in(judged, view, question),
@@ -119,7 +121,9 @@ impl<T: Truth> AnyNode<T> {
     /// On what the construction in the next view wants verdicts: on the pending ones. None where
     /// all views rest, or where no kind is ready in the next one.
     pub fn wanted(&self) -> Option<(View, NextAttempt<'_, Signature, Sha256Digest>)>
-        ensures { IfSome result (λ wanted. OfEither T.Truth (λ S x rounds judged.
+        ensures none { IfNone result (OfEither T.Truth (λ S x rounds judged.
+            NoneIsReady rounds judged.node.rounds) self.now) }
+        ensures wants { IfSome result (λ wanted. OfEither T.Truth (λ S x rounds judged.
             WantsNext rounds judged.node.rounds judged.verdicts wanted.0.0 wanted.1.subject
             wanted.1.pending.now
             wanted.1.verified.now) self.now) }
@@ -188,6 +192,25 @@ impl<T: Truth> AnyNode<T> {
         match &self.either {
             Either::Batchable(judged) => judged.node.promises(),
             Either::OneByOne(judged) => judged.node.promises(),
+        }
+    }
+    /// How many participants there are.
+    pub fn participants(&self) -> usize
+        ensures { result ≡ length (node_config_in T.Truth self.now).meaning.participants }
+    {
+        match &self.either {
+            Either::Batchable(judged) => judged.scheme.participants.len(),
+            Either::OneByOne(judged) => judged.scheme.participants.len(),
+        }
+    }
+
+    /// Which keys they have.
+    pub fn keys(&self) -> Keys
+        ensures { result ≡ node_keys_in self.now }
+    {
+        match &self.either {
+            Either::Batchable(judged) => judged.scheme.keys,
+            Either::OneByOne(judged) => judged.scheme.keys,
         }
     }
 }

@@ -1,7 +1,7 @@
 //! Verdicts that come, and constructions by them.
 
 use crate::calls::{Call, OfBytes};
-use crate::judged::Judged;
+use crate::judged::{Judged, known_in};
 use batcher::messages::{Attestation, Certificate, Sha256Digest, Subject};
 use batcher::verifier::Batch;
 use batcher_bytes::{Content, Signature, Truth};
@@ -82,7 +82,7 @@ impl<'l, T: Truth> Call<T> for ConcludeTogether<'l> {
         self,
         judged: &mut Judged<S>,
     ) -> Result<Option<Batch<Certificate<Content<T>, Sha256Digest>>>, AllocError> {
-        let Some(known) = judged.known_of(&self.subject, self.list) else {
+        let Some(known) = known_in(&*judged.scheme, &judged.round, &self.subject, self.list) else {
             return Ok(None);
         };
         let (prior, fresh) = self.list.split_at(known);

@@ -16,6 +16,7 @@ use batcher::round::{Round, RoundConfigs};
 use batcher::scheme::Scheme;
 use batcher::verifier::NextAttempt;
 use batcher::votes::Mode;
+use batcher_bytes::Signature;
 use batcher_verdicts::Verdicts;
 use std::alloc::{AllocError, Global};
 use std::marker::Model;
@@ -73,35 +74,38 @@ where
             verdicts: Verdicts::new(alloc),
         })
     }
+}
 
-    // How many of the list are known to attest, where the list is all that the next construction
-    // could make a certificate of, a quorum that attests the subject or waits to.
-    pub(crate) fn known_of(
-        &self,
-        subject: &Subject<Sha256Digest>,
-        list: &[Attestation<S::Signature>],
-    ) -> Option<usize>
-        ensures whole { IfSome result (λ known. IsWhole
-            (⟦<S as RoundConfigs<Sha256Digest>>⟧.of self.now.round) self.now.round.holds
-            subject.now list.now known) }
-        ensures within { IfSome result (λ known. known ≤ length list.now) }
-        ensures found { MayBeWhole (⟦<S as RoundConfigs<Sha256Digest>>⟧.of self.now.round)
-            self.now.round.holds subject.now list.now → is_some result ≡ true }
-    {
-        let next = next_of(&self.round, subject)?;
-        if !is_parted(list, next.verified, next.pending) || list.len() < self.quorum() {
-            return None;
-        }
-        Some(next.verified.len())
+// How many of the list are known to attest, where the list is all that the next construction of the
+// round could make a certificate of, a quorum that attests the subject or waits to.
+pub(crate) fn known_in<S: Scheme<Sha256Digest, Signature = Signature>>(
+    scheme: &S,
+    round: &Round<S, Sha256Digest>,
+    subject: &Subject<Sha256Digest>,
+    list: &[Attestation<Signature>],
+) -> Option<usize>
+    requires { round.now.scheme ≡ scheme.now }
+    ensures whole { IfSome result (λ known. IsWhole
+        (⟦<S as RoundConfigs<Sha256Digest>>⟧.of round.now) round.now.holds subject.now list.now
+        known) }
+    ensures within { IfSome result (λ known. known ≤ length list.now) }
+    ensures found { MayBeWhole (⟦<S as RoundConfigs<Sha256Digest>>⟧.of round.now) round.now.holds
+        subject.now list.now → is_some result ≡ true }
+{
+    let next = next_of(round, subject)?;
+    if !is_parted(list, next.verified, next.pending) || list.len() < quorum_of(scheme, round) {
+        return None;
     }
+    Some(next.verified.len())
+}
 
-    // How many attestations make a certificate.
-    fn quorum(&self) -> usize
-        ensures { result ≡ quorum_in (⟦<S as RoundConfigs<Sha256Digest>>⟧.of self.now.round) }
-    {
-        let _ = self.round.number();
-        positions::quorum(self.scheme.participants().len() as u32) as usize
-    }
+// How many attestations make a certificate.
+fn quorum_of<S: Scheme<Sha256Digest>>(scheme: &S, round: &Round<S, Sha256Digest>) -> usize
+    requires { round.now.scheme ≡ scheme.now }
+    ensures { result ≡ quorum_in (⟦<S as RoundConfigs<Sha256Digest>>⟧.of round.now) }
+{
+    let _ = round.number();
+    positions::quorum(scheme.participants().len() as u32) as usize
 }
 
 // What the next construction of a round looks at, where it is about the subject.

@@ -1,9 +1,9 @@
 //! A node, and what is known by verdicts of the attestations that wait in its next view.
 
-ghost use Rattle.std.specs.Prelude.{◌≡◌, ◌≤◌, ◌∷◌, [], is_some, length, IfOk, IfSome};
+ghost use Rattle.std.specs.Prelude.{◌≡◌, ◌≤◌, ◌∷◌, [], is_some, length, IfOk, IfSome, IfNone};
 ghost use Rattle.batcher_node.specs.Nodes.{slot_at};
 ghost use Rattle.batcher_round.specs.Next.{subject_next};
-ghost use Rattle.batcher_any.specs.NextRounds.{WantsNext};
+ghost use Rattle.batcher_any.specs.NextRounds.{NoneIsReady, WantsNext};
 ghost use Rattle.batcher.specs.messages.Kind.{Kind as TheKind};
 ghost use Rattle.batcher.specs.RoundState.{of_kind};
 ghost use Rattle.batcher_node.specs.Events.{started};
@@ -101,7 +101,9 @@ where
 
     // On what the construction in the next view wants verdicts.
     pub(crate) fn wanted(&self) -> Option<(View, NextAttempt<'_, S::Signature, Sha256Digest>)>
-        ensures { IfSome result (λ wanted. WantsNext ⟦<S as RoundConfigs<Sha256Digest>>⟧.of
+        ensures none { IfNone result (NoneIsReady ⟦<S as RoundConfigs<Sha256Digest>>⟧.of
+            self.now.node.rounds) }
+        ensures wants { IfSome result (λ wanted. WantsNext ⟦<S as RoundConfigs<Sha256Digest>>⟧.of
             self.now.node.rounds self.now.verdicts wanted.0.0 wanted.1.subject
             wanted.1.pending.now wanted.1.verified.now) }
     {

@@ -28,7 +28,7 @@ pub use judged::Judged;
 pub use judged_node::JudgedNode;
 pub use network::{AddNetwork, Forward, RecordCertificate, SetLeader};
 pub use node_calls::NodeCall;
-pub use node_construct::{ConcludeNext, Concluded, RecordNext};
+pub use node_construct::{ConcludeNext, ConcludeNextTogether, Concluded, RecordNext};
 pub use node_network::{Enter, Finalize, ForwardIn, ReceiveCertificate, ReceiveVote};
 pub use node_own::CastVote;
 pub use own::{AcceptVote, CastRefusal, OwnRefusal};

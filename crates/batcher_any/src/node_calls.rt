@@ -1,6 +1,6 @@
 //! What a call of a node is, whichever sort its scheme is of.
 
-ghost use Rattle.std.specs.Prelude.{◌≡◌, None, IfSome, IfNone};
+ghost use Rattle.std.specs.Prelude.{◌≡◌, [], None, IfSome, IfNone};
 ghost use Rattle.batcher_node.specs.Nodes.{slot_at};
 ghost use Rattle.batcher_any.specs.Nodes.{InView};
 
@@ -53,6 +53,8 @@ pub(crate) fn ask_in<T: Truth, S: OfBytes<T>, Q: Ask<T>>(
         ⟦<S as RoundConfigs<Sha256Digest>>⟧.of judged.now view.0
         (λ y past. Q.says question y past answer)) }
     ensures none { IfNone result (slot_at judged.now.node.rounds view.0 ≡ None) }
+    ensures silent { IfNone result (InView (⟦<S as NodeConfigs<Sha256Digest>>⟧.of judged.now.node)
+        ⟦<S as RoundConfigs<Sha256Digest>>⟧.of judged.now view.0 (λ y past. past ≡ [])) }
 {
     let round = judged.node.round(view)?;
     Some(question.ask(round))

@@ -3,13 +3,14 @@
 ghost use Rattle.std.specs.Prelude.{◌≡◌, ℕ, None, Some, IfOk, IfSome, IfNone};
 
 use crate::calls::OfBytes;
+use crate::judged::known_in;
 use crate::judged_node::JudgedNode;
 use crate::node_calls::NodeCall;
 use batcher::messages::{Attestation, Sha256Digest, Subject};
 use batcher::scheme::Counter;
 use batcher_bytes::{Content, Signature, Truth};
 use batcher_node::Construction;
-use std::alloc::AllocError;
+use std::alloc::{AllocError, Global};
 
 /// Verdicts on a list, of what the construction in the next view wants verdicts on, from the first
 /// on. False where the list isn't that: then nothing changes.
@@ -87,5 +88,47 @@ impl<T: Truth> NodeCall<T> for ConcludeNext {
             Some(one) => Ok(Concluded::Made(one)),
             None => Ok(Concluded::Rests),
         }
+    }
+}
+
+/// The next construction, of a quorum that passes as a whole: in the next view the attestations
+/// that are known to attest, and then all that wait. None where the subject and the list aren't
+/// those of the next construction, or where the list is no quorum: then nothing changes.
+#[derive(Drop)]
+pub struct ConcludeNextTogether<'l> {
+    pub alloc: Global,
+    pub subject: Subject<Sha256Digest>,
+    pub list: &'l [Attestation<Signature>],
+}
+
+impl<'l, T: Truth> NodeCall<T> for ConcludeNextTogether<'l> {
+    ghost use Rattle.std.specs.Prelude.{◌≡◌, true};
+    ghost use Rattle.batcher_any.specs.NodeConstructions.{ConcludesNextTogether};
+
+    type Answer = Result<Option<Construction<Content<T>, Sha256Digest>>, AllocError>;
+
+    ghost needs = { λ call x keys. T.passes keys call.subject call.list.now ≡ true };
+
+    ghost does = { λ call S x round_config old answer new.
+        ConcludesNextTogether x round_config old call.subject call.list.now answer new };
+
+    fn make<S: OfBytes<T>>(
+        self,
+        judged: &mut JudgedNode<S>,
+    ) -> Result<Option<Construction<Content<T>, Sha256Digest>>, AllocError> {
+        let Some(view) = judged.node.next_view() else {
+            return Ok(None);
+        };
+        let Some(round) = judged.node.round(view) else {
+            return Ok(None);
+        };
+        let Some(known) = known_in(&*judged.scheme, round, &self.subject, self.list) else {
+            return Ok(None);
+        };
+        let (prior, fresh) = self.list.split_at(known);
+        let certificate = judged
+            .scheme
+            .together(self.alloc, self.subject, prior, fresh)?;
+        Ok(judged.node.conclude_with(self.subject, fresh, certificate))
     }
 }

@@ -1,3 +1,5 @@
+mod Places
 mod Pointers
 mod Verified
 mod Quorums
+mod NodesOfEither

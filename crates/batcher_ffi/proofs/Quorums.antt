@@ -7,7 +7,7 @@ use Rattle.batcher_types.proofs.VoteLemmas.{same_subject-true}
 use Rattle.batcher_types.specs.Votes.{content_of, same_subject, subject_certified}
 use Rattle.batcher_types.specs.declared.messages.Sha256Digest.{Sha256Digest}
 use Rattle.batcher_types.specs.declared.messages.Subject.{Subject}
-use Rattle.batcher_votes.specs.Verifiers.{BatchCertifies, certifies_itself}
+use Rattle.batcher_votes.specs.Verifiers.{BatchCertifies}
 use Rattle.batcher_votes.specs.declared.verifier.Batch.{Batch}
 use Rattle.batcher_bytes.specs.Keys.{same_digest, same_keys}
 use Rattle.batcher_bytes.specs.Listings.{Listing, Passed, listing_of}
@@ -15,6 +15,7 @@ use Rattle.batcher_bytes.specs.Meanings.{certifies}
 use Rattle.batcher_bytes.specs.declared.certificates.Content.{Content}
 use Rattle.batcher_bytes.specs.declared.certificates.Content.TheVariants.{Made as MadeHere, Received}
 use Rattle.batcher_bytes.specs.declared.signature.Keys.{Keys}
+use Rattle.batcher_any.specs.Judging.{keys_in}
 use Rattle.batcher_any.specs.declared.either.Either.TheVariants.{Batchable, OneByOne}
 use Rattle.batcher_ffi.specs.Output.{Made, WritesCertificate, WritesContent}
 use Rattle.batcher_ffi.specs.Rounds.{CRound, IsOfQuorum, MakesQuorum, config_of}
@@ -61,25 +62,37 @@ of_content : (keys : Keys) (n : ℕ) (subject : Subject Sha256Digest) (listing :
 of_content keys n subject listing h passed =
     subst (λ l. Passed ghosts l) (is_listing_of keys n subject listing h) passed
 
-of_quorum : (r : CRound) (step : FlatStep) (room list : List FlatAttestation)
+of_quorum : (keys : Keys) (n : ℕ) (step : FlatStep) (room list : List FlatAttestation)
     (subject : Subject Sha256Digest) (content : Content Caller)
-    → (config_of r).meaning.certifies subject content ≡ true
-    → WritesContent step room list content → IsOfQuorum r subject content
-of_quorum (Batchable j) step room list subject (MadeHere listing) h written =
-    of_content j.round.scheme.keys (length j.round.scheme.participants) subject listing h written.1.1
-of_quorum (OneByOne j) step room list subject (MadeHere listing) h written =
-    of_content j.round.scheme.keys (length j.round.scheme.participants) subject listing h written.1.1
-of_quorum r step room list subject (Received certificate) h written = tt
+    → certifies {T = Caller} keys n subject content ≡ true
+    → WritesContent step room list content → IsOfQuorum keys n subject content
+of_quorum keys n step room list subject (MadeHere listing) h written =
+    of_content keys n subject listing h written.1.1
+of_quorum keys n step room list subject (Received certificate) h written = tt
 
 -- A batch that certifies makes a quorum, as it is written.
-pub makes_quorum : (r : CRound) (step : FlatStep) (room list : List FlatAttestation)
-    (batch : Batch Made) → BatchCertifies (config_of r).meaning batch
-    → IfSome batch.certificate (WritesCertificate step room list) → MakesQuorum r batch
-makes_quorum r step room list batch h written = of_some batch.certificate h written
+pub makes_quorum : (keys : Keys) (n : ℕ) (step : FlatStep) (room list : List FlatAttestation)
+    (batch : Batch Made)
+    → IfSome batch.certificate (λ c. certifies {T = Caller} keys n (subject_certified c)
+    (content_of c) ≡ true)
+    → IfSome batch.certificate (WritesCertificate step room list) → MakesQuorum keys n batch
+makes_quorum keys n step room list batch h written = of_some batch.certificate h written
   where
     of_some : (o : Option Made)
-        → IfSome o (λ c. certifies_itself (config_of r).meaning c ≡ true)
+        → IfSome o (λ c. certifies {T = Caller} keys n (subject_certified c) (content_of c) ≡ true)
         → IfSome o (WritesCertificate step room list)
-        → IfSome o (λ c. IsOfQuorum r (subject_certified c) (content_of c))
-    of_some (Some c) h w = of_quorum r step room list (subject_certified c) (content_of c) h w.content
+        → IfSome o (λ c. IsOfQuorum keys n (subject_certified c) (content_of c))
+    of_some (Some c) h w = of_quorum keys n step room list (subject_certified c) (content_of c) h w.content
     of_some None h w = tt
+
+-- The same of a batch of a round.
+pub round_makes_quorum : (r : CRound) (step : FlatStep) (room list : List FlatAttestation)
+    (batch : Batch Made) → BatchCertifies (config_of r).meaning batch
+    → IfSome batch.certificate (WritesCertificate step room list)
+    → MakesQuorum (keys_in r) (length (config_of r).meaning.participants) batch
+round_makes_quorum (Batchable j) step room list batch h written =
+    makes_quorum j.round.scheme.keys (length j.round.scheme.participants) step room list batch h
+    written
+round_makes_quorum (OneByOne j) step room list batch h written =
+    makes_quorum j.round.scheme.keys (length j.round.scheme.participants) step room list batch h
+    written

@@ -1,5 +1,5 @@
 -- What a caller has verified, by what the scheme of its round means.
-use Rattle.std.proofs.Common.{◌≡◌, ◌∙◌, ◌&&◌, nat_lt, Bool, true, false, List, [], ◌∷◌, Some, map, ap, refl, sym}
+use Rattle.std.proofs.Common.{◌≡◌, ◌∙◌, ◌&&◌, nat_lt, ℕ, Bool, true, false, List, [], ◌∷◌, Some, map, ap, refl, sym}
 use Rattle.std.specs.List.{list_all, list_any}
 use Rattle.std.specs.Prelude.{is_none, length}
 use Rattle.std.proofs.lemmas.Bool.{and_parts}
@@ -8,9 +8,11 @@ use Rattle.batcher_types.specs.declared.messages.Attestation.{Attestation}
 use Rattle.batcher_types.specs.declared.messages.Sha256Digest.{Sha256Digest}
 use Rattle.batcher_types.specs.declared.messages.Subject.{Subject}
 use Rattle.batcher_bytes.specs.declared.signature.Signature.{Signature}
+use Rattle.batcher_any.specs.AnyNodes.{SameAnyNode, node_keys_in}
 use Rattle.batcher_any.specs.Judging.{SameAny, keys_in}
 use Rattle.batcher_any.specs.declared.either.Either.TheVariants.{Batchable, OneByOne}
 use Rattle.batcher_ffi.specs.Flat.{AreIn, attestation_in}
+use Rattle.batcher_ffi.specs.Nodes.{CNode, node_config_of}
 use Rattle.batcher_ffi.specs.Rounds.{CRound, config_of}
 use Rattle.batcher_ffi.specs.Truths.{is_attested}
 use Rattle.batcher_ffi.specs.declared.flat.FlatAttestation.{FlatAttestation}
@@ -27,17 +29,46 @@ and_true true b h = refl
 and_true false b h = absurd (cc)
 
 -- Where all signers take part, each verdict is the scheme's.
+each_attests : (n : ℕ) (holds attests : Attestation Signature → Bool)
+    → ((a : Attestation Signature) → attests a ≡ (nat_lt a.signer.0 n && holds a))
+    → (all : List (Attestation Signature)) → list_all (λ a. nat_lt a.signer.0 n) all ≡ true
+    → map holds all ≡ map attests all
+each_attests n holds attests if [] h = refl
+each_attests n holds attests if (a ∷ all) h =
+    let both = and_parts (nat_lt a.signer.0 n) (list_all (λ b. nat_lt b.signer.0 n) all) h in
+    let first : attests a ≡ holds a = if a ∙ and_true _ _ both.0 in
+    rw (first, each_attests n holds attests if all both.1) refl
+
 pub all_attest : (r : CRound) (subject : Subject Sha256Digest)
     (all : List (Attestation Signature))
     → list_all (λ a. nat_lt a.signer.0 (length (config_of r).meaning.participants)) all ≡ true
     → map (is_attested (keys_in r) subject) all ≡ map ((config_of r).meaning.attests subject) all
-all_attest r subject [] h = refl
-all_attest r subject (a ∷ all) h =
-    let both = and_parts (nat_lt a.signer.0 (length (config_of r).meaning.participants))
-    (list_all (λ b. nat_lt b.signer.0 (length (config_of r).meaning.participants)) all) h in
-    let first : (config_of r).meaning.attests subject a ≡ is_attested (keys_in r) subject a =
-    attests_if r subject a ∙ and_true _ _ both.0 in
-    rw (first, all_attest r subject all both.1) refl
+all_attest r subject all h =
+    each_attests (length (config_of r).meaning.participants) (is_attested (keys_in r) subject)
+    ((config_of r).meaning.attests subject) (attests_if r subject) all h
+
+-- The same of a node.
+pub node_attests_if : (s : CNode) (subject : Subject Sha256Digest) (a : Attestation Signature)
+    → (node_config_of s).meaning.attests subject a
+    ≡ (nat_lt a.signer.0 (length (node_config_of s).meaning.participants)
+    && is_attested (node_keys_in s) subject a)
+node_attests_if (Batchable judged) subject a = refl
+node_attests_if (OneByOne judged) subject a = refl
+
+pub node_all_attest : (s : CNode) (subject : Subject Sha256Digest)
+    (all : List (Attestation Signature))
+    → list_all (λ a. nat_lt a.signer.0 (length (node_config_of s).meaning.participants)) all
+    ≡ true
+    → map (is_attested (node_keys_in s) subject) all
+    ≡ map ((node_config_of s).meaning.attests subject) all
+node_all_attest s subject all h =
+    each_attests (length (node_config_of s).meaning.participants)
+    (is_attested (node_keys_in s) subject) ((node_config_of s).meaning.attests subject)
+    (node_attests_if s subject) all h
+
+pub node_same_self : (s : CNode) → SameAnyNode s s
+node_same_self (Batchable judged) = (refl, refl, refl)
+node_same_self (OneByOne judged) = (refl, refl, refl)
 
 -- A call that changes nothing changes nothing of the round.
 pub same_self : (r : CRound) → SameAny r r

@@ -1,6 +1,6 @@
 -- What flat values and codes mean.
 use Rattle.std.specs.Prelude.{◌≡◌, ◌==◌, ℕ, List, if◌then◌else◌, map, nat_le, Option, Some, None, option_and_then, take}
-use Rattle.std.specs.Option.{option_map}
+use Rattle.std.specs.Option.{option_map, option_or}
 use Rattle.batcher_types.specs.declared.positions.Round.{Round}
 use Rattle.batcher_types.specs.declared.messages.Sha256Digest.{Sha256Digest}
 use Rattle.batcher_types.specs.declared.messages.Proposal.{Proposal}
@@ -28,13 +28,15 @@ use Rattle.batcher_histories.specs.declared.answers.BlockReason.TheVariants.{Con
 use Rattle.batcher_histories.specs.declared.answers.OwnFault.{OwnFault}
 use Rattle.batcher_histories.specs.declared.answers.OwnFault.TheVariants.{OutOfMemory as OutOfMemoryFault, DuplicateNotarize as DuplicateNotarizeFault, DuplicateFinalize as DuplicateFinalizeFault, Conflicting as ConflictingFault}
 use Rattle.batcher_histories.specs.declared.answers.OwnFault.TheVariants.{NullifyAfterFinalize as NullifyAfterFinalizeFault, FinalizeAfterNullify as FinalizeAfterNullifyFault}
+use Rattle.batcher_node.specs.declared.answers.Cause.{Cause}
+use Rattle.batcher_node.specs.declared.answers.Cause.TheVariants.{Vote as ForVote, Certificate as ForCertificate, Signature as ForSignature}
 use Rattle.batcher_bytes.specs.Signatures.{signature_of}
 use Rattle.batcher_bytes.specs.declared.signature.Signature.{Signature}
 use Rattle.batcher_ffi.specs.declared.codes.TheConstants.{OUT_OF_MEMORY, DUPLICATE_NOTARIZE, DUPLICATE_FINALIZE, CONFLICTING, NULLIFY_AFTER_FINALIZE, FINALIZE_AFTER_NULLIFY}
 use Rattle.batcher_ffi.specs.declared.codes.TheConstants.{NOTARIZATION, NULLIFICATION, FINALIZATION, RETAINING, RELEASING, SKIPPED}
 use Rattle.batcher_ffi.specs.declared.codes.TheConstants.{BLOCK_UNKNOWN_PARTICIPANT, BLOCK_NOTARIZE_SIGNER_MISMATCH, BLOCK_NULLIFY_SIGNER_MISMATCH, BLOCK_FINALIZE_SIGNER_MISMATCH}
 use Rattle.batcher_ffi.specs.declared.codes.TheConstants.{BLOCK_CONFLICTING_NOTARIZE, BLOCK_CONFLICTING_NULLIFY, BLOCK_CONFLICTING_FINALIZE, BLOCK_INVALID_SIGNATURE, BLOCK_NULLIFY_AFTER_FINALIZE}
-use Rattle.batcher_ffi.specs.declared.codes.TheConstants.{BLOCK_FINALIZE_AFTER_NULLIFY}
+use Rattle.batcher_ffi.specs.declared.codes.TheConstants.{BLOCK_FINALIZE_AFTER_NULLIFY, CAUSE_CERTIFICATE, CAUSE_SIGNATURE}
 use Rattle.batcher_ffi.specs.declared.codes.TheConstants.{REPORT_NOTARIZE, REPORT_NULLIFY, REPORT_FINALIZE, REPORT_CONFLICTING_NOTARIZE, REPORT_CONFLICTING_FINALIZE, REPORT_NULLIFY_FINALIZE}
 use Rattle.batcher_ffi.specs.declared.flat.FlatProposal.{FlatProposal}
 use Rattle.batcher_ffi.specs.declared.flat.FlatAttestation.{FlatAttestation}
@@ -65,6 +67,13 @@ block_in code =
     if code == BLOCK_INVALID_SIGNATURE then Some InvalidSignature else
     if code == BLOCK_NULLIFY_AFTER_FINALIZE then Some NullifyAfterFinalize else
     if code == BLOCK_FINALIZE_AFTER_NULLIFY then Some FinalizeAfterNullify else None
+
+-- why a participant of a node is blocked, if it is
+abbrev pub cause_in : ℕ → Option Cause
+cause_in code =
+    option_or (option_map ForVote (block_in code))
+    (if code == CAUSE_CERTIFICATE then Some ForCertificate else
+    if code == CAUSE_SIGNATURE then Some ForSignature else None)
 
 -- why a round refuses an own vote, where the code is of that
 abbrev pub fault_in : ℕ → Option OwnFault

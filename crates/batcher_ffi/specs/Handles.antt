@@ -1,6 +1,7 @@
 -- What a call does to a handle, and to what it is of.
 use Rattle.std.specs.Prelude.{◌≡◌, ◌≢◌, ℕ, Option, Some, None}
 use Rattle.batcher_ffi.specs.declared.codes.TheConstants.{NONE}
+use Rattle.batcher_ffi.specs.Nodes.{CNode}
 use Rattle.batcher_ffi.specs.Rounds.{CRound}
 
 -- A call on an empty handle leaves it empty, and what it writes to as it was, and the code says so.
@@ -14,3 +15,7 @@ OnHandle before after code stays holds = ⊥
 abbrev pub OnRound : Option CRound → Option CRound → ℕ → Type 0 → (CRound → CRound → Type 0)
     → Type 0
 OnRound = OnHandle
+
+-- of a node
+abbrev pub OnNode : Option CNode → Option CNode → ℕ → Type 0 → (CNode → CNode → Type 0) → Type 0
+OnNode = OnHandle

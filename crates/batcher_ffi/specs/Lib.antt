@@ -4,5 +4,7 @@ pub mod Rows
 pub mod Flat
 pub mod Output
 pub mod Rounds
+pub mod NodeAnswers
+pub mod Nodes
 pub mod Handles
 pub mod Convictions

@@ -28,6 +28,7 @@ use Rattle.batcher_round.specs.Next.{verified_next}
 use Rattle.batcher_bytes.specs.Listings.{Passed, listing_of}
 use Rattle.batcher_bytes.specs.declared.certificates.Content.{Content}
 use Rattle.batcher_bytes.specs.declared.certificates.Content.TheVariants.{Made as MadeHere, Received}
+use Rattle.batcher_bytes.specs.declared.signature.Keys.{Keys}
 use Rattle.batcher_bytes.specs.declared.signature.Signature.{Signature}
 use Rattle.batcher_verdicts.specs.Rounds.{AreComplete, AsksNext, Forgets, Records as RecordsAsked}
 use Rattle.batcher_any.specs.Calls.{ForEach, GoesOn}
@@ -94,28 +95,27 @@ module _ (handle : Option CRound) where
   Certifies kind proposal bytes = IfSome handle (λ r. IfSome (subject_in kind proposal) (λ subject.
       is_certified (keys_in r) subject bytes ≡ true))
 
--- Each of the list is an attestation, of a participant.
-abbrev pub AreOfParticipants : CRound → List FlatAttestation → Type 0
-AreOfParticipants r list =
+-- Each of the list is an attestation, of one of so many participants.
+abbrev pub AreOfParticipants : ℕ → List FlatAttestation → Type 0
+AreOfParticipants participants list =
     (all : List (Attestation Signature)) × (AreIn list all
-    × (list_all (λ a. nat_lt a.signer.0 (length (config_of r).meaning.participants)) all ≡ true))
+    × (list_all (λ a. nat_lt a.signer.0 participants) all ≡ true))
 
 -- A certificate came from elsewhere, as these bytes.
 abbrev pub IsReceived : List ℕ → Content Caller → Type 0
 IsReceived bytes (MadeHere listing) = ⊥
 IsReceived bytes (Received certificate) = certificate.bytes ≡ bytes
 
--- A certificate that a round makes shows a quorum of different participants. By the keys of the
--- round they attest each what it is of, or pass as a whole.
-abbrev pub IsOfQuorum : CRound → Subject Sha256Digest → Content Caller → Type 0
-IsOfQuorum r subject (MadeHere listing) =
-    Passed ghosts (listing_of (keys_in r) (length (config_of r).meaning.participants) subject
-    listing.attestations)
-IsOfQuorum r subject (Received certificate) = ⊤
+-- A certificate that is made shows a quorum of different participants. By their keys they attest
+-- each what it is of, or pass as a whole.
+abbrev pub IsOfQuorum : Keys → ℕ → Subject Sha256Digest → Content Caller → Type 0
+IsOfQuorum keys participants subject (MadeHere listing) =
+    Passed ghosts (listing_of keys participants subject listing.attestations)
+IsOfQuorum keys participants subject (Received certificate) = ⊤
 
-abbrev pub MakesQuorum : CRound → Batch Made → Type 0
-MakesQuorum r batch = IfSome batch.certificate (λ certificate.
-    IsOfQuorum r (subject_certified certificate) (content_of certificate))
+abbrev pub MakesQuorum : Keys → ℕ → Batch Made → Type 0
+MakesQuorum keys participants batch = IfSome batch.certificate (λ certificate.
+    IsOfQuorum keys participants (subject_certified certificate) (content_of certificate))
 
 -- a round of these participants and this sort of scheme in which nothing has happened
 pub record IsNew (epoch view participants mode : ℕ) (keys : List ℕ) (batchable : Bool)
@@ -264,7 +264,8 @@ module _ (before : CRound) (code : ℕ) (after : CRound) where
     pub meaningless : subject_in kind proposal ≡ None → code ≡ MALFORMED
     pub unlike : length verdicts ≢ length list → code ≡ MALFORMED
     pub malformed : code ≡ MALFORMED → is_some (subject_in kind proposal) ≡ true
-        → AreOfParticipants before list → length verdicts ≢ length list
+        → AreOfParticipants (length (config_of before).meaning.participants) list
+        → length verdicts ≢ length list
     pub records : code ≡ DONE → IfSome (subject_in kind proposal) (λ subject.
         (all : List (Attestation Signature)) × (AreIn list all
         × RecordsAsked (config_of before) (held_in before).round (held_in before).verdicts
@@ -303,7 +304,7 @@ module _ (before : CRound) (code : ℕ) (after : CRound) where
         × AreComplete (config_of before) (held_in before).round (held_in before).verdicts subject
     pub done : code ≡ DONE → (batch : Batch Made)
         × (WritesBatch step room list signers_room signers batch
-        × (MakesQuorum before batch
+        × (MakesQuorum (keys_in before) (length (config_of before).meaning.participants) batch
         × Goes (ConstructCall, ConstructAnswer (Some batch))))
     pub idle : code ≡ IDLE
         → subject_next (config_of before) (held_in before).round ≡ None
@@ -331,7 +332,7 @@ module _ (before : CRound) (code : ℕ) (after : CRound) where
         → (all : List (Attestation Signature)) → AreIn list all → ⊥
     pub done : code ≡ DONE → (batch : Batch Made)
         × (WritesBatch step [] [] [] [] batch
-        × (MakesQuorum before batch
+        × (MakesQuorum (keys_in before) (length (config_of before).meaning.participants) batch
         × Goes (ConstructCall, ConstructAnswer (Some batch))))
     pub stays : code ≢ DONE → (after ≡ before) × (step ≡ old)
     pub verdicts : (held_in after).verdicts ≡ (held_in before).verdicts

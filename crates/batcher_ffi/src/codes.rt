@@ -31,6 +31,18 @@ pub const IDLE: u8 = 12;
 pub const VERIFY: u8 = 13;
 /// The subject or the list isn't what the next construction is about, or asks about first.
 pub const STALE: u8 = 14;
+/// It is of a peer that was blocked before, so it wasn't looked at.
+pub const DROPPED: u8 = 15;
+/// It is of a peer that takes no part, so it wasn't looked at.
+pub const UNKNOWN: u8 = 16;
+/// The view is before the finalized one.
+pub const PASSED: u8 = 17;
+/// There was one of its kind before, so it isn't to be sent, or wasn't looked at.
+pub const KNOWN: u8 = 18;
+/// A certificate doesn't certify what it names, and its peer is blocked.
+pub const FORGED: u8 = 19;
+/// The construction gave no batch, so its view rests; others may not.
+pub const RESTS: u8 = 20;
 
 /// Kinds of votes and certificates.
 pub const NOTARIZATION: u8 = 0;
@@ -68,6 +80,14 @@ pub const BLOCK_INVALID_SIGNATURE: u8 = 8;
 pub const BLOCK_NULLIFY_AFTER_FINALIZE: u8 = 9;
 
 pub const BLOCK_FINALIZE_AFTER_NULLIFY: u8 = 10;
+
+/// Why a participant of a node is blocked, if it is: for a vote, by the codes above, or for one of
+/// these, which leave room for more reasons.
+pub const CAUSE_NONE: u8 = 0;
+
+pub const CAUSE_CERTIFICATE: u8 = 64;
+
+pub const CAUSE_SIGNATURE: u8 = 65;
 
 /// What a report is of, if there is one.
 pub const REPORT_NONE: u8 = 0;

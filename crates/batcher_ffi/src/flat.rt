@@ -2,20 +2,22 @@
 
 ghost use Rattle.std.specs.Prelude.{◌≡◌, ◌≢◌, true, Some, None, if◌then◌else◌};
 ghost use Rattle.batcher_ffi.specs.Rounds.{is_one_of, refusals};
-ghost use Rattle.batcher_ffi.specs.Flat.{kind_in, mode_in, block_in, fault_in, round_in, proposal_in, attestation_in, raw_in, vote_in, raw_vote_in, report_in, admission_in, outcome_in, subject_in};
+ghost use Rattle.batcher_ffi.specs.Flat.{kind_in, mode_in, block_in, cause_in, fault_in, round_in, proposal_in, attestation_in, raw_in, vote_in, raw_vote_in, report_in, admission_in, outcome_in, subject_in};
 
 use crate::codes::{
     BLOCK_CONFLICTING_FINALIZE, BLOCK_CONFLICTING_NOTARIZE, BLOCK_CONFLICTING_NULLIFY,
     BLOCK_FINALIZE_AFTER_NULLIFY, BLOCK_FINALIZE_SIGNER_MISMATCH, BLOCK_INVALID_SIGNATURE,
     BLOCK_NONE, BLOCK_NOTARIZE_SIGNER_MISMATCH, BLOCK_NULLIFY_AFTER_FINALIZE,
-    BLOCK_NULLIFY_SIGNER_MISMATCH, BLOCK_UNKNOWN_PARTICIPANT, CONFLICTING, DONE,
-    DUPLICATE_FINALIZE, DUPLICATE_NOTARIZE, ELSEWHERE, FINALIZATION, FINALIZE_AFTER_NULLIFY,
-    MALFORMED, NOT_VERIFIED, NOTARIZATION, NULLIFICATION, NULLIFY_AFTER_FINALIZE, OUT_OF_MEMORY,
-    RELEASING, REPORT_CONFLICTING_FINALIZE, REPORT_CONFLICTING_NOTARIZE, REPORT_FINALIZE,
-    REPORT_NONE, REPORT_NOTARIZE, REPORT_NULLIFY, REPORT_NULLIFY_FINALIZE, RETAINING, SKIPPED,
+    BLOCK_NULLIFY_SIGNER_MISMATCH, BLOCK_UNKNOWN_PARTICIPANT, CAUSE_CERTIFICATE, CAUSE_NONE,
+    CAUSE_SIGNATURE, CONFLICTING, DONE, DUPLICATE_FINALIZE, DUPLICATE_NOTARIZE, ELSEWHERE,
+    FINALIZATION, FINALIZE_AFTER_NULLIFY, MALFORMED, NOT_VERIFIED, NOTARIZATION, NULLIFICATION,
+    NULLIFY_AFTER_FINALIZE, OUT_OF_MEMORY, RELEASING, REPORT_CONFLICTING_FINALIZE,
+    REPORT_CONFLICTING_NOTARIZE, REPORT_FINALIZE, REPORT_NONE, REPORT_NOTARIZE, REPORT_NULLIFY,
+    REPORT_NULLIFY_FINALIZE, RETAINING, SKIPPED,
 };
 use batcher_bytes::{Signature, WIDTH};
 use batcher_histories::answers::{Admission, BlockReason, OwnFault};
+use batcher_node::Cause;
 use batcher_types::messages::{
     Activity, Attestation, Finalize, Kind, Notarize, Nullify, Proposal, Sha256Digest, Subject, Vote,
 };
@@ -70,6 +72,8 @@ pub struct FlatAdmission {
 pub struct FlatStep {
     /// What the attestations are to attest, or what the certificate is of.
     pub proposal: FlatProposal,
+    /// Of a node's construction, its view. That of a round leaves it as it was.
+    pub view: u64,
     pub processed: u64,
     /// How many attestations there are, also where the list has room for fewer.
     pub listed: u64,
@@ -124,6 +128,18 @@ fn block_code(block: Option<BlockReason>) -> u8
         BlockReason::InvalidSignature => BLOCK_INVALID_SIGNATURE,
         BlockReason::NullifyAfterFinalize => BLOCK_NULLIFY_AFTER_FINALIZE,
         BlockReason::FinalizeAfterNullify => BLOCK_FINALIZE_AFTER_NULLIFY,
+    }
+}
+
+/// The code of why a participant is blocked, or that it isn't.
+pub fn cause_code(cause: Option<Cause>) -> u8
+    ensures { cause_in result ≡ cause }
+{
+    match cause {
+        None => CAUSE_NONE,
+        Some(Cause::Vote(reason)) => block_code(Some(reason)),
+        Some(Cause::Certificate) => CAUSE_CERTIFICATE,
+        Some(Cause::Signature) => CAUSE_SIGNATURE,
     }
 }
 
@@ -328,6 +344,17 @@ impl FlatAdmission {
         ensures report { report_in self.new ≡ report.now }
     {
         self.set(added, retained, None, report);
+    }
+
+    /// Writes what is reported of a node's own vote that is to be sent.
+    pub fn write_sent(&mut self, report: &Activity<Signature, Sha256Digest>)
+        ensures { admission_in self.new ≡ record {
+          added = true;
+          block = None;
+          report = Some report.now;
+        } }
+    {
+        self.set(true, false, None, &Some(*report));
     }
 
     // A vote that the report doesn't have stays as it was: it takes as long to write as all else.

@@ -1,4 +1,4 @@
-//! A static library: rounds of the batcher for C, and for what calls C.
+//! A static library: rounds and nodes of the batcher for C, and for what calls C.
 #![tactic(auto)]
 
 mod caller;
@@ -7,6 +7,9 @@ mod evidence;
 mod exports;
 mod flat;
 mod handle;
+mod node_answers;
+mod node_exports;
+mod nodes;
 mod rounds;
 mod unboxed;
 mod writing;

@@ -278,8 +278,8 @@ pub fn record_verdicts(
     }
 }
 
-// Whether all signers are participants.
-fn take_part(list: &[Attestation<Signature>], participants: usize) -> bool
+/// Whether all signers are participants.
+pub fn take_part(list: &[Attestation<Signature>], participants: usize) -> bool
     ensures { result ≡ list_all (λ a. nat_lt a.signer.0 participants) list.now }
 {
     list.iter().all(|attestation| (attestation.signer.0 as usize) < participants)

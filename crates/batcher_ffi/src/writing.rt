@@ -3,12 +3,13 @@
 ghost use Rattle.std.specs.Prelude.{◌≡◌, true, length, is_none, None, Some, Ok, IfOk, IfSome};
 ghost use Rattle.std.specs.List.{list_any};
 ghost use Rattle.batcher_types.specs.Keys.{participant};
-ghost use Rattle.batcher_ffi.specs.Flat.{AreIn, attestation_in, raw_in, subject_in};
+ghost use Rattle.batcher_ffi.specs.Flat.{AreIn, attestation_in, cause_in, raw_in, subject_in};
 ghost use Rattle.batcher_ffi.specs.Output.{IsWritten, WritesContent, WritesBatch};
 
 use crate::caller::Caller;
-use crate::flat::{FlatAttestation, FlatStep, flat_subject};
+use crate::flat::{FlatAttestation, FlatStep, cause_code, flat_subject};
 use batcher_bytes::{Content, Signature};
+use batcher_node::Cause;
 use batcher_types::messages::{Attestation, Certificate, Sha256Digest};
 use batcher_types::positions::Participant;
 use batcher_votes::verifier::{Batch, NextAttempt};
@@ -44,7 +45,8 @@ pub fn write_batch(
     list: &mut [FlatAttestation],
     signers: &mut [u32],
 )
-    ensures { WritesBatch step.new list.old list.new signers.old signers.new batch.now }
+    ensures batch { WritesBatch step.new list.old list.new signers.old signers.new batch.now }
+    ensures view { step.new.view ≡ step.old.view }
 {
     step.processed = batch.processed as u64;
     step.fallback = batch.fallback;
@@ -92,6 +94,15 @@ pub fn write_signers(from: &[Participant], to: &mut [u32])
 {
     for index in 0..from.len().min(to.len()) {
         to[index] = from[index].0;
+    }
+}
+
+/// Writes as many as there is room for.
+pub fn write_causes(from: &[Option<Cause>], to: &mut [u8])
+    ensures { IsWritten cause_in from.now to.old to.new }
+{
+    for index in 0..from.len().min(to.len()) {
+        to[index] = cause_code(from[index]);
     }
 }
 

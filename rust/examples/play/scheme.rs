@@ -69,6 +69,10 @@ impl Scheme for TestScheme {
         &self.participants
     }
 
+    fn keys(&self) -> [u8; 32] {
+        digest(&[&ROOT, &self.participants.len().to_be_bytes()])
+    }
+
     fn is_batchable(&self) -> bool {
         self.sort != Sort::Single
     }
@@ -118,6 +122,18 @@ impl Scheme for TestScheme {
                     && attestations.iter().all(|it| self.attests(subject, it))
             }
             Content::Seal(seal) => self.sort == Sort::Sealed && *seal == signed(MASTER, subject),
+        }
+    }
+
+    fn certificate_bytes(&self, certificate: &Content) -> impl AsRef<[u8]> {
+        match certificate {
+            Content::List(attestations) => {
+                let bytes = |it: &Attestation<Signature>| {
+                    [&it.signer.get().to_be_bytes()[..], &it.signature].concat()
+                };
+                attestations.iter().flat_map(bytes).collect()
+            }
+            Content::Seal(seal) => seal.to_vec(),
         }
     }
 }

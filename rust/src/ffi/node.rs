@@ -1,9 +1,22 @@
 //! What is declared of nodes. `tools/header` compares these declarations with the header too.
 
 use super::{Admission, Attestation, Proposal, Step, Vote, code};
+use crate::construct::Library;
 use std::cell::UnsafeCell;
 use std::ffi::c_void;
 use std::ptr;
+
+/// `struct batcher_node_options`
+#[repr(C)]
+pub(crate) struct NodeOptions {
+    pub(crate) epoch: u64,
+    pub(crate) finalized: u64,
+    pub(crate) ahead: u64,
+    pub(crate) participants: u32,
+    pub(crate) keys: [u8; 32],
+    pub(crate) track_historical_votes: bool,
+    pub(crate) batchable: bool,
+}
 
 /// `struct batcher_node`
 #[repr(C)]
@@ -17,31 +30,8 @@ pub(crate) struct Node {
 }
 
 unsafe extern "C" {
-    fn batcher_node_new(
-        node: *mut NodeHandle,
-        epoch: u64,
-        participants: u32,
-        finalized: u64,
-        ahead: u64,
-        track_historical_votes: bool,
-        batchable: bool,
-        aggregates: bool,
-    ) -> u8;
+    fn batcher_node_new(node: *mut NodeHandle, options: *const NodeOptions) -> u8;
     fn batcher_node_free(node: *mut NodeHandle);
-    fn batcher_node_record_verdict(node: *mut NodeHandle, number: u64, attests: bool) -> u8;
-    fn batcher_node_record_verdicts(
-        node: *mut NodeHandle,
-        list: *const Attestation,
-        list_length: usize,
-        verdicts: *const bool,
-        verdicts_length: usize,
-    ) -> u8;
-    fn batcher_node_record_verdict_together(
-        node: *mut NodeHandle,
-        list: *const Attestation,
-        length: usize,
-        passes: bool,
-    ) -> u8;
     fn batcher_node_receive_vote(
         node: *mut NodeHandle,
         peer: u64,
@@ -53,24 +43,45 @@ unsafe extern "C" {
         peer: u64,
         kind: u8,
         proposal: *const Proposal,
-        number: u64,
+        bytes: *const u8,
+        bytes_length: usize,
         certifies: bool,
         selected_anew: *mut bool,
     ) -> u8;
     fn batcher_node_cast_vote(
         node: *mut NodeHandle,
         vote: *const Vote,
+        attests: bool,
         admission: *mut Admission,
     ) -> u8;
     fn batcher_node_enter(node: *mut NodeHandle, view: u64, leader: u32) -> u8;
     fn batcher_node_finalize(node: *mut NodeHandle, view: u64) -> u8;
+    fn batcher_node_record_verdicts(
+        node: *mut NodeHandle,
+        kind: u8,
+        proposal: *const Proposal,
+        list: *const Attestation,
+        list_length: usize,
+        verdicts: *const bool,
+        verdicts_length: usize,
+    ) -> u8;
     fn batcher_node_try_construct(
         node: *mut NodeHandle,
         step: *mut Step,
+        known: *mut Attestation,
+        known_length: usize,
         list: *mut Attestation,
         list_length: usize,
         signers: *mut u32,
         signers_length: usize,
+    ) -> u8;
+    fn batcher_node_construct_together(
+        node: *mut NodeHandle,
+        kind: u8,
+        proposal: *const Proposal,
+        list: *const Attestation,
+        list_length: usize,
+        step: *mut Step,
     ) -> u8;
     fn batcher_node_try_forward_proposal(
         node: *mut NodeHandle,
@@ -133,65 +144,16 @@ impl Drop for Node {
 // What is said of the calls of a round holds of these.
 impl Node {
     /// A node, or the code that was answered.
-    pub(crate) fn new(
-        epoch: u64,
-        participants: u32,
-        finalized: u64,
-        ahead: u64,
-        track_historical_votes: bool,
-        [batchable, aggregates]: [bool; 2],
-    ) -> Result<Self, u8> {
+    pub(crate) fn new(options: &NodeOptions) -> Result<Self, u8> {
         let handle = UnsafeCell::new(NodeHandle {
             at: ptr::null_mut(),
         });
         let node = Node { handle };
-        super::batcher_abi_1();
+        super::batcher_abi_2();
         // SAFETY: as of a round; an empty handle is a null pointer.
-        let answer = unsafe {
-            batcher_node_new(
-                node.handle.get(),
-                epoch,
-                participants,
-                finalized,
-                ahead,
-                track_historical_votes,
-                batchable,
-                aggregates,
-            )
-        };
-        match answer {
+        match unsafe { batcher_node_new(node.handle.get(), options) } {
             code::DONE => Ok(node),
             answer => Err(answer),
-        }
-    }
-
-    pub(crate) fn record_verdict(&mut self, number: u64, attests: bool) -> u8 {
-        // SAFETY: as of a round.
-        unsafe { batcher_node_record_verdict(self.handle.get(), number, attests) }
-    }
-
-    pub(crate) fn record_verdicts(&mut self, list: &[Attestation], verdicts: &[bool]) -> u8 {
-        // SAFETY: as of a round.
-        unsafe {
-            batcher_node_record_verdicts(
-                self.handle.get(),
-                list.as_ptr(),
-                list.len(),
-                verdicts.as_ptr(),
-                verdicts.len(),
-            )
-        }
-    }
-
-    pub(crate) fn record_verdict_together(&mut self, list: &[Attestation], passes: bool) -> u8 {
-        // SAFETY: as of a round.
-        unsafe {
-            batcher_node_record_verdict_together(
-                self.handle.get(),
-                list.as_ptr(),
-                list.len(),
-                passes,
-            )
         }
     }
 
@@ -206,7 +168,7 @@ impl Node {
         peer: u64,
         kind: u8,
         proposal: &Proposal,
-        number: u64,
+        bytes: &[u8],
         certifies: bool,
         selected_anew: &mut bool,
     ) -> u8 {
@@ -217,16 +179,22 @@ impl Node {
                 peer,
                 kind,
                 proposal,
-                number,
+                bytes.as_ptr(),
+                bytes.len(),
                 certifies,
                 selected_anew,
             )
         }
     }
 
-    pub(crate) fn cast_vote(&mut self, vote: &Vote, admission: &mut Admission) -> u8 {
+    pub(crate) fn cast_vote(
+        &mut self,
+        vote: &Vote,
+        attests: bool,
+        admission: &mut Admission,
+    ) -> u8 {
         // SAFETY: as of a round.
-        unsafe { batcher_node_cast_vote(self.handle.get(), vote, admission) }
+        unsafe { batcher_node_cast_vote(self.handle.get(), vote, attests, admission) }
     }
 
     pub(crate) fn enter(&mut self, view: u64, leader: u32) -> u8 {
@@ -237,25 +205,6 @@ impl Node {
     pub(crate) fn finalize(&mut self, view: u64) -> u8 {
         // SAFETY: as of a round.
         unsafe { batcher_node_finalize(self.handle.get(), view) }
-    }
-
-    pub(crate) fn try_construct(
-        &mut self,
-        step: &mut Step,
-        list: &mut [Attestation],
-        signers: &mut [u32],
-    ) -> u8 {
-        // SAFETY: as of a round.
-        unsafe {
-            batcher_node_try_construct(
-                self.handle.get(),
-                step,
-                list.as_mut_ptr(),
-                list.len(),
-                signers.as_mut_ptr(),
-                signers.len(),
-            )
-        }
     }
 
     pub(crate) fn try_forward_proposal(
@@ -338,6 +287,71 @@ impl Node {
                 list.as_mut_ptr(),
                 list.len(),
                 count,
+            )
+        }
+    }
+}
+
+impl Library for Node {
+    fn record_verdicts(
+        &mut self,
+        kind: u8,
+        proposal: &Proposal,
+        list: &[Attestation],
+        verdicts: &[bool],
+    ) -> u8 {
+        // SAFETY: as of a round.
+        unsafe {
+            batcher_node_record_verdicts(
+                self.handle.get(),
+                kind,
+                proposal,
+                list.as_ptr(),
+                list.len(),
+                verdicts.as_ptr(),
+                verdicts.len(),
+            )
+        }
+    }
+
+    fn try_construct(
+        &mut self,
+        step: &mut Step,
+        known: &mut [Attestation],
+        list: &mut [Attestation],
+        signers: &mut [u32],
+    ) -> u8 {
+        // SAFETY: as of a round.
+        unsafe {
+            batcher_node_try_construct(
+                self.handle.get(),
+                step,
+                known.as_mut_ptr(),
+                known.len(),
+                list.as_mut_ptr(),
+                list.len(),
+                signers.as_mut_ptr(),
+                signers.len(),
+            )
+        }
+    }
+
+    fn construct_together(
+        &mut self,
+        kind: u8,
+        proposal: &Proposal,
+        list: &[Attestation],
+        step: &mut Step,
+    ) -> u8 {
+        // SAFETY: as of a round.
+        unsafe {
+            batcher_node_construct_together(
+                self.handle.get(),
+                kind,
+                proposal,
+                list.as_ptr(),
+                list.len(),
+                step,
             )
         }
     }

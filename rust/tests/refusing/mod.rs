@@ -49,7 +49,10 @@ unsafe impl GlobalAlloc for Refusing {
 #[global_allocator]
 static HEAP: Refusing = Refusing;
 
-/// A signature is whether it is good. The scheme's calls that a round makes take no memory.
+/// A signature is whether it is good.
+pub type Signature = [u8; 1];
+
+/// The scheme's calls that a round makes take no memory, but for the bytes of a certificate.
 pub struct Plain {
     participants: Set<u32>,
     aggregates: bool,
@@ -68,27 +71,39 @@ impl Plain {
 
 impl Scheme for Plain {
     type PublicKey = u32;
-    type Signature = bool;
+    type Signature = Signature;
     type Certificate = usize;
 
     fn participants(&self) -> &Set<u32> {
         &self.participants
     }
 
+    fn keys(&self) -> [u8; 32] {
+        [self.participants.len() as u8; 32]
+    }
+
     fn aggregates(&self) -> bool {
         self.aggregates
     }
 
-    fn verify_attestations(&self, _: &Subject, attestations: &[Attestation<bool>]) -> Vec<bool> {
-        attestations.iter().map(|it| it.signature).collect()
+    fn verify_attestations(
+        &self,
+        _: &Subject,
+        attestations: &[Attestation<Signature>],
+    ) -> Vec<bool> {
+        attestations.iter().map(|it| it.signature == [1]).collect()
     }
 
-    fn assemble(&self, _: &Subject, attestations: &[Attestation<bool>]) -> usize {
+    fn assemble(&self, _: &Subject, attestations: &[Attestation<Signature>]) -> usize {
         attestations.len()
     }
 
     fn verify_certificate(&self, _: &Subject, certificate: &usize) -> bool {
         *certificate >= quorum(self.participants.len()) as usize
+    }
+
+    fn certificate_bytes(&self, certificate: &usize) -> impl AsRef<[u8]> {
+        certificate.to_be_bytes()
     }
 }
 
@@ -120,8 +135,9 @@ pub fn asks<R>(call: impl FnOnce() -> R) -> (R, bool) {
 }
 
 #[allow(dead_code)]
-pub fn vote(subject: Subject, signer: u32, is_good: bool) -> Vote<bool> {
-    Vote::new(subject, Attestation::new(Participant::new(signer), is_good))
+pub fn vote(subject: Subject, signer: u32, is_good: bool) -> Vote<Signature> {
+    let signer = Participant::new(signer);
+    Vote::new(subject, Attestation::new(signer, [is_good.into()]))
 }
 
 /// Plays a script with no request refused, then with the first one refused, then the second, until

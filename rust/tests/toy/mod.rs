@@ -1,9 +1,8 @@
 // A scheme for tests and examples, which protects nothing: a signature says itself what it signs.
 // It is included, so it names everything by its path.
 
-/// A signature: its signer, what it signs as a number, and whether it is good.
-#[derive(Clone, Copy, Debug, PartialEq, Eq, Hash)]
-pub struct Signature(u32, u64, bool);
+/// A signature: its signer and what it signs, as numbers, and whether it is good.
+pub type Signature = [u8; 7];
 
 pub const KEYS: [&str; 7] = ["ada", "ben", "cyd", "dot", "eve", "fay", "gus"];
 
@@ -46,15 +45,14 @@ impl Toy {
     }
 }
 
-fn code(subject: &batcher::Subject) -> u64 {
-    let payload = subject
-        .proposal()
-        .map_or(0, |it| u64::from(it.payload.0[0]));
-    (subject.kind() as u64) << 8 | payload
+fn sign(subject: &batcher::Subject, signer: u32) -> Signature {
+    let [a, b, c, d] = signer.to_be_bytes();
+    let payload = subject.proposal().map_or(0, |it| it.payload.0[0]);
+    [a, b, c, d, subject.kind() as u8, payload, 1]
 }
 
 fn attests(subject: &batcher::Subject, it: &batcher::Attestation<Signature>) -> bool {
-    it.signature == Signature(it.signer.get(), code(subject), true)
+    it.signature == sign(subject, it.signer.get())
 }
 
 impl batcher::Scheme for Toy {
@@ -64,6 +62,10 @@ impl batcher::Scheme for Toy {
 
     fn participants(&self) -> &batcher::Set<&'static str> {
         &self.participants
+    }
+
+    fn keys(&self) -> [u8; 32] {
+        [self.participants.len() as u8; 32]
     }
 
     fn is_batchable(&self) -> bool {
@@ -115,6 +117,13 @@ impl batcher::Scheme for Toy {
                 .iter()
                 .all(|it| self.participants.key(it.signer).is_some() && attests(subject, it))
     }
+
+    fn certificate_bytes(&self, certificate: &Self::Certificate) -> impl AsRef<[u8]> {
+        certificate
+            .iter()
+            .flat_map(|it| it.signature)
+            .collect::<Vec<_>>()
+    }
 }
 
 /// The certificate of the participants in a range, which certifies where they are a quorum.
@@ -130,7 +139,7 @@ pub fn certificate(
 /// A good vote.
 #[allow(dead_code)]
 pub fn vote(subject: batcher::Subject, signer: u32) -> batcher::Vote<Signature> {
-    let signature = Signature(signer, code(&subject), true);
+    let signature = sign(&subject, signer);
     let signer = batcher::Participant::new(signer);
     batcher::Vote::new(subject, batcher::Attestation::new(signer, signature))
 }
@@ -139,7 +148,7 @@ pub fn vote(subject: batcher::Subject, signer: u32) -> batcher::Vote<Signature> 
 #[allow(dead_code)]
 pub fn bad(vote: batcher::Vote<Signature>) -> batcher::Vote<Signature> {
     let mut attestation = *vote.attestation();
-    attestation.signature.2 = false;
+    attestation.signature[6] = 0;
     batcher::Vote::new(vote.subject(), attestation)
 }
 

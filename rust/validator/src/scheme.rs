@@ -1,6 +1,6 @@
 //! Ed25519 as a scheme. A certificate is a list of attestations.
 
-use crate::sodium::{KeyPair, PublicKey, Signature, verify};
+use crate::sodium::{KeyPair, PublicKey, Signature, sha256, verify};
 use batcher::{Attestation, Participant, Scheme, Set, Subject, Vote, quorum};
 
 /// Keeps signatures apart from those of other uses of the keys.
@@ -8,11 +8,14 @@ const DOMAIN: &[u8] = b"batcher validator example";
 
 pub struct Ed25519 {
     participants: Set<PublicKey>,
+    /// The hash of their keys.
+    keys: [u8; 32],
 }
 
 impl Ed25519 {
     pub fn new(participants: Set<PublicKey>) -> Self {
-        Ed25519 { participants }
+        let keys = sha256(&participants.as_slice().concat());
+        Ed25519 { participants, keys }
     }
 
     pub fn sign(keys: &KeyPair, signer: Participant, subject: Subject) -> Vote<Signature> {
@@ -32,8 +35,14 @@ impl Scheme for Ed25519 {
     type Signature = Signature;
     type Certificate = Vec<Attestation<Signature>>;
 
+    const CERTIFICATE_IS_LIST: bool = true;
+
     fn participants(&self) -> &Set<PublicKey> {
         &self.participants
+    }
+
+    fn keys(&self) -> [u8; 32] {
+        self.keys
     }
 
     fn verify_attestations(
@@ -64,6 +73,13 @@ impl Scheme for Ed25519 {
                 .windows(2)
                 .all(|pair| pair[0].signer < pair[1].signer)
             && certificate.iter().all(|it| self.attests(&message, it))
+    }
+
+    fn certificate_bytes(&self, certificate: &Self::Certificate) -> impl AsRef<[u8]> {
+        let bytes = |it: &Attestation<Signature>| {
+            [&it.signer.get().to_be_bytes()[..], &it.signature].concat()
+        };
+        certificate.iter().flat_map(bytes).collect::<Vec<_>>()
     }
 }
 

@@ -1,5 +1,5 @@
 use Rattle.std.proofs.Common.{◌∙◌, ap, length, refl, rules, sym}
-use Rattle.batcher_ffi.proofs.Quorums.{makes_quorum}
+use Rattle.batcher_ffi.proofs.Quorums.{round_makes_quorum}
 use Rattle.batcher_ffi.proofs.Verified.{same_self}
 use Rattle.batcher_ffi.proofs.rounds.try_construct.Goals as goal
 
@@ -39,10 +39,10 @@ returns-in-Ok-Some c =
       done = λ is. (
         c.in-Ok-Some.batch,
         (
-          c.write_batch.ensures,
+          c.write_batch.ensures.batch,
           (
-            makes_quorum c.args.round.now _ _ _ c.in-Ok-Some.batch
-                (rw c.in-Ok-Some.field-0-is at does.certifies) c.write_batch.ensures.certificate,
+            round_makes_quorum c.args.round.now _ _ _ c.in-Ok-Some.batch
+                (rw c.in-Ok-Some.field-0-is at does.certifies) c.write_batch.ensures.batch.certificate,
             rw c.in-Ok-Some.field-0-is at does.meets,
           ),
         ),

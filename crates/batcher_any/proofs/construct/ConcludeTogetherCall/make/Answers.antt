@@ -5,7 +5,7 @@ use Rattle.batcher_any.proofs.construct.ConcludeTogetherCall.make.Goals as goal
 
 pub returns-clause-does : goal.returns-clause-does
 returns-clause-does g c = rw (sym c.judged.view_is) (
-    let whole = rw (sym c.judged.view_is) at c.in-Some.ensures.whole in
+    let whole = c.in-Some.ensures.whole in
     let e = c.conclude_with.ensures in
     let list = c.args.self.list.now in
     let all : c.split_at.result.0.now ++ c.split_at.result.1.now ≡ list =
@@ -22,7 +22,7 @@ returns-clause-does g c = rw (sym c.judged.view_is) (
       });
       certified = rw (
         c.judged.invariant.0,
-        sym c.deref.ensures,
+        sym c.deref-2.ensures,
         sym all,
         sym c.in_ok-certificate.ensures.made,
       ) e.gives;

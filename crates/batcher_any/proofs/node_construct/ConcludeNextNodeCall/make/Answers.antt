@@ -4,7 +4,7 @@ use Rattle.batcher.specs.RoundContracts.{round_config}
 use Rattle.batcher_types.specs.contracts.messages.Sha256DigestPartialEq.TheImpl as digest
 use Rattle.batcher_types.specs.contracts.scheme.keyed.NameOrd.TheImpl as name
 use Rattle.batcher_bytes.specs.contracts.signature.SignaturePartialEq.TheImpl as signature
-use Rattle.batcher_any.proofs.NextRounds.{changed_there, complete_there, ready_there}
+use Rattle.batcher_any.proofs.NextRounds.{changed_there, complete_there, ready_there, waits_there}
 use Rattle.batcher_any.proofs.node_construct.ConcludeNextNodeCall.make.Goals as goal
 use Rattle.batcher_any.proofs.node_construct.ConcludeNextNodeCall.make.Goals.{in-Some-2, in-None, in-Some-3, in-None-2}
 
@@ -14,6 +14,7 @@ returns-then-has_attempt-clause-does g c = elim c.match-branch-2.branch [
     rests = search rules;
     complete = search rules;
     waits = search rules;
+    waits_for = search rules;
     meets = rw w.in-Some-2.is at c.in_ok-one.ensures.meets;
     next = rw w.in-Some-2.is at c.in_ok-one.ensures.next;
     concludes = λ view round subject n all. refl;
@@ -28,6 +29,9 @@ returns-then-has_attempt-clause-does g c = elim c.match-branch-2.branch [
         rests = search rules;
         complete = search rules;
         waits = λ is. let both = (rw w.in-None.is at c.in_ok-one.ensures.waits) refl in rw (both.0, both.1) refl;
+        waits_for = λ is. waits_there config _ c.judged.inside.verdicts c.in-Some.view.0
+            c.has_attempt.result c.in-Some.ensures.next
+            (rw (sym c.judged.view_is) at c.has_attempt.ensures) c.if-has_attempt.true;
         meets = tt;
         next = tt;
         concludes = λ view round subject n all. absurd (true≢false (sym
@@ -47,6 +51,7 @@ returns-clause-does g c = elim c.match-branch-4.branch [
     rests = search rules;
     complete = search rules;
     waits = search rules;
+    waits_for = search rules;
     meets = rw w.in-Some-3.is at c.in_ok-one-2.ensures.meets;
     next = rw w.in-Some-3.is at c.in_ok-one-2.ensures.next;
     concludes = λ view round subject n all. refl;
@@ -60,6 +65,7 @@ returns-clause-does g c = elim c.match-branch-4.branch [
         rests = λ is. (rw rest.0 refl, rest.1);
         complete = λ is. rw rest.0 (rw rest.0 at ((rw w.in-None-2.is at c.in_ok-one-2.ensures.complete) refl));
         waits = search rules;
+        waits_for = search rules;
         meets = tt;
         next = tt;
         concludes = λ view round subject n all. absurd (changed_there _ view n.next (rest.1 view));

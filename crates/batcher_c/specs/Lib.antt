@@ -1,9 +1,0 @@
-pub mod Ownership
-pub mod Truths
-pub mod Rows
-pub mod Flat
-pub mod Output
-pub mod Handles
-pub mod Rounds
-pub mod Nodes
-pub mod Convictions

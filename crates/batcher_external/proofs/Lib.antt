@@ -1,4 +1,0 @@
-pub mod Wholes
-pub mod Filtered
-pub mod Tables
-pub mod VerdictLists

@@ -1,5 +1,0 @@
-pub mod KnownAttestations
-pub mod Tables
-pub mod VerdictLists
-pub mod External
-pub mod Lawful

@@ -1,0 +1,56 @@
+use Rattle.std.proofs.Common.{◌∙◌, refl, rules, sym}
+use Rattle.batcher_ffi.proofs.NodesOfEither.{concluded_of_quorum, is_nothing, never_verifies, waits_for_none, waits_on_nothing}
+use Rattle.batcher_ffi.proofs.nodes.try_construct.Goals as goal
+use Rattle.batcher_ffi.proofs.nodes.try_construct.Goals.{in-Some+else-not-is_empty, in_default}
+
+pub returns-then-not-is_empty : goal.returns-then-not-is_empty
+returns-then-not-is_empty c = record {
+  wants = λ is. (
+    record {
+      subject = c.in-Some.wanted.subject;
+      asked = c.in-Some.wanted.pending.now;
+      verified = c.in-Some.wanted.verified.now;
+      wants = c.in-Some.ensures.wants;
+      some = search rules;
+      about = c.write_wanted.ensures.subject;
+      listed = c.write_wanted.ensures.listed;
+      counted = c.write_wanted.ensures.verified;
+      known_list = c.write_wanted.ensures.known;
+      written = c.write_wanted.ensures.list;
+    },
+    (refl, refl),
+  );
+  makes = search rules;
+  promised = c.promises.ensures.each;
+}
+
+pub write_concluded-code-requires : goal.write_concluded-code-requires
+write_concluded-code-requires c = elim c.match-wanted.branch [
+  | in-Some+else-not-is_empty w ↦
+      waits_on_nothing c.args.node.now c.call-answer.new.self c.call-answer.result
+      c.call-answer.ensures.does w.in-Some.view.0 w.in-Some.wanted.subject
+      w.in-Some.wanted.verified.now
+      (rw (is_nothing w.in-Some.wanted.pending.now
+      (sym w.is_empty.ensures ∙ w.if-not-is_empty.false)) at w.in-Some.ensures.wants)
+  | in_default w ↦
+      waits_for_none c.args.node.now c.call-answer.new.self c.call-answer.result
+      c.call-answer.ensures.does (rw w.in_default.is at c.wanted.ensures.none)
+]
+
+pub returns : goal.returns
+returns c =
+    let written = c.write_concluded-code.ensures in
+    record {
+      wants = λ is. absurd (never_verifies _ _ _ _ _ _ _ c.call-answer.result written is);
+      makes = λ not. (
+        record {
+          answer = c.call-answer.result;
+          written = written;
+          quorum = λ one is. concluded_of_quorum c.args.node.now c.call-answer.new.self _ _ _ _ _ _ _
+              c.promises.ensures.some one c.call-answer.result c.call-answer.ensures.does written is;
+          does = record { does_it = c.call-answer.ensures.does; same = c.call-answer.ensures.same };
+        },
+        refl,
+      );
+      promised = c.promises.ensures.each;
+    }

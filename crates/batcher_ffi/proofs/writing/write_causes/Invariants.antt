@@ -1,0 +1,12 @@
+use Rattle.std.proofs.Common.{◌≡◌, ◌<◌, ◌≤◌, ℕ, length, slice_get}
+use Rattle.std.specs.Option.{option_map}
+use Rattle.batcher_ffi.specs.Flat.{cause_in}
+use Rattle.batcher_ffi.proofs.writing.write_causes.Given as goal
+
+abbrev pub invariant-loop-index : goal.invariant-loop-index
+invariant-loop-index l = record {
+  places : length l.to ≡ length l.initial.to;
+  written : (i : ℕ) → i < l.index
+      → option_map cause_in (slice_get l.to i) ≡ slice_get l.from i;
+  rest : (i : ℕ) → l.index ≤ i → slice_get l.to i ≡ slice_get l.initial.to i;
+}

@@ -1,9 +1,0 @@
-use Rattle.std.proofs.Common.{sym}
-use Rattle.batcher_session.proofs.session.Session.set_leader.Goals as goal
-use Rattle.batcher_session.proofs.session.Session.set_leader.Goals.{in-Batchable, in-OneByOne}
-
-pub returns-clause-meets : goal.returns-clause-meets
-returns-clause-meets g c = elim c.match-self.branch [
-  | in-Batchable w ↦ rw (w.result-is, w.self-inside-is, sym c.self.view_is, w.in-Batchable.is) w.set_leader.ensures.meets
-  | in-OneByOne w ↦ rw (w.result-is, w.self-inside-is, sym c.self.view_is, w.in-OneByOne.is) w.set_leader-in-OneByOne.ensures.meets
-]

@@ -1,6 +1,0 @@
-pub mod Schemes
-pub mod Ledgers
-pub mod Sessions
-pub mod Wants
-pub mod Steps
-pub mod Sorts
