@@ -1,5 +1,5 @@
 -- What the calls of a round do and answer, by codes and flat values.
-use Rattle.std.specs.Prelude.{◌≡◌, ◌≢◌, ◌↔◌, ◌≤◌, ◌==◌, ◌++◌, ⊤, not, ℕ, Bool, true, false, List, [], ◌∷◌, length, map, Option, Some, None, Ok, IfSome, IsSomeAnd, is_some, nat_lt}
+use Rattle.std.specs.Prelude.{◌≡◌, ◌≢◌, ◌↔◌, ◌≤◌, ◌==◌, ◌++◌, ◌⊎◌, ⊤, not, ℕ, Bool, true, false, List, [], ◌∷◌, length, map, Option, Some, None, Ok, IfSome, IsSomeAnd, is_some, nat_lt}
 use Rattle.std.specs.List.{list_all, list_any}
 use Rattle.batcher_types.specs.declared.messages.Sha256Digest.{Sha256Digest}
 use Rattle.batcher_types.specs.declared.positions.Participant.{Participant}
@@ -233,6 +233,12 @@ module _ (before : CRound) (code : ℕ) (after : CRound) where
         × ((subject_in kind proposal ≡ Some (subject_certified certificate))
         × (IsReceived bytes (content_of certificate)
         × Goes (CertificateCall certificate, CertificateAnswer out)))
+    -- for the copy of the bytes, or as the history says
+    pub needed : code ≡ OUT_OF_MEMORY → 1 ≤ length bytes
+        ⊎ IfSome (subject_in kind proposal) (λ subject. (certificate : Made)
+        × ((subject_certified certificate ≡ subject)
+        × (IsReceived bytes (content_of certificate)
+        × MayNeed before (CertificateCall certificate))))
     pub stays : code ≢ DONE → (after ≡ before) × (out ≡ old)
     pub verdicts : (held_in after).verdicts ≡ (held_in before).verdicts
     pub same : SameAny before after

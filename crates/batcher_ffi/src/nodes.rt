@@ -1,6 +1,6 @@
 //! The calls of a node, over flat values. Each answers a code.
 
-ghost use Rattle.std.specs.Prelude.{◌≡◌, ◌≤◌, length, IfOk, OnErr, Some};
+ghost use Rattle.std.specs.Prelude.{Some};
 ghost use Rattle.batcher_ffi.specs.Nodes.{AreVerifiedIn, AsksCertificateOf, AsksLeaderOf, AsksMissingOf, AsksNullifyOf, AsksProposalOf, AsksRoundsKept, AsksWindow, CastsVote, ConstructsNext};
 ghost use Rattle.batcher_ffi.specs.Nodes.{ConstructsNextTogether, EntersView, FinalizesView, ForwardsInView, IsVerifiedCertificate, IsVerifiedIn, ListsBlocked, ListsMissingOf, PassTogetherIn, ReceivesCertificate};
 ghost use Rattle.batcher_ffi.specs.Nodes.{ReceivesVote, RecordsNext};
@@ -15,7 +15,7 @@ use crate::node_answers::{
     write_together, write_verdict,
 };
 use crate::rounds::{is_verified, take_part};
-use crate::writing::{attestations_of, write_causes, write_signers, write_wanted};
+use crate::writing::{attestations_of, copied, write_causes, write_signers, write_wanted};
 use batcher_any::{
     AnyNode, CastVote, ConcludeNext, ConcludeNextTogether, Enter, Finalize, ForwardIn,
     HasCertificate, HasNullify, IsMissingVoter, Leader, MissingVoters, ReceiveCertificate,
@@ -25,7 +25,7 @@ use batcher_bytes::{Content, Verified};
 use batcher_types::messages::Certificate;
 use batcher_types::positions::{Participant, View};
 use batcher_types::scheme::Name;
-use std::alloc::{AllocError, Global};
+use std::alloc::Global;
 
 /// A node as C has it.
 pub type Node = AnyNode<Caller>;
@@ -71,17 +71,6 @@ pub fn receive_certificate(
         certificate: Certificate::new(subject, content),
     });
     write_verdict(&answer, selected_anew)
-}
-
-// The bytes, on the heap, for which none needs memory.
-fn copied(alloc: Global, bytes: &[u8]) -> Result<Vec<u8>, AllocError>
-    ensures copied { IfOk result (λ made. made.items ≡ bytes.now) }
-    ensures needed { OnErr result (1 ≤ length bytes.now) }
-{
-    if bytes.is_empty() {
-        return Ok(Vec::new(alloc));
-    }
-    Vec::from_slice(alloc, bytes)
 }
 
 /// Takes in a vote of the node's own, by the caller's verdict on it.

@@ -17,7 +17,7 @@ use crate::flat::{
     subject_of,
 };
 use crate::handle::Round;
-use crate::writing::{attestations_of, write_batch, write_signers, write_wanted};
+use crate::writing::{attestations_of, copied, write_batch, write_signers, write_wanted};
 use batcher_any::{
     AcceptVote, AddNetwork, Conclude, ConcludeTogether, Forward, HasCertificate, HasNullify,
     IsMissingVoter, Leader, MissingVoters, OwnRefusal, Promises, RecordCertificate, RecordVerdicts,
@@ -128,7 +128,7 @@ pub fn record_certificate(
     let Some(subject) = subject_of(kind, proposal) else {
         return MALFORMED;
     };
-    let Ok(copied) = Vec::from_slice(alloc, bytes) else {
+    let Ok(copied) = copied(alloc, bytes) else {
         return OUT_OF_MEMORY;
     };
     let content = Content::Received(Verified::new(round.keys(), subject, copied, true));

@@ -1,6 +1,6 @@
 //! What is written into the room that a caller hands in, and read from it.
 
-ghost use Rattle.std.specs.Prelude.{◌≡◌, true, length, is_none, None, Some, Ok, IfOk, IfSome};
+ghost use Rattle.std.specs.Prelude.{◌≡◌, ◌≤◌, true, length, is_none, None, Some, Ok, IfOk, IfSome, OnErr};
 ghost use Rattle.std.specs.List.{list_any};
 ghost use Rattle.batcher_types.specs.Keys.{participant};
 ghost use Rattle.batcher_ffi.specs.Flat.{AreIn, attestation_in, cause_in, raw_in, subject_in};
@@ -104,6 +104,17 @@ pub fn write_causes(from: &[Option<Cause>], to: &mut [u8])
     for index in 0..from.len().min(to.len()) {
         to[index] = cause_code(from[index]);
     }
+}
+
+/// The bytes on the heap. None of them takes no memory.
+pub fn copied(alloc: Global, bytes: &[u8]) -> Result<Vec<u8>, AllocError>
+    ensures copied { IfOk result (λ made. made.items ≡ bytes.now) }
+    ensures needed { OnErr result (1 ≤ length bytes.now) }
+{
+    if bytes.is_empty() {
+        return Ok(Vec::new(alloc));
+    }
+    Vec::from_slice(alloc, bytes)
 }
 
 /// The attestations of a list. None where a signature is longer than there are bytes.
