@@ -127,6 +127,37 @@ impl Constructions {
         }
     }
 
+    /// The next construction, for which the scheme verifies on the spot what is wanted: the view that
+    /// it was made in, and the batch, if it gave one. None where there is nothing to be made.
+    pub(crate) fn construct<S: Scheme>(
+        &mut self,
+        scheme: &S,
+        library: &mut impl Library,
+    ) -> Result<Option<(View, Option<Batch<S::Certificate>>)>, Error> {
+        loop {
+            match self.step(scheme, library)? {
+                Next::Idle => return Ok(None),
+                Next::Rests(view) => return Ok(Some((view, None))),
+                Next::Made(view, batch) => return Ok(Some((view, Some(batch)))),
+                Next::Verify(wanted) => {
+                    let verdicts =
+                        scheme.verify_attestations(&wanted.subject, &wanted.attestations);
+                    self.record_verdicts(library, &wanted, &verdicts)?;
+                }
+                Next::VerifyTogether(together) => {
+                    let Wanted {
+                        subject,
+                        attestations,
+                        ..
+                    } = &together.wanted;
+                    let passes = scheme.verify_together(subject, attestations, together.verified);
+                    self.record_verdict_together(&together, passes)?;
+                }
+            }
+        }
+    }
+
+    /// The next construction, or what it wants verified first.
     pub(crate) fn step<S: Scheme>(
         &mut self,
         scheme: &S,

@@ -605,26 +605,15 @@ impl<S: Scheme> Node<S> {
     ///
     /// Where the scheme doesn't give a verdict on each attestation.
     pub fn try_construct(&mut self) -> Result<Option<Construction<S::Certificate>>, Error> {
-        loop {
-            match self.step()? {
-                Step::Idle => return Ok(None),
-                Step::Made(construction) => return Ok(Some(construction)),
-                Step::Verify(wanted) => {
-                    let verdicts = self
-                        .scheme
-                        .verify_attestations(wanted.subject(), wanted.attestations());
-                    let _ = self.record_verdicts(&wanted, &verdicts)?;
-                }
-                Step::VerifyTogether(wanted) => {
-                    let passes = self.scheme.verify_together(
-                        wanted.subject(),
-                        wanted.attestations(),
-                        wanted.verified(),
-                    );
-                    self.record_verdict_together(&wanted, passes)?;
-                }
-            }
-        }
+        let made = self
+            .constructions
+            .construct(&*self.scheme, &mut self.library);
+        self.note_construction(match &made {
+            Ok(Some((_, Some(batch)))) => !batch.invalid.is_empty(),
+            Ok(_) => false,
+            Err(_) => true,
+        })?;
+        Ok(made?.map(|(view, batch)| Construction { view, batch }))
     }
 
     /// Makes the next construction, or hands out what has to be verified for it, which may be done
@@ -641,15 +630,11 @@ impl<S: Scheme> Node<S> {
     /// `OutOfMemory`.
     pub fn step(&mut self) -> Result<Step<S::Signature, S::Certificate>, Error> {
         let next = self.constructions.step(&*self.scheme, &mut self.library);
-        // A batch that isn't handed over may have blocked somebody too.
-        let blocks = match &next {
+        self.note_construction(match &next {
             Ok(Next::Made(_, batch)) => !batch.invalid.is_empty(),
             Ok(_) => false,
             Err(_) => true,
-        };
-        if blocks {
-            self.note_blocked()?;
-        }
+        })?;
         Ok(match next? {
             Next::Idle => Step::Idle,
             Next::Rests(view) => Step::Made(Construction { view, batch: None }),
@@ -874,6 +859,14 @@ impl<S: Scheme> Node<S> {
             current: View::new(current),
             ahead,
         };
+    }
+
+    // After a construction that may have blocked somebody, as one that isn't handed over may too.
+    fn note_construction(&mut self, may_block: bool) -> Result<(), Error> {
+        if may_block {
+            self.note_blocked()?;
+        }
+        Ok(())
     }
 
     // Asks the library who is blocked, after a call that may have blocked somebody.

@@ -535,26 +535,10 @@ impl<S: Scheme> Round<S> {
     ///
     /// Where the scheme doesn't give a verdict on each attestation.
     pub fn try_construct(&mut self) -> Result<Option<Batch<S::Certificate>>, Error> {
-        loop {
-            match self.step()? {
-                Step::Idle => return Ok(None),
-                Step::Made(batch) => return Ok(Some(batch)),
-                Step::Verify(wanted) => {
-                    let verdicts = self
-                        .scheme
-                        .verify_attestations(wanted.subject(), wanted.attestations());
-                    let _ = self.record_verdicts(&wanted, &verdicts)?;
-                }
-                Step::VerifyTogether(wanted) => {
-                    let passes = self.scheme.verify_together(
-                        wanted.subject(),
-                        wanted.attestations(),
-                        wanted.verified(),
-                    );
-                    self.record_verdict_together(&wanted, passes)?;
-                }
-            }
-        }
+        let made = self
+            .constructions
+            .construct(&*self.scheme, &mut self.library)?;
+        Ok(made.and_then(|(_, batch)| batch))
     }
 
     /// Makes the next construction, or hands out what has to be verified for it, which may be done
