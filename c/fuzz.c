@@ -130,10 +130,11 @@ static int construct(struct batcher_round *round, uint32_t participants, bool an
     memset(&step, 0, sizeof step);
     before = list[0];
     uint8_t code = batcher_round_try_construct(round, &step, known, known_room, list, room, signers, signers_room);
+    CHECK((code == BATCHER_SHORT) == (round->at != NULL && (room < participants || signers_room < participants)));
     if (code == BATCHER_VERIFY) {
         CHECK(step.listed >= 1 && step.listed + step.verified <= participants);
         for (size_t i = step.listed; i < MOST; i++) CHECK(memcmp(&list[i], &before, sizeof before) == 0);
-        size_t count = step.listed < room ? step.listed : room;
+        size_t count = step.listed;
         for (size_t i = 0; i < count; i++) verdicts[i] = attests(&list[i]);
         for (size_t i = 0; i < step.verified && i < known_room; i++) CHECK(attests(&known[i]));
         if (!answers) return together(round, &step, known, known_room, list, room, participants);
@@ -145,13 +146,12 @@ static int construct(struct batcher_round *round, uint32_t participants, bool an
     }
     if (code == BATCHER_DONE) {
         CHECK(step.processed <= participants && step.invalid <= participants);
-        for (size_t i = 0; i < step.invalid && i < signers_room; i++) CHECK(signers[i] < participants);
+        for (size_t i = 0; i < step.invalid; i++) CHECK(signers[i] < participants);
         bad += step.invalid;
         certified += step.certified;
-        if (step.certified && room == MOST) return quorum(&step, 1, list, participants);
-        return 0;
+        return step.certified ? quorum(&step, 1, list, participants) : 0;
     }
-    CHECK(code == BATCHER_IDLE || code == BATCHER_OUT_OF_MEMORY);
+    CHECK(code == BATCHER_IDLE || code == BATCHER_SHORT || code == BATCHER_OUT_OF_MEMORY || code == BATCHER_NONE);
     for (size_t i = 0; i < MOST; i++) CHECK(memcmp(&list[i], &before, sizeof before) == 0);
     MADE(code);
     return 0;
@@ -306,10 +306,11 @@ static int construct_in(struct batcher_node *node, uint32_t participants, bool a
     size_t room = below(3) != 0 ? MOST : below(MOST);
     memset(&step, 0, sizeof step);
     uint8_t code = batcher_node_try_construct(node, &step, known, MOST, list, room, signers, MOST);
+    CHECK((code == BATCHER_SHORT) == (room < participants));
     if (code == BATCHER_VERIFY) {
         CHECK(step.listed >= 1 && step.listed + step.verified <= participants && step.proposal.view == step.view);
-        if (!answers && room == MOST) return together_in(node, &step, known, list, participants);
-        size_t answered = step.listed < room ? step.listed : room;
+        if (!answers) return together_in(node, &step, known, list, participants);
+        size_t answered = step.listed;
         for (size_t i = 0; i < answered; i++) verdicts[i] = attests(&list[i]);
         if (answered > 1) answered = 1 + below(answered);
         code = batcher_node_record_verdicts(node, step.kind, &step.proposal, list, answered, verdicts, answered);
@@ -324,9 +325,9 @@ static int construct_in(struct batcher_node *node, uint32_t participants, bool a
             CHECK(signers[i] < participants && causes[signers[i]] != BATCHER_CAUSE_NONE);
         bad += step.invalid;
         certified += step.certified;
-        return step.certified && room == MOST ? quorum(&step, step.view, list, participants) : 0;
+        return step.certified ? quorum(&step, step.view, list, participants) : 0;
     }
-    CHECK(code == BATCHER_IDLE || code == BATCHER_RESTS || code == BATCHER_OUT_OF_MEMORY);
+    CHECK(code == BATCHER_IDLE || code == BATCHER_RESTS || code == BATCHER_SHORT || code == BATCHER_OUT_OF_MEMORY);
     MADE(code);
     return 0;
 }

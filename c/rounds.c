@@ -194,7 +194,7 @@ static int mistakes(void) {
     uint32_t leader = 9;
     bool flag = false;
     const bool good[] = {true, true};
-    for (int code = BATCHER_DONE; code <= BATCHER_STALE; code++)
+    for (int code = BATCHER_DONE; code <= BATCHER_SHORT; code++)
         CHECK(strcmp(batcher_code_text((uint8_t)code), batcher_code_text(255)) != 0);
     CHECK(batcher_round_add_network(&round, 0, &vote, &admission) == BATCHER_NONE);
     CHECK(construct(&round, &step) == BATCHER_NONE);
@@ -222,8 +222,15 @@ static int mistakes(void) {
     CHECK(record(&round, &step, good, 1) == BATCHER_STALE);
     vote.attestation.signer = PARTICIPANTS;
     CHECK(batcher_round_accept_vote(&round, &vote, true, &admission) == BATCHER_NOT_VERIFIED);
-    /* A construction lists what there is room for, and counts all. */
-    CHECK(batcher_round_try_construct(&round, &step, NULL, 0, NULL, 0, NULL, 0) == BATCHER_VERIFY && step.listed == 1);
+    /* Lists that a construction might not fit into are refused before it is made. */
+    CHECK(batcher_round_try_construct(&round, &step, NULL, 0, NULL, 0, NULL, 0) == BATCHER_SHORT);
+    CHECK(batcher_round_try_construct(&round, &step, NULL, 0, list, PARTICIPANTS - 1, signers, PARTICIPANTS)
+          == BATCHER_SHORT);
+    CHECK(batcher_round_try_construct(&round, &step, NULL, 0, list, PARTICIPANTS, signers, PARTICIPANTS - 1)
+          == BATCHER_SHORT);
+    CHECK(batcher_round_try_construct(&round, &step, NULL, 0, list, PARTICIPANTS, signers, PARTICIPANTS)
+          == BATCHER_VERIFY);
+    CHECK(step.listed == 1);
     batcher_round_free(&round);
     batcher_round_free(&round);
     CHECK(batcher_round_set_leader(&round, 1) == BATCHER_NONE);

@@ -55,7 +55,8 @@ enum batcher_code {
     BATCHER_PASSED, /* the view is before the finalized one */
     BATCHER_KNOWN, /* one of its kind was there, so it isn't to be sent, or wasn't looked at */
     BATCHER_FORGED, /* the certificate doesn't certify what it names, and its peer is blocked */
-    BATCHER_RESTS /* the construction gave no batch, so its view rests; others may not */
+    BATCHER_RESTS, /* the construction gave no batch, so its view rests; others may not */
+    BATCHER_SHORT /* a list has fewer places than there are participants, so nothing changed */
 };
 
 enum batcher_kind { BATCHER_NOTARIZATION, BATCHER_NULLIFICATION, BATCHER_FINALIZATION };
@@ -204,6 +205,7 @@ static inline const char *batcher_code_text(uint8_t code) {
     case BATCHER_KNOWN: return "one of its kind was there";
     case BATCHER_FORGED: return "the certificate doesn't certify what it names";
     case BATCHER_RESTS: return "the view rests";
+    case BATCHER_SHORT: return "a list is too short";
     default: return "no code of this version";
     }
 }
@@ -260,8 +262,8 @@ uint8_t batcher_round_is_missing_voter(struct batcher_round *round,
                                        const struct batcher_proposal *proposal,
                                        uint32_t participant, bool *out);
 
-/* Those that aren't known to have it. What doesn't fit into the list is left out, but counted; the same of
- * the lists below. Lists of as many places as there are participants hold all. */
+/* Those that aren't known to have it. What doesn't fit into the list is left out, but counted. One of as many
+ * places as there are participants holds all. */
 uint8_t batcher_round_missing_voters(struct batcher_round *round,
                                      const struct batcher_proposal *proposal, uint32_t *list,
                                      size_t list_length, uint64_t *count);
@@ -270,7 +272,8 @@ uint8_t batcher_round_missing_voters(struct batcher_round *round,
  * changed; `known` has those that are known to attest. A verdict is kept while its attestation waits, and
  * isn't wanted again. DONE: the list has the attestations of the certificate, if one was made: those of a
  * quorum of different participants, which attest each or passed as a whole. Make it after all that was
- * taken in, until it is IDLE. What doesn't fit into a list is left out, but counted. */
+ * taken in, until it is IDLE. SHORT: `list` or `signers` has fewer places than there are participants, so
+ * something might not fit, and nothing has changed. What doesn't fit into `known` is left out, but counted. */
 uint8_t batcher_round_try_construct(struct batcher_round *round, struct batcher_step *out,
                                     struct batcher_attestation *known, size_t known_length,
                                     struct batcher_attestation *list, size_t list_length,

@@ -34,6 +34,7 @@ pub(crate) mod code {
     pub(crate) const KNOWN: u8 = 18;
     pub(crate) const FORGED: u8 = 19;
     pub(crate) const RESTS: u8 = 20;
+    pub(crate) const SHORT: u8 = 21;
     pub(crate) const NOTARIZATION: u8 = 0;
     pub(crate) const NULLIFICATION: u8 = 1;
     pub(crate) const FINALIZATION: u8 = 2;

@@ -1,15 +1,10 @@
 -- What is said of a node of either sort, by what is said of it over its scheme.
 use Rattle.std.proofs.Common.{◌≡◌, ◌≢◌, ◌∙◌, ◌++◌, ◌==◌, ℕ, true, false, List, [], ◌∷◌, Option, Some, None, Result, Ok, Err, IfOk, IfSome, ap, arith, is_some, length, refl, subst, sym}
 use Rattle.std.proofs.lemmas.Bool.{and_parts, eqb-true, true≢false}
-use Rattle.batcher.specs.Answers.{IsPossible, keeps_nullify}
-use Rattle.batcher.specs.Comparison.{has_block}
-use Rattle.batcher.specs.Config.{config}
-use Rattle.batcher.specs.History.{Event, History}
-use Rattle.batcher.specs.Meaning.{Meaning}
+use Rattle.batcher.specs.Answers.{IsPossible}
+use Rattle.batcher.specs.History.{Event}
 use Rattle.batcher.specs.RoundState.{RoundView}
-use Rattle.batcher.specs.Selection.{selected_proposal}
 use Rattle.batcher_types.specs.declared.messages.Attestation.{Attestation}
-use Rattle.batcher_types.specs.declared.messages.Proposal.{Proposal}
 use Rattle.batcher_types.specs.declared.messages.Sha256Digest.{Sha256Digest}
 use Rattle.batcher_types.specs.declared.messages.Subject.{Subject}
 use Rattle.batcher_types.specs.declared.positions.View.{View}
@@ -17,8 +12,6 @@ use Rattle.batcher_types.specs.declared.scheme.keyed.Name.{Name}
 use Rattle.batcher_types.specs.Votes.{content_of, same_subject, subject_certified}
 use Rattle.batcher_votes.specs.Verifiers.{BatchCertifies, IfGiven, certifies_itself}
 use Rattle.batcher_votes.specs.declared.verifier.Batch.{Batch}
-use Rattle.batcher_votes.specs.declared.votes.Mode.{Mode}
-use Rattle.batcher_votes.specs.declared.votes.Mode.TheVariants.{Retaining, Releasing, Skipped}
 use Rattle.batcher_histories.specs.Attempts.{certifies_subject}
 use Rattle.batcher_histories.specs.declared.answers.Answer.TheVariants.{Construct as ConstructAnswer}
 use Rattle.batcher_histories.specs.declared.calls.Call.TheVariants.{Construct as ConstructCall}
@@ -34,17 +27,17 @@ use Rattle.batcher_any.specs.AnyNodes.{ByEither, OfEither, node_keys_in}
 use Rattle.batcher_any.specs.Judging.{BytesConfig, config_over}
 use Rattle.batcher_any.specs.NextRounds.{NoneIsReady, WantsNext}
 use Rattle.batcher_any.specs.NodeConstructions.{ConcludesNext, ConcludesNextTogether, IfMade, is_made}
-use Rattle.batcher_any.specs.Nodes.{BytesNodeConfig, InView, JudgedNodeView, node_config_over}
+use Rattle.batcher_any.specs.Nodes.{BytesNodeConfig, JudgedNodeView, node_config_over}
 use Rattle.batcher_any.specs.declared.either.Either.TheVariants.{Batchable, OneByOne}
 use Rattle.batcher_any.specs.declared.node_construct.Concluded.{Concluded}
 use Rattle.batcher_any.specs.declared.node_construct.Concluded.TheVariants.{Rests, Waits, Made as MadeOne}
 use Rattle.batcher_ffi.proofs.Quorums.{makes_quorum}
 use Rattle.batcher_ffi.specs.NodeAnswers.{AnswersConcluded, AnswersConstruction, AnswersTogether}
-use Rattle.batcher_ffi.specs.Nodes.{CNode, HoldsInView, MakesQuorumOf, node_config_of}
+use Rattle.batcher_ffi.specs.Nodes.{CNode, MakesQuorumOf, node_config_of}
 use Rattle.batcher_ffi.specs.Output.{Made}
 use Rattle.batcher_ffi.specs.contracts.caller.CallerTruth.TheImpl.{ghosts}
 use Rattle.batcher_ffi.specs.declared.caller.Caller.{Caller}
-use Rattle.batcher_ffi.specs.declared.codes.TheConstants.{MALFORMED, VERIFY}
+use Rattle.batcher_ffi.specs.declared.codes.TheConstants.{MALFORMED, SHORT, VERIFY}
 use Rattle.batcher_ffi.specs.declared.flat.FlatAttestation.{FlatAttestation}
 use Rattle.batcher_ffi.specs.declared.flat.FlatStep.{FlatStep}
 
@@ -229,21 +222,22 @@ pub is_nothing : {A : Type 0} (list : List A) → (length list == 0) ≡ true �
 is_nothing [] h = refl
 is_nothing (x ∷ list) h = absurd (omega (arith, eqb-true (length (x ∷ list)) 0 h))
 
--- A construction that is answered wants no verdict.
+-- A construction that is answered wants no verdict, and its lists have room.
 module _ (old step : FlatStep) (room list : List FlatAttestation) (signers_room signers : List ℕ)
     (code : ℕ) where
-  none_of_one : (view : View) (given : Option (Batch Made))
+  one_is_made : (view : View) (given : Option (Batch Made))
       → AnswersConstruction old step room list signers_room signers
-      (record { view = view; batch = given }) code → code ≢ VERIFY
-  none_of_one view None written = λ is. omega (arith, written.0, is)
-  none_of_one view (Some batch) written = λ is. omega (arith, written.0, is)
+      (record { view = view; batch = given }) code → (code ≢ VERIFY) × (code ≢ SHORT)
+  one_is_made view None written = (λ is. omega (arith, written.0, is), λ is. omega (arith, written.0, is))
+  one_is_made view (Some batch) written = (λ is. omega (arith, written.0, is), λ is. omega (arith, written.0, is))
 
-  pub never_verifies : {E : Type 0} (answer : Result (Concluded Caller) E)
-      → AnswersConcluded old step room list signers_room signers answer code → code ≢ VERIFY
-  never_verifies (Ok (MadeOne one)) written = none_of_one one.view one.batch written
-  never_verifies (Ok Rests) written = λ is. omega (arith, written.0, is)
-  never_verifies (Ok Waits) written = absurd written
-  never_verifies (Err refusal) written = λ is. omega (arith, written.0, is)
+  pub is_answered : {E : Type 0} (answer : Result (Concluded Caller) E)
+      → AnswersConcluded old step room list signers_room signers answer code
+      → (code ≢ VERIFY) × (code ≢ SHORT)
+  is_answered (Ok (MadeOne one)) written = one_is_made one.view one.batch written
+  is_answered (Ok Rests) written = (λ is. omega (arith, written.0, is), λ is. omega (arith, written.0, is))
+  is_answered (Ok Waits) written = absurd written
+  is_answered (Err refusal) written = (λ is. omega (arith, written.0, is), λ is. omega (arith, written.0, is))
 
 -- What is answered to a quorum as a whole was read.
 module _ (old step : FlatStep) (room list : List FlatAttestation) (signers_room signers : List ℕ)

@@ -1,8 +1,8 @@
 -- What a caller has verified, by what the scheme of its round means.
-use Rattle.std.proofs.Common.{◌≡◌, ◌∙◌, ◌&&◌, nat_lt, ℕ, Bool, true, false, List, [], ◌∷◌, Some, map, ap, refl, sym}
+use Rattle.std.proofs.Common.{◌≡◌, ◌≢◌, ◌↔◌, ◌∙◌, ◌&&◌, nat_lt, ℕ, Bool, true, false, List, [], ◌∷◌, Some, map, ap, refl, sym}
 use Rattle.std.specs.List.{list_all, list_any}
 use Rattle.std.specs.Prelude.{is_none, length}
-use Rattle.std.proofs.lemmas.Bool.{and_parts}
+use Rattle.std.proofs.lemmas.Bool.{and_parts, true≢false}
 use Rattle.std.proofs.lemmas.List.{length-map}
 use Rattle.batcher_types.specs.declared.messages.Attestation.{Attestation}
 use Rattle.batcher_types.specs.declared.messages.Sha256Digest.{Sha256Digest}
@@ -13,8 +13,9 @@ use Rattle.batcher_any.specs.Judging.{SameAny, keys_in}
 use Rattle.batcher_any.specs.declared.either.Either.TheVariants.{Batchable, OneByOne}
 use Rattle.batcher_ffi.specs.Flat.{AreIn, attestation_in}
 use Rattle.batcher_ffi.specs.Nodes.{CNode, node_config_of}
-use Rattle.batcher_ffi.specs.Rounds.{CRound, config_of}
+use Rattle.batcher_ffi.specs.Rounds.{CRound, config_of, is_short}
 use Rattle.batcher_ffi.specs.Truths.{is_attested}
+use Rattle.batcher_ffi.specs.declared.codes.TheConstants.{SHORT}
 use Rattle.batcher_ffi.specs.declared.flat.FlatAttestation.{FlatAttestation}
 
 pub attests_if : (r : CRound) (subject : Subject Sha256Digest) (a : Attestation Signature)
@@ -105,3 +106,13 @@ none_missing (flat ∷ list) (x ∷ xs) is any =
     let first : attestation_in flat ≡ Some x = cc in
     let rest : map attestation_in list ≡ map Some xs = cc in
     none_missing list xs rest (rw first at any)
+
+-- Where the lists aren't short, no code says so.
+pub not_short : (code n m : ℕ) (room : List FlatAttestation) (signers_room : List ℕ) (b : Bool)
+    → b ≡ is_short m room signers_room → m ≡ n → b ≡ false → code ≢ SHORT
+    → (code ≡ SHORT) ↔ (is_short n room signers_room ≡ true)
+not_short code n m room signers_room b by same fits other = (
+  λ is. absurd (other is),
+  λ yes. absurd (true≢false (sym yes ∙ (ap (λ k. is_short k room signers_room) (sym same)
+      ∙ (sym by ∙ fits)))),
+)

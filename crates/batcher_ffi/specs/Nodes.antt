@@ -1,6 +1,6 @@
 -- What the calls of a node do, and how their answers are written. What a call does is said in
 -- `batcher_any`: an answer of that is written as a code, and into what is handed in.
-use Rattle.std.specs.Prelude.{◌≡◌, ◌≢◌, ◌≤◌, ◌==◌, ◌⊎◌, ⊤, not, ℕ, Bool, true, List, [], ◌∷◌, length, map, Option, Some, None, Result, Ok, IfSome, IsSomeAnd, MatchOption, is_some}
+use Rattle.std.specs.Prelude.{◌≡◌, ◌≢◌, ◌↔◌, ◌≤◌, ◌==◌, ◌⊎◌, ⊤, not, ℕ, Bool, true, List, [], ◌∷◌, length, map, Option, Some, None, Result, Ok, IfSome, IsSomeAnd, MatchOption, is_some}
 use Rattle.std.specs.declared.alloc.AllocError.{AllocError}
 use Rattle.batcher.specs.Answers.{keeps_nullify, missing_after}
 use Rattle.batcher.specs.Comparison.{has_block}
@@ -40,16 +40,16 @@ use Rattle.batcher_any.specs.declared.node_construct.Concluded.TheVariants.{Made
 use Rattle.batcher_any.specs.declared.own.CastRefusal.{CastRefusal}
 use Rattle.batcher_ffi.specs.contracts.caller.CallerTruth.TheImpl.{ghosts}
 use Rattle.batcher_ffi.specs.declared.caller.Caller.{Caller}
-use Rattle.batcher_ffi.specs.declared.codes.TheConstants.{DONE, MALFORMED, OUT_OF_MEMORY, IDLE, VERIFY, STALE}
+use Rattle.batcher_ffi.specs.declared.codes.TheConstants.{DONE, MALFORMED, OUT_OF_MEMORY, IDLE, VERIFY, STALE, SHORT}
 use Rattle.batcher_ffi.specs.declared.flat.FlatAdmission.{FlatAdmission}
 use Rattle.batcher_ffi.specs.declared.flat.FlatAttestation.{FlatAttestation}
 use Rattle.batcher_ffi.specs.declared.flat.FlatProposal.{FlatProposal}
 use Rattle.batcher_ffi.specs.declared.flat.FlatStep.{FlatStep}
 use Rattle.batcher_ffi.specs.declared.flat.FlatVote.{FlatVote}
 use Rattle.batcher_ffi.specs.Flat.{AreIn, cause_in, kind_in, proposal_in, raw_in, subject_in, vote_in}
-use Rattle.batcher_ffi.specs.NodeAnswers.{AnswersCast, AnswersCertificate, AnswersConcluded, AnswersLeader, AnswersProposal, AnswersTogether, AnswersVote, enter_code}
+use Rattle.batcher_ffi.specs.NodeAnswers.{AnswersCast, AnswersCertificate, AnswersConcluded, AnswersLeader, AnswersProposal, AnswersTogether, AnswersVote, StepStays, enter_code}
 use Rattle.batcher_ffi.specs.Output.{IsWritten, Made}
-use Rattle.batcher_ffi.specs.Rounds.{AreOfParticipants, MakesQuorum, is_one_of}
+use Rattle.batcher_ffi.specs.Rounds.{AreOfParticipants, MakesQuorum, is_one_of, is_short}
 use Rattle.batcher_ffi.specs.Truths.{is_attested, is_certified, is_passed}
 
 -- a node as C has it
@@ -293,16 +293,19 @@ module _ (before : CNode) (code : ℕ) (after : CNode) where
     pub does : Does (λ S x rounds a b. ConcludesNext x rounds a answer b)
 
   -- It is made, or the verdicts are written that it wants first.
-  pub record ConstructsNext (old step : FlatStep)
-      (known_room known room list : List FlatAttestation) (signers_room signers : List ℕ) : Type 0
-    where
-      pub wants : code ≡ VERIFY → WritesWantedNext step known_room known room list
-          × ((after ≡ before) × (signers ≡ signers_room))
-      pub makes : code ≢ VERIFY → MakesNext old step room list signers_room signers
-          × (known ≡ known_room)
-      -- All that is promised of a node holds of each history that this one represents.
-      pub promised : OfEither ghosts (λ S x rounds judged. ForEachNodeHistory x judged.node
-          (λ past. KeepsPromises x past judged.node)) before
+  pub record ConstructsNext (old step : FlatStep) (known_room known : List FlatAttestation)
+      (room list : List FlatAttestation) (signers_room signers : List ℕ) : Type 0 where
+    pub short : (code ≡ SHORT)
+        ↔ (is_short (length (node_config_of before).meaning.participants) room signers_room ≡ true)
+    pub untouched : code ≡ SHORT → (after ≡ before)
+        × ((known ≡ known_room) × StepStays old step room list signers_room signers)
+    pub wants : code ≡ VERIFY → WritesWantedNext step known_room known room list
+        × ((after ≡ before) × (signers ≡ signers_room))
+    pub makes : code ≢ VERIFY → code ≢ SHORT
+        → MakesNext old step room list signers_room signers × (known ≡ known_room)
+    -- All that is promised of a node holds of each history that this one represents.
+    pub promised : OfEither ghosts (λ S x rounds judged. ForEachNodeHistory x judged.node
+        (λ past. KeepsPromises x past judged.node)) before
 
   -- A construction of a quorum that passes as a whole. There is no room to list it, nor signers.
   pub record MakesNextTogether (subject : Subject Sha256Digest)

@@ -1,5 +1,5 @@
 -- What the calls of a round do and answer, by codes and flat values.
-use Rattle.std.specs.Prelude.{◌≡◌, ◌≢◌, ◌↔◌, ◌≤◌, ◌==◌, ◌++◌, ◌⊎◌, ⊤, not, ℕ, Bool, true, false, List, [], ◌∷◌, length, map, Option, Some, None, Ok, IfSome, IsSomeAnd, is_some, nat_lt}
+use Rattle.std.specs.Prelude.{◌≡◌, ◌≢◌, ◌↔◌, ◌≤◌, ◌==◌, ◌++◌, ◌⊎◌, ◌||◌, ⊤, not, ℕ, Bool, true, false, List, [], ◌∷◌, length, map, Option, Some, None, Ok, IfSome, IsSomeAnd, is_some, nat_lt}
 use Rattle.std.specs.List.{list_all, list_any}
 use Rattle.batcher_types.specs.declared.messages.Sha256Digest.{Sha256Digest}
 use Rattle.batcher_types.specs.declared.positions.Participant.{Participant}
@@ -38,7 +38,7 @@ use Rattle.batcher_any.specs.Wholes.{MayBeWhole}
 use Rattle.batcher_ffi.specs.contracts.caller.CallerTruth.TheImpl.{ghosts}
 use Rattle.batcher_ffi.specs.declared.caller.Caller.{Caller}
 use Rattle.batcher_ffi.specs.declared.codes.TheConstants.{DONE, MALFORMED, ELSEWHERE, OUT_OF_MEMORY, LEADER_CHANGED, NOT_VERIFIED, DUPLICATE_NOTARIZE, DUPLICATE_FINALIZE, CONFLICTING}
-use Rattle.batcher_ffi.specs.declared.codes.TheConstants.{NULLIFY_AFTER_FINALIZE, FINALIZE_AFTER_NULLIFY, IDLE, VERIFY, STALE}
+use Rattle.batcher_ffi.specs.declared.codes.TheConstants.{NULLIFY_AFTER_FINALIZE, FINALIZE_AFTER_NULLIFY, IDLE, VERIFY, STALE, SHORT}
 use Rattle.batcher_ffi.specs.declared.flat.FlatProposal.{FlatProposal}
 use Rattle.batcher_ffi.specs.declared.flat.FlatAttestation.{FlatAttestation}
 use Rattle.batcher_ffi.specs.declared.flat.FlatVote.{FlatVote}
@@ -100,6 +100,11 @@ abbrev pub AreOfParticipants : ℕ → List FlatAttestation → Type 0
 AreOfParticipants participants list =
     (all : List (Attestation Signature)) × (AreIn list all
     × (list_all (λ a. nat_lt a.signer.0 participants) all ≡ true))
+
+-- Whether a construction among so many participants might not fit into the lists.
+abbrev pub is_short : ℕ → List FlatAttestation → List ℕ → Bool
+is_short participants room signers_room =
+    nat_lt (length room) participants || nat_lt (length signers_room) participants
 
 -- A certificate came from elsewhere, as these bytes.
 abbrev pub IsReceived : List ℕ → Content Caller → Type 0
@@ -304,7 +309,9 @@ module _ (before : CRound) (code : ℕ) (after : CRound) where
   -- a construction, or the verdicts that it wants first
   pub record Constructs (old step : FlatStep) (known_room known room list : List FlatAttestation)
       (signers_room signers : List ℕ) : Type 0 where
-    pub codes : is_one_of (DONE ∷ IDLE ∷ VERIFY ∷ OUT_OF_MEMORY ∷ []) code ≡ true
+    pub codes : is_one_of (DONE ∷ IDLE ∷ VERIFY ∷ OUT_OF_MEMORY ∷ SHORT ∷ []) code ≡ true
+    pub short : (code ≡ SHORT)
+        ↔ (is_short (length (config_of before).meaning.participants) room signers_room ≡ true)
     pub wants : code ≡ VERIFY → WritesWanted step known_room known room list
     pub complete : code ≡ DONE → (subject : Subject Sha256Digest)
         × AreComplete (config_of before) (held_in before).round (held_in before).verdicts subject
@@ -319,7 +326,7 @@ module _ (before : CRound) (code : ℕ) (after : CRound) where
         → subject_next (config_of before) (held_in before).round ≡ Some subject
         → Forgets (held_in before).verdicts (held_in after).verdicts subject
     pub stays : code ≢ DONE → after ≡ before
-    pub untouched : is_one_of (IDLE ∷ OUT_OF_MEMORY ∷ []) code ≡ true
+    pub untouched : is_one_of (IDLE ∷ OUT_OF_MEMORY ∷ SHORT ∷ []) code ≡ true
         → (step ≡ old) × ((list ≡ room) × (signers ≡ signers_room))
     pub known_stays : code ≢ VERIFY → known ≡ known_room
     -- All that is promised of a round holds of each history that this one represents.

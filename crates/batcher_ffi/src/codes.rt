@@ -43,6 +43,9 @@ pub const KNOWN: u8 = 18;
 pub const FORGED: u8 = 19;
 /// The construction gave no batch, so its view rests; others may not.
 pub const RESTS: u8 = 20;
+/// A list has fewer places than there are participants, so a construction might not fit. Nothing
+/// changed.
+pub const SHORT: u8 = 21;
 
 /// Kinds of votes and certificates.
 pub const NOTARIZATION: u8 = 0;

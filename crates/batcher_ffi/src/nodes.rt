@@ -6,7 +6,7 @@ ghost use Rattle.batcher_ffi.specs.Nodes.{ConstructsNextTogether, EntersView, Fi
 ghost use Rattle.batcher_ffi.specs.Nodes.{ReceivesVote, RecordsNext};
 
 use crate::caller::Caller;
-use crate::codes::{DONE, IDLE, MALFORMED, OUT_OF_MEMORY, STALE, VERIFY};
+use crate::codes::{DONE, IDLE, MALFORMED, OUT_OF_MEMORY, SHORT, STALE, VERIFY};
 use crate::flat::{
     FlatAdmission, FlatAttestation, FlatProposal, FlatStep, FlatVote, kind_of, subject_of,
 };
@@ -14,7 +14,7 @@ use crate::node_answers::{
     enter_code_of, write_cast, write_concluded, write_leader, write_proposal, write_receipt,
     write_together, write_verdict,
 };
-use crate::rounds::{is_verified, take_part};
+use crate::rounds::{is_short, is_verified, take_part};
 use crate::writing::{attestations_of, copied, write_causes, write_signers, write_wanted};
 use batcher_any::{
     AnyNode, CastVote, ConcludeNext, ConcludeNextTogether, Enter, Finalize, ForwardIn,
@@ -169,6 +169,9 @@ pub fn try_construct(
 {
     // It does nothing, and its contract says what is promised.
     node.promises();
+    if is_short(list, signers, node.participants()) {
+        return SHORT;
+    }
     if let Some((view, wanted)) = node.wanted() {
         if !wanted.pending.is_empty() {
             write_wanted(&wanted, step, known, list);

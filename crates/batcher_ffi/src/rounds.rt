@@ -6,11 +6,11 @@ ghost use Rattle.std.specs.List.{list_all};
 ghost use Rattle.batcher_histories.specs.declared.answers.OwnFault.{OwnFault as TheFault};
 ghost use Rattle.batcher_ffi.specs.Flat.{fault_in};
 ghost use Rattle.batcher_ffi.specs.Rounds.{is_one_of, refusals, AddsNetwork, AcceptsVote, RecordsCertificate, SetsLeader, Forwards, AsksLeader, AsksProposal, AsksCertificate, AsksNullify, AsksMissing, ListsMissing};
-ghost use Rattle.batcher_ffi.specs.Rounds.{IsVerified, AreVerified, PassTogether, Certifies, RecordsVerdicts, Constructs, ConstructsTogether};
+ghost use Rattle.batcher_ffi.specs.Rounds.{IsVerified, AreVerified, PassTogether, Certifies, RecordsVerdicts, Constructs, ConstructsTogether, is_short};
 
 use crate::codes::{
     CONFLICTING, DONE, ELSEWHERE, IDLE, LEADER_CHANGED, MALFORMED, NOT_VERIFIED, OUT_OF_MEMORY,
-    STALE, VERIFY,
+    SHORT, STALE, VERIFY,
 };
 use crate::flat::{
     FlatAdmission, FlatAttestation, FlatProposal, FlatStep, FlatVote, fault_code, kind_of,
@@ -285,6 +285,13 @@ pub fn take_part(list: &[Attestation<Signature>], participants: usize) -> bool
     list.iter().all(|attestation| (attestation.signer.0 as usize) < participants)
 }
 
+/// Whether a construction among so many participants might not fit into the lists.
+pub fn is_short(list: &[FlatAttestation], signers: &[u32], participants: usize) -> bool
+    ensures { result ≡ is_short participants list.now signers.now }
+{
+    list.len() < participants || signers.len() < participants
+}
+
 /// Makes the next construction, or says on what it wants verdicts first.
 pub fn try_construct(
     round: &mut Round,
@@ -298,6 +305,9 @@ pub fn try_construct(
 {
     // It does nothing, and its contract says what is promised.
     round.ask(Promises);
+    if is_short(list, signers, round.participants()) {
+        return SHORT;
+    }
     let Some(wanted) = round.wanted() else {
         return IDLE;
     };

@@ -1,10 +1,14 @@
-use Rattle.std.proofs.Common.{◌∙◌, refl, rules, sym}
-use Rattle.batcher_ffi.proofs.NodesOfEither.{concluded_of_quorum, is_nothing, never_verifies, waits_for_none, waits_on_nothing}
+use Rattle.std.proofs.Common.{arith, ◌∙◌, refl, rules, sym}
+use Rattle.batcher_ffi.proofs.NodesOfEither.{concluded_of_quorum, is_answered, is_nothing, waits_for_none, waits_on_nothing}
+use Rattle.batcher_ffi.proofs.Verified.{not_short}
 use Rattle.batcher_ffi.proofs.nodes.try_construct.Goals as goal
 use Rattle.batcher_ffi.proofs.nodes.try_construct.Goals.{in-Some+else-not-is_empty, in_default}
 
 pub returns-then-not-is_empty : goal.returns-then-not-is_empty
 returns-then-not-is_empty c = record {
+  short = not_short _ _ _ c.args.list.now c.args.signers.now c.is_short.result c.is_short.ensures
+      c.participants.ensures c.if-is_short.false (λ is. omega (arith, is));
+  untouched = search rules;
   wants = λ is. (
     record {
       subject = c.in-Some.wanted.subject;
@@ -40,9 +44,13 @@ write_concluded-code-requires c = elim c.match-wanted.branch [
 pub returns : goal.returns
 returns c =
     let written = c.write_concluded-code.ensures in
+    let answered = is_answered _ _ _ _ _ _ _ c.call-answer.result written in
     record {
-      wants = λ is. absurd (never_verifies _ _ _ _ _ _ _ c.call-answer.result written is);
-      makes = λ not. (
+      short = not_short _ _ _ c.args.list.now c.args.signers.now c.is_short.result
+          c.is_short.ensures c.participants.ensures c.if-is_short.false answered.1;
+      untouched = λ is. absurd (answered.1 is);
+      wants = λ is. absurd (answered.0 is);
+      makes = λ not fits. (
         record {
           answer = c.call-answer.result;
           written = written;

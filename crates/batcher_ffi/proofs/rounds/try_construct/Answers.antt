@@ -1,11 +1,13 @@
-use Rattle.std.proofs.Common.{◌∙◌, ap, length, refl, rules, sym}
+use Rattle.std.proofs.Common.{arith, ◌∙◌, ap, length, refl, rules, sym}
 use Rattle.batcher_ffi.proofs.Quorums.{round_makes_quorum}
-use Rattle.batcher_ffi.proofs.Verified.{same_self}
+use Rattle.batcher_ffi.proofs.Verified.{not_short, same_self}
 use Rattle.batcher_ffi.proofs.rounds.try_construct.Goals as goal
 
 pub returns-then-not-is_empty : goal.returns-then-not-is_empty
 returns-then-not-is_empty c = record {
   codes = search rules;
+  short = not_short _ _ _ c.args.list.now c.args.signers.now c.is_short.result c.is_short.ensures
+      c.participants.ensures c.if-is_short.false (λ is. omega (arith, is));
   wants = λ is. record {
     subject = c.in-Some.wanted.subject;
     asked = c.in-Some.wanted.pending.now;
@@ -34,6 +36,8 @@ returns-in-Ok-Some c =
     let does = c.in-Ok-Some.ensures.does in
     record {
       codes = search rules;
+      short = not_short _ _ _ c.args.list.now c.args.signers.now c.is_short.result c.is_short.ensures
+          c.participants.ensures c.if-is_short.false (λ is. omega (arith, is));
       wants = search rules;
       complete = λ is. rw c.in-Ok-Some.field-0-is at does.made;
       done = λ is. (
@@ -62,6 +66,8 @@ returns-in-Err c =
     let does = c.in-Err.ensures.does in
     record {
       codes = search rules;
+      short = not_short _ _ _ c.args.list.now c.args.signers.now c.is_short.result c.is_short.ensures
+          c.participants.ensures c.if-is_short.false (λ is. omega (arith, is));
       wants = search rules;
       complete = search rules;
       done = search rules;
