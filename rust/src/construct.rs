@@ -328,7 +328,7 @@ impl Constructions {
             let mut quorum = attestations_of(&self.list[..step.listed as usize])?;
             quorum.sort_unstable_by_key(|it: &Attestation<_>| it.signer);
             let content = scheme.assemble(&subject, &quorum);
-            if !S::CERTIFICATE_IS_LIST && !scheme.verify_certificate(&subject, &content) {
+            if !S::ASSEMBLED_CERTIFIES && !scheme.verify_certificate(&subject, &content) {
                 return Err(Error::BadAssembly);
             }
             certificate = Some(Certificate::new(subject, content));

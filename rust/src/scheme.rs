@@ -92,10 +92,10 @@ pub trait Scheme {
     /// What a quorum of attestations makes.
     type Certificate;
 
-    /// Whether a certificate is the attestations that it is assembled of, so that each one that is
-    /// assembled certifies. By default it isn't known to be: then a certificate that was assembled
-    /// is verified before it is handed out.
-    const CERTIFICATE_IS_LIST: bool = false;
+    /// Whether what is assembled of attestations that passed always certifies, as where a
+    /// certificate is the list of them. By default that isn't known: then a certificate that was
+    /// assembled is verified before it is handed out.
+    const ASSEMBLED_CERTIFIES: bool = false;
 
     /// The keys of the participants. They are the same at each call.
     fn participants(&self) -> &Set<Self::PublicKey>;

@@ -54,7 +54,7 @@ impl<const COUNT: usize, const IS_LIST: bool> Scheme for Sloppy<COUNT, IS_LIST> 
     type Signature = Bytes<COUNT>;
     type Certificate = usize;
 
-    const CERTIFICATE_IS_LIST: bool = IS_LIST;
+    const ASSEMBLED_CERTIFIES: bool = IS_LIST;
 
     fn participants(&self) -> &Set<u32> {
         &self.participants

@@ -65,12 +65,17 @@ impl Scheme for TestScheme {
     type Signature = Signature;
     type Certificate = Content;
 
+    const ASSEMBLED_CERTIFIES: bool = true;
+
     fn participants(&self) -> &Set<u64> {
         &self.participants
     }
 
+    // Those of so many participants are always the same.
     fn keys(&self) -> [u8; 32] {
-        digest(&[&ROOT, &self.participants.len().to_be_bytes()])
+        let mut keys = [0; 32];
+        keys[..4].copy_from_slice(&self.participants.len().to_be_bytes());
+        keys
     }
 
     fn is_batchable(&self) -> bool {

@@ -35,7 +35,7 @@ impl Scheme for Ed25519 {
     type Signature = Signature;
     type Certificate = Vec<Attestation<Signature>>;
 
-    const CERTIFICATE_IS_LIST: bool = true;
+    const ASSEMBLED_CERTIFIES: bool = true;
 
     fn participants(&self) -> &Set<PublicKey> {
         &self.participants
