@@ -608,11 +608,15 @@ impl<S: Scheme> Node<S> {
         let made = self
             .constructions
             .construct(&*self.scheme, &mut self.library);
-        self.note_construction(match &made {
+        let may_block = match &made {
             Ok(Some((_, Some(batch)))) => !batch.invalid.is_empty(),
             Ok(_) => false,
+            // A batch that isn't handed over may block somebody too.
             Err(_) => true,
-        })?;
+        };
+        if may_block {
+            self.note_blocked()?;
+        }
         Ok(made?.map(|(view, batch)| Construction { view, batch }))
     }
 
@@ -630,11 +634,15 @@ impl<S: Scheme> Node<S> {
     /// `OutOfMemory`.
     pub fn step(&mut self) -> Result<Step<S::Signature, S::Certificate>, Error> {
         let next = self.constructions.step(&*self.scheme, &mut self.library);
-        self.note_construction(match &next {
+        let may_block = match &next {
             Ok(Next::Made(_, batch)) => !batch.invalid.is_empty(),
             Ok(_) => false,
+            // A batch that isn't handed over may block somebody too.
             Err(_) => true,
-        })?;
+        };
+        if may_block {
+            self.note_blocked()?;
+        }
         Ok(match next? {
             Next::Idle => Step::Idle,
             Next::Rests(view) => Step::Made(Construction { view, batch: None }),
@@ -859,14 +867,6 @@ impl<S: Scheme> Node<S> {
             current: View::new(current),
             ahead,
         };
-    }
-
-    // After a construction that may have blocked somebody, as one that isn't handed over may too.
-    fn note_construction(&mut self, may_block: bool) -> Result<(), Error> {
-        if may_block {
-            self.note_blocked()?;
-        }
-        Ok(())
     }
 
     // Asks the library who is blocked, after a call that may have blocked somebody.

@@ -1,6 +1,6 @@
 -- What is said of a node of either sort, by what is said of it over its scheme.
-use Rattle.std.proofs.Common.{◌≡◌, ◌≢◌, ◌∙◌, ◌++◌, ◌==◌, ℕ, true, false, List, [], ◌∷◌, Option, Some, None, Result, Ok, Err, IfOk, IfSome, ap, arith, is_some, length, refl, subst, sym}
-use Rattle.std.proofs.lemmas.Bool.{and_parts, eqb-true, true≢false}
+use Rattle.std.proofs.Common.{◌≡◌, ◌≢◌, ◌∙◌, ◌++◌, ℕ, true, false, List, [], ◌∷◌, Option, Some, None, Result, Ok, Err, IfOk, IfSome, ap, arith, is_some, length, subst, sym}
+use Rattle.std.proofs.lemmas.Bool.{and_parts, true≢false}
 use Rattle.batcher.specs.Answers.{IsPossible}
 use Rattle.batcher.specs.History.{Event}
 use Rattle.batcher.specs.RoundState.{RoundView}
@@ -216,11 +216,6 @@ module _ {E : Type 0} (before after : CNode) (old step : FlatStep)
       one_of_quorum before after one old step room list signers_room signers code some
       (goes_on_together before after answer one is subject all does)
       (subst (λ r. AnswersTogether old step room list signers_room signers r code) is written)
-
--- What has no length is empty.
-pub is_nothing : {A : Type 0} (list : List A) → (length list == 0) ≡ true → list ≡ []
-is_nothing [] h = refl
-is_nothing (x ∷ list) h = absurd (omega (arith, eqb-true (length (x ∷ list)) 0 h))
 
 -- A construction that is answered wants no verdict, and its lists have room.
 module _ (old step : FlatStep) (room list : List FlatAttestation) (signers_room signers : List ℕ)

@@ -111,8 +111,8 @@ abbrev pub IsReceived : List ℕ → Content Caller → Type 0
 IsReceived bytes (MadeHere listing) = ⊥
 IsReceived bytes (Received certificate) = certificate.bytes ≡ bytes
 
--- A certificate that is made shows a quorum of different participants. By their keys they attest
--- each what it is of, or pass as a whole.
+-- A certificate that is made of attestations shows a quorum of different participants. By their
+-- keys they attest each what it is of, or pass as a whole. Nothing is said of one of bytes.
 abbrev pub IsOfQuorum : Keys → ℕ → Subject Sha256Digest → Content Caller → Type 0
 IsOfQuorum keys participants subject (MadeHere listing) =
     Passed ghosts (listing_of keys participants subject listing.attestations)

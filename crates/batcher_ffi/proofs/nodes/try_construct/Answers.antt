@@ -1,5 +1,7 @@
-use Rattle.std.proofs.Common.{arith, ◌∙◌, refl, rules, sym}
-use Rattle.batcher_ffi.proofs.NodesOfEither.{concluded_of_quorum, is_answered, is_nothing, waits_for_none, waits_on_nothing}
+use Rattle.std.proofs.Common.{arith, ◌∙◌, length, refl, rules, sym}
+use Rattle.std.proofs.lemmas.Bool.{eqb-true}
+use Rattle.std.proofs.lemmas.List.{nil_from_length}
+use Rattle.batcher_ffi.proofs.NodesOfEither.{concluded_of_quorum, is_answered, waits_for_none, waits_on_nothing}
 use Rattle.batcher_ffi.proofs.Verified.{not_short}
 use Rattle.batcher_ffi.proofs.nodes.try_construct.Goals as goal
 use Rattle.batcher_ffi.proofs.nodes.try_construct.Goals.{in-Some+else-not-is_empty, in_default}
@@ -34,8 +36,9 @@ write_concluded-code-requires c = elim c.match-wanted.branch [
       waits_on_nothing c.args.node.now c.call-answer.new.self c.call-answer.result
       c.call-answer.ensures.does w.in-Some.view.0 w.in-Some.wanted.subject
       w.in-Some.wanted.verified.now
-      (rw (is_nothing w.in-Some.wanted.pending.now
-      (sym w.is_empty.ensures ∙ w.if-not-is_empty.false)) at w.in-Some.ensures.wants)
+      (rw (nil_from_length w.in-Some.wanted.pending.now
+      (eqb-true (length w.in-Some.wanted.pending.now) 0
+      (sym w.is_empty.ensures ∙ w.if-not-is_empty.false))) at w.in-Some.ensures.wants)
   | in_default w ↦
       waits_for_none c.args.node.now c.call-answer.new.self c.call-answer.result
       c.call-answer.ensures.does (rw w.in_default.is at c.wanted.ensures.none)
