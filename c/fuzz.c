@@ -220,7 +220,7 @@ static int one_call(struct batcher_round *round, uint32_t participants) {
         code = batcher_round_add_network(round, below(10) != 0 ? vote.attestation.signer : below(300), &vote, &admission);
         CHECK(code == BATCHER_DONE || memcmp(&admission, &untouched, sizeof untouched) == 0);
         MADE(code);
-        CHECK((code == BATCHER_MALFORMED) == (vote.kind > 2 || vote.attestation.length > 96));
+        CHECK((code == BATCHER_MALFORMED) == (vote.kind > 2 || vote.attestation.length > BATCHER_SIGNATURE_BYTES));
         if (code == BATCHER_DONE && admission.added) CHECK(admission.block == BATCHER_BLOCK_NONE);
         return 0;
     case 3:
@@ -386,7 +386,7 @@ static int one_node_call(struct batcher_node *node, uint32_t participants) {
         code = batcher_node_receive_vote(node, peer, &vote, &admission);
         CHECK(code == BATCHER_DONE || memcmp(&admission, &untouched, sizeof untouched) == 0);
         MADE(code);
-        CHECK((code == BATCHER_MALFORMED) == (vote.kind > 2 || vote.attestation.length > 96));
+        CHECK((code == BATCHER_MALFORMED) == (vote.kind > 2 || vote.attestation.length > BATCHER_SIGNATURE_BYTES));
         return code == BATCHER_MALFORMED ? 0 : heard(code, peer, participants, causes, is_within);
     case 4:
         code = batcher_node_cast_vote(node, &vote, attests(&vote.attestation), &admission);

@@ -203,7 +203,7 @@ static int mistakes(void) {
     CHECK(batcher_round_leader(&round, &leader) == BATCHER_IDLE && leader == 9);
     vote.attestation.length = 97;
     CHECK(batcher_round_add_network(&round, 0, &vote, &admission) == BATCHER_MALFORMED);
-    vote.attestation.length = 96;
+    vote.attestation.length = BATCHER_SIGNATURE_BYTES;
     vote.proposal.view = 2;
     CHECK(batcher_round_add_network(&round, 0, &vote, &admission) == BATCHER_ELSEWHERE);
     vote.proposal.view = 1;

@@ -74,13 +74,16 @@ pub(crate) struct Proposal {
     pub(crate) payload: [u8; 32],
 }
 
+/// How many bytes a signature has at most, `BATCHER_SIGNATURE_BYTES` of the header.
+pub(crate) const WIDTH: usize = 96;
+
 /// `struct batcher_attestation`
 #[repr(C)]
 #[derive(Clone, Copy, PartialEq, Eq)]
 pub(crate) struct Attestation {
     pub(crate) signer: u32,
     pub(crate) length: u8,
-    pub(crate) bytes: [u8; 96],
+    pub(crate) bytes: [u8; WIDTH],
 }
 
 impl Default for Attestation {
@@ -88,7 +91,7 @@ impl Default for Attestation {
         Attestation {
             signer: 0,
             length: 0,
-            bytes: [0; 96],
+            bytes: [0; WIDTH],
         }
     }
 }

@@ -2,6 +2,7 @@
 
 ghost use Rattle.std.specs.Prelude.{◌≡◌, ◌≤◌, true, is_some, length, IfSome};
 ghost use Rattle.batcher_bytes.specs.Signatures.{signature_of};
+ghost use Rattle.batcher_bytes.specs.declared.signature.TheConstants.{WIDTH};
 
 use batcher_types::messages::Identical;
 
@@ -19,7 +20,7 @@ pub struct Signature {
 impl Signature {
     /// The signature of these bytes. None where they are more than `WIDTH`.
     pub fn new(bytes: &[u8]) -> Option<Signature>
-        ensures fits { length bytes.now ≤ 96 → is_some result ≡ true }
+        ensures fits { length bytes.now ≤ WIDTH → is_some result ≡ true }
         ensures bytes { IfSome result (λ signature. signature ≡ signature_of bytes.now) }
     {
         if bytes.len() > WIDTH {

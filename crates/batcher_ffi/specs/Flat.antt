@@ -32,6 +32,7 @@ use Rattle.batcher_node.specs.declared.answers.Cause.{Cause}
 use Rattle.batcher_node.specs.declared.answers.Cause.TheVariants.{Vote as ForVote, Certificate as ForCertificate, Signature as ForSignature}
 use Rattle.batcher_bytes.specs.Signatures.{signature_of}
 use Rattle.batcher_bytes.specs.declared.signature.Signature.{Signature}
+use Rattle.batcher_bytes.specs.declared.signature.TheConstants.{WIDTH}
 use Rattle.batcher_ffi.specs.declared.codes.TheConstants.{OUT_OF_MEMORY, DUPLICATE_NOTARIZE, DUPLICATE_FINALIZE, CONFLICTING, NULLIFY_AFTER_FINALIZE, FINALIZE_AFTER_NULLIFY}
 use Rattle.batcher_ffi.specs.declared.codes.TheConstants.{NOTARIZATION, NULLIFICATION, FINALIZATION, RETAINING, RELEASING, SKIPPED}
 use Rattle.batcher_ffi.specs.declared.codes.TheConstants.{BLOCK_UNKNOWN_PARTICIPANT, BLOCK_NOTARIZE_SIGNER_MISMATCH, BLOCK_NULLIFY_SIGNER_MISMATCH, BLOCK_FINALIZE_SIGNER_MISMATCH}
@@ -108,7 +109,7 @@ raw_in flat =
 -- after them. None where it says more than there are.
 abbrev pub attestation_in : FlatAttestation → Option (Attestation Signature)
 attestation_in flat =
-    if nat_le flat.length 96
+    if nat_le flat.length WIDTH
     then Some (record {
       signer = record { 0 = flat.signer };
       signature = signature_of (take flat.length flat.bytes);

@@ -40,7 +40,7 @@ pub struct FlatProposal {
 pub struct FlatAttestation {
     pub signer: u32,
     pub length: u8,
-    pub bytes: [u8; 96],
+    pub bytes: [u8; WIDTH],
 }
 
 /// A vote.

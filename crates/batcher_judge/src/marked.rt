@@ -2,7 +2,7 @@
 
 use batcher::messages::Attestation;
 use batcher::positions::Participant;
-use batcher_bytes::{Keys, Signature, Truth};
+use batcher_bytes::{Keys, Signature, Truth, WIDTH};
 
 /// The truth of marks.
 #[derive(Clone, Copy)]
@@ -20,7 +20,7 @@ impl Truth for Marked {
 
 /// A signature by the keys, whatever it is of.
 pub fn sign(signer: Participant, keys: Keys) -> Attestation<Signature> {
-    let mut bytes = [0u8; 96];
+    let mut bytes = [0u8; WIDTH];
     bytes[0] = keys.0[0];
     Attestation {
         signer,
