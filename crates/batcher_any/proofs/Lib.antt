@@ -1,3 +1,4 @@
 mod Plain
 mod NextRounds
 mod Wholes
+mod Assembled

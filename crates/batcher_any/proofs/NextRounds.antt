@@ -2,14 +2,20 @@
 use Rattle.std.proofs.Common.{◌≡◌, ◌∙◌, ℕ, Bool, true, false, List, Option, Some, None, IfSome, is_some, refl, sym, ap, subst}
 use Rattle.std.specs.Option.{option_map}
 use Rattle.std.proofs.lemmas.Bool.{true≢false}
-use Rattle.std.proofs.lemmas.Option.{same_Some}
+use Rattle.std.proofs.lemmas.Option.{none-some, same_Some}
+use Rattle.std.specs.Prelude.{option_and_then}
+use Rattle.rand_core.specs.Stream.{Stream}
 use Rattle.batcher.specs.Config.{Config}
-use Rattle.batcher.specs.RoundState.{PerKind, RoundView}
+use Rattle.batcher.specs.RoundState.{PerKind, RoundState, RoundView}
+use Rattle.batcher.specs.Steps.{AfterConstruct}
+use Rattle.batcher.specs.VerifierSteps.{subject_tried}
 use Rattle.batcher.specs.messages.Attestation.{Attestation}
+use Rattle.batcher.specs.messages.Certificate.{Certificate}
 use Rattle.batcher.specs.messages.Subject.{Subject}
 use Rattle.batcher_round.specs.Next.{subject_next}
 use Rattle.batcher_node.proofs.Lowest.{one_next}
-use Rattle.batcher_node.specs.Nodes.{IsNext, slot_at}
+use Rattle.batcher_node.specs.Nodes.{Draws, IsNext, slot_at}
+use Rattle.batcher_votes.specs.declared.verifier.Batch.{Batch}
 use Rattle.batcher_node.specs.declared.slot.Slot.{Slot}
 use Rattle.batcher_node.specs.Verdicts.{LooksAtThere, MayBeQuorumThere}
 use Rattle.batcher_round.specs.Verdicts.{LooksAtNext, MayBeQuorumNext}
@@ -24,6 +30,10 @@ pub of_lent : {R : Type 0} (P : R → Type 0) (round : R) (o : Option (Slot R))
     → Some round ≡ option_map (λ slot. slot.round) o → P round → IfSome o (λ slot. P slot.round)
 of_lent P round (Some slot) is holds = subst P (same_Some _ _ is) holds
 of_lent P round None is holds = tt
+
+none_if : {A : Type 0} (o : Option A) → is_some o ≡ false → o ≡ None
+none_if (Some a) is = absurd (true≢false is)
+none_if None is = refl
 
 -- A view is next only where not all of them rest.
 pub changed_there : {R : Type 0} (rounds : List (ℕ × Slot R)) (view : ℕ) → IsNext rounds view
@@ -115,6 +125,37 @@ module _ {S D K G C : Type 0} (round_config : RoundView S G D → Config D K G C
         record { next = next; slot = at.slot; there = at.there; its = refl },
         sym ready ∙ is,
       )
+
+-- Where the next construction is about nothing, no batch is made.
+module _ {S D K G C : Type 0} (round_config : RoundView S G D → Config D K G C) where
+  given_none : (slot : Slot (RoundView S G D)) (left : RoundState G D) (before after : Stream)
+      (given : Option (Batch (Certificate C D)))
+      → AfterConstruct (round_config slot.round) slot.round.holds before given left after
+      → subject_next (round_config slot.round) slot.round.holds ≡ None → given ≡ None
+  given_none slot left before after None step none = refl
+  given_none slot left before after (Some batch) step none =
+      let x = round_config slot.round in
+      let held = slot.round.holds in
+      let about : subject_next x held ≡ Some step.tried.tries.subject =
+      ap (λ k. option_and_then (subject_tried held.buffered x.number) k) step.first
+      ∙ step.tried.tries.subject_is in
+      absurd (none-some step.tried.tries.subject (sym none ∙ about))
+
+  pub none_drawn : (rounds new : List (ℕ × Slot (RoundView S G D))) (view other : ℕ)
+      (before after : Stream) (given : Option (Batch (Certificate C D))) → IsNext rounds view
+      → IsNext rounds other
+      → Draws round_config (slot_at rounds) (slot_at new) view before given after
+      → (b : Bool) → IfSome (slot_at rounds other) (λ slot. b
+      ≡ is_some (subject_next (round_config slot.round) slot.round.holds)) → b ≡ false
+      → given ≡ None
+  none_drawn rounds new view other before after given next is_next draws b there is =
+      let at : slot_at rounds other ≡ Some draws.slot =
+      ap (slot_at rounds) (one_next rounds other view is_next next) ∙ draws.there in
+      let ready : b ≡ is_some (subject_next (round_config draws.slot.round) draws.slot.round.holds) =
+      subst (λ o. IfSome o (λ slot. b
+      ≡ is_some (subject_next (round_config slot.round) slot.round.holds))) at there in
+      given_none draws.slot draws.left.round.holds before after given draws.step
+      (none_if (subject_next (round_config draws.slot.round) draws.slot.round.holds) (sym ready ∙ is))
 
 -- What all is that the next construction of a node could make a certificate of.
 module _ {S D K G C : Type 0} (round_config : RoundView S G D → Config D K G C)

@@ -30,6 +30,7 @@ use Rattle.batcher_histories.specs.Represents.{Meets, Represents, Simulates}
 use Rattle.batcher_histories.specs.Selection.{leader_of}
 use Rattle.batcher_histories.specs.Steps.{fault_or_memory, leader_set_answer}
 use Rattle.batcher_round.specs.Next.{subject_next}
+use Rattle.batcher_round.specs.Verdicts.{BatchIsAssembled}
 use Rattle.batcher_bytes.specs.Meanings.{made_of}
 use Rattle.batcher_bytes.specs.declared.certificates.Content.{Content}
 use Rattle.batcher_bytes.specs.declared.signature.Keys.{Keys}
@@ -112,6 +113,7 @@ module _ {T : Type 0} (x : BytesConfig T) (old : Held) where
       pub meets : IfGiven answer (λ batch. GoesOn (Construct, ConstructAnswer (Some batch)) new)
       pub needed : IsNeeded Construct answer
       pub certifies : IfGiven answer (BatchCertifies x.meaning)
+      pub assembled : IfGiven answer (BatchIsAssembled x.meaning)
       pub forgets : IfGiven answer (λ _. (subject : Subject Sha256Digest)
           → subject_next x old.round ≡ Some subject
           → Forgets old.verdicts new.verdicts subject)

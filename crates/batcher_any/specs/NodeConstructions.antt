@@ -1,10 +1,11 @@
 -- Verdicts that come to a node, and its constructions by them.
-use Rattle.std.specs.Prelude.{◌≡◌, ◌++◌, ⊤, ℕ, Bool, true, false, List, Option, None, Result, Ok, IfOk, OnErr, is_some}
+use Rattle.std.specs.Prelude.{◌≡◌, ◌++◌, ⊤, ℕ, Bool, true, false, List, Option, None, Result, Ok, IfOk, IfSome, OnErr, is_some, is_none}
 use Rattle.batcher.specs.RoundState.{RoundView}
 use Rattle.batcher.specs.messages.Attestation.{Attestation}
 use Rattle.batcher.specs.messages.Sha256Digest.{Sha256Digest}
 use Rattle.batcher.specs.messages.Subject.{Subject}
 use Rattle.batcher_round.specs.Next.{subject_next}
+use Rattle.batcher_round.specs.Verdicts.{BatchIsAssembled}
 use Rattle.batcher_bytes.specs.declared.certificates.Content.{Content}
 use Rattle.batcher_bytes.specs.declared.signature.Signature.{Signature}
 use Rattle.batcher_node.specs.declared.node.Construction.{Construction}
@@ -26,6 +27,11 @@ abbrev pub IfMade : {T : Type 0} → Concluded T → (Construction (Content T) S
     → Type 0
 IfMade (Made one) holds = holds one
 IfMade other holds = ⊤
+
+-- a construction that was made and has no batch: its view rests
+abbrev pub rests_in : {T : Type 0} → Concluded T → Bool
+rests_in (Made one) = is_none one.batch
+rests_in other = false
 
 abbrev pub is_made : {T : Type 0} → Concluded T → Bool
 is_made (Made one) = true
@@ -67,6 +73,8 @@ module _ {T S : Type 0} (x : BytesNodeConfig T)
           × (is_some (subject_next (round_config round) round.holds) ≡ true)
       pub meets : IfOk answer (λ concluded. IfMade concluded (λ one.
           Meets x old.node (constructed one.view.0 one.batch) new.node))
+      pub assembled : IfOk answer (λ concluded. IfMade concluded (λ one.
+          IfSome one.batch (BatchIsAssembled x.meaning)))
       pub next : IfOk answer (λ concluded. IfMade concluded (λ one.
           IsNext old.node.rounds one.view.0))
       pub concludes : (view : ℕ) (round : RoundView S Signature Sha256Digest)
@@ -76,7 +84,7 @@ module _ {T S : Type 0} (x : BytesNodeConfig T)
       pub idle : (view : ℕ) (round : RoundView S Signature Sha256Digest)
           → IsNextRound old.node.rounds view round
           → subject_next (round_config round) round.holds ≡ None
-          → IfOk answer (λ concluded. is_made concluded ≡ true)
+          → IfOk answer (λ concluded. rests_in concluded ≡ true)
       pub needed : OnErr answer ((view : ℕ) × HasChanged (slot_at old.node.rounds view))
       pub refused : OnErr answer (new ≡ old)
 
@@ -94,6 +102,7 @@ module _ {T S : Type 0} (x : BytesNodeConfig T)
           × (IsNextRound old.node.rounds one.view.0 round)
           × (MayBeWhole (round_config round) round.holds subject list))
       pub gives : IfGiven answer (λ one. is_some one.batch ≡ true)
+      pub assembled : IfGiven answer (λ one. IfSome one.batch (BatchIsAssembled x.meaning))
       pub meets : IfGiven answer (λ one.
           Meets x old.node (constructed one.view.0 one.batch) new.node)
       pub waits : answer ≡ Ok None → new ≡ old

@@ -34,6 +34,8 @@ pub trait OfBytes<T: Truth>: Scheme<
         requires passes { T.passes (keys self.now) subject (prior.now ++ fresh.now) ≡ true }
         ensures made { IfOk result (λ certificate. certificate ≡ made_of (keys self.now)
             (length (Self.meaning self.now).participants) subject (prior.now ++ fresh.now)) }
+        ensures assembled { IfOk result (λ certificate. certificate
+            ≡ (Self.meaning self.now).assembled subject prior.now fresh.now) }
         ensures certifies { IfOk result (λ certificate.
             (Self.meaning self.now).certifies subject certificate ≡ true) };
 }

@@ -1,5 +1,5 @@
 -- What is said of a node of either sort, by what is said of it over its scheme.
-use Rattle.std.proofs.Common.{◌≡◌, ◌≢◌, ◌∙◌, ◌++◌, ℕ, true, false, List, [], ◌∷◌, Option, Some, None, Result, Ok, Err, IfOk, IfSome, ap, arith, is_some, length, subst, sym}
+use Rattle.std.proofs.Common.{◌≡◌, ◌≢◌, ◌∙◌, ◌++◌, ℕ, true, false, Bool, List, [], ◌∷◌, Option, Some, None, Result, Ok, Err, IfOk, IfSome, ap, arith, is_some, length, subst, sym}
 use Rattle.std.proofs.lemmas.Bool.{and_parts, true≢false}
 use Rattle.batcher.specs.Answers.{IsPossible}
 use Rattle.batcher.specs.History.{Event}
@@ -22,16 +22,18 @@ use Rattle.batcher_node.specs.Represents.{ForSomeNodeHistory, Meets, NodeReprese
 use Rattle.batcher_node.specs.declared.node.Construction.{Construction}
 use Rattle.batcher_bytes.specs.Meanings.{certifies}
 use Rattle.batcher_bytes.specs.declared.certificates.Content.{Content}
+use Rattle.batcher_bytes.specs.declared.signature.Keys.{Keys}
 use Rattle.batcher_bytes.specs.declared.signature.Signature.{Signature}
+use Rattle.batcher_round.specs.Verdicts.{BatchIsAssembled}
 use Rattle.batcher_any.specs.AnyNodes.{ByEither, OfEither, node_keys_in}
-use Rattle.batcher_any.specs.Judging.{BytesConfig, config_over}
+use Rattle.batcher_any.specs.Judging.{BytesConfig, config_over, meaning_by}
 use Rattle.batcher_any.specs.NextRounds.{NoneIsReady, WantsNext}
 use Rattle.batcher_any.specs.NodeConstructions.{ConcludesNext, ConcludesNextTogether, IfMade, is_made}
 use Rattle.batcher_any.specs.Nodes.{BytesNodeConfig, JudgedNodeView, node_config_over}
 use Rattle.batcher_any.specs.declared.either.Either.TheVariants.{Batchable, OneByOne}
 use Rattle.batcher_any.specs.declared.node_construct.Concluded.{Concluded}
 use Rattle.batcher_any.specs.declared.node_construct.Concluded.TheVariants.{Rests, Waits, Made as MadeOne}
-use Rattle.batcher_ffi.proofs.Quorums.{makes_quorum}
+use Rattle.batcher_ffi.proofs.Quorums.{IsListed, listed_by, makes_quorum}
 use Rattle.batcher_ffi.specs.NodeAnswers.{AnswersConcluded, AnswersConstruction, AnswersTogether}
 use Rattle.batcher_ffi.specs.Nodes.{CNode, MakesQuorumOf, node_config_of}
 use Rattle.batcher_ffi.specs.Output.{Made}
@@ -134,24 +136,42 @@ certifies_in (OneByOne a) (OneByOne b) view batch some goes =
 certifies_in (Batchable a) (OneByOne b) view batch some goes = absurd goes
 certifies_in (OneByOne a) (Batchable b) view batch some goes = absurd goes
 
+-- The batch is what the scheme of the node assembles.
+abbrev OneIsListed : Construction (Content Caller) Sha256Digest → Type 0
+OneIsListed one = IfSome one.batch (λ batch. IfSome batch.certificate (λ c.
+    IsListed (content_of c)))
+
+one_is_listed : (batchable : Bool) (participants : List Name) (keys : Keys)
+    (one : Construction (Content Caller) Sha256Digest)
+    → IfSome one.batch (BatchIsAssembled (meaning_by ghosts batchable participants keys))
+    → OneIsListed one
+one_is_listed batchable participants keys one assembled = of_some one.batch assembled
+  where
+    of_some : (o : Option (Batch Made))
+        → IfSome o (BatchIsAssembled (meaning_by ghosts batchable participants keys))
+        → IfSome o (λ batch. IfSome batch.certificate (λ c. IsListed (content_of c)))
+    of_some (Some batch) is = listed_by batchable participants keys batch is
+    of_some None is = tt
+
 -- A construction that is written makes a quorum.
 pub one_of_quorum : (before after : CNode) (one : Construction (Content Caller) Sha256Digest)
     (old step : FlatStep) (room list : List FlatAttestation) (signers_room signers : List ℕ)
-    (code : ℕ) → HasSomeHistory before → GoesOnWith before after one
+    (code : ℕ) → HasSomeHistory before → GoesOnWith before after one → OneIsListed one
     → AnswersConstruction old step room list signers_room signers one code
     → MakesQuorumOf before one
-one_of_quorum before after one old step room list signers_room signers code some goes written =
-    of_batch one.batch goes written
+one_of_quorum before after one old step room list signers_room signers code some goes is written =
+    of_batch one.batch goes is written
   where
     of_batch : (given : Option (Batch Made))
         → GoesOnWith before after (record { view = one.view; batch = given })
+        → OneIsListed (record { view = one.view; batch = given })
         → AnswersConstruction old step room list signers_room signers
         (record { view = one.view; batch = given }) code
         → MakesQuorumOf before (record { view = one.view; batch = given })
-    of_batch None goes written = tt
-    of_batch (Some batch) goes written =
+    of_batch None goes is written = tt
+    of_batch (Some batch) goes is written =
         makes_quorum (node_keys_in before) (length (node_config_of before).meaning.participants)
-        step room list batch (certifies_in before after one.view batch some goes)
+        step room list batch (certifies_in before after one.view batch some goes) is
         written.1.1.certificate
 
 module _ {S E : Type 0} (x : BytesNodeConfig Caller) (a b : JudgedNodeView S Signature)
@@ -169,6 +189,20 @@ module _ {S E : Type 0} (x : BytesNodeConfig Caller) (a b : JudgedNodeView S Sig
       → Meets x a.node (constructed one.view.0 one.batch) b.node
   meets_given answer is meets = subst (λ r. IfGiven r (λ made.
       Meets x a.node (constructed made.view.0 made.batch) b.node)) is meets
+
+  assembled_one : (answer : Result (Concluded Caller) E) → answer ≡ Ok (MadeOne one)
+      → IfOk answer (λ concluded. IfMade concluded (λ made.
+      IfSome made.batch (BatchIsAssembled x.meaning)))
+      → IfSome one.batch (BatchIsAssembled x.meaning)
+  assembled_one answer is assembled = subst (λ r. IfOk r (λ concluded. IfMade concluded (λ made.
+      IfSome made.batch (BatchIsAssembled x.meaning)))) is assembled
+
+  assembled_given : (answer : Result (Option (Construction (Content Caller) Sha256Digest)) E)
+      → answer ≡ Ok (Some one)
+      → IfGiven answer (λ made. IfSome made.batch (BatchIsAssembled x.meaning))
+      → IfSome one.batch (BatchIsAssembled x.meaning)
+  assembled_given answer is assembled = subst (λ r. IfGiven r (λ made.
+      IfSome made.batch (BatchIsAssembled x.meaning))) is assembled
 
 goes_on : {E : Type 0} (before after : CNode) (answer : Result (Concluded Caller) E)
     (one : Construction (Content Caller) Sha256Digest) → answer ≡ Ok (MadeOne one)
@@ -193,6 +227,34 @@ goes_on_together (OneByOne a) (OneByOne b) answer one is subject all does =
 goes_on_together (Batchable a) (OneByOne b) answer one is subject all does = absurd does
 goes_on_together (OneByOne a) (Batchable b) answer one is subject all does = absurd does
 
+is_listed : {E : Type 0} (before after : CNode) (answer : Result (Concluded Caller) E)
+    (one : Construction (Content Caller) Sha256Digest) → answer ≡ Ok (MadeOne one)
+    → ByEither ghosts (λ S x rounds a b. ConcludesNext x rounds a answer b) before after
+    → OneIsListed one
+is_listed (Batchable a) (Batchable b) answer one is does =
+    one_is_listed true a.node.scheme.participants a.node.scheme.keys one
+    (assembled_one (node_config_over ghosts true a.node) a b one answer is does.assembled)
+is_listed (OneByOne a) (OneByOne b) answer one is does =
+    one_is_listed false a.node.scheme.participants a.node.scheme.keys one
+    (assembled_one (node_config_over ghosts false a.node) a b one answer is does.assembled)
+is_listed (Batchable a) (OneByOne b) answer one is does = absurd does
+is_listed (OneByOne a) (Batchable b) answer one is does = absurd does
+
+is_listed_together : {E : Type 0} (before after : CNode)
+    (answer : Result (Option (Construction (Content Caller) Sha256Digest)) E)
+    (one : Construction (Content Caller) Sha256Digest) → answer ≡ Ok (Some one)
+    → (subject : Subject Sha256Digest) (all : List (Attestation Signature))
+    → ByEither ghosts (λ S x rounds a b. ConcludesNextTogether x rounds a subject all answer b)
+    before after → OneIsListed one
+is_listed_together (Batchable a) (Batchable b) answer one is subject all does =
+    one_is_listed true a.node.scheme.participants a.node.scheme.keys one
+    (assembled_given (node_config_over ghosts true a.node) a b one answer is does.assembled)
+is_listed_together (OneByOne a) (OneByOne b) answer one is subject all does =
+    one_is_listed false a.node.scheme.participants a.node.scheme.keys one
+    (assembled_given (node_config_over ghosts false a.node) a b one answer is does.assembled)
+is_listed_together (Batchable a) (OneByOne b) answer one is subject all does = absurd does
+is_listed_together (OneByOne a) (Batchable b) answer one is subject all does = absurd does
+
 module _ {E : Type 0} (before after : CNode) (old step : FlatStep)
     (room list : List FlatAttestation) (signers_room signers : List ℕ) (code : ℕ)
     (some : HasSomeHistory before) (one : Construction (Content Caller) Sha256Digest) where
@@ -202,7 +264,7 @@ module _ {E : Type 0} (before after : CNode) (old step : FlatStep)
       → answer ≡ Ok (MadeOne one) → MakesQuorumOf before one
   concluded_of_quorum answer does written is =
       one_of_quorum before after one old step room list signers_room signers code some
-      (goes_on before after answer one is does)
+      (goes_on before after answer one is does) (is_listed before after answer one is does)
       (subst (λ r. AnswersConcluded old step room list signers_room signers r code) is written)
 
   pub together_of_quorum :
@@ -215,6 +277,7 @@ module _ {E : Type 0} (before after : CNode) (old step : FlatStep)
   together_of_quorum answer subject all does written is =
       one_of_quorum before after one old step room list signers_room signers code some
       (goes_on_together before after answer one is subject all does)
+      (is_listed_together before after answer one is subject all does)
       (subst (λ r. AnswersTogether old step room list signers_room signers r code) is written)
 
 -- A construction that is answered wants no verdict, and its lists have room.

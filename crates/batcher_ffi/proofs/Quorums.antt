@@ -1,5 +1,5 @@
 -- What a certificate shows that certifies.
-use Rattle.std.proofs.Common.{◌≡◌, ◌∙◌, ◌==◌, ◌&&◌, ℕ, true, List, [], ◌∷◌, Option, Some, None, IfSome, ap, refl, subst, sym}
+use Rattle.std.proofs.Common.{◌≡◌, ◌∙◌, ◌==◌, ◌&&◌, ◌++◌, ℕ, Bool, true, false, List, [], ◌∷◌, Option, Some, None, IfSome, ap, refl, subst, sym}
 use Rattle.std.specs.Cmp.Lexicographic.{pointwise}
 use Rattle.std.specs.Prelude.{length}
 use Rattle.std.proofs.lemmas.Bool.{and_parts, eqb-true}
@@ -15,7 +15,9 @@ use Rattle.batcher_bytes.specs.Meanings.{certifies}
 use Rattle.batcher_bytes.specs.declared.certificates.Content.{Content}
 use Rattle.batcher_bytes.specs.declared.certificates.Content.TheVariants.{Made as MadeHere, Received}
 use Rattle.batcher_bytes.specs.declared.signature.Keys.{Keys}
-use Rattle.batcher_any.specs.Judging.{keys_in}
+use Rattle.batcher_round.specs.Verdicts.{IsAssembled, BatchIsAssembled}
+use Rattle.batcher_types.specs.declared.scheme.keyed.Name.{Name}
+use Rattle.batcher_any.specs.Judging.{keys_in, meaning_by}
 use Rattle.batcher_any.specs.declared.either.Either.TheVariants.{Batchable, OneByOne}
 use Rattle.batcher_ffi.specs.Output.{Made, WritesCertificate, WritesContent}
 use Rattle.batcher_ffi.specs.Rounds.{CRound, IsOfQuorum, MakesQuorum, config_of}
@@ -62,37 +64,59 @@ of_content : (keys : Keys) (n : ℕ) (subject : Subject Sha256Digest) (listing :
 of_content keys n subject listing h passed =
     subst (λ l. Passed ghosts l) (is_listing_of keys n subject listing h) passed
 
+-- It is made of attestations.
+abbrev pub IsListed : Content Caller → Type 0
+IsListed content = (listing : Listing) × (content ≡ MadeHere listing)
+
 of_quorum : (keys : Keys) (n : ℕ) (step : FlatStep) (room list : List FlatAttestation)
     (subject : Subject Sha256Digest) (content : Content Caller)
-    → certifies {T = Caller} keys n subject content ≡ true
+    → certifies {T = Caller} keys n subject content ≡ true → IsListed content
     → WritesContent step room list content → IsOfQuorum keys n subject content
-of_quorum keys n step room list subject (MadeHere listing) h written =
+of_quorum keys n step room list subject (MadeHere listing) h is written =
     of_content keys n subject listing h written.1.1
-of_quorum keys n step room list subject (Received certificate) h written = tt
+of_quorum keys n step room list subject (Received certificate) h is written = absurd (cc)
 
 -- A batch that certifies makes a quorum, as it is written.
 pub makes_quorum : (keys : Keys) (n : ℕ) (step : FlatStep) (room list : List FlatAttestation)
     (batch : Batch Made)
     → IfSome batch.certificate (λ c. certifies {T = Caller} keys n (subject_certified c)
     (content_of c) ≡ true)
+    → IfSome batch.certificate (λ c. IsListed (content_of c))
     → IfSome batch.certificate (WritesCertificate step room list) → MakesQuorum keys n batch
-makes_quorum keys n step room list batch h written = of_some batch.certificate h written
+makes_quorum keys n step room list batch h is written = of_some batch.certificate h is written
   where
     of_some : (o : Option Made)
         → IfSome o (λ c. certifies {T = Caller} keys n (subject_certified c) (content_of c) ≡ true)
-        → IfSome o (WritesCertificate step room list)
+        → IfSome o (λ c. IsListed (content_of c)) → IfSome o (WritesCertificate step room list)
         → IfSome o (λ c. IsOfQuorum keys n (subject_certified c) (content_of c))
-    of_some (Some c) h w = of_quorum keys n step room list (subject_certified c) (content_of c) h w.content
-    of_some None h w = tt
+    of_some (Some c) h is w =
+        of_quorum keys n step room list (subject_certified c) (content_of c) h is w.content
+    of_some None h is w = tt
+
+-- What a scheme of bytes assembles is made of attestations.
+pub listed_by : (batchable : Bool) (participants : List Name) (keys : Keys) (batch : Batch Made)
+    → BatchIsAssembled (meaning_by ghosts batchable participants keys) batch
+    → IfSome batch.certificate (λ c. IsListed (content_of c))
+listed_by batchable participants keys batch assembled = of_some batch.certificate assembled
+  where
+    of_some : (o : Option Made)
+        → IfSome o (IsAssembled (meaning_by ghosts batchable participants keys))
+        → IfSome o (λ c. IsListed (content_of c))
+    of_some (Some c) is = (
+      listing_of keys (length participants) (subject_certified c) (is.0 ++ is.1),
+      is.2,
+    )
+    of_some None is = tt
 
 -- The same of a batch of a round.
 pub round_makes_quorum : (r : CRound) (step : FlatStep) (room list : List FlatAttestation)
     (batch : Batch Made) → BatchCertifies (config_of r).meaning batch
+    → BatchIsAssembled (config_of r).meaning batch
     → IfSome batch.certificate (WritesCertificate step room list)
     → MakesQuorum (keys_in r) (length (config_of r).meaning.participants) batch
-round_makes_quorum (Batchable j) step room list batch h written =
+round_makes_quorum (Batchable j) step room list batch h is written =
     makes_quorum j.round.scheme.keys (length j.round.scheme.participants) step room list batch h
-    written
-round_makes_quorum (OneByOne j) step room list batch h written =
+    (listed_by true j.round.scheme.participants j.round.scheme.keys batch is) written
+round_makes_quorum (OneByOne j) step room list batch h is written =
     makes_quorum j.round.scheme.keys (length j.round.scheme.participants) step room list batch h
-    written
+    (listed_by false j.round.scheme.participants j.round.scheme.keys batch is) written

@@ -1,5 +1,5 @@
 -- What the calls of a round do and answer, by codes and flat values.
-use Rattle.std.specs.Prelude.{◌≡◌, ◌≢◌, ◌↔◌, ◌≤◌, ◌==◌, ◌++◌, ◌⊎◌, ◌||◌, ⊤, not, ℕ, Bool, true, false, List, [], ◌∷◌, length, map, Option, Some, None, Ok, IfSome, IsSomeAnd, is_some, nat_lt}
+use Rattle.std.specs.Prelude.{◌≡◌, ◌≢◌, ◌↔◌, ◌≤◌, ◌==◌, ◌++◌, ◌⊎◌, ◌||◌, not, ℕ, Bool, true, false, List, [], ◌∷◌, length, map, Option, Some, None, Ok, IfSome, IsSomeAnd, is_some, nat_lt}
 use Rattle.std.specs.List.{list_all, list_any}
 use Rattle.batcher_types.specs.declared.messages.Sha256Digest.{Sha256Digest}
 use Rattle.batcher_types.specs.declared.positions.Participant.{Participant}
@@ -111,12 +111,12 @@ abbrev pub IsReceived : List ℕ → Content Caller → Type 0
 IsReceived bytes (MadeHere listing) = ⊥
 IsReceived bytes (Received certificate) = certificate.bytes ≡ bytes
 
--- A certificate that is made of attestations shows a quorum of different participants. By their
--- keys they attest each what it is of, or pass as a whole. Nothing is said of one of bytes.
+-- A certificate is made of attestations, of a quorum of different participants. By their keys they
+-- attest each what it is of, or pass as a whole.
 abbrev pub IsOfQuorum : Keys → ℕ → Subject Sha256Digest → Content Caller → Type 0
 IsOfQuorum keys participants subject (MadeHere listing) =
     Passed ghosts (listing_of keys participants subject listing.attestations)
-IsOfQuorum keys participants subject (Received certificate) = ⊤
+IsOfQuorum keys participants subject (Received certificate) = ⊥
 
 abbrev pub MakesQuorum : Keys → ℕ → Batch Made → Type 0
 MakesQuorum keys participants batch = IfSome batch.certificate (λ certificate.

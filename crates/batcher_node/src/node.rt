@@ -17,6 +17,7 @@ ghost use Rattle.batcher_node.specs.Nodes.{SameNode, IsAtRest, HasChanged, IsNex
 ghost use Rattle.batcher_node.specs.Represents.{cast_by, Meets, SimulatesCast, SimulatesForward, NodeRepresents, ForEachNodeHistory, IsHeard, config_of, ForSomeNodeHistory};
 ghost use Rattle.batcher_node.specs.Verdicts.{LooksAtThere, MayBeQuorumThere};
 ghost use Rattle.batcher.specs.VerifierSteps.{certificate_for};
+ghost use Rattle.batcher.specs.Verdicts.{BatchIsAssembled};
 ghost use Rattle.batcher_node.specs.NodePromises.{HadGivenCause, IsComplete, KeepsPromises};
 
 use crate::answers::{Cast, Cause, EnterFault, Receipt, Verdict};
@@ -448,6 +449,8 @@ where
         ensures meets { IfGiven result (λ one. Meets (⟦<S as NodeConfigs<D>>⟧.of self.old) self.old
             (constructed one.view.0 one.batch) self.new) }
         ensures gives { IfGiven result (λ one. is_some one.batch ≡ true) }
+        ensures assembled { IfGiven result (λ one. IfSome one.batch
+            (BatchIsAssembled (S.meaning self.old.scheme))) }
         ensures next { IfGiven result (λ one. IsNext self.old.rounds one.view.0) }
         ensures looks_at { IfGiven result (λ one. LooksAtThere ⟦<S as RoundConfigs<D>>⟧.of
             (slot_at self.old.rounds one.view.0) subject list.now) }

@@ -19,6 +19,7 @@ ghost use Rattle.batcher_node.specs.Windows.{is_of, entered, finalized, numbered
 ghost use Rattle.batcher_node.specs.Nodes.{fresh_round, IsNext, IsTended, MakesCall, MakesCallThere, Refuses, Draws, HasChanged, IsAtRest, slot_at};
 ghost use Rattle.batcher_node.specs.Verdicts.{LooksAtThere, MayBeQuorumThere};
 ghost use Rattle.batcher.specs.VerifierSteps.{certificate_for};
+ghost use Rattle.batcher.specs.Verdicts.{BatchIsAssembled};
 ghost use Rattle.batcher_node.specs.NodePromises.{HoldsOfAll, IsNodePromised, IsComplete};
 
 use crate::due::Due;
@@ -308,6 +309,8 @@ where
             ConstructCall (ConstructAnswer (Some batch))) }
         ensures looks_at { IfGiven result (λ _. LooksAtThere ⟦<S as RoundConfigs<D>>⟧.of
             (get nat_cmp self.old.slots view) subject list.now) }
+        ensures assembled { IfGiven result (BatchIsAssembled
+            (S.meaning self.old.scheme.value)) }
         ensures not_stale { LooksAtThere ⟦<S as RoundConfigs<D>>⟧.of
             (get nat_cmp self.old.slots view) subject list.now
             → IfOk result (λ given. is_some given ≡ true) }

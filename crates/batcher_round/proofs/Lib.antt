@@ -3,3 +3,4 @@ pub mod OwnCertificates
 pub mod InRound
 pub mod Construction
 pub mod Otherwise
+pub mod Assembling

@@ -1,9 +1,13 @@
 -- What a construction is where verdicts come from elsewhere, or a certificate, and what the next
 -- one looks at.
-use Rattle.std.specs.Prelude.{◌≡◌, ◌≤◌, ◌+◌, true, List, length, Some}
+use Rattle.std.specs.Prelude.{◌≡◌, ◌≤◌, ◌+◌, true, List, length, Some, IfSome}
 use Rattle.batcher_types.specs.declared.messages.Attestation.{Attestation}
+use Rattle.batcher_types.specs.declared.messages.Certificate.{Certificate}
 use Rattle.batcher_types.specs.declared.messages.Kind.{Kind}
 use Rattle.batcher_types.specs.declared.messages.Subject.{Subject}
+use Rattle.batcher_types.specs.Meaning.{Meaning}
+use Rattle.batcher_types.specs.Votes.{subject_certified, content_of}
+use Rattle.batcher_votes.specs.declared.verifier.Batch.{Batch}
 use Rattle.batcher_votes.specs.AttemptInputs.{pending_tried, verified_tried}
 use Rattle.batcher_votes.specs.RoundState.{RoundState}
 use Rattle.batcher_votes.specs.Verdicts as votes
@@ -11,6 +15,17 @@ use Rattle.batcher_votes.specs.VerifierSteps.{subject_tried}
 use Rattle.batcher_histories.specs.Config.{Config, quorum_in}
 use Rattle.batcher_histories.specs.Steps.{is_ready_in}
 use Rattle.batcher_round.specs.Next.{subject_next, pending_next, verified_next}
+
+module _ {D K G C : Type 0} (m : Meaning D K G C) where
+  -- A certificate is what the scheme assembles of attestations of its subject.
+  abbrev pub IsAssembled : Certificate C D → Type 0
+  IsAssembled certificate =
+      (prior : List (Attestation G)) × (fresh : List (Attestation G))
+      × (content_of certificate ≡ m.assembled (subject_certified certificate) prior fresh)
+
+  -- So is the certificate of a batch, where it has one.
+  abbrev pub BatchIsAssembled : Batch (Certificate C D) → Type 0
+  BatchIsAssembled batch = IfSome batch.certificate IsAssembled
 
 module _ {D K G C : Type 0} (x : Config D K G C) where
   -- the round's configuration, where each pending attestation has a verdict

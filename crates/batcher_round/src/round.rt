@@ -8,7 +8,7 @@ ghost use Rattle.batcher_round.specs.RoundWords.{needs_memory, BatchCertifies, A
 ghost use Rattle.batcher_round.specs.RoundWords.{IsRefusedForNeed, Represents, NetworkCall, OwnCall, ConstructCall, LeaderCall, ForwardCall, MissingCall, CertificateCall, NetworkAnswer, OwnAnswer, ConstructAnswer, LeaderAnswer};
 ghost use Rattle.batcher_round.specs.RoundWords.{ForwardAnswer, MissingAnswer, CertificateAnswer, OutOfMemoryFault, subject_next, pending_next, verified_next, quorum_of, fresh_votes, proven_votes};
 ghost use Rattle.rand_core.specs.Stream.{Stream};
-ghost use Rattle.batcher_round.specs.Verdicts.{judged, judged_with, LooksAtNext, MayBeQuorumNext};
+ghost use Rattle.batcher_round.specs.Verdicts.{judged, judged_with, BatchIsAssembled, LooksAtNext, MayBeQuorumNext};
 ghost use Rattle.batcher_votes.specs.VerifierSteps.{certificate_for};
 ghost use Rattle.batcher_types.specs.Attestations.{index_of_signer};
 ghost use Rattle.batcher_types.specs.Lists.{EachOnce};
@@ -517,6 +517,7 @@ where
         ensures needed { IsRefusedForNeed ⟦<S as RoundConfigs<D>>⟧.of self.old
             ConstructCall result }
         ensures certifies { IfGiven result (BatchCertifies (S.meaning self.old.scheme)) }
+        ensures assembled { IfGiven result (BatchIsAssembled (S.meaning self.old.scheme)) }
         ensures refused { OnErr result (self.new ≡ self.old) }
         ensures same { SameRound self.old self.new }
     {

@@ -4,6 +4,7 @@ ghost use Rattle.std.specs.Prelude.{◌≡◌, true, Bool, ℕ, None, Some, Ok, 
 ghost use Rattle.batcher_types.specs.declared.messages.Attestation.{Attestation as TheAttestation};
 ghost use Rattle.batcher_types.specs.declared.messages.Subject.{Subject as TheSubject};
 ghost use Rattle.batcher_votes.specs.Verifiers.{IfGiven};
+ghost use Rattle.batcher_round.specs.Verdicts.{BatchIsAssembled};
 ghost use Rattle.batcher_node.specs.Events.{constructed};
 ghost use Rattle.batcher_node.specs.Nodes.{SameNode, HasChanged, IsNext, slot_at};
 ghost use Rattle.batcher_node.specs.Represents.{Meets};
@@ -36,6 +37,8 @@ impl<G: Identical, D: Digest> Verdicts<G, D> {
             (slot_at node.old.rounds one.view.0) self.old subject)) }
         ensures next { IfGiven result (λ one. IsNext node.old.rounds one.view.0) }
         ensures gives { IfGiven result (λ one. is_some one.batch ≡ true) }
+        ensures assembled { IfGiven result (λ one. IfSome one.batch
+            (BatchIsAssembled (S.meaning node.old.scheme))) }
         ensures meets { IfGiven result (λ one. Meets (⟦<S as NodeConfigs<D>>⟧.of node.old) node.old
             (constructed one.view.0 one.batch) node.new) }
         ensures truths { (attests : TheSubject D → TheAttestation G → Bool)

@@ -6,7 +6,7 @@ ghost use Rattle.batcher_types.specs.declared.messages.Attestation.{Attestation 
 ghost use Rattle.batcher_types.specs.declared.messages.Kind.{Kind as TheKind};
 ghost use Rattle.batcher_types.specs.declared.messages.Subject.{Subject as TheSubject};
 ghost use Rattle.batcher_round.specs.RoundWords.{of_kind, subject_next, pending_next, verified_next, SameRound, IfGiven, BatchCertifies, IsRefusedForNeed, SimulatesAlways, ConstructCall, ConstructAnswer, AfterConstruct};
-ghost use Rattle.batcher_round.specs.Verdicts.{judged};
+ghost use Rattle.batcher_round.specs.Verdicts.{judged, BatchIsAssembled};
 ghost use Rattle.rand_core.specs.Stream.{Stream};
 ghost use Rattle.batcher_verdicts.specs.Recorded.{Asks, AreTrue, Adds, IsKnown};
 ghost use Rattle.batcher_verdicts.specs.Rounds.{recorded_of, kind_attested, AllTrue, AreComplete, AsksNext, Forgets, Records};
@@ -210,6 +210,7 @@ impl<G: Identical, D: Digest> Verdicts<G, D> {
         ensures needed { IsRefusedForNeed ⟦<S as RoundConfigs<D>>⟧.of round.old
             ConstructCall result }
         ensures certifies { IfGiven result (BatchCertifies (S.meaning round.old.scheme)) }
+        ensures assembled { IfGiven result (BatchIsAssembled (S.meaning round.old.scheme)) }
         ensures truths { (attests : TheSubject D → TheAttestation G → Bool)
             → AllTrue attests self.old → AllTrue attests self.new }
         ensures forgets { IfGiven result (λ _. (subject : TheSubject D)

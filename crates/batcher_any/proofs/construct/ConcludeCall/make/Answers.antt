@@ -11,6 +11,7 @@ returns-clause-does g c = rw (sym c.judged.view_is) (
       meets = e.meets;
       needed = e.needed;
       certifies = e.certifies;
+      assembled = e.assembled;
       forgets = e.forgets;
       waits = λ is. let both = e.waits is in rw (both.0, both.1) refl;
       refused = on_err c.try_construct.result (λ both. rw (both.0, both.1) refl) e.refused;

@@ -5,6 +5,7 @@ use Rattle.batcher_types.specs.contracts.messages.Sha256DigestPartialEq.TheImpl 
 use Rattle.batcher_types.specs.contracts.scheme.keyed.NameOrd.TheImpl as name
 use Rattle.batcher_bytes.specs.contracts.signature.SignaturePartialEq.TheImpl as signature
 use Rattle.batcher_any.proofs.NextRounds.{enough_there, is_next_round, looks_there, made_here, whole_here}
+use Rattle.batcher_any.proofs.Assembled.{assembled_of}
 use Rattle.batcher_any.proofs.Wholes.{enough_of, rest_of}
 use Rattle.batcher_any.proofs.node_construct.ConcludeNextTogetherNodeCall.make.Goals as goal
 
@@ -21,6 +22,7 @@ returns-in_default-known_in-clause-does g c = rw (sym c.judged.view_is) (
           c.args.self.list.now other its n may)) ∙ ap is_some c.in_default-known_in.is));
       made = tt;
       gives = tt;
+      assembled = tt;
       meets = tt;
       waits = λ is. refl;
       refused = tt;
@@ -49,6 +51,10 @@ returns-clause-does g c = rw (sym c.judged.view_is) (
           (record { about = whole.about; parts = whole.parts; enough = whole.quorum.enough })
           e.next;
       gives = e.constructs;
+      assembled = assembled_of (g.S.Scheme.meaning c.judged.inside.node.scheme) (λ one. one.batch)
+          c.conclude_with.result c.args.self.subject c.split_at.result.0.now fresh
+          c.in_ok-certificate.certificate
+          (rw (c.judged.invariant.0, sym c.deref-2.ensures) c.in_ok-certificate.ensures.assembled) e.gives;
       meets = e.meets;
       waits = λ is. rw (e.stale (cc)) refl;
       refused = tt;

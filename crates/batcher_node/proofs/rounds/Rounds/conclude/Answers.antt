@@ -61,3 +61,8 @@ returns-in-Some-2-clause-listed g c =
     c.in-Some.slot.now left c.requires.listed (sym c.in-Some.ensures.value) updates.1 (sym (next_changed (slot_at rounds c.args.view)
     c.in-Some.slot.now c.requires.next.changed (sym c.in-Some.ensures.value))) as_many
     (λ other apart. updates.2 other (not_at c.args.view other apart))
+
+pub returns-in-Some-2-clause-assembled : goal.returns-in-Some-2-clause-assembled
+returns-in-Some-2-clause-assembled g c =
+    let own = if_some _ _ c.in-Some.slot.now (sym c.in-Some.ensures.value) (c.requires.tended.own c.args.view) in
+    rw own.0 at (rw c.in-Some-2.is at c.in_ok-batch-in-Some.ensures.assembled)

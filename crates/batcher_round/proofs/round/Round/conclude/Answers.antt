@@ -3,13 +3,14 @@ use Rattle.std.specs.Prelude.{Result, Ok, Err, Option}
 use Rattle.std.proofs.lemmas.Option.{none-some}
 use Rattle.batcher_votes.specs.Verdicts as votes
 use Rattle.batcher_votes.specs.Verifiers.{IfGiven}
-use Rattle.batcher_votes.proofs.VerifierLemmas.Verdicts.{judged_lawful}
+use Rattle.batcher_votes.proofs.VerifierLemmas.Verdicts.{judged_lawful, no_stream}
 use Rattle.batcher_histories.specs.RoundContracts.{round_config}
 use Rattle.batcher_histories.specs.Steps.{kind_tried}
 use Rattle.batcher_histories.proofs.History.Laws.{laws_by}
 use Rattle.batcher_histories.proofs.KnownLemmas.Ready.{tried_ready}
 use Rattle.batcher_histories.proofs.Memory.Needed.{construct_needed}
 use Rattle.batcher_round.specs.BallotsView.{round_with}
+use Rattle.batcher_round.proofs.Assembling.{assembled_by_verdicts}
 use Rattle.batcher_round.proofs.Otherwise.{next_of, kind_of_next, none_next, step_otherwise, followed_otherwise}
 use Rattle.batcher_round.proofs.round.Round.conclude.Goals as goal
 
@@ -74,6 +75,15 @@ returns-in-Some-clause-meets g c =
     (laws_by _ (g.met.S.Scheme.lawful _) c.self.invariant g.met.D.Digest.identical g.met.D.Eq.laws.refl) past _ batch _
     represents c.conclude.ensures.sound good stepped)
     step c.conclude.ensures.certifies)
+
+pub returns-in-Some-clause-assembled : goal.returns-in-Some-clause-assembled
+returns-in-Some-clause-assembled g c =
+    let b = c.self.inside in
+    let x = round_config g.S.Scheme.meaning g.S.PublicKey.Ord.cmp g.S.Signature.PartialEq.eq g.D.PartialEq.eq (round_with b.ballots) in
+    let step = rw (← c.self.view_is) at (returns-in-Some-clause-step g c) in
+    rw (← c.self.view_is)
+    (each_given c.conclude.result _ _ (λ batch stepped. assembled_by_verdicts x _ _ batch no_stream no_stream (stepped no_stream))
+    step)
 
 pub returns-in-Some-clause-needed : goal.returns-in-Some-clause-needed
 returns-in-Some-clause-needed g c =
