@@ -57,6 +57,9 @@ impl<G> WantedTogether<G> {
     }
 }
 
+/// Of a caller that hands in more verdicts than attestations, or fewer.
+const ONE_EACH: &str = "there isn't one verdict for each";
+
 /// What is asked of a round and of a node in the library alike.
 pub(crate) trait Library {
     fn record_verdicts(
@@ -140,9 +143,15 @@ impl Constructions {
                 Next::Rests(view) => return Ok(Some((view, None))),
                 Next::Made(view, batch) => return Ok(Some((view, Some(batch)))),
                 Next::Verify(wanted) => {
-                    let verdicts =
-                        scheme.verify_attestations(&wanted.subject, &wanted.attestations);
-                    self.record_verdicts(library, &wanted, &verdicts)?;
+                    let Wanted {
+                        subject,
+                        attestations,
+                        ..
+                    } = &wanted;
+                    let verdicts = scheme.verify_attestations(subject, attestations);
+                    assert_eq!(attestations.len(), verdicts.len(), "{ONE_EACH}");
+                    // They are in the list as the library wrote them.
+                    hand_in(library, subject, &self.list[..verdicts.len()], &verdicts)?;
                 }
                 Next::VerifyTogether(together) => {
                     let Wanted {
@@ -248,7 +257,7 @@ impl Constructions {
         verdicts: &[bool],
     ) -> Result<bool, Error> {
         let count = wanted.attestations.len();
-        assert_eq!(count, verdicts.len(), "there isn't one verdict for each");
+        assert_eq!(count, verdicts.len(), "{ONE_EACH}");
         if wanted.owner != self.owner {
             return Err(Error::Elsewhere);
         }
@@ -256,16 +265,7 @@ impl Constructions {
         for (place, attestation) in self.known.iter_mut().zip(&wanted.attestations) {
             *place = flat_attestation(attestation)?;
         }
-        match library.record_verdicts(
-            kind_code(wanted.subject.kind()),
-            &flat_subject(&wanted.subject),
-            &self.known[..count],
-            verdicts,
-        ) {
-            code::DONE => Ok(true),
-            code::STALE => Ok(false),
-            answer => Err(error_of(answer)),
-        }
+        hand_in(library, &wanted.subject, &self.known[..count], verdicts)
     }
 
     /// Notes whether what a step has wanted passes as a whole. Of two verdicts in a row on the same
@@ -339,6 +339,21 @@ impl Constructions {
             certificate,
             fallback: step.fallback,
         })
+    }
+}
+
+/// Hands in verdicts on a list, and says whether they are recorded.
+fn hand_in(
+    library: &mut impl Library,
+    subject: &Subject,
+    list: &[ffi::Attestation],
+    verdicts: &[bool],
+) -> Result<bool, Error> {
+    let (kind, proposal) = (kind_code(subject.kind()), flat_subject(subject));
+    match library.record_verdicts(kind, &proposal, list, verdicts) {
+        code::DONE => Ok(true),
+        code::STALE => Ok(false),
+        answer => Err(error_of(answer)),
     }
 }
 

@@ -259,14 +259,13 @@ impl FlatAttestation {
     }
 
     /// An attestation, flat.
-    pub fn of(attestation: Attestation<Signature>) -> Self
-        ensures { raw_in result ≡ attestation }
+    pub fn of(attestation: &Attestation<Signature>) -> Self
+        ensures { raw_in result ≡ attestation.now }
     {
-        let bytes = attestation.signature.bytes;
         FlatAttestation {
             signer: attestation.signer.0,
             length: attestation.signature.length,
-            bytes,
+            bytes: attestation.signature.bytes,
         }
     }
 }
@@ -293,34 +292,29 @@ impl FlatVote {
         }
     }
 
-    fn of_notarize(vote: &Notarize<Signature, Sha256Digest>) -> Self
-        ensures { raw_vote_in result ≡ Some (Vote.Notarize vote.now) }
+    // Each is written in place: a flat vote that is made first would be copied.
+    fn write_notarize(&mut self, vote: &Notarize<Signature, Sha256Digest>)
+        ensures { raw_vote_in self.new ≡ Some (Vote.Notarize vote.now) }
     {
-        FlatVote {
-            proposal: FlatProposal::of(&vote.proposal),
-            attestation: FlatAttestation::of(vote.attestation),
-            kind: NOTARIZATION,
-        }
+        self.proposal = FlatProposal::of(&vote.proposal);
+        self.attestation = FlatAttestation::of(&vote.attestation);
+        self.kind = NOTARIZATION;
     }
 
-    fn of_nullify(vote: &Nullify<Signature>) -> Self
-        ensures { raw_vote_in result ≡ Some (Vote.Nullify vote.now) }
+    fn write_nullify(&mut self, vote: &Nullify<Signature>)
+        ensures { raw_vote_in self.new ≡ Some (Vote.Nullify vote.now) }
     {
-        FlatVote {
-            proposal: FlatProposal::of_round(vote.round),
-            attestation: FlatAttestation::of(vote.attestation),
-            kind: NULLIFICATION,
-        }
+        self.proposal = FlatProposal::of_round(vote.round);
+        self.attestation = FlatAttestation::of(&vote.attestation);
+        self.kind = NULLIFICATION;
     }
 
-    fn of_finalize(vote: &Finalize<Signature, Sha256Digest>) -> Self
-        ensures { raw_vote_in result ≡ Some (Vote.Finalize vote.now) }
+    fn write_finalize(&mut self, vote: &Finalize<Signature, Sha256Digest>)
+        ensures { raw_vote_in self.new ≡ Some (Vote.Finalize vote.now) }
     {
-        FlatVote {
-            proposal: FlatProposal::of(&vote.proposal),
-            attestation: FlatAttestation::of(vote.attestation),
-            kind: FINALIZATION,
-        }
+        self.proposal = FlatProposal::of(&vote.proposal);
+        self.attestation = FlatAttestation::of(&vote.attestation);
+        self.kind = FINALIZATION;
     }
 }
 
@@ -377,30 +371,30 @@ impl FlatAdmission {
             None => self.report = REPORT_NONE,
             Some(Activity::Notarize(vote)) => {
                 self.report = REPORT_NOTARIZE;
-                self.first = FlatVote::of_notarize(vote);
+                self.first.write_notarize(vote);
             }
             Some(Activity::Nullify(vote)) => {
                 self.report = REPORT_NULLIFY;
-                self.first = FlatVote::of_nullify(vote);
+                self.first.write_nullify(vote);
             }
             Some(Activity::Finalize(vote)) => {
                 self.report = REPORT_FINALIZE;
-                self.first = FlatVote::of_finalize(vote);
+                self.first.write_finalize(vote);
             }
             Some(Activity::ConflictingNotarize(first, second)) => {
                 self.report = REPORT_CONFLICTING_NOTARIZE;
-                self.first = FlatVote::of_notarize(first);
-                self.second = FlatVote::of_notarize(second);
+                self.first.write_notarize(first);
+                self.second.write_notarize(second);
             }
             Some(Activity::ConflictingFinalize(first, second)) => {
                 self.report = REPORT_CONFLICTING_FINALIZE;
-                self.first = FlatVote::of_finalize(first);
-                self.second = FlatVote::of_finalize(second);
+                self.first.write_finalize(first);
+                self.second.write_finalize(second);
             }
             Some(Activity::NullifyFinalize(first, second)) => {
                 self.report = REPORT_NULLIFY_FINALIZE;
-                self.first = FlatVote::of_nullify(first);
-                self.second = FlatVote::of_finalize(second);
+                self.first.write_nullify(first);
+                self.second.write_finalize(second);
             }
         }
     }

@@ -84,7 +84,7 @@ fn write_attestations(from: &[Attestation<Signature>], to: &mut [FlatAttestation
     ensures { IsWritten raw_in from.now to.old to.new }
 {
     for index in 0..from.len().min(to.len()) {
-        to[index] = FlatAttestation::of(from[index]);
+        to[index] = FlatAttestation::of(&from[index]);
     }
 }
 
