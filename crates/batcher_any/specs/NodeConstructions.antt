@@ -11,8 +11,8 @@ use Rattle.batcher_bytes.specs.declared.signature.Signature.{Signature}
 use Rattle.batcher_node.specs.declared.node.Construction.{Construction}
 use Rattle.batcher_node.specs.Events.{constructed}
 use Rattle.batcher_node.specs.NodePromises.{IsComplete}
-use Rattle.batcher_node.specs.Nodes.{HasChanged, IsAtRest, IsNext, slot_at}
-use Rattle.batcher_node.specs.Represents.{ForEachNodeHistory, Meets}
+use Rattle.batcher_node.specs.Nodes.{IsAtRest, IsNext}
+use Rattle.batcher_node.specs.Represents.{ForEachNodeHistory, Meets, NextMayNeed}
 use Rattle.batcher_votes.specs.Verifiers.{IfGiven}
 use Rattle.batcher_verdicts.specs.Rounds.{AreComplete, AsksNext, Records as RecordsVerdicts}
 use Rattle.batcher_any.specs.declared.node_construct.Concluded.{Concluded}
@@ -85,7 +85,7 @@ module _ {T S : Type 0} (x : BytesNodeConfig T)
           → IsNextRound old.node.rounds view round
           → subject_next (round_config round) round.holds ≡ None
           → IfOk answer (λ concluded. rests_in concluded ≡ true)
-      pub needed : OnErr answer ((view : ℕ) × HasChanged (slot_at old.node.rounds view))
+      pub needed : OnErr answer (NextMayNeed x old.node)
       pub refused : OnErr answer (new ≡ old)
 
     -- The next construction, of a quorum that passes as a whole: None where the subject and the

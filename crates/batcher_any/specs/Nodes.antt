@@ -10,6 +10,7 @@ use Rattle.batcher.specs.Verifiers.{certifies_itself}
 use Rattle.batcher.specs.Votes.{subject_of, subject_certified, round_in}
 use Rattle.batcher.specs.answers.Admission.{Admission}
 use Rattle.batcher.specs.answers.OwnFault.{OwnFault}
+use Rattle.batcher.specs.answers.OwnFault.TheVariants.{OutOfMemory as OwnOutOfMemory}
 use Rattle.batcher.specs.messages.Kind.{Kind}
 use Rattle.batcher.specs.messages.Proposal.{Proposal}
 use Rattle.batcher.specs.messages.Sha256Digest.{Sha256Digest}
@@ -31,7 +32,8 @@ use Rattle.batcher_node.specs.declared.answers.Verdict.{Verdict}
 use Rattle.batcher_node.specs.declared.answers.Verdict.TheVariants.{Known}
 use Rattle.batcher_node.specs.Events.{NodeHistory, started, vote_came, certificate_came, view_entered, view_finalized, view_history}
 use Rattle.batcher_node.specs.Nodes.{NodeConfig, NodeView, IsLedByAnother, node_config, slot_at}
-use Rattle.batcher_node.specs.Represents.{ForEachNodeHistory, IsHeard, Meets, NodeRepresents, SimulatesCast, SimulatesForward, config_of}
+use Rattle.batcher.specs.calls.Call.TheVariants.{Network, Own, Certificate as CertificateCall}
+use Rattle.batcher_node.specs.Represents.{ForEachNodeHistory, IsHeard, MayNeedIn, Meets, NodeRepresents, SimulatesCast, SimulatesForward, config_of}
 use Rattle.batcher_node.specs.Windows.{is_of}
 use Rattle.batcher_verdicts.specs.Recorded.{Recorded}
 use Rattle.batcher_any.specs.Calls.{BytesVote, BytesCertificate}
@@ -81,7 +83,9 @@ module _ {T S : Type 0} (x : BytesNodeConfig T)
       pub outside : answer ≡ Ok Outside → new ≡ old
       pub dropped : answer ≡ Ok Dropped → new ≡ old
       pub unknown : answer ≡ Ok Unknown → new ≡ old
-      pub needed : OnErr answer (IsHeard x old.node peer (round_in (subject_of vote)))
+      pub heard : OnErr answer (IsHeard x old.node peer (round_in (subject_of vote)))
+      pub needed : OnErr answer (MayNeedIn x old.node (round_in (subject_of vote)).view.0
+          (Network peer vote))
       pub refused : OnErr answer (new ≡ old)
       pub verdicts : new.verdicts ≡ old.verdicts
 
@@ -94,9 +98,11 @@ module _ {T S : Type 0} (x : BytesNodeConfig T)
       pub dropped : answer ≡ Ok Dropped → new ≡ old
       pub unknown : answer ≡ Ok Unknown → new ≡ old
       pub known : answer ≡ Ok (Answered Known) → new ≡ old
-      pub needed : OnErr answer (
+      pub heard : OnErr answer (
           IsHeard x old.node peer (round_in (subject_certified certificate))
           × (certifies_itself x.meaning certificate ≡ true))
+      pub needed : OnErr answer (MayNeedIn x old.node
+          (round_in (subject_certified certificate)).view.0 (CertificateCall certificate))
       pub refused : OnErr answer (new ≡ old)
       pub verdicts : new.verdicts ≡ old.verdicts
 
@@ -111,8 +117,10 @@ module _ {T S : Type 0} (x : BytesNodeConfig T)
         → ForEachNodeHistory x old.node (λ past.
         let view = (round_in (subject_of vote)).view.0 in
         fault ≡ fault_or_memory (own_answer (config_of x past view) (view_history view past) vote))
-    pub needed : (fault : OwnFault) → answer ≡ Err (Fault fault)
+    pub within : (fault : OwnFault) → answer ≡ Err (Fault fault)
         → is_of old.node.epoch old.node.window (round_in (subject_of vote)) ≡ true
+    pub needed : answer ≡ Err (Fault OwnOutOfMemory)
+        → MayNeedIn x old.node (round_in (subject_of vote)).view.0 (Own vote)
     pub refused : OnErr answer (new ≡ old)
     pub verdicts : new.verdicts ≡ old.verdicts
 

@@ -1,5 +1,5 @@
 -- Each sort of event, as a call of its view's round.
-use Rattle.std.proofs.Common.{◌≡◌, ◌≢◌, ◌≤◌, ◌<◌, ℕ, Bool, true, false, not, cond, ◌&&◌, ◌==◌, List, [], ◌∷◌, Option, Some, None, Ok, refl, sym, ap, ◌∙◌, subst, arith, eqb, is_some, inl, length}
+use Rattle.std.proofs.Common.{◌≡◌, ◌≢◌, ◌≤◌, ◌<◌, ℕ, Bool, true, false, not, cond, ◌&&◌, ◌==◌, List, [], ◌∷◌, Option, Some, None, Ok, refl, sym, ap, ◌∙◌, subst, arith, eqb, is_some, inl, inr, length}
 use Rattle.std.specs.Prelude.{MatchOption, IfSome}
 use Rattle.std.specs.List.{list_any}
 use Rattle.std.specs.Option.{option_map, option_or}
@@ -12,7 +12,8 @@ use Rattle.batcher.specs.messages.Kind.{Kind}
 use Rattle.batcher.specs.messages.Kind.TheVariants.{Notarization, Nullification, Finalization}
 use Rattle.batcher.specs.votes.Outcome.TheVariants.{Added}
 use Rattle.batcher.specs.answers.OwnFault.TheVariants.{OutOfMemory as OutOfMemoryFault}
-use Rattle.batcher.specs.Answers.{own_answer}
+use Rattle.batcher.specs.Answers.{needs_memory, own_answer}
+use Rattle.batcher.specs.calls.Call.{Call}
 use Rattle.batcher.specs.RoundContracts.{ForEachHistory}
 use Rattle.std.specs.declared.cmp.Ordering.{Ordering}
 use Rattle.std.proofs.lemmas.Bool.{eq-eqb, false≢true}
@@ -46,8 +47,8 @@ use Rattle.batcher_node.specs.declared.slot.Slot.{Slot}
 use Rattle.batcher.specs.positions.Epoch.{Epoch}
 use Rattle.batcher_node.specs.Events.{NodeEvent, vote_came, certificate_came, vote_cast, view_entered, view_finalized, constructed, proposal_forwarded}
 use Rattle.batcher_node.specs.Events.{NodeHistory, view_history, at_view, peer_in, is_peer, cause_by, invalid_in}
-use Rattle.batcher_node.specs.Nodes.{NodeView, NodeConfig, node_config, cause_at, slot_at, fresh_round, MakesCall, MakesCallThere, IsTended, HasChanged}
-use Rattle.batcher_node.specs.Represents.{NodeRepresents, receipt, receipt_from, is_within, config_of, is_due, ViewRepresents, Meets, SimulatesCast, SimulatesForward, cast_by}
+use Rattle.batcher_node.specs.Nodes.{NodeView, NodeConfig, node_config, cause_at, slot_at, fresh_round, MakesCall, MakesCallThere, NeedsThere, IsNext, IsTended, HasChanged}
+use Rattle.batcher_node.specs.Represents.{NodeRepresents, receipt, receipt_from, is_within, config_of, is_due, ViewRepresents, Meets, SimulatesCast, SimulatesForward, MayNeedIn, NextMayNeed, cast_by}
 use Rattle.batcher_node.proofs.Calling.{NamesFault}
 use Rattle.batcher_node.proofs.Representation.{told_one, told_none, config_by}
 
@@ -488,3 +489,45 @@ module _ {S D K G C : Type 0} (meaning : S → Meaning D K G C) (compare_keys : 
       subst (λ o. MatchOption o ((given ≡ None) × (new ≡ old))
       (λ slot. Meets y old (proposal_forwarded view me given) new))
       (sym absent) (is, left ∙ ap (λ r. record old { rounds = r }) same)
+
+-- What a round may need by its history, its view needs by that of the node.
+pub needed_there : {S D K G C : Type 0} (meaning : S → Meaning D K G C)
+    (compare_keys : K → K → Ordering) (same_signature : G → G → Bool) (same_digest : D → D → Bool)
+    (old : NodeView S G D) (view : ℕ) (call : Call K G C D) (participants : ℕ)
+    → IsTended participants old.scheme old.epoch old.window old.rounds
+    → NeedsThere (round_config meaning compare_keys same_signature same_digest)
+    (slot_at old.rounds view) call
+    → MayNeedIn (node_config meaning compare_keys same_signature same_digest old) old view call
+needed_there {S} {D} {K} {G} {C} meaning compare_keys same_signature same_digest old view call participants tended needs =
+    by_slot (slot_at old.rounds view) refl (tended.own view) needs where
+      by_slot : (o : Option (Slot (RoundView S G D))) → slot_at old.rounds view ≡ o
+          → IfSome o (λ slot. (slot.round.scheme ≡ old.scheme)
+          × ((slot.round.number ≡ numbered old.epoch view) × (contains old.window view ≡ true)))
+          → NeedsThere (round_config meaning compare_keys same_signature same_digest) o call
+          → MayNeedIn (node_config meaning compare_keys same_signature same_digest old) old view
+          call
+      by_slot None at own needs = inl at
+      by_slot (Some slot) at own needs = inr (λ past h.
+          let y = node_config meaning compare_keys same_signature same_digest old in
+          let shows = subst (λ o. MatchOption o (view_history view past ≡ []) (ViewRepresents y past view)) at
+          (h.views view (not_before old.window view own.1.1)) in
+          let same = config_by meaning compare_keys same_signature same_digest past old view slot.round
+          own.0 own.1.0 shows.mode_is in
+          subst (λ z. needs_memory z (view_history view past) call ≡ true) same
+          (needs (view_history view past)
+          (subst (λ z. Represents z (view_history view past) slot.round.holds) (sym same) shows.represents)))
+
+pub next_needed : {S D K G C : Type 0} (meaning : S → Meaning D K G C)
+    (compare_keys : K → K → Ordering) (same_signature : G → G → Bool) (same_digest : D → D → Bool)
+    (old : NodeView S G D) (view : ℕ) (participants : ℕ)
+    → IsTended participants old.scheme old.epoch old.window old.rounds → IsNext old.rounds view
+    → NeedsThere (round_config meaning compare_keys same_signature same_digest)
+    (slot_at old.rounds view) ConstructCall
+    → NextMayNeed (node_config meaning compare_keys same_signature same_digest old) old
+next_needed meaning compare_keys same_signature same_digest old view participants tended next needs =
+    record {
+      view = view;
+      next = next;
+      needs = needed_there meaning compare_keys same_signature same_digest old view ConstructCall
+          participants tended needs;
+    }

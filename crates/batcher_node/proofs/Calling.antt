@@ -18,7 +18,7 @@ use Rattle.batcher.specs.verifier.LeaderFault.{LeaderFault}
 use Rattle.batcher.specs.verifier.LeaderFault.TheVariants.{LeaderChanged}
 use Rattle.batcher.specs.votes.Outcome.TheVariants.{Added}
 use Rattle.batcher.specs.calls.Call.{Call}
-use Rattle.batcher.specs.calls.Call.TheVariants.{Construct as ConstructCall}
+use Rattle.batcher.specs.calls.Call.TheVariants.{Construct as ConstructCall, Own as OwnCall}
 use Rattle.batcher.specs.answers.Answer.{Answer}
 use Rattle.batcher.specs.answers.Answer.TheVariants.{Construct as ConstructAnswer}
 use Rattle.batcher.specs.answers.OwnFault.{OwnFault}
@@ -28,11 +28,12 @@ use Rattle.batcher.specs.Answers.{own_answer}
 use Rattle.batcher.specs.Selection.{is_released}
 use Rattle.batcher.specs.Steps.{fault_or_memory, unopposed_result, leader_set_answer}
 use Rattle.batcher.specs.Votes.{kind_of}
+use Rattle.batcher.specs.Answers.{needs_memory}
 use Rattle.batcher.specs.RoundState.{RoundView, SameRound}
 use Rattle.batcher.specs.RoundContracts.{SimulatesAlways, SimulatesOnOk, ForEachHistory}
 use Rattle.batcher.specs.Represents.{Represents}
 use Rattle.batcher_node.specs.declared.slot.Slot.{Slot}
-use Rattle.batcher_node.specs.Nodes.{MakesCall, Refuses, IsLedByAnother, due_after}
+use Rattle.batcher_node.specs.Nodes.{MakesCall, NeedsThere, Refuses, IsLedByAnother, due_after}
 
 unequal_is : (o : Ordering) → (o ≡ Equal → ⊥) → is_eq o ≡ false
 unequal_is Less apart = refl
@@ -122,15 +123,28 @@ module _ {S D K G C : Type 0} (round_config : RoundView S G D → Config D K G C
       → fault ≡ OutOfMemoryFault → NamesFault round_config o vote fault
   none_named o fault none is = subst (λ o. NamesFault round_config o vote fault) (sym none) is
 
-  -- why its view's round refuses it
+  -- why its view's round refuses it: what its history names, and memory only where it may need some
+  abbrev RefusesOwn : RoundView S G D → OwnFault → Type 0
+  RefusesOwn round fault =
+      (ForEachHistory round_config round (λ x past.
+      fault ≡ fault_or_memory (own_answer x past vote)))
+      × (fault ≡ OutOfMemoryFault → ForEachHistory round_config round (λ x past.
+      needs_memory x past (OwnCall vote) ≡ true))
+
   pub own_refused : (o : Option (Slot (RoundView S G D))) (fresh : RoundView S G D)
-      (fault : OwnFault) → Refuses round_config o fresh
-      (λ round fault. ForEachHistory round_config round
-      (λ x past. fault ≡ fault_or_memory (own_answer x past vote))) fault
+      (fault : OwnFault) → Refuses round_config o fresh RefusesOwn fault
       → NamesFault round_config o vote fault
   own_refused None fresh fault h =
-      h.1 [] h.0 ∙ first_named (kind_of vote) (not (is_released (round_config fresh) [] (kind_of vote)))
-  own_refused (Some slot) fresh fault h = h
+      h.1.0 [] h.0
+      ∙ first_named (kind_of vote) (not (is_released (round_config fresh) [] (kind_of vote)))
+  own_refused (Some slot) fresh fault h = h.0
+
+  -- where that is for memory, it may need some
+  pub own_needs : (o : Option (Slot (RoundView S G D))) (fresh : RoundView S G D)
+      (fault : OwnFault) → Refuses round_config o fresh RefusesOwn fault
+      → fault ≡ OutOfMemoryFault → NeedsThere round_config o (OwnCall vote)
+  own_needs None fresh fault h is = tt
+  own_needs (Some slot) fresh fault h is = h.1 is
 
 module _ {S D K G C A E : Type 0} (round_config : RoundView S G D → Config D K G C)
     (old new : ℕ → Option (Slot (RoundView S G D))) (view : ℕ) (fresh : RoundView S G D)
@@ -206,3 +220,23 @@ module _ {S D K G C : Type 0} (round_config : RoundView S G D → Config D K G C
           others = λ other apart. others other apart ∙ same_get m middle uncalled other;
         };
       })
+
+-- A call that a round refuses for memory may need some.
+pub needs_refused : {S D K G C A F : Type 0} (round_config : RoundView S G D → Config D K G C)
+    (call : Call K G C D) (at : Option (Slot (RoundView S G D))) (fresh : RoundView S G D)
+    (r : Result A F) → IfErr r (Refuses round_config at fresh (λ round _.
+    ForEachHistory round_config round (λ x past. needs_memory x past call ≡ true)))
+    → (e : F) → r ≡ Err e → NeedsThere round_config at call
+needs_refused {S} {D} {K} {G} {C} {A} {F} round_config call at fresh r named e is =
+    by_slot at (err_fact _ r named e is) where
+      by_slot : (o : Option (Slot (RoundView S G D)))
+          → Refuses round_config o fresh (λ round (_ : F).
+          ForEachHistory round_config round (λ x past. needs_memory x past call ≡ true)) e
+          → NeedsThere round_config o call
+      by_slot None h = tt
+      by_slot (Some slot) h = h
+
+-- The error that a result has is the one that is known.
+pub known_error : {A E : Type 0} (r : Result A E) (known e : E) → IsErrAnd r (λ x. x ≡ known)
+    → r ≡ Err e → known ≡ e
+known_error r known e h is = sym (subst (λ r. IsErrAnd r (λ x. x ≡ known)) is h)

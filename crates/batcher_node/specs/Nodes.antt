@@ -1,5 +1,5 @@
 -- A node, as contracts see it, its configuration, and what one call of a view's round changes.
-use Rattle.std.specs.Prelude.{◌≡◌, ◌≢◌, ◌≤◌, ◌<◌, ◌⊎◌, ◌||◌, ℕ, Bool, true, false, List, [], Option, Some, None, Err, IfSome, MatchOption, option_and_then}
+use Rattle.std.specs.Prelude.{◌≡◌, ◌≢◌, ◌≤◌, ◌<◌, ◌⊎◌, ◌||◌, ⊤, ℕ, Bool, true, false, List, [], Option, Some, None, Err, IfSome, MatchOption, option_and_then}
 use Rattle.std.specs.List.{slice_get}
 use Rattle.std.specs.Ordering.{nat_cmp}
 use Rattle.std.specs.declared.cmp.Ordering.{Ordering}
@@ -20,7 +20,8 @@ use Rattle.batcher.specs.Config.{Config}
 use Rattle.batcher.specs.RoundState.{RoundView, SameRound}
 use Rattle.batcher.specs.Steps.{nothing_held, leader_set_answer, AfterConstruct}
 use Rattle.batcher.specs.History.{Event}
-use Rattle.batcher.specs.RoundContracts.{SimulatesAlways}
+use Rattle.batcher.specs.Answers.{needs_memory}
+use Rattle.batcher.specs.RoundContracts.{ForEachHistory, SimulatesAlways}
 use Rattle.batcher.specs.Represents.{Represents}
 use Rattle.batcher_node.specs.declared.window.Window.{Window}
 use Rattle.batcher_node.specs.declared.answers.Cause.{Cause}
@@ -136,6 +137,13 @@ abbrev pub Refuses : {S D K G C F : Type 0} → (RoundView S G D → Config D K 
 Refuses round_config at fresh why fault =
     MatchOption at (Represents (round_config fresh) [] fresh.holds × why fresh fault)
     (λ slot. why slot.round fault)
+
+-- A call may need memory by each history of the round that is there, or there is none.
+abbrev pub NeedsThere : {S D K G C : Type 0} → (RoundView S G D → Config D K G C)
+    → Option (Slot (RoundView S G D)) → Call K G C D → Type 0
+NeedsThere round_config at call =
+    MatchOption at ⊤ (λ slot. ForEachHistory round_config slot.round
+    (λ x past. needs_memory x past call ≡ true))
 
 module _ {S D K G C : Type 0} (round_config : RoundView S G D → Config D K G C)
     (old new : ℕ → Option (Slot (RoundView S G D))) (view : ℕ) where

@@ -1,5 +1,5 @@
 -- When a node represents a history of its calls, and how it goes on with one more.
-use Rattle.std.specs.Prelude.{◌≡◌, ◌≤◌, ◌<◌, ⊤, ℕ, Bool, true, false, cond, [], ◌∷◌, length, Option, Some, None, is_some, is_none, Ok, MatchOption}
+use Rattle.std.specs.Prelude.{◌≡◌, ◌≤◌, ◌<◌, ◌⊎◌, ⊤, ℕ, Bool, true, false, cond, [], ◌∷◌, length, Option, Some, None, is_some, is_none, Ok, MatchOption}
 use Rattle.std.specs.declared.cmp.Ordering.{Ordering}
 use Rattle.batcher.specs.positions.Participant.{Participant}
 use Rattle.batcher.specs.positions.Round.{Round}
@@ -18,7 +18,9 @@ use Rattle.batcher.specs.Selection.{is_certified, leader_of}
 use Rattle.batcher.specs.Verifiers.{certifies_itself}
 use Rattle.batcher.specs.RoundState.{RoundView}
 use Rattle.batcher.specs.History.{History}
-use Rattle.batcher.specs.Answers.{IsPossible, network_answer, own_answer, certificate_answer}
+use Rattle.batcher.specs.Answers.{IsPossible, needs_memory, network_answer, own_answer, certificate_answer}
+use Rattle.batcher.specs.calls.Call.{Call}
+use Rattle.batcher.specs.calls.Call.TheVariants.{Construct as ConstructCall}
 use Rattle.batcher.specs.Represents.{Represents}
 use Rattle.batcher_node.specs.declared.answers.Receipt.{Receipt}
 use Rattle.batcher_node.specs.declared.answers.Receipt.TheVariants.{Answered, Outside, Dropped, Unknown}
@@ -29,7 +31,7 @@ use Rattle.batcher_node.specs.declared.answers.Cast.TheVariants.{ToSend, Known a
 use Rattle.batcher_node.specs.declared.slot.Slot.{Slot}
 use Rattle.batcher_node.specs.Windows.{is_of, mode_now, numbered}
 use Rattle.batcher_node.specs.Events.{NodeEvent, started, vote_came, certificate_came, vote_cast, view_entered, view_finalized, constructed, proposal_forwarded, NodeHistory, view_history, peer_in, cause_in, window_in}
-use Rattle.batcher_node.specs.Nodes.{NodeView, NodeConfig, cause_at, due_after, slot_at, IsTended, node_config}
+use Rattle.batcher_node.specs.Nodes.{NodeView, NodeConfig, cause_at, due_after, slot_at, IsNext, IsTended, node_config}
 
 -- whether the round of a history has to be looked at
 abbrev pub is_due : {D K G C : Type 0} → History D K G C → Bool
@@ -186,6 +188,20 @@ module _ {D K G C : Type 0} (x : NodeConfig D K G C) where
   abbrev pub IsHeard : {S : Type 0} → NodeView S G D → K → Round → Type 0
   IsHeard node peer number =
       (is_free node (peer_in x peer) ≡ true) × (is_of x.epoch node.window number ≡ true)
+
+  -- A call in a view may need memory: for a round, where the view has none, or as the history of
+  -- the view says, whichever history the node represents.
+  abbrev pub MayNeedIn : {S : Type 0} → NodeView S G D → ℕ → Call K G C D → Type 0
+  MayNeedIn node view call =
+      (slot_at node.rounds view ≡ None)
+      ⊎ ForEachNodeHistory node (λ past.
+      needs_memory (config_of past view) (view_history view past) call ≡ true)
+
+  -- The next construction may need memory.
+  pub record NextMayNeed {S : Type 0} (node : NodeView S G D) : Type 0 where
+    pub view : ℕ
+    pub next : IsNext node.rounds view
+    pub needs : MayNeedIn node view ConstructCall
 
 -- What each node keeps true: its rounds are tended, each participant has a place for a cause, and
 -- there is a history that it represents.

@@ -8,13 +8,14 @@ ghost use Rattle.std.specs.Ordering.{nat_cmp};
 ghost use Rattle.batcher.specs.Votes.{subject_of, subject_certified, attestation_of, round_in};
 ghost use Rattle.batcher.specs.Verifiers.{certifies_itself, IfGiven};
 ghost use Rattle.batcher.specs.Answers.{own_answer};
+ghost use Rattle.batcher.specs.calls.Call.TheVariants.{Network as NetworkCall, Own as OwnCall, Certificate as CertificateCall};
 ghost use Rattle.batcher.specs.Steps.{fault_or_memory};
 ghost use Rattle.batcher_node.specs.declared.answers.Cause.TheVariants.{Vote as ForVote, Signature as ForSignature};
 ghost use Rattle.batcher_node.specs.declared.answers.EnterFault.TheVariants.{Passed as PassedFault, LeaderChanged as LeaderChangedFault, OutOfMemory as OutOfMemoryFault};
 ghost use Rattle.batcher_node.specs.Windows.{is_of, width, contains, numbered};
 ghost use Rattle.batcher_node.specs.Events.{peer_in, invalid_in, started, vote_came, certificate_came, view_entered, view_finalized, constructed, view_history};
 ghost use Rattle.batcher_node.specs.Nodes.{SameNode, IsAtRest, HasChanged, IsNext, Draws, IsLedByAnother, cause_at, slot_at};
-ghost use Rattle.batcher_node.specs.Represents.{cast_by, Meets, SimulatesCast, SimulatesForward, NodeRepresents, ForEachNodeHistory, IsHeard, config_of, ForSomeNodeHistory};
+ghost use Rattle.batcher_node.specs.Represents.{cast_by, Meets, SimulatesCast, SimulatesForward, NodeRepresents, ForEachNodeHistory, IsHeard, MayNeedIn, NextMayNeed, config_of, ForSomeNodeHistory};
 ghost use Rattle.batcher_node.specs.Verdicts.{LooksAtThere, MayBeQuorumThere};
 ghost use Rattle.batcher.specs.VerifierSteps.{certificate_for};
 ghost use Rattle.batcher.specs.Verdicts.{BatchIsAssembled};
@@ -157,8 +158,10 @@ impl<S: Scheme<D>, D: Digest> Node<S, D> {
         ensures outside_stays { result ≡ Ok Receipt.Outside → self.new ≡ self.old }
         ensures dropped_stays { result ≡ Ok Receipt.Dropped → self.new ≡ self.old }
         ensures unknown_stays { result ≡ Ok Receipt.Unknown → self.new ≡ self.old }
-        ensures needed { OnErr result (IsHeard (⟦<S as NodeConfigs<D>>⟧.of self.old) self.old peer
+        ensures heard { OnErr result (IsHeard (⟦<S as NodeConfigs<D>>⟧.of self.old) self.old peer
             (round_in (subject_of vote))) }
+        ensures needed { OnErr result (MayNeedIn (⟦<S as NodeConfigs<D>>⟧.of self.old) self.old
+            (round_in (subject_of vote)).view.0 (NetworkCall peer vote)) }
         ensures refused { OnErr result (self.new ≡ self.old) }
         ensures same { SameNode self.old self.new }
     {
@@ -193,9 +196,12 @@ impl<S: Scheme<D>, D: Digest> Node<S, D> {
         ensures dropped_stays { result ≡ Ok Receipt.Dropped → self.new ≡ self.old }
         ensures unknown_stays { result ≡ Ok Receipt.Unknown → self.new ≡ self.old }
         ensures known_stays { result ≡ Ok (Receipt.Answered Verdict.Known) → self.new ≡ self.old }
-        ensures needed { OnErr result ((IsHeard (⟦<S as NodeConfigs<D>>⟧.of self.old) self.old peer
+        ensures heard { OnErr result ((IsHeard (⟦<S as NodeConfigs<D>>⟧.of self.old) self.old peer
             (round_in (subject_certified certificate.now)))
             × (certifies_itself (S.meaning self.old.scheme) certificate.now ≡ true)) }
+        ensures needed { OnErr result (MayNeedIn (⟦<S as NodeConfigs<D>>⟧.of self.old) self.old
+            (round_in (subject_certified certificate.now)).view.0
+            (CertificateCall certificate.now)) }
         ensures refused { OnErr result (self.new ≡ self.old) }
         ensures same { SameNode self.old self.new }
     {
@@ -237,8 +243,11 @@ impl<S: Scheme<D>, D: Digest> Node<S, D> {
             let view = (round_in (subject_of vote)).view.0 in
             fault ≡ fault_or_memory (own_answer (config_of (⟦<S as NodeConfigs<D>>⟧.of self.old)
             past view) (view_history view past) vote))) }
-        ensures needed { OnErr result
+        ensures within { OnErr result
             (is_of self.old.epoch self.old.window (round_in (subject_of vote)) ≡ true) }
+        ensures needed { result ≡ Err OwnFault.OutOfMemory
+            → MayNeedIn (⟦<S as NodeConfigs<D>>⟧.of self.old) self.old
+            (round_in (subject_of vote)).view.0 (OwnCall vote) }
         ensures refused { OnErr result (self.new ≡ self.old) }
         ensures same { SameNode self.old self.new }
     {
@@ -306,7 +315,8 @@ impl<S: Scheme<D>, D: Digest> Node<S, D> {
             (slot_at self.old.rounds) (slot_at self.new.rounds) one.view.0
             (R.stream rng.old) one.batch (R.stream rng.new))) }
         ensures draws_nothing { result ≡ Ok None → R.stream rng.new ≡ R.stream rng.old }
-        ensures needed { OnErr result ((view : ℕ) × (HasChanged (slot_at self.old.rounds view))) }
+        ensures needed { OnErr result
+            (NextMayNeed (⟦<S as NodeConfigs<D>>⟧.of self.old) self.old) }
         ensures refused { OnErr result (self.new ≡ self.old) }
         ensures same { SameNode self.old self.new }
     {
@@ -458,7 +468,8 @@ where
             → LooksAtThere ⟦<S as RoundConfigs<D>>⟧.of (slot_at self.old.rounds view) subject
             list.now → IfOk result (λ given. is_some given ≡ true) }
         ensures stale { result ≡ Ok None → self.new ≡ self.old }
-        ensures needed { OnErr result ((view : ℕ) × (HasChanged (slot_at self.old.rounds view))) }
+        ensures needed { OnErr result
+            (NextMayNeed (⟦<S as NodeConfigs<D>>⟧.of self.old) self.old) }
         ensures refused { OnErr result (self.new ≡ self.old) }
         ensures same { SameNode self.old self.new }
     {

@@ -16,7 +16,7 @@ ghost use Rattle.batcher.specs.RoundContracts.{ForEachHistory};
 ghost use Rattle.batcher.specs.Selection.{is_certified};
 ghost use Rattle.batcher.specs.Verifiers.{certifies_itself, IfGiven};
 ghost use Rattle.batcher_node.specs.Windows.{is_of, entered, finalized, numbered};
-ghost use Rattle.batcher_node.specs.Nodes.{fresh_round, IsNext, IsTended, MakesCall, MakesCallThere, Refuses, Draws, HasChanged, IsAtRest, slot_at};
+ghost use Rattle.batcher_node.specs.Nodes.{fresh_round, IsNext, IsTended, MakesCall, MakesCallThere, NeedsThere, Refuses, Draws, HasChanged, IsAtRest, slot_at};
 ghost use Rattle.batcher_node.specs.Verdicts.{LooksAtThere, MayBeQuorumThere};
 ghost use Rattle.batcher.specs.VerifierSteps.{certificate_for};
 ghost use Rattle.batcher.specs.Verdicts.{BatchIsAssembled};
@@ -192,6 +192,8 @@ impl<S: Scheme<D>, D: Digest> Rounds<S, D> {
             (get nat_cmp self.old.slots view ≡ None)) }
         ensures uncalled { IfOk result (λ made. IfNone made
             (self.new.slots.entries ≡ self.old.slots.entries)) }
+        ensures needed { OnErr result (NeedsThere ⟦<S as RoundConfigs<D>>⟧.of
+            (get nat_cmp self.old.slots view) ConstructCall) }
         ensures refused { OnErr result (self.new.slots.entries ≡ self.old.slots.entries) }
         ensures same { self.new ≡ record self.old {
           slots = self.new.slots;
@@ -315,6 +317,8 @@ where
             (get nat_cmp self.old.slots view) subject list.now
             → IfOk result (λ given. is_some given ≡ true) }
         ensures stale { result ≡ Ok None → self.new.slots.entries ≡ self.old.slots.entries }
+        ensures needed { OnErr result (NeedsThere ⟦<S as RoundConfigs<D>>⟧.of
+            (get nat_cmp self.old.slots view) ConstructCall) }
         ensures refused { OnErr result (self.new.slots.entries ≡ self.old.slots.entries) }
         ensures same { self.new ≡ record self.old {
           slots = self.new.slots;

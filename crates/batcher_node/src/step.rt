@@ -52,8 +52,11 @@ pub(crate) struct Heard<S: Scheme<D>, D: Digest> {
 }
 
 impl<S: Scheme<D>, D: Digest> Step<S, D> for Heard<S, D> {
+    ghost use Rattle.std.specs.Prelude.{◌≡◌, true};
     ghost use Rattle.batcher.specs.calls.Call.TheVariants.{Network as NetworkCall};
     ghost use Rattle.batcher.specs.answers.Answer.TheVariants.{Network as NetworkAnswer};
+    ghost use Rattle.batcher.specs.Answers.{needs_memory};
+    ghost use Rattle.batcher.specs.RoundContracts.{ForEachHistory};
 
     type Answer = Admission<S::Signature, D>;
 
@@ -62,6 +65,9 @@ impl<S: Scheme<D>, D: Digest> Step<S, D> for Heard<S, D> {
     ghost call = { λ step. NetworkCall step.peer step.vote };
 
     ghost answered = { NetworkAnswer };
+
+    ghost refuses = { λ step round fault. ForEachHistory ⟦<S as RoundConfigs<D>>⟧.of round
+        (λ x past. needs_memory x past (NetworkCall step.peer step.vote) ≡ true) };
 
     fn make(self, slot: &mut Slot<Round<S, D>>) -> Result<Admission<S::Signature, D>, AllocError> {
         let admission = slot.round.add_network(self.peer, self.vote)?;
@@ -78,12 +84,13 @@ pub(crate) struct Cast<S: Scheme<D>, D: Digest> {
 }
 
 impl<S: Scheme<D>, D: Digest> Step<S, D> for Cast<S, D> {
-    ghost use Rattle.std.specs.Prelude.{◌≡◌};
+    ghost use Rattle.std.specs.Prelude.{◌≡◌, true};
     ghost use Rattle.batcher.specs.calls.Call.TheVariants.{Own as OwnCall};
+    ghost use Rattle.batcher.specs.answers.OwnFault.TheVariants.{OutOfMemory};
     ghost use Rattle.batcher.specs.answers.Answer.TheVariants.{Own as OwnAnswer};
     ghost use Rattle.batcher.specs.RoundContracts.{ForEachHistory};
     ghost use Rattle.batcher.specs.Steps.{fault_or_memory};
-    ghost use Rattle.batcher.specs.Answers.{own_answer};
+    ghost use Rattle.batcher.specs.Answers.{needs_memory, own_answer};
 
     type Answer = (Outcome, Option<Activity<S::Signature, D>>);
 
@@ -93,8 +100,11 @@ impl<S: Scheme<D>, D: Digest> Step<S, D> for Cast<S, D> {
 
     ghost answered = { λ answer. OwnAnswer answer.0 answer.1 };
 
-    ghost refuses = { λ step round fault. ForEachHistory ⟦<S as RoundConfigs<D>>⟧.of round
-        (λ x past. fault ≡ fault_or_memory (own_answer x past step.vote)) };
+    ghost refuses = { λ step round fault.
+        (ForEachHistory ⟦<S as RoundConfigs<D>>⟧.of round
+        (λ x past. fault ≡ fault_or_memory (own_answer x past step.vote)))
+        × (fault ≡ OutOfMemory → ForEachHistory ⟦<S as RoundConfigs<D>>⟧.of round
+        (λ x past. needs_memory x past (OwnCall step.vote) ≡ true)) };
 
     fn make(
         self,
@@ -113,8 +123,11 @@ pub(crate) struct Verified<'a, S: Scheme<D>, D: Digest> {
 }
 
 impl<S: Scheme<D>, D: Digest> Step<S, D> for Verified<'_, S, D> {
+    ghost use Rattle.std.specs.Prelude.{◌≡◌, true};
     ghost use Rattle.batcher.specs.calls.Call.TheVariants.{Certificate as CertificateCall};
     ghost use Rattle.batcher.specs.answers.Answer.TheVariants.{Certificate as CertificateAnswer};
+    ghost use Rattle.batcher.specs.Answers.{needs_memory};
+    ghost use Rattle.batcher.specs.RoundContracts.{ForEachHistory};
 
     type Answer = bool;
 
@@ -123,6 +136,9 @@ impl<S: Scheme<D>, D: Digest> Step<S, D> for Verified<'_, S, D> {
     ghost call = { λ step. CertificateCall step.certificate.now };
 
     ghost answered = { CertificateAnswer };
+
+    ghost refuses = { λ step round fault. ForEachHistory ⟦<S as RoundConfigs<D>>⟧.of round
+        (λ x past. needs_memory x past (CertificateCall step.certificate.now) ≡ true) };
 
     fn make(self, slot: &mut Slot<Round<S, D>>) -> Result<bool, AllocError> {
         let changed = slot.round.record_certificate(self.certificate)?;

@@ -6,8 +6,8 @@ ghost use Rattle.batcher_types.specs.declared.messages.Subject.{Subject as TheSu
 ghost use Rattle.batcher_votes.specs.Verifiers.{IfGiven};
 ghost use Rattle.batcher_round.specs.Verdicts.{BatchIsAssembled};
 ghost use Rattle.batcher_node.specs.Events.{constructed};
-ghost use Rattle.batcher_node.specs.Nodes.{SameNode, HasChanged, IsNext, slot_at};
-ghost use Rattle.batcher_node.specs.Represents.{Meets};
+ghost use Rattle.batcher_node.specs.Nodes.{SameNode, IsNext, slot_at};
+ghost use Rattle.batcher_node.specs.Represents.{Meets, NextMayNeed};
 ghost use Rattle.batcher_verdicts.specs.Nodes.{AreCompleteThere, KnownThere};
 ghost use Rattle.batcher_verdicts.specs.Rounds.{AllTrue};
 
@@ -43,7 +43,8 @@ impl<G: Identical, D: Digest> Verdicts<G, D> {
             (constructed one.view.0 one.batch) node.new) }
         ensures truths { (attests : TheSubject D → TheAttestation G → Bool)
             → AllTrue attests self.old → AllTrue attests self.new }
-        ensures needed { OnErr result ((view : ℕ) × (HasChanged (slot_at node.old.rounds view))) }
+        ensures needed { OnErr result
+            (NextMayNeed (⟦<S as NodeConfigs<D>>⟧.of node.old) node.old) }
         ensures waits { result ≡ Ok None → (self.new ≡ self.old) × (node.new ≡ node.old) }
         ensures refused { OnErr result ((self.new ≡ self.old) × (node.new ≡ node.old)) }
         ensures same { SameNode node.old node.new }

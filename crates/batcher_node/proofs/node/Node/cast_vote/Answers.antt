@@ -1,10 +1,12 @@
 use Rattle.std.proofs.Common.{◌∷◌, ◌∙◌, sym, refl, rules, ap, subst}
 use Rattle.batcher.specs.answers.OwnFault.TheVariants.{OutOfMemory as OutOfMemoryFault}
 use Rattle.batcher.specs.RoundContracts.{round_config}
+use Rattle.batcher.specs.Votes.{round_in, subject_of}
+use Rattle.batcher.specs.calls.Call.TheVariants.{Own as OwnCall}
 use Rattle.batcher_node.specs.Represents.{IsNode}
 use Rattle.batcher_node.specs.Events.{vote_cast}
-use Rattle.batcher_node.proofs.Calling.{err_known, err_fact, if_ok, own_refused, none_named}
-use Rattle.batcher_node.proofs.Answering.{not_far, own_told, own_named, cast_told}
+use Rattle.batcher_node.proofs.Calling.{err_known, err_fact, if_ok, known_error, own_needs, own_refused, none_named}
+use Rattle.batcher_node.proofs.Answering.{needed_there, not_far, own_told, own_named, cast_told}
 use Rattle.batcher_node.proofs.Tending.{still_tended}
 use Rattle.batcher_node.proofs.node.Node.cast_vote.Goals as goal
 
@@ -77,3 +79,12 @@ invariant_of-self-2 g c = (
       }),
   c.call.ensures.listed,
 )
+
+pub returns-in_err-answer-clause-needed : goal.returns-in_err-answer-clause-needed
+returns-in_err-answer-clause-needed g c = λ is.
+    let number = c.round-number.ensures in
+    rw (← c.self.view_is) (needed_there g.S.Scheme.meaning g.S.PublicKey.Ord.cmp g.S.Signature.PartialEq.eq g.D.PartialEq.eq _
+    (round_in (subject_of c.args.vote)).view.0 (OwnCall c.args.vote) _ c.self.invariant.0.tended
+    (rw (← number) (own_needs (round_config g.S.Scheme.meaning g.S.PublicKey.Ord.cmp g.S.Signature.PartialEq.eq g.D.PartialEq.eq) c.args.vote _ _ _
+    (err_fact _ _ c.in_ok-call.ensures.named _ c.in_err-answer.was)
+    (known_error _ _ _ c.from_residual-in_err-answer.ensures.1 is))))

@@ -5,10 +5,10 @@ use Rattle.batcher_node.specs.Nodes.{slot_at}
 use Rattle.batcher_node.specs.Verdicts.{LooksAtThere}
 use Rattle.batcher_node.specs.Represents.{IsNode}
 use Rattle.batcher_node.specs.Events.{constructed}
-use Rattle.batcher_node.proofs.Calling.{if_some}
+use Rattle.batcher_node.proofs.Calling.{if_some, on_err}
 use Rattle.batcher_node.proofs.Lowest.{one_next}
 use Rattle.batcher_node.proofs.Tending.{still_tended}
-use Rattle.batcher_node.proofs.Answering.{construction_told}
+use Rattle.batcher_node.proofs.Answering.{construction_told, next_needed}
 use Rattle.batcher_node.proofs.node.Node.conclude.Goals as goal
 
 pub returns-clause-meets : goal.returns-clause-meets
@@ -64,3 +64,9 @@ returns-in_default-2-clause-not_stale g c = λ view next looks.
 
 pub returns-clause-looks_at : goal.returns-clause-looks_at
 returns-clause-looks_at g c = rw (← c.self.view_is) (rw c.in-Some-2.is at c.in_ok-batch.ensures.looks_at)
+
+pub returns-in_err-batch-clause-needed : goal.returns-in_err-batch-clause-needed
+returns-in_err-batch-clause-needed g c =
+    rw (← c.self.view_is) (on_err _ (next_needed g.S.Scheme.meaning g.S.PublicKey.Ord.cmp g.S.Signature.PartialEq.eq g.D.PartialEq.eq _ c.in-Some.next _
+    c.self.invariant.0.tended (record { changed = search rules; lowest = search rules })
+    c.in_err-batch.ensures.needed))

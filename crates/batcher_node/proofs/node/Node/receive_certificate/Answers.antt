@@ -1,10 +1,13 @@
 use Rattle.std.proofs.Common.{◌∷◌, ◌∙◌, sym, refl, rules, ap, subst}
+use Rattle.batcher.specs.calls.Call.TheVariants.{Certificate as CertificateCall}
+use Rattle.batcher.specs.RoundContracts.{round_config}
+use Rattle.batcher.specs.Votes.{round_in, subject_certified}
 use Rattle.batcher_node.specs.Represents.{IsNode}
 use Rattle.batcher_node.specs.declared.answers.Receipt.TheVariants.{Answered}
 use Rattle.batcher_node.specs.declared.answers.Verdict.TheVariants.{Recorded, Forged}
 use Rattle.batcher_node.specs.Events.{certificate_came}
-use Rattle.batcher_node.proofs.Calling.{if_ok}
-use Rattle.batcher_node.proofs.Answering.{not_far, certified_there, certificate_told, certificate_forged}
+use Rattle.batcher_node.proofs.Calling.{if_ok, needs_refused, on_err}
+use Rattle.batcher_node.proofs.Answering.{needed_there, not_far, certified_there, certificate_told, certificate_forged}
 use Rattle.batcher_node.proofs.Tending.{still_tended}
 use Rattle.batcher_node.proofs.node.Node.receive_certificate.Goals as goal
 
@@ -99,3 +102,13 @@ invariant_of-self g c = (
       },
   c.self.invariant.1,
 )
+
+pub returns-in_err-changed-clause-needed : goal.returns-in_err-changed-clause-needed
+returns-in_err-changed-clause-needed g c =
+    let number = c.round-number.ensures in
+    rw (← c.self.view_is) (on_err _ (needed_there g.S.Scheme.meaning g.S.PublicKey.Ord.cmp g.S.Signature.PartialEq.eq g.D.PartialEq.eq _
+    (round_in (subject_certified c.args.certificate.now)).view.0 (CertificateCall c.args.certificate.now) _
+    c.self.invariant.0.tended
+    (rw (← number) (needs_refused (round_config g.S.Scheme.meaning g.S.PublicKey.Ord.cmp
+    g.S.Signature.PartialEq.eq g.D.PartialEq.eq) (CertificateCall c.args.certificate.now) _ _ _
+    c.in_ok-call.ensures.named _ c.in_err-changed.was))))

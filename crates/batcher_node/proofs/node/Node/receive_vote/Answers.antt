@@ -1,9 +1,12 @@
 use Rattle.std.proofs.Common.{◌∷◌, ◌∙◌, sym, refl, rules, ap, subst}
+use Rattle.batcher.specs.calls.Call.TheVariants.{Network as NetworkCall}
+use Rattle.batcher.specs.RoundContracts.{round_config}
+use Rattle.batcher.specs.Votes.{round_in, subject_of}
 use Rattle.batcher_node.specs.Represents.{IsNode}
 use Rattle.batcher_node.specs.declared.answers.Receipt.TheVariants.{Answered}
 use Rattle.batcher_node.specs.Events.{vote_came}
-use Rattle.batcher_node.proofs.Calling.{if_ok}
-use Rattle.batcher_node.proofs.Answering.{not_far, vote_told}
+use Rattle.batcher_node.proofs.Calling.{if_ok, needs_refused, on_err}
+use Rattle.batcher_node.proofs.Answering.{needed_there, not_far, vote_told}
 use Rattle.batcher_node.proofs.Tending.{still_tended}
 use Rattle.batcher_node.proofs.node.Node.receive_vote.Goals as goal
 
@@ -54,3 +57,12 @@ invariant_of-self-2 g c = (
       }),
   c.call.ensures.listed,
 )
+
+pub returns-in_err-admission-clause-needed : goal.returns-in_err-admission-clause-needed
+returns-in_err-admission-clause-needed g c =
+    let number = c.round-number.ensures in
+    rw (← c.self.view_is) (on_err _ (needed_there g.S.Scheme.meaning g.S.PublicKey.Ord.cmp g.S.Signature.PartialEq.eq g.D.PartialEq.eq _
+    (round_in (subject_of c.args.vote)).view.0 (NetworkCall c.args.peer c.args.vote) _ c.self.invariant.0.tended
+    (rw (← number) (needs_refused (round_config g.S.Scheme.meaning g.S.PublicKey.Ord.cmp
+    g.S.Signature.PartialEq.eq g.D.PartialEq.eq) (NetworkCall c.args.peer c.args.vote) _ _ _
+    c.in_ok-call.ensures.named _ c.in_err-admission.was))))

@@ -1,8 +1,8 @@
 use Rattle.std.proofs.Common.{◌∷◌, refl, rules, sym, ap, subst}
 use Rattle.batcher_node.specs.Represents.{IsNode}
 use Rattle.batcher_node.specs.Events.{constructed}
-use Rattle.batcher_node.proofs.Calling.{if_some}
-use Rattle.batcher_node.proofs.Answering.{construction_told}
+use Rattle.batcher_node.proofs.Calling.{if_some, on_err}
+use Rattle.batcher_node.proofs.Answering.{construction_told, next_needed}
 use Rattle.batcher_node.proofs.node.Node.try_construct.Goals as goal
 
 pub returns-clause-meets : goal.returns-clause-meets
@@ -49,3 +49,9 @@ invariant_of-self-2 g c = (
 pub returns-in_default-clause-complete : goal.returns-in_default-clause-complete
 returns-in_default-clause-complete g c = λ is past represents.
     (c.promises.ensures.each past represents).complete_at_rest (search rules)
+
+pub returns-in_err-batch-clause-needed : goal.returns-in_err-batch-clause-needed
+returns-in_err-batch-clause-needed g c =
+    rw (← c.self.view_is) (on_err _ (next_needed g.S.Scheme.meaning g.S.PublicKey.Ord.cmp g.S.Signature.PartialEq.eq g.D.PartialEq.eq _ c.in-Some.number _
+    c.self.invariant.0.tended (record { changed = search rules; lowest = search rules })
+    c.in_err-batch.ensures.needed))
