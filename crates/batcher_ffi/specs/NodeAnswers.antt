@@ -1,5 +1,5 @@
 -- How what a call of a node answers is written, as a code and into what is handed in.
-use Rattle.std.specs.Prelude.{◌≡◌, ◌≢◌, ⊤, ℕ, Bool, true, List, Option, Some, None, Result, Ok, Err, MatchOption}
+use Rattle.std.specs.Prelude.{◌≡◌, ◌≢◌, ⊤, ℕ, Bool, true, false, List, Option, Some, None, Result, Ok, Err, MatchOption}
 use Rattle.batcher_types.specs.declared.messages.Activity.{Activity}
 use Rattle.batcher_types.specs.declared.messages.Proposal.{Proposal}
 use Rattle.batcher_types.specs.declared.messages.Sha256Digest.{Sha256Digest}
@@ -46,7 +46,8 @@ IfAnswered holds other = ⊤
 pub record AnswersVote {E : Type 0} (answer : Result (Receipt (Admission Signature Sha256Digest)) E)
     (code : ℕ) (old out : FlatAdmission) : Type 0 where
   pub code_is : code ≡ receipt_code (λ _. DONE) answer
-  pub written : IfAnswered (λ admission. admission_in out ≡ admission) answer
+  pub written : IfAnswered (λ admission. (admission_in out ≡ admission)
+      × (out.retained ≡ false)) answer
   pub stays : code ≢ DONE → out ≡ old
 
 -- to a certificate of a peer
@@ -74,7 +75,8 @@ pub record AnswersCast (answer : Result (Cast Signature Sha256Digest) CastRefusa
     (old out : FlatAdmission) : Type 0 where
   pub code_is : CastCode answer code
   pub written : (report : Activity Signature Sha256Digest) → answer ≡ Ok (ToSend report)
-      → admission_in out ≡ record { added = true; block = None; report = Some report }
+      → (admission_in out ≡ record { added = true; block = None; report = Some report })
+      × (out.retained ≡ false)
   pub stays : code ≢ DONE → out ≡ old
 
 -- to a view with its leader

@@ -198,6 +198,7 @@ module _ (before : CRound) (code : ℕ) (after : CRound) where
         (code ≡ ELSEWHERE) ↔ (round_signed (subject_of typed) ≢ (config_of before).number))
     pub done : code ≡ DONE → IfSome (vote_in vote) (λ typed.
         Goes (NetworkCall (record { 0 = sender }) typed, NetworkAnswer (admission_in out)))
+    pub retained : code ≡ DONE → out.retained ≡ false
     pub needed : code ≡ OUT_OF_MEMORY → IfSome (vote_in vote) (λ typed.
         MayNeed before (NetworkCall (record { 0 = sender }) typed))
     pub stays : code ≢ DONE → (after ≡ before) × (out ≡ old)
@@ -329,6 +330,8 @@ module _ (before : CRound) (code : ℕ) (after : CRound) where
     pub untouched : is_one_of (IDLE ∷ OUT_OF_MEMORY ∷ SHORT ∷ []) code ≡ true
         → (step ≡ old) × ((list ≡ room) × (signers ≡ signers_room))
     pub known_stays : code ≢ VERIFY → known ≡ known_room
+    pub signers_stay : code ≡ VERIFY → signers ≡ signers_room
+    pub view_stays : step.view ≡ old.view
     -- All that is promised of a round holds of each history that this one represents.
     pub promised : AfterAny before (λ past. IsPromised (config_of before) past)
     pub same : SameAny before after
@@ -348,5 +351,6 @@ module _ (before : CRound) (code : ℕ) (after : CRound) where
         × (MakesQuorum (keys_in before) (length (config_of before).meaning.participants) batch
         × Goes (ConstructCall, ConstructAnswer (Some batch))))
     pub stays : code ≢ DONE → (after ≡ before) × (step ≡ old)
+    pub view_stays : step.view ≡ old.view
     pub verdicts : (held_in after).verdicts ≡ (held_in before).verdicts
     pub same : SameAny before after

@@ -1,6 +1,6 @@
 //! What crosses to C: structs of numbers, and codes in place of enums.
 
-ghost use Rattle.std.specs.Prelude.{◌≡◌, ◌≢◌, true, Some, None, if◌then◌else◌};
+ghost use Rattle.std.specs.Prelude.{◌≡◌, ◌≢◌, true, false, Some, None, if◌then◌else◌};
 ghost use Rattle.batcher_ffi.specs.Rounds.{is_one_of, refusals};
 ghost use Rattle.batcher_ffi.specs.Flat.{kind_in, mode_in, block_in, cause_in, fault_in, round_in, proposal_in, attestation_in, raw_in, vote_in, raw_vote_in, report_in, admission_in, outcome_in, subject_in};
 
@@ -321,7 +321,8 @@ impl FlatVote {
 impl FlatAdmission {
     /// Writes the answer to a vote of a peer.
     pub fn write(&mut self, admission: &Admission<Signature, Sha256Digest>)
-        ensures { admission_in self.new ≡ admission.now }
+        ensures admission { admission_in self.new ≡ admission.now }
+        ensures retained { self.new.retained ≡ false }
     {
         self.set(admission.added, false, admission.block, &admission.report);
     }
@@ -342,11 +343,12 @@ impl FlatAdmission {
 
     /// Writes what is reported of a node's own vote that is to be sent.
     pub fn write_sent(&mut self, report: &Activity<Signature, Sha256Digest>)
-        ensures { admission_in self.new ≡ record {
+        ensures sent { admission_in self.new ≡ record {
           added = true;
           block = None;
           report = Some report.now;
         } }
+        ensures retained { self.new.retained ≡ false }
     {
         self.set(true, false, None, &Some(*report));
     }

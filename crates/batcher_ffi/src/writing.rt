@@ -24,6 +24,7 @@ pub fn write_wanted(
     list: &mut [FlatAttestation],
 )
     ensures subject { subject_in step.new.kind step.new.proposal ≡ Some wanted.now.subject }
+    ensures view { step.new.view ≡ step.old.view }
     ensures listed { step.new.listed ≡ length wanted.now.pending.now }
     ensures verified { step.new.verified ≡ length wanted.now.verified.now }
     ensures known { IsWritten raw_in wanted.now.verified.now known.old known.new }

@@ -7,8 +7,9 @@ returns-in-Ok-Some c = record {
   codes = grind (arith, common_steps);
   malformed = search rules;
   elsewhere = λ not. rw (sym c.vote.ensures ∙ c.in-Some.is) (search rules);
-  done = λ is. rw (sym c.vote.ensures ∙ c.in-Some.is, c.write.ensures)
+  done = λ is. rw (sym c.vote.ensures ∙ c.in-Some.is, c.write.ensures.admission)
       (rw c.in-Ok-Some.field-0-is at c.in-Ok-Some.ensures.does.meets);
+  retained = λ is. c.write.ensures.retained;
   needed = search rules;
   stays = search rules;
   verdicts = c.in-Ok-Some.ensures.does.verdicts;

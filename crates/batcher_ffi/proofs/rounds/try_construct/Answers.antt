@@ -27,6 +27,8 @@ returns-then-not-is_empty c = record {
   stays = λ is. refl;
   untouched = search rules;
   known_stays = search rules;
+  signers_stay = λ is. refl;
+  view_stays = c.write_wanted.ensures.view;
   promised = c.ask.ensures;
   same = same_self c.args.round.now;
 }
@@ -58,6 +60,8 @@ returns-in-Ok-Some c =
       stays = search rules;
       untouched = search rules;
       known_stays = λ is. refl;
+      signers_stay = search rules;
+      view_stays = c.write_batch.ensures.view;
       promised = c.ask.ensures;
       same = c.in-Ok-Some.ensures.same;
     }
@@ -78,6 +82,8 @@ returns-in-Err c =
       stays = λ is. c.in-Err.ensures.whole does.refused;
       untouched = search rules;
       known_stays = λ is. refl;
+      signers_stay = search rules;
+      view_stays = refl;
       promised = c.ask.ensures;
       same = c.in-Err.ensures.same;
     }
