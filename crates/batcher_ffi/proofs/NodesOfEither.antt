@@ -113,6 +113,14 @@ waits_on_nothing (OneByOne a) (OneByOne b) answer does view subject verified wan
 waits_on_nothing (Batchable a) (OneByOne b) answer does view subject verified wants = absurd does
 waits_on_nothing (OneByOne a) (Batchable b) answer does view subject verified wants = absurd does
 
+pub waits_stay : {E : Type 0} (before after : CNode) (answer : Result (Concluded Caller) E)
+    → ByEither ghosts (λ S x rounds a b. ConcludesNext x rounds a answer b) before after
+    → answer ≡ Ok Waits → after ≡ before
+waits_stay (Batchable a) (Batchable b) answer does is = ap Batchable (does.waits is)
+waits_stay (OneByOne a) (OneByOne b) answer does is = ap OneByOne (does.waits is)
+waits_stay (Batchable a) (OneByOne b) answer does is = absurd does
+waits_stay (OneByOne a) (Batchable b) answer does is = absurd does
+
 -- What a construction of a node of either sort gives.
 abbrev pub GoesOnWith : CNode → CNode → Construction (Content Caller) Sha256Digest → Type 0
 GoesOnWith before after one = ByEither ghosts (λ S x rounds a b.

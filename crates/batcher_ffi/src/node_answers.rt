@@ -1,6 +1,6 @@
 //! How answers of a node are written: each as a code, and into what is handed in.
 
-ghost use Rattle.std.specs.Prelude.{◌≡◌, ◌≢◌, Ok};
+ghost use Rattle.std.specs.Prelude.{◌≡◌, ◌≢◌, ◌↔◌, IsTrue, Ok};
 ghost use Rattle.batcher_ffi.specs.NodeAnswers.{AnswersCast, AnswersCertificate, AnswersConcluded, AnswersConstruction, AnswersLeader, AnswersProposal, AnswersTogether, AnswersVote, enter_code};
 
 use crate::caller::Caller;
@@ -109,6 +109,16 @@ pub fn write_proposal(answer: &Option<Proposal<Sha256Digest>>, out: &mut FlatPro
             DONE
         }
         None => IDLE,
+    }
+}
+
+/// Whether a construction wants verdicts first.
+pub fn is_waiting(answer: &Result<Concluded<Caller>, AllocError>) -> bool
+    ensures { IsTrue result ↔ (answer.now ≡ Ok Concluded.Waits) }
+{
+    match answer {
+        Ok(Concluded::Waits) => true,
+        _ => false,
     }
 }
 

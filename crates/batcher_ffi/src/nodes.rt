@@ -11,8 +11,8 @@ use crate::flat::{
     FlatAdmission, FlatAttestation, FlatProposal, FlatStep, FlatVote, kind_of, subject_of,
 };
 use crate::node_answers::{
-    enter_code_of, write_cast, write_concluded, write_leader, write_proposal, write_receipt,
-    write_together, write_verdict,
+    enter_code_of, is_waiting, write_cast, write_concluded, write_leader, write_proposal,
+    write_receipt, write_together, write_verdict,
 };
 use crate::rounds::{is_short, is_verified, take_part};
 use crate::writing::{attestations_of, copied, write_causes, write_signers, write_wanted};
@@ -172,14 +172,14 @@ pub fn try_construct(
     if is_short(list, signers, node.participants()) {
         return SHORT;
     }
-    if let Some((view, wanted)) = node.wanted() {
-        if !wanted.pending.is_empty() {
+    let answer = node.call(ConcludeNext);
+    if is_waiting(&answer) {
+        if let Some((view, wanted)) = node.wanted() {
             write_wanted(&wanted, step, known, list);
             step.view = view.0;
             return VERIFY;
         }
     }
-    let answer = node.call(ConcludeNext);
     let code = write_concluded(&answer, step, list, signers);
     drop(answer);
     code

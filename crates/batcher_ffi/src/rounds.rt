@@ -308,21 +308,19 @@ pub fn try_construct(
     if is_short(list, signers, round.participants()) {
         return SHORT;
     }
-    let Some(wanted) = round.wanted() else {
-        return IDLE;
-    };
-    if !wanted.pending.is_empty() {
-        write_wanted(&wanted, step, known, list);
-        return VERIFY;
-    }
     match round.call(Conclude) {
         Ok(Some(batch)) => {
             write_batch(&batch, step, list, signers);
             drop(batch);
             DONE
         }
-        // A verdict is recorded on each attestation.
-        Ok(None) => unreachable!(),
+        Ok(None) => match round.wanted() {
+            Some(wanted) => {
+                write_wanted(&wanted, step, known, list);
+                VERIFY
+            }
+            None => IDLE,
+        },
         Err(_) => OUT_OF_MEMORY,
     }
 }
