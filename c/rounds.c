@@ -201,7 +201,7 @@ static int mistakes(void) {
     CHECK(open_round(&round, 7, 9, true) == BATCHER_MALFORMED && round.at == NULL);
     CHECK(open_round(&round, 7, BATCHER_RETAINING, false) == BATCHER_DONE);
     CHECK(batcher_round_leader(&round, &leader) == BATCHER_IDLE && leader == 9);
-    vote.attestation.length = 97;
+    vote.attestation.length = BATCHER_SIGNATURE_BYTES + 1;
     CHECK(batcher_round_add_network(&round, 0, &vote, &admission) == BATCHER_MALFORMED);
     vote.attestation.length = BATCHER_SIGNATURE_BYTES;
     vote.proposal.view = 2;
