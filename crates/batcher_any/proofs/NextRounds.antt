@@ -13,6 +13,7 @@ use Rattle.batcher.specs.messages.Attestation.{Attestation}
 use Rattle.batcher.specs.messages.Certificate.{Certificate}
 use Rattle.batcher.specs.messages.Subject.{Subject}
 use Rattle.batcher_round.specs.Next.{subject_next}
+use Rattle.batcher_types.proofs.OptionLemmas.{is_some-false}
 use Rattle.batcher_node.proofs.Lowest.{one_next}
 use Rattle.batcher_node.specs.Nodes.{Draws, IsNext, slot_at}
 use Rattle.batcher_votes.specs.declared.verifier.Batch.{Batch}
@@ -30,10 +31,6 @@ pub of_lent : {R : Type 0} (P : R → Type 0) (round : R) (o : Option (Slot R))
     → Some round ≡ option_map (λ slot. slot.round) o → P round → IfSome o (λ slot. P slot.round)
 of_lent P round (Some slot) is holds = subst P (same_Some _ _ is) holds
 of_lent P round None is holds = tt
-
-none_if : {A : Type 0} (o : Option A) → is_some o ≡ false → o ≡ None
-none_if (Some a) is = absurd (true≢false is)
-none_if None is = refl
 
 -- A view is next only where not all of them rest.
 pub changed_there : {R : Type 0} (rounds : List (ℕ × Slot R)) (view : ℕ) → IsNext rounds view
@@ -155,7 +152,7 @@ module _ {S D K G C : Type 0} (round_config : RoundView S G D → Config D K G C
       subst (λ o. IfSome o (λ slot. b
       ≡ is_some (subject_next (round_config slot.round) slot.round.holds))) at there in
       given_none draws.slot draws.left.round.holds before after given draws.step
-      (none_if (subject_next (round_config draws.slot.round) draws.slot.round.holds) (sym ready ∙ is))
+      (is_some-false (subject_next (round_config draws.slot.round) draws.slot.round.holds) (sym ready ∙ is))
 
 -- What all is that the next construction of a node could make a certificate of.
 module _ {S D K G C : Type 0} (round_config : RoundView S G D → Config D K G C)
