@@ -29,8 +29,8 @@ returns c =
             list = c.write_together-code.new.list;
             signers = c.write_together-code.new.signers;
             written = written;
-            quorum = λ one is. together_of_quorum c.args.node.now c.call-answer.new.self _ _ _ _ _ _ _
-                c.promises.ensures.some one c.call-answer.result c.in-Some.subject
+            quorum = λ one is. together_of_quorum _ _ _ _ _ _ _ one c.args.node.now
+                c.call-answer.new.self c.call-answer.result c.in-Some.subject
                 c.in-Ok-Some.all.items (rw c.deref.ensures.value at c.call-answer.ensures.does) written is;
             does = record {
               does_it = rw c.deref.ensures.value at c.call-answer.ensures.does;

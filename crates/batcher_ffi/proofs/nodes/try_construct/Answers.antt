@@ -62,8 +62,8 @@ returns c =
         record {
           answer = c.call-answer.result;
           written = written;
-          quorum = λ one is. concluded_of_quorum c.args.node.now c.call-answer.new.self _ _ _ _ _ _ _
-              c.promises.ensures.some one c.call-answer.result c.call-answer.ensures.does written is;
+          quorum = λ one is. concluded_of_quorum _ _ _ _ _ _ _ one c.args.node.now
+              c.call-answer.new.self c.call-answer.result c.call-answer.ensures.does written is;
           does = record { does_it = c.call-answer.ensures.does; same = c.call-answer.ensures.same };
         },
         refl,

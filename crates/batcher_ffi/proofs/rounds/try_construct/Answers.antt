@@ -79,7 +79,7 @@ returns-in-Ok-Some c =
           c.write_batch.ensures.batch,
           (
             round_makes_quorum c.args.round.now _ _ _ c.in-Ok-Some.batch
-                (rw c.in-Ok-Some.field-0-is at does.certifies) (rw c.in-Ok-Some.field-0-is at does.assembled)
+                (rw c.in-Ok-Some.field-0-is at does.assembled)
                 c.write_batch.ensures.batch.certificate,
             rw c.in-Ok-Some.field-0-is at does.meets,
           ),
