@@ -242,29 +242,29 @@ uint8_t batcher_round_record_verdicts(struct batcher_round *round, uint8_t kind,
 uint8_t batcher_round_set_leader(struct batcher_round *round, uint32_t leader);
 
 /* IDLE: there is none yet. */
-uint8_t batcher_round_leader(struct batcher_round *round, uint32_t *out);
+uint8_t batcher_round_leader(const struct batcher_round *round, uint32_t *out);
 
 /* The selected proposal. IDLE: there is none yet. */
-uint8_t batcher_round_proposal(struct batcher_round *round, struct batcher_proposal *out);
+uint8_t batcher_round_proposal(const struct batcher_round *round, struct batcher_proposal *out);
 
 /* The selected proposal, to hand on once. IDLE: there is none, or not for this participant. */
 uint8_t batcher_round_try_forward_proposal(struct batcher_round *round, uint32_t me,
                                            struct batcher_proposal *out);
 
-uint8_t batcher_round_has_certificate(struct batcher_round *round, uint8_t kind, bool *out);
+uint8_t batcher_round_has_certificate(const struct batcher_round *round, uint8_t kind, bool *out);
 
 /* Whether a nullify of the signer is kept in full. */
-uint8_t batcher_round_has_nullify(struct batcher_round *round, uint32_t signer, bool *out);
+uint8_t batcher_round_has_nullify(const struct batcher_round *round, uint32_t signer, bool *out);
 
 /* Whether the participant isn't known to have the proposal's contents. Of votes that aren't kept in full one
  * for the selected proposal counts for whichever is asked about. */
-uint8_t batcher_round_is_missing_voter(struct batcher_round *round,
+uint8_t batcher_round_is_missing_voter(const struct batcher_round *round,
                                        const struct batcher_proposal *proposal,
                                        uint32_t participant, bool *out);
 
 /* Those that aren't known to have it. What doesn't fit into the list is left out, but counted. One of as many
  * places as there are participants holds all. */
-uint8_t batcher_round_missing_voters(struct batcher_round *round,
+uint8_t batcher_round_missing_voters(const struct batcher_round *round,
                                      const struct batcher_proposal *proposal, uint32_t *list,
                                      size_t list_length, uint64_t *count);
 
@@ -339,33 +339,33 @@ uint8_t batcher_node_try_forward_proposal(struct batcher_node *node, uint64_t vi
                                           struct batcher_proposal *out);
 
 /* The last finalized view, the current one, and how many beyond that are in the window. */
-uint8_t batcher_node_window(struct batcher_node *node, uint64_t *finalized, uint64_t *current,
+uint8_t batcher_node_window(const struct batcher_node *node, uint64_t *finalized, uint64_t *current,
                             uint64_t *ahead);
 
-uint8_t batcher_node_rounds_kept(struct batcher_node *node, uint64_t *count);
+uint8_t batcher_node_rounds_kept(const struct batcher_node *node, uint64_t *count);
 
 /* Of each participant by its index why it is blocked. The count is that of participants. */
-uint8_t batcher_node_blocked(struct batcher_node *node, uint8_t *causes, size_t causes_length,
+uint8_t batcher_node_blocked(const struct batcher_node *node, uint8_t *causes, size_t causes_length,
                              uint64_t *count);
 
 /* What is asked of a round is asked of a view. Where nothing was said in it, there is none of it. */
-uint8_t batcher_node_leader(struct batcher_node *node, uint64_t view, uint32_t *out);
+uint8_t batcher_node_leader(const struct batcher_node *node, uint64_t view, uint32_t *out);
 
-uint8_t batcher_node_proposal(struct batcher_node *node, uint64_t view,
+uint8_t batcher_node_proposal(const struct batcher_node *node, uint64_t view,
                               struct batcher_proposal *out);
 
-uint8_t batcher_node_has_certificate(struct batcher_node *node, uint64_t view, uint8_t kind,
+uint8_t batcher_node_has_certificate(const struct batcher_node *node, uint64_t view, uint8_t kind,
                                      bool *out);
 
-uint8_t batcher_node_has_nullify(struct batcher_node *node, uint64_t view, uint32_t signer,
+uint8_t batcher_node_has_nullify(const struct batcher_node *node, uint64_t view, uint32_t signer,
                                  bool *out);
 
-uint8_t batcher_node_is_missing_voter(struct batcher_node *node, uint64_t view,
+uint8_t batcher_node_is_missing_voter(const struct batcher_node *node, uint64_t view,
                                       const struct batcher_proposal *proposal,
                                       uint32_t participant, bool *out);
 
 /* IDLE: nothing was said in the view, so nobody is known to have it. */
-uint8_t batcher_node_missing_voters(struct batcher_node *node, uint64_t view,
+uint8_t batcher_node_missing_voters(const struct batcher_node *node, uint64_t view,
                                     const struct batcher_proposal *proposal, uint32_t *list,
                                     size_t list_length, uint64_t *count);
 

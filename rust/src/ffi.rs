@@ -4,7 +4,6 @@
 
 use crate::construct::Library;
 use std::alloc::{Layout, alloc, dealloc, realloc};
-use std::cell::UnsafeCell;
 use std::ffi::c_void;
 use std::ptr;
 
@@ -151,11 +150,9 @@ struct RoundHandle {
 
 /// A round in the library's memory. It owns that, and `Drop` gives it back.
 ///
-/// It is neither `Send` nor `Sync`, by its pointer: the library counts references without atomics. A
-/// call that only asks takes the round out of its handle too, and puts it back, so the handle is in a
-/// cell.
+/// It is neither `Send` nor `Sync`, by its pointer: the library counts references without atomics.
 pub(crate) struct Round {
-    handle: UnsafeCell<RoundHandle>,
+    handle: RoundHandle,
 }
 
 // No function here unwinds: Rattle has no panics. A slice is a pointer and its length.
@@ -195,23 +192,23 @@ unsafe extern "C" {
         verdicts_length: usize,
     ) -> u8;
     fn batcher_round_set_leader(round: *mut RoundHandle, leader: u32) -> u8;
-    fn batcher_round_leader(round: *mut RoundHandle, leader: *mut u32) -> u8;
-    fn batcher_round_proposal(round: *mut RoundHandle, proposal: *mut Proposal) -> u8;
+    fn batcher_round_leader(round: *const RoundHandle, leader: *mut u32) -> u8;
+    fn batcher_round_proposal(round: *const RoundHandle, proposal: *mut Proposal) -> u8;
     fn batcher_round_try_forward_proposal(
         round: *mut RoundHandle,
         me: u32,
         proposal: *mut Proposal,
     ) -> u8;
-    fn batcher_round_has_certificate(round: *mut RoundHandle, kind: u8, has: *mut bool) -> u8;
-    fn batcher_round_has_nullify(round: *mut RoundHandle, signer: u32, has: *mut bool) -> u8;
+    fn batcher_round_has_certificate(round: *const RoundHandle, kind: u8, has: *mut bool) -> u8;
+    fn batcher_round_has_nullify(round: *const RoundHandle, signer: u32, has: *mut bool) -> u8;
     fn batcher_round_is_missing_voter(
-        round: *mut RoundHandle,
+        round: *const RoundHandle,
         proposal: *const Proposal,
         participant: u32,
         is_missing: *mut bool,
     ) -> u8;
     fn batcher_round_missing_voters(
-        round: *mut RoundHandle,
+        round: *const RoundHandle,
         proposal: *const Proposal,
         list: *mut u32,
         length: usize,
@@ -273,7 +270,7 @@ impl Drop for Round {
     fn drop(&mut self) {
         // SAFETY: the handle is empty, or is one that `batcher_round_new` filled and nobody else
         // has.
-        unsafe { batcher_round_free(self.handle.get()) }
+        unsafe { batcher_round_free(&mut self.handle) }
     }
 }
 
@@ -284,13 +281,13 @@ impl Drop for Round {
 impl Round {
     /// A round, or the code that was answered.
     pub(crate) fn new(options: &RoundOptions) -> Result<Self, u8> {
-        let handle = UnsafeCell::new(RoundHandle {
+        let handle = RoundHandle {
             at: ptr::null_mut(),
-        });
-        let round = Round { handle };
+        };
+        let mut round = Round { handle };
         batcher_abi_2();
         // SAFETY: as above; an empty handle is a null pointer.
-        match unsafe { batcher_round_new(round.handle.get(), options) } {
+        match unsafe { batcher_round_new(&mut round.handle, options) } {
             code::DONE => Ok(round),
             answer => Err(answer),
         }
@@ -304,7 +301,7 @@ impl Round {
         admission: &mut Admission,
     ) -> u8 {
         // SAFETY: as above.
-        unsafe { batcher_round_add_network(self.handle.get(), sender, vote, admission) }
+        unsafe { batcher_round_add_network(&mut self.handle, sender, vote, admission) }
     }
 
     pub(crate) fn accept_vote(
@@ -314,7 +311,7 @@ impl Round {
         admission: &mut Admission,
     ) -> u8 {
         // SAFETY: as above.
-        unsafe { batcher_round_accept_vote(self.handle.get(), vote, attests, admission) }
+        unsafe { batcher_round_accept_vote(&mut self.handle, vote, attests, admission) }
     }
 
     pub(crate) fn record_certificate(
@@ -327,7 +324,7 @@ impl Round {
         // SAFETY: as above.
         unsafe {
             batcher_round_record_certificate(
-                self.handle.get(),
+                &mut self.handle,
                 kind,
                 proposal,
                 bytes.as_ptr(),
@@ -339,32 +336,32 @@ impl Round {
 
     pub(crate) fn set_leader(&mut self, leader: u32) -> u8 {
         // SAFETY: as above.
-        unsafe { batcher_round_set_leader(self.handle.get(), leader) }
+        unsafe { batcher_round_set_leader(&mut self.handle, leader) }
     }
 
     pub(crate) fn leader(&self, leader: &mut u32) -> u8 {
         // SAFETY: as above.
-        unsafe { batcher_round_leader(self.handle.get(), leader) }
+        unsafe { batcher_round_leader(&self.handle, leader) }
     }
 
     pub(crate) fn proposal(&self, proposal: &mut Proposal) -> u8 {
         // SAFETY: as above.
-        unsafe { batcher_round_proposal(self.handle.get(), proposal) }
+        unsafe { batcher_round_proposal(&self.handle, proposal) }
     }
 
     pub(crate) fn try_forward_proposal(&mut self, me: u32, proposal: &mut Proposal) -> u8 {
         // SAFETY: as above.
-        unsafe { batcher_round_try_forward_proposal(self.handle.get(), me, proposal) }
+        unsafe { batcher_round_try_forward_proposal(&mut self.handle, me, proposal) }
     }
 
     pub(crate) fn has_certificate(&self, kind: u8, has: &mut bool) -> u8 {
         // SAFETY: as above.
-        unsafe { batcher_round_has_certificate(self.handle.get(), kind, has) }
+        unsafe { batcher_round_has_certificate(&self.handle, kind, has) }
     }
 
     pub(crate) fn has_nullify(&self, signer: u32, has: &mut bool) -> u8 {
         // SAFETY: as above.
-        unsafe { batcher_round_has_nullify(self.handle.get(), signer, has) }
+        unsafe { batcher_round_has_nullify(&self.handle, signer, has) }
     }
 
     pub(crate) fn is_missing_voter(
@@ -374,9 +371,7 @@ impl Round {
         is_missing: &mut bool,
     ) -> u8 {
         // SAFETY: as above.
-        unsafe {
-            batcher_round_is_missing_voter(self.handle.get(), proposal, participant, is_missing)
-        }
+        unsafe { batcher_round_is_missing_voter(&self.handle, proposal, participant, is_missing) }
     }
 
     pub(crate) fn missing_voters(
@@ -388,7 +383,7 @@ impl Round {
         // SAFETY: as above.
         unsafe {
             batcher_round_missing_voters(
-                self.handle.get(),
+                &self.handle,
                 proposal,
                 list.as_mut_ptr(),
                 list.len(),
@@ -409,7 +404,7 @@ impl Library for Round {
         // SAFETY: as above.
         unsafe {
             batcher_round_record_verdicts(
-                self.handle.get(),
+                &mut self.handle,
                 kind,
                 proposal,
                 list.as_ptr(),
@@ -430,7 +425,7 @@ impl Library for Round {
         // SAFETY: as above.
         unsafe {
             batcher_round_try_construct(
-                self.handle.get(),
+                &mut self.handle,
                 step,
                 known.as_mut_ptr(),
                 known.len(),
@@ -452,7 +447,7 @@ impl Library for Round {
         // SAFETY: as above.
         unsafe {
             batcher_round_construct_together(
-                self.handle.get(),
+                &mut self.handle,
                 kind,
                 proposal,
                 list.as_ptr(),

@@ -7,4 +7,5 @@ pub mod Rounds
 pub mod NodeAnswers
 pub mod Nodes
 pub mod Handles
+pub mod Lending
 pub mod Convictions

@@ -82,7 +82,6 @@ pub extern "C" fn batcher_round_free(round: &mut RoundHandle, alloc: Global)
 #[unsafe(no_mangle)]
 pub extern "C" fn batcher_round_add_network(
     round: &mut RoundHandle,
-    alloc: Global,
     sender: u64,
     vote: &FlatVote,
     out: &mut FlatAdmission,
@@ -90,19 +89,16 @@ pub extern "C" fn batcher_round_add_network(
     ensures { OnRound round.old.value round.new.value result (out.new ≡ out.old) (λ before after.
         AddsNetwork before result after sender vote.now out.old out.new) }
 {
-    let Some(mut taken) = round.take(alloc) else {
+    let Some(round) = round.as_mut() else {
         return NONE;
     };
-    let code = rounds::add_network(&mut taken, sender, vote, out);
-    round.put(taken);
-    code
+    rounds::add_network(round, sender, vote, out)
 }
 
 /// Takes in a vote of the node's own, by the caller's verdict on it.
 #[unsafe(no_mangle)]
 pub extern "C" fn batcher_round_accept_vote(
     round: &mut RoundHandle,
-    alloc: Global,
     vote: &FlatVote,
     attests: bool,
     out: &mut FlatAdmission,
@@ -111,12 +107,10 @@ pub extern "C" fn batcher_round_accept_vote(
     ensures { OnRound round.old.value round.new.value result (out.new ≡ out.old) (λ before after.
         AcceptsVote before result after vote.now attests out.old out.new) }
 {
-    let Some(mut taken) = round.take(alloc) else {
+    let Some(round) = round.as_mut() else {
         return NONE;
     };
-    let code = rounds::accept_vote(&mut taken, vote, attests, out);
-    round.put(taken);
-    code
+    rounds::accept_vote(round, vote, attests, out)
 }
 
 /// Records a certificate that the caller has verified, as its bytes.
@@ -135,12 +129,10 @@ pub extern "C" fn batcher_round_record_certificate(
         RecordsCertificate before result after kind proposal.now bytes.now selected_anew.old
         selected_anew.new) }
 {
-    let Some(mut taken) = round.take(alloc) else {
+    let Some(round) = round.as_mut() else {
         return NONE;
     };
-    let code = rounds::record_certificate(&mut taken, alloc, kind, proposal, bytes, selected_anew);
-    round.put(taken);
-    code
+    rounds::record_certificate(round, alloc, kind, proposal, bytes, selected_anew)
 }
 
 /// Records verdicts on a list, of what the next construction wants verdicts on, from the first on.
@@ -157,126 +149,100 @@ pub extern "C" fn batcher_round_record_verdicts(
     ensures { OnRound round.old.value round.new.value result (Unit {0}) (λ before after.
         RecordsVerdicts before result after kind proposal.now list.now verdicts.now) }
 {
-    let Some(mut taken) = round.take(alloc) else {
+    let Some(round) = round.as_mut() else {
         return NONE;
     };
-    let code = rounds::record_verdicts(&mut taken, alloc, kind, proposal, list, verdicts);
-    round.put(taken);
-    code
+    rounds::record_verdicts(round, alloc, kind, proposal, list, verdicts)
 }
 
 /// Sets the leader.
 #[unsafe(no_mangle)]
-pub extern "C" fn batcher_round_set_leader(
-    round: &mut RoundHandle,
-    alloc: Global,
-    leader: u32,
-) -> u8
+pub extern "C" fn batcher_round_set_leader(round: &mut RoundHandle, leader: u32) -> u8
     ensures { OnRound round.old.value round.new.value result (Unit {0}) (λ before after.
         SetsLeader before result after leader) }
 {
-    let Some(mut taken) = round.take(alloc) else {
+    let Some(round) = round.as_mut() else {
         return NONE;
     };
-    let code = rounds::set_leader(&mut taken, leader);
-    round.put(taken);
-    code
+    rounds::set_leader(round, leader)
 }
 
 /// The leader, once it is set.
 #[unsafe(no_mangle)]
-pub extern "C" fn batcher_round_leader(round: &mut RoundHandle, alloc: Global, out: &mut u32) -> u8
+pub extern "C" fn batcher_round_leader(round: &mut RoundHandle, out: &mut u32) -> u8
     ensures { OnRound round.old.value round.new.value result (out.new ≡ out.old) (λ before after.
         (after ≡ before) × AsksLeader before result out.old out.new) }
 {
-    let Some(taken) = round.take(alloc) else {
+    let Some(round) = round.as_mut() else {
         return NONE;
     };
-    let code = rounds::leader(&taken, out);
-    round.put(taken);
-    code
+    rounds::leader(round, out)
 }
 
 /// The selected proposal: the leader's, or one that evidence fixed.
 #[unsafe(no_mangle)]
-pub extern "C" fn batcher_round_proposal(
-    round: &mut RoundHandle,
-    alloc: Global,
-    out: &mut FlatProposal,
-) -> u8
+pub extern "C" fn batcher_round_proposal(round: &mut RoundHandle, out: &mut FlatProposal) -> u8
     ensures { OnRound round.old.value round.new.value result (out.new ≡ out.old) (λ before after.
         (after ≡ before) × AsksProposal before result out.old out.new) }
 {
-    let Some(taken) = round.take(alloc) else {
+    let Some(round) = round.as_mut() else {
         return NONE;
     };
-    let code = rounds::proposal(&taken, out);
-    round.put(taken);
-    code
+    rounds::proposal(round, out)
 }
 
 /// The selected proposal, to hand on: once at most, and not where the known leader is `me`.
 #[unsafe(no_mangle)]
 pub extern "C" fn batcher_round_try_forward_proposal(
     round: &mut RoundHandle,
-    alloc: Global,
     me: u32,
     out: &mut FlatProposal,
 ) -> u8
     ensures { OnRound round.old.value round.new.value result (out.new ≡ out.old) (λ before after.
         Forwards before result after me out.old out.new) }
 {
-    let Some(mut taken) = round.take(alloc) else {
+    let Some(round) = round.as_mut() else {
         return NONE;
     };
-    let code = rounds::try_forward_proposal(&mut taken, me, out);
-    round.put(taken);
-    code
+    rounds::try_forward_proposal(round, me, out)
 }
 
 /// Whether a certificate of the kind is there.
 #[unsafe(no_mangle)]
 pub extern "C" fn batcher_round_has_certificate(
     round: &mut RoundHandle,
-    alloc: Global,
     kind: u8,
     out: &mut bool,
 ) -> u8
     ensures { OnRound round.old.value round.new.value result (out.new ≡ out.old) (λ before after.
         (after ≡ before) × AsksCertificate before result kind out.old out.new) }
 {
-    let Some(taken) = round.take(alloc) else {
+    let Some(round) = round.as_mut() else {
         return NONE;
     };
-    let code = rounds::has_certificate(&taken, kind, out);
-    round.put(taken);
-    code
+    rounds::has_certificate(round, kind, out)
 }
 
 /// Whether a nullify of the signer is kept in full.
 #[unsafe(no_mangle)]
 pub extern "C" fn batcher_round_has_nullify(
     round: &mut RoundHandle,
-    alloc: Global,
     signer: u32,
     out: &mut bool,
 ) -> u8
     ensures { OnRound round.old.value round.new.value result (out.new ≡ out.old) (λ before after.
         (after ≡ before) × AsksNullify before result signer out.new) }
 {
-    let Some(taken) = round.take(alloc) else {
+    let Some(round) = round.as_mut() else {
         return NONE;
     };
-    let code = rounds::has_nullify(&taken, signer, out);
-    round.put(taken);
-    code
+    rounds::has_nullify(round, signer, out)
 }
 
 /// Whether the participant isn't known to have the proposal's block.
 #[unsafe(no_mangle)]
 pub extern "C" fn batcher_round_is_missing_voter(
     round: &mut RoundHandle,
-    alloc: Global,
     proposal: &FlatProposal,
     participant: u32,
     out: &mut bool,
@@ -284,19 +250,16 @@ pub extern "C" fn batcher_round_is_missing_voter(
     ensures { OnRound round.old.value round.new.value result (out.new ≡ out.old) (λ before after.
         (after ≡ before) × AsksMissing before result proposal.now participant out.new) }
 {
-    let Some(taken) = round.take(alloc) else {
+    let Some(round) = round.as_mut() else {
         return NONE;
     };
-    let code = rounds::is_missing_voter(&taken, proposal, participant, out);
-    round.put(taken);
-    code
+    rounds::is_missing_voter(round, proposal, participant, out)
 }
 
 /// The participants that aren't known to have the proposal's block, in ascending order.
 #[unsafe(no_mangle)]
 pub extern "C" fn batcher_round_missing_voters(
     round: &mut RoundHandle,
-    alloc: Global,
     proposal: &FlatProposal,
     list: &mut [u32],
     count: &mut u64,
@@ -306,19 +269,16 @@ pub extern "C" fn batcher_round_missing_voters(
         (after ≡ before)
         × ListsMissing before result proposal.now list.old list.new count.old count.new) }
 {
-    let Some(taken) = round.take(alloc) else {
+    let Some(round) = round.as_mut() else {
         return NONE;
     };
-    let code = rounds::missing_voters(&taken, proposal, list, count);
-    round.put(taken);
-    code
+    rounds::missing_voters(round, proposal, list, count)
 }
 
 /// Makes the next construction, or says on what it wants verdicts first.
 #[unsafe(no_mangle)]
 pub extern "C" fn batcher_round_try_construct(
     round: &mut RoundHandle,
-    alloc: Global,
     out: &mut FlatStep,
     known: &mut [FlatAttestation],
     list: &mut [FlatAttestation],
@@ -329,12 +289,10 @@ pub extern "C" fn batcher_round_try_construct(
         (λ before after. Constructs before result after out.old out.new known.old known.new list.old
         list.new signers.old signers.new) }
 {
-    let Some(mut taken) = round.take(alloc) else {
+    let Some(round) = round.as_mut() else {
         return NONE;
     };
-    let code = rounds::try_construct(&mut taken, out, known, list, signers);
-    round.put(taken);
-    code
+    rounds::try_construct(round, out, known, list, signers)
 }
 
 /// Makes the next construction of a quorum that the caller has verified as a whole.
@@ -351,12 +309,10 @@ pub extern "C" fn batcher_round_construct_together(
     ensures { OnRound round.old.value round.new.value result (out.new ≡ out.old) (λ before after.
         ConstructsTogether before result after kind proposal.now list.now out.old out.new) }
 {
-    let Some(mut taken) = round.take(alloc) else {
+    let Some(round) = round.as_mut() else {
         return NONE;
     };
-    let code = rounds::construct_together(&mut taken, alloc, kind, proposal, list, out);
-    round.put(taken);
-    code
+    rounds::construct_together(round, alloc, kind, proposal, list, out)
 }
 
 /// Whether two votes convict their signer, among so many participants with these keys.

@@ -20,7 +20,7 @@ pub type Round = AnyRound<Caller>;
 /// A round, or none. C sees one pointer, which is null where there is none.
 #[repr(C)]
 pub struct RoundHandle {
-    at: *mut u8,
+    pub(crate) at: *mut u8,
     alloc: Global,
     pub ghost value: { Option CRound },
 }
@@ -103,7 +103,7 @@ impl RoundHandle {
 /// A node, or none. C sees one pointer, which is null where there is none.
 #[repr(C)]
 pub struct NodeHandle {
-    at: *mut u8,
+    pub(crate) at: *mut u8,
     alloc: Global,
     pub ghost value: { Option CNode },
 }

@@ -7,6 +7,7 @@ mod evidence;
 mod exports;
 mod flat;
 mod handle;
+mod lending;
 mod node_answers;
 mod node_exports;
 mod nodes;

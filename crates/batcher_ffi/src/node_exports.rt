@@ -77,7 +77,6 @@ pub extern "C" fn batcher_node_free(node: &mut NodeHandle, alloc: Global)
 #[unsafe(no_mangle)]
 pub extern "C" fn batcher_node_receive_vote(
     node: &mut NodeHandle,
-    alloc: Global,
     peer: u64,
     vote: &FlatVote,
     out: &mut FlatAdmission,
@@ -85,12 +84,10 @@ pub extern "C" fn batcher_node_receive_vote(
     ensures { OnNode node.old.value node.new.value result (out.new ≡ out.old) (λ before after.
         ReceivesVote before result after peer vote.now out.old out.new) }
 {
-    let Some(mut taken) = node.take(alloc) else {
+    let Some(node) = node.as_mut() else {
         return NONE;
     };
-    let code = nodes::receive_vote(&mut taken, peer, vote, out);
-    node.put(taken);
-    code
+    nodes::receive_vote(node, peer, vote, out)
 }
 
 /// Takes in a certificate that was sent by the peer with this key, with the caller's verdict on it.
@@ -111,11 +108,11 @@ pub extern "C" fn batcher_node_receive_certificate(
         ReceivesCertificate before result after peer kind proposal.now bytes.now certifies
         selected_anew.old selected_anew.new) }
 {
-    let Some(mut taken) = node.take(alloc) else {
+    let Some(node) = node.as_mut() else {
         return NONE;
     };
-    let code = nodes::receive_certificate(
-        &mut taken,
+    nodes::receive_certificate(
+        node,
         alloc,
         peer,
         kind,
@@ -123,9 +120,7 @@ pub extern "C" fn batcher_node_receive_certificate(
         bytes,
         certifies,
         selected_anew,
-    );
-    node.put(taken);
-    code
+    )
 }
 
 /// Takes in a vote of the node's own, by the caller's verdict on it. It is to be sent only where it
@@ -133,7 +128,6 @@ pub extern "C" fn batcher_node_receive_certificate(
 #[unsafe(no_mangle)]
 pub extern "C" fn batcher_node_cast_vote(
     node: &mut NodeHandle,
-    alloc: Global,
     vote: &FlatVote,
     attests: bool,
     out: &mut FlatAdmission,
@@ -142,45 +136,34 @@ pub extern "C" fn batcher_node_cast_vote(
     ensures { OnNode node.old.value node.new.value result (out.new ≡ out.old) (λ before after.
         CastsVote before result after vote.now out.old out.new) }
 {
-    let Some(mut taken) = node.take(alloc) else {
+    let Some(node) = node.as_mut() else {
         return NONE;
     };
-    let code = nodes::cast_vote(&mut taken, vote, attests, out);
-    node.put(taken);
-    code
+    nodes::cast_vote(node, vote, attests, out)
 }
 
 /// Enters a view with its leader.
 #[unsafe(no_mangle)]
-pub extern "C" fn batcher_node_enter(
-    node: &mut NodeHandle,
-    alloc: Global,
-    view: u64,
-    leader: u32,
-) -> u8
+pub extern "C" fn batcher_node_enter(node: &mut NodeHandle, view: u64, leader: u32) -> u8
     ensures { OnNode node.old.value node.new.value result ⊤ (λ before after.
         EntersView before result after view leader) }
 {
-    let Some(mut taken) = node.take(alloc) else {
+    let Some(node) = node.as_mut() else {
         return NONE;
     };
-    let code = nodes::enter(&mut taken, view, leader);
-    node.put(taken);
-    code
+    nodes::enter(node, view, leader)
 }
 
 /// A view was finalized, so the rounds of those before it are dropped.
 #[unsafe(no_mangle)]
-pub extern "C" fn batcher_node_finalize(node: &mut NodeHandle, alloc: Global, view: u64) -> u8
+pub extern "C" fn batcher_node_finalize(node: &mut NodeHandle, view: u64) -> u8
     ensures { OnNode node.old.value node.new.value result ⊤ (λ before after.
         FinalizesView before result after view) }
 {
-    let Some(mut taken) = node.take(alloc) else {
+    let Some(node) = node.as_mut() else {
         return NONE;
     };
-    let code = nodes::finalize(&mut taken, view);
-    node.put(taken);
-    code
+    nodes::finalize(node, view)
 }
 
 /// Records of each attestation of a list whether it attests: of those that the next construction
@@ -198,12 +181,10 @@ pub extern "C" fn batcher_node_record_verdicts(
     ensures { OnNode node.old.value node.new.value result ⊤ (λ before after.
         RecordsNext before result after kind proposal.now list.now verdicts.now) }
 {
-    let Some(mut taken) = node.take(alloc) else {
+    let Some(node) = node.as_mut() else {
         return NONE;
     };
-    let code = nodes::record_verdicts(&mut taken, alloc, kind, proposal, list, verdicts);
-    node.put(taken);
-    code
+    nodes::record_verdicts(node, alloc, kind, proposal, list, verdicts)
 }
 
 /// Makes the next construction, in the lowest view that changed since it was found to rest, or says
@@ -211,7 +192,6 @@ pub extern "C" fn batcher_node_record_verdicts(
 #[unsafe(no_mangle)]
 pub extern "C" fn batcher_node_try_construct(
     node: &mut NodeHandle,
-    alloc: Global,
     out: &mut FlatStep,
     known: &mut [FlatAttestation],
     list: &mut [FlatAttestation],
@@ -223,12 +203,10 @@ pub extern "C" fn batcher_node_try_construct(
         (λ before after. ConstructsNext before result after out.old out.new known.old known.new
         list.old list.new signers.old signers.new) }
 {
-    let Some(mut taken) = node.take(alloc) else {
+    let Some(node) = node.as_mut() else {
         return NONE;
     };
-    let code = nodes::try_construct(&mut taken, out, known, list, signers);
-    node.put(taken);
-    code
+    nodes::try_construct(node, out, known, list, signers)
 }
 
 /// Makes the next construction of a quorum that the caller has verified as a whole: those that are
@@ -246,12 +224,10 @@ pub extern "C" fn batcher_node_construct_together(
     ensures { OnNode node.old.value node.new.value result (out.new ≡ out.old) (λ before after.
         ConstructsNextTogether before result after kind proposal.now list.now out.old out.new) }
 {
-    let Some(mut taken) = node.take(alloc) else {
+    let Some(node) = node.as_mut() else {
         return NONE;
     };
-    let code = nodes::construct_together(&mut taken, alloc, kind, proposal, list, out);
-    node.put(taken);
-    code
+    nodes::construct_together(node, alloc, kind, proposal, list, out)
 }
 
 /// The selected proposal of a view, to hand on: once at most, and not where the known leader is
@@ -259,7 +235,6 @@ pub extern "C" fn batcher_node_construct_together(
 #[unsafe(no_mangle)]
 pub extern "C" fn batcher_node_try_forward_proposal(
     node: &mut NodeHandle,
-    alloc: Global,
     view: u64,
     me: u32,
     out: &mut FlatProposal,
@@ -267,19 +242,16 @@ pub extern "C" fn batcher_node_try_forward_proposal(
     ensures { OnNode node.old.value node.new.value result (out.new ≡ out.old) (λ before after.
         ForwardsInView before result after view me out.old out.new) }
 {
-    let Some(mut taken) = node.take(alloc) else {
+    let Some(node) = node.as_mut() else {
         return NONE;
     };
-    let code = nodes::try_forward_proposal(&mut taken, view, me, out);
-    node.put(taken);
-    code
+    nodes::try_forward_proposal(node, view, me, out)
 }
 
 /// Which views it keeps rounds of: from the finalized one to so many beyond the current one.
 #[unsafe(no_mangle)]
 pub extern "C" fn batcher_node_window(
     node: &mut NodeHandle,
-    alloc: Global,
     finalized: &mut u64,
     current: &mut u64,
     ahead: &mut u64,
@@ -290,37 +262,28 @@ pub extern "C" fn batcher_node_window(
         (λ before after. (after ≡ before)
         × AsksWindow before result finalized.new current.new ahead.new) }
 {
-    let Some(taken) = node.take(alloc) else {
+    let Some(node) = node.as_mut() else {
         return NONE;
     };
-    let code = nodes::window(&taken, finalized, current, ahead);
-    node.put(taken);
-    code
+    nodes::window(node, finalized, current, ahead)
 }
 
 /// How many rounds it keeps.
 #[unsafe(no_mangle)]
-pub extern "C" fn batcher_node_rounds_kept(
-    node: &mut NodeHandle,
-    alloc: Global,
-    count: &mut u64,
-) -> u8
+pub extern "C" fn batcher_node_rounds_kept(node: &mut NodeHandle, count: &mut u64) -> u8
     ensures { OnNode node.old.value node.new.value result (count.new ≡ count.old)
         (λ before after. (after ≡ before) × AsksRoundsKept before result count.new) }
 {
-    let Some(taken) = node.take(alloc) else {
+    let Some(node) = node.as_mut() else {
         return NONE;
     };
-    let code = nodes::rounds_kept(&taken, count);
-    node.put(taken);
-    code
+    nodes::rounds_kept(node, count)
 }
 
 /// Why each participant is blocked, if it is, by its index.
 #[unsafe(no_mangle)]
 pub extern "C" fn batcher_node_blocked(
     node: &mut NodeHandle,
-    alloc: Global,
     causes: &mut [u8],
     count: &mut u64,
 ) -> u8
@@ -328,57 +291,44 @@ pub extern "C" fn batcher_node_blocked(
         ((causes.new ≡ causes.old) × (count.new ≡ count.old)) (λ before after.
         (after ≡ before) × ListsBlocked before result causes.old causes.new count.new) }
 {
-    let Some(taken) = node.take(alloc) else {
+    let Some(node) = node.as_mut() else {
         return NONE;
     };
-    let code = nodes::blocked(&taken, causes, count);
-    node.put(taken);
-    code
+    nodes::blocked(node, causes, count)
 }
 
 /// The leader of a view, once it is set.
 #[unsafe(no_mangle)]
-pub extern "C" fn batcher_node_leader(
-    node: &mut NodeHandle,
-    alloc: Global,
-    view: u64,
-    out: &mut u32,
-) -> u8
+pub extern "C" fn batcher_node_leader(node: &mut NodeHandle, view: u64, out: &mut u32) -> u8
     ensures { OnNode node.old.value node.new.value result (out.new ≡ out.old) (λ before after.
         (after ≡ before) × AsksLeaderOf before result view out.old out.new) }
 {
-    let Some(taken) = node.take(alloc) else {
+    let Some(node) = node.as_mut() else {
         return NONE;
     };
-    let code = nodes::leader(&taken, view, out);
-    node.put(taken);
-    code
+    nodes::leader(node, view, out)
 }
 
 /// The selected proposal of a view: the leader's, or one that evidence fixed.
 #[unsafe(no_mangle)]
 pub extern "C" fn batcher_node_proposal(
     node: &mut NodeHandle,
-    alloc: Global,
     view: u64,
     out: &mut FlatProposal,
 ) -> u8
     ensures { OnNode node.old.value node.new.value result (out.new ≡ out.old) (λ before after.
         (after ≡ before) × AsksProposalOf before result view out.old out.new) }
 {
-    let Some(taken) = node.take(alloc) else {
+    let Some(node) = node.as_mut() else {
         return NONE;
     };
-    let code = nodes::proposal(&taken, view, out);
-    node.put(taken);
-    code
+    nodes::proposal(node, view, out)
 }
 
 /// Whether a view has a certificate of the kind.
 #[unsafe(no_mangle)]
 pub extern "C" fn batcher_node_has_certificate(
     node: &mut NodeHandle,
-    alloc: Global,
     view: u64,
     kind: u8,
     out: &mut bool,
@@ -386,19 +336,16 @@ pub extern "C" fn batcher_node_has_certificate(
     ensures { OnNode node.old.value node.new.value result (out.new ≡ out.old) (λ before after.
         (after ≡ before) × AsksCertificateOf before result view kind out.old out.new) }
 {
-    let Some(taken) = node.take(alloc) else {
+    let Some(node) = node.as_mut() else {
         return NONE;
     };
-    let code = nodes::has_certificate(&taken, view, kind, out);
-    node.put(taken);
-    code
+    nodes::has_certificate(node, view, kind, out)
 }
 
 /// Whether a nullify of the signer is kept in full in a view.
 #[unsafe(no_mangle)]
 pub extern "C" fn batcher_node_has_nullify(
     node: &mut NodeHandle,
-    alloc: Global,
     view: u64,
     signer: u32,
     out: &mut bool,
@@ -406,19 +353,16 @@ pub extern "C" fn batcher_node_has_nullify(
     ensures { OnNode node.old.value node.new.value result (out.new ≡ out.old) (λ before after.
         (after ≡ before) × AsksNullifyOf before result view signer out.new) }
 {
-    let Some(taken) = node.take(alloc) else {
+    let Some(node) = node.as_mut() else {
         return NONE;
     };
-    let code = nodes::has_nullify(&taken, view, signer, out);
-    node.put(taken);
-    code
+    nodes::has_nullify(node, view, signer, out)
 }
 
 /// Whether the participant isn't known to have the proposal's block, by what was said in the view.
 #[unsafe(no_mangle)]
 pub extern "C" fn batcher_node_is_missing_voter(
     node: &mut NodeHandle,
-    alloc: Global,
     view: u64,
     proposal: &FlatProposal,
     participant: u32,
@@ -427,12 +371,10 @@ pub extern "C" fn batcher_node_is_missing_voter(
     ensures { OnNode node.old.value node.new.value result (out.new ≡ out.old) (λ before after.
         (after ≡ before) × AsksMissingOf before result view proposal.now participant out.new) }
 {
-    let Some(taken) = node.take(alloc) else {
+    let Some(node) = node.as_mut() else {
         return NONE;
     };
-    let code = nodes::is_missing_voter(&taken, view, proposal, participant, out);
-    node.put(taken);
-    code
+    nodes::is_missing_voter(node, view, proposal, participant, out)
 }
 
 /// The participants that aren't known to have the proposal's block, in ascending order, by what was
@@ -440,7 +382,6 @@ pub extern "C" fn batcher_node_is_missing_voter(
 #[unsafe(no_mangle)]
 pub extern "C" fn batcher_node_missing_voters(
     node: &mut NodeHandle,
-    alloc: Global,
     view: u64,
     proposal: &FlatProposal,
     list: &mut [u32],
@@ -451,10 +392,8 @@ pub extern "C" fn batcher_node_missing_voters(
         (after ≡ before)
         × ListsMissingOf before result view proposal.now list.old list.new count.old count.new) }
 {
-    let Some(taken) = node.take(alloc) else {
+    let Some(node) = node.as_mut() else {
         return NONE;
     };
-    let code = nodes::missing_voters(&taken, view, proposal, list, count);
-    node.put(taken);
-    code
+    nodes::missing_voters(node, view, proposal, list, count)
 }

@@ -2,7 +2,6 @@
 
 use super::{Admission, Attestation, Proposal, Step, Vote, code};
 use crate::construct::Library;
-use std::cell::UnsafeCell;
 use std::ffi::c_void;
 use std::ptr;
 
@@ -26,7 +25,7 @@ struct NodeHandle {
 
 /// A node in the library's memory, of which the same holds as of a round.
 pub(crate) struct Node {
-    handle: UnsafeCell<NodeHandle>,
+    handle: NodeHandle,
 }
 
 unsafe extern "C" {
@@ -90,41 +89,41 @@ unsafe extern "C" {
         proposal: *mut Proposal,
     ) -> u8;
     fn batcher_node_window(
-        node: *mut NodeHandle,
+        node: *const NodeHandle,
         finalized: *mut u64,
         current: *mut u64,
         ahead: *mut u64,
     ) -> u8;
-    fn batcher_node_rounds_kept(node: *mut NodeHandle, count: *mut u64) -> u8;
+    fn batcher_node_rounds_kept(node: *const NodeHandle, count: *mut u64) -> u8;
     fn batcher_node_blocked(
-        node: *mut NodeHandle,
+        node: *const NodeHandle,
         causes: *mut u8,
         length: usize,
         count: *mut u64,
     ) -> u8;
-    fn batcher_node_leader(node: *mut NodeHandle, view: u64, leader: *mut u32) -> u8;
-    fn batcher_node_proposal(node: *mut NodeHandle, view: u64, proposal: *mut Proposal) -> u8;
+    fn batcher_node_leader(node: *const NodeHandle, view: u64, leader: *mut u32) -> u8;
+    fn batcher_node_proposal(node: *const NodeHandle, view: u64, proposal: *mut Proposal) -> u8;
     fn batcher_node_has_certificate(
-        node: *mut NodeHandle,
+        node: *const NodeHandle,
         view: u64,
         kind: u8,
         has: *mut bool,
     ) -> u8;
     fn batcher_node_has_nullify(
-        node: *mut NodeHandle,
+        node: *const NodeHandle,
         view: u64,
         signer: u32,
         has: *mut bool,
     ) -> u8;
     fn batcher_node_is_missing_voter(
-        node: *mut NodeHandle,
+        node: *const NodeHandle,
         view: u64,
         proposal: *const Proposal,
         participant: u32,
         is_missing: *mut bool,
     ) -> u8;
     fn batcher_node_missing_voters(
-        node: *mut NodeHandle,
+        node: *const NodeHandle,
         view: u64,
         proposal: *const Proposal,
         list: *mut u32,
@@ -137,7 +136,7 @@ impl Drop for Node {
     fn drop(&mut self) {
         // SAFETY: the handle is empty, or is one that `batcher_node_new` filled and nobody else
         // has.
-        unsafe { batcher_node_free(self.handle.get()) }
+        unsafe { batcher_node_free(&mut self.handle) }
     }
 }
 
@@ -145,13 +144,13 @@ impl Drop for Node {
 impl Node {
     /// A node, or the code that was answered.
     pub(crate) fn new(options: &NodeOptions) -> Result<Self, u8> {
-        let handle = UnsafeCell::new(NodeHandle {
+        let handle = NodeHandle {
             at: ptr::null_mut(),
-        });
-        let node = Node { handle };
+        };
+        let mut node = Node { handle };
         super::batcher_abi_2();
         // SAFETY: as of a round; an empty handle is a null pointer.
-        match unsafe { batcher_node_new(node.handle.get(), options) } {
+        match unsafe { batcher_node_new(&mut node.handle, options) } {
             code::DONE => Ok(node),
             answer => Err(answer),
         }
@@ -160,7 +159,7 @@ impl Node {
     #[inline]
     pub(crate) fn receive_vote(&mut self, peer: u64, vote: &Vote, admission: &mut Admission) -> u8 {
         // SAFETY: as of a round.
-        unsafe { batcher_node_receive_vote(self.handle.get(), peer, vote, admission) }
+        unsafe { batcher_node_receive_vote(&mut self.handle, peer, vote, admission) }
     }
 
     pub(crate) fn receive_certificate(
@@ -175,7 +174,7 @@ impl Node {
         // SAFETY: as of a round.
         unsafe {
             batcher_node_receive_certificate(
-                self.handle.get(),
+                &mut self.handle,
                 peer,
                 kind,
                 proposal,
@@ -194,17 +193,17 @@ impl Node {
         admission: &mut Admission,
     ) -> u8 {
         // SAFETY: as of a round.
-        unsafe { batcher_node_cast_vote(self.handle.get(), vote, attests, admission) }
+        unsafe { batcher_node_cast_vote(&mut self.handle, vote, attests, admission) }
     }
 
     pub(crate) fn enter(&mut self, view: u64, leader: u32) -> u8 {
         // SAFETY: as of a round.
-        unsafe { batcher_node_enter(self.handle.get(), view, leader) }
+        unsafe { batcher_node_enter(&mut self.handle, view, leader) }
     }
 
     pub(crate) fn finalize(&mut self, view: u64) -> u8 {
         // SAFETY: as of a round.
-        unsafe { batcher_node_finalize(self.handle.get(), view) }
+        unsafe { batcher_node_finalize(&mut self.handle, view) }
     }
 
     pub(crate) fn try_forward_proposal(
@@ -214,42 +213,42 @@ impl Node {
         proposal: &mut Proposal,
     ) -> u8 {
         // SAFETY: as of a round.
-        unsafe { batcher_node_try_forward_proposal(self.handle.get(), view, me, proposal) }
+        unsafe { batcher_node_try_forward_proposal(&mut self.handle, view, me, proposal) }
     }
 
     pub(crate) fn window(&self, [finalized, current, ahead]: [&mut u64; 3]) -> u8 {
         // SAFETY: as of a round.
-        unsafe { batcher_node_window(self.handle.get(), finalized, current, ahead) }
+        unsafe { batcher_node_window(&self.handle, finalized, current, ahead) }
     }
 
     pub(crate) fn rounds_kept(&self, count: &mut u64) -> u8 {
         // SAFETY: as of a round.
-        unsafe { batcher_node_rounds_kept(self.handle.get(), count) }
+        unsafe { batcher_node_rounds_kept(&self.handle, count) }
     }
 
     pub(crate) fn blocked(&self, causes: &mut [u8], count: &mut u64) -> u8 {
         // SAFETY: as of a round.
-        unsafe { batcher_node_blocked(self.handle.get(), causes.as_mut_ptr(), causes.len(), count) }
+        unsafe { batcher_node_blocked(&self.handle, causes.as_mut_ptr(), causes.len(), count) }
     }
 
     pub(crate) fn leader(&self, view: u64, leader: &mut u32) -> u8 {
         // SAFETY: as of a round.
-        unsafe { batcher_node_leader(self.handle.get(), view, leader) }
+        unsafe { batcher_node_leader(&self.handle, view, leader) }
     }
 
     pub(crate) fn proposal(&self, view: u64, proposal: &mut Proposal) -> u8 {
         // SAFETY: as of a round.
-        unsafe { batcher_node_proposal(self.handle.get(), view, proposal) }
+        unsafe { batcher_node_proposal(&self.handle, view, proposal) }
     }
 
     pub(crate) fn has_certificate(&self, view: u64, kind: u8, has: &mut bool) -> u8 {
         // SAFETY: as of a round.
-        unsafe { batcher_node_has_certificate(self.handle.get(), view, kind, has) }
+        unsafe { batcher_node_has_certificate(&self.handle, view, kind, has) }
     }
 
     pub(crate) fn has_nullify(&self, view: u64, signer: u32, has: &mut bool) -> u8 {
         // SAFETY: as of a round.
-        unsafe { batcher_node_has_nullify(self.handle.get(), view, signer, has) }
+        unsafe { batcher_node_has_nullify(&self.handle, view, signer, has) }
     }
 
     pub(crate) fn is_missing_voter(
@@ -261,13 +260,7 @@ impl Node {
     ) -> u8 {
         // SAFETY: as of a round.
         unsafe {
-            batcher_node_is_missing_voter(
-                self.handle.get(),
-                view,
-                proposal,
-                participant,
-                is_missing,
-            )
+            batcher_node_is_missing_voter(&self.handle, view, proposal, participant, is_missing)
         }
     }
 
@@ -281,7 +274,7 @@ impl Node {
         // SAFETY: as of a round.
         unsafe {
             batcher_node_missing_voters(
-                self.handle.get(),
+                &self.handle,
                 view,
                 proposal,
                 list.as_mut_ptr(),
@@ -303,7 +296,7 @@ impl Library for Node {
         // SAFETY: as of a round.
         unsafe {
             batcher_node_record_verdicts(
-                self.handle.get(),
+                &mut self.handle,
                 kind,
                 proposal,
                 list.as_ptr(),
@@ -324,7 +317,7 @@ impl Library for Node {
         // SAFETY: as of a round.
         unsafe {
             batcher_node_try_construct(
-                self.handle.get(),
+                &mut self.handle,
                 step,
                 known.as_mut_ptr(),
                 known.len(),
@@ -346,7 +339,7 @@ impl Library for Node {
         // SAFETY: as of a round.
         unsafe {
             batcher_node_construct_together(
-                self.handle.get(),
+                &mut self.handle,
                 kind,
                 proposal,
                 list.as_ptr(),
