@@ -3,9 +3,11 @@
 //!
 //! `time` prints nanoseconds a vote too. `rounds COUNT ROW` plays one row so many times more, for a
 //! profiler, and `places ROW` plays one and says where it is, for who counts its memory; a row
-//! is named by the words in its line, as `100 8 retaining shuffled once`.
+//! is named by the words in its line, as `100 8 retaining shuffled once`. `encode COUNT` and
+//! `decode COUNT` do that with a vote so many times more.
 #![tactic(auto)]
 
+mod bytes;
 mod play;
 
 use crate::play::{Measured, tell_places};
@@ -25,6 +27,8 @@ enum Task {
     Time,
     Rounds(u32, Row),
     Places(Row),
+    Encodes(u32),
+    Decodes(u32),
 }
 
 fn main(rt: HostRuntime) -> Result<()> {
@@ -33,6 +37,16 @@ fn main(rt: HostRuntime) -> Result<()> {
         Task::Time => print_times(&rt),
         Task::Rounds(rounds, row) => print_rounds(&rt, row, rounds),
         Task::Places(row) => tell_places(&rt, &row),
+        Task::Encodes(rounds) => {
+            let bytes = bytes::encoded(rt.alloc(), rounds)?;
+            println!(rt; "a vote of {bytes} bytes")?;
+            Ok(())
+        }
+        Task::Decodes(rounds) => {
+            let bytes = bytes::decoded(rt.alloc(), rounds)?;
+            println!(rt; "a vote of {bytes} bytes")?;
+            Ok(())
+        }
     }
 }
 
@@ -43,7 +57,11 @@ fn asked(rt: &(impl Env + AllocGlobal)) -> Result<Task> {
     }
     match task_named(words.as_slice()) {
         Some(task) => Ok(task),
-        None => bail!("usage: batcher_bench [time | rounds COUNT ROW | places ROW]"),
+        None => {
+            bail!(
+                "usage: batcher_bench [time | rounds COUNT ROW | places ROW | encode|decode COUNT]"
+            )
+        }
     }
 }
 
@@ -59,6 +77,8 @@ fn task_named(words: &[String]) -> Option<Task> {
             Some(Task::Rounds(rounds, row_named(&words[3..])?))
         }
         "places" => Some(Task::Places(row_named(&words[2..])?)),
+        "encode" if words.len() == 3 => Some(Task::Encodes(words[2].as_str().parse::<u32>().ok()?)),
+        "decode" if words.len() == 3 => Some(Task::Decodes(words[2].as_str().parse::<u32>().ok()?)),
         _ => None,
     }
 }

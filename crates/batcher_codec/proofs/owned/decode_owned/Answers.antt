@@ -1,0 +1,15 @@
+use Rattle.std.proofs.Common.{arith}
+use Rattle.batcher_codec.specs.Lists.{whole_may_be_again, whole_may_be_found}
+use Rattle.batcher_codec.specs.Lawful.{versioned_is_exact}
+use Rattle.batcher_codec.specs.Messages.{versioned}
+use Rattle.batcher_codec.proofs.owned.decode_owned.Goals as goal
+
+pub returns-clause-found : goal.returns-clause-found
+returns-clause-found g c =
+    whole_may_be_found (versioned g.T.OwnedCodec.format) (versioned_is_exact g.T.OwnedCodec.format g.met.T.OwnedCodec.exact)
+    c.args.bytes.now (λ i. omega (arith, c.type_inv.bytes i)) c.alone.result c.alone.ensures
+
+pub returns-clause-again : goal.returns-clause-again
+returns-clause-again g c =
+    whole_may_be_again (versioned g.T.OwnedCodec.format) (versioned_is_exact g.T.OwnedCodec.format g.met.T.OwnedCodec.exact)
+    c.args.bytes.now c.alone.result c.alone.ensures

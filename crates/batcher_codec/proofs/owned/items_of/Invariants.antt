@@ -1,0 +1,10 @@
+use Rattle.std.proofs.Common.{◌≡◌, ◌-◌}
+use Rattle.batcher_codec.specs.Lists.{items_at}
+use Rattle.batcher_codec.proofs.Items.{with_front}
+use Rattle.batcher_codec.proofs.owned.items_of.Given as goal
+
+abbrev pub invariant-loop : goal.invariant-loop
+invariant-loop g l =
+    with_front g.T.Codec.format l.items.items
+    (items_at g.T.Codec.format (l.count - l.counter) l.rest)
+    ≡ items_at g.T.Codec.format l.count l.bytes
