@@ -1,0 +1,5 @@
+pub mod Free
+pub mod Lives
+pub mod Loops
+pub mod Symmetric
+pub mod Writes

@@ -1,0 +1,4 @@
+pub mod Contradictions
+pub mod Answers
+pub mod Ready
+pub mod Lives
