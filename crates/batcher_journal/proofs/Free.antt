@@ -5,7 +5,8 @@ use Rattle.std.specs.Prelude.{Contains}
 use Rattle.std.proofs.lemmas.Bool.{cases_lt}
 use Rattle.std.proofs.lemmas.List.{get_or-take, get_or_default, get_or_append_left, get_or_push, length-append, length-take, take-append-le, take_all, take_at, take_more}
 use Rattle.std.proofs.lemmas.List.Elements.{All-contains}
-use Rattle.batcher_journal.specs.Contradictions.{AreCompatible, AreSignedOnce, IsFree, LeavesFree, WereFree, contradict}
+use Rattle.batcher_journal.specs.Contradictions.{AreCompatible, AreSignedOnce, IsFree, LeavesFree, WereFree}
+use Rattle.batcher.specs.Reports.{subjects_contradict}
 use Rattle.batcher_journal.proofs.Symmetric.{contradict_symmetric, contradicts_not_itself, subjects_symmetric}
 use Rattle.batcher_types.specs.Votes.{subject_of}
 use Rattle.batcher_types.specs.declared.messages.Vote.{Vote}
@@ -71,7 +72,7 @@ module _ {G D : Type 0} (same : D → D → Bool) where
                 contradict_symmetric same laws (subject_of x) (subject_of y)
                 ∙ (earlier votes y x in_y.0 in_x.0 were lt in_x.1 in_y.2 in_x.2).1
             | inr ge ↦
-                subst (λ z. contradict same (subject_of x) (subject_of z) ≡ false)
+                subst (λ z. subjects_contradict same (subject_of x) (subject_of z) ≡ false)
                 (one_place votes x y in_x in_y (omega arith))
                 (contradicts_not_itself same laws (subject_of x))
           ]

@@ -3,7 +3,8 @@ use Rattle.std.proofs.Common.{◌≡◌, ◌+◌, ◌<◌, ◌≤◌, ℕ, Bool,
 use Rattle.std.specs.Prelude.{All}
 use Rattle.std.proofs.lemmas.List.{take_all, take_more}
 use Rattle.std.proofs.lemmas.List.Elements.{All-append, All-cons, All-nil}
-use Rattle.batcher_journal.specs.Contradictions.{IsFree, LeavesFree, contradict}
+use Rattle.batcher_journal.specs.Contradictions.{IsFree, LeavesFree}
+use Rattle.batcher.specs.Reports.{subjects_contradict}
 use Rattle.batcher_types.specs.Votes.{same_subject, subject_of}
 use Rattle.batcher_types.specs.declared.messages.Subject.{Subject}
 use Rattle.batcher_types.specs.declared.messages.Vote.{Vote}
@@ -11,7 +12,7 @@ use Rattle.batcher_types.specs.declared.messages.Vote.{Vote}
 module _ {G D : Type 0} (same : D → D → Bool) (votes : List (Vote G D)) (subject : Subject D) (i : ℕ) where
   pub one_more : (vote : Vote G D) (other : Subject D) → i < length votes
       → vote ≡ get_or votes i vote → IsFree same (take i votes) subject → other ≡ subject_of vote
-      → false ≡ same_subject same other subject → false ≡ contradict same other subject
+      → false ≡ same_subject same other subject → false ≡ subjects_contradict same other subject
       → IsFree same (take (i + 1) votes) subject
   one_more vote other lt is so_far of same_not contradicts_not =
       let P = LeavesFree same subject in

@@ -2,7 +2,7 @@
 use Rattle.std.proofs.Common.{◌≡◌, ◌&&◌, ◌∙◌, ℕ, Bool, true, false, not, ap, eq-eqb, eqb, inl, inr, refl, sym}
 use Rattle.std.specs.Cmp.{IsEquivalence}
 use Rattle.std.proofs.lemmas.Bool.{cases_eq, ne_eqb}
-use Rattle.batcher_journal.specs.Contradictions.{contradict}
+use Rattle.batcher.specs.Reports.{subjects_contradict}
 use Rattle.batcher_types.specs.Votes.{same_proposal, same_round, same_subject}
 use Rattle.batcher_types.specs.declared.messages.Proposal.{Proposal}
 use Rattle.batcher_types.specs.declared.messages.Subject.{Subject}
@@ -49,7 +49,8 @@ module _ {D : Type 0} (same : D → D → Bool) (laws : IsEquivalence same) wher
       ap (λ (b : Bool). b && not (same_proposal same p q)) (rounds_symmetric p.round q.round)
       ∙ ap (λ (b : Bool). same_round q.round p.round && not b) (proposals_symmetric p q)
 
-  pub contradict_symmetric : (s t : Subject D) → contradict same s t ≡ contradict same t s
+  pub contradict_symmetric : (s t : Subject D)
+      → subjects_contradict same s t ≡ subjects_contradict same t s
   contradict_symmetric (Notarize p) (Notarize q) = both_symmetric p q
   contradict_symmetric (Notarize p) (Nullify s) = refl
   contradict_symmetric (Notarize p) (Finalize q) = refl
@@ -68,7 +69,7 @@ module _ {D : Type 0} (same : D → D → Bool) (laws : IsEquivalence same) wher
   no_two p = ap (λ (b : Bool). same_round p.round p.round && not b) (proposals_same p)
       ∙ never (same_round p.round p.round)
 
-  pub contradicts_not_itself : (s : Subject D) → contradict same s s ≡ false
+  pub contradicts_not_itself : (s : Subject D) → subjects_contradict same s s ≡ false
   contradicts_not_itself (Notarize p) = no_two p
   contradicts_not_itself (Nullify r) = refl
   contradicts_not_itself (Finalize p) = no_two p

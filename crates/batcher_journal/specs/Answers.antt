@@ -3,7 +3,8 @@ use Rattle.std.specs.Prelude.{◌≡◌, ◌++◌, ◌⊎◌, Bool, true, false,
 use Rattle.batcher_types.specs.Votes.{same_subject, subject_of}
 use Rattle.batcher_types.specs.declared.messages.Subject.{Subject}
 use Rattle.batcher_types.specs.declared.messages.Vote.{Vote}
-use Rattle.batcher_journal.specs.Contradictions.{IsFree, contradict}
+use Rattle.batcher.specs.Reports.{subjects_contradict}
+use Rattle.batcher_journal.specs.Contradictions.{IsFree}
 use Rattle.batcher_journal.specs.declared.journal.Answer.{Answer}
 use Rattle.batcher_journal.specs.declared.journal.Answer.TheVariants.{Closed, Known, Refused, Sign}
 
@@ -19,7 +20,7 @@ module _ {G D : Type 0} (same : D → D → Bool) where
   Answers true votes subject (Known vote) =
       Contains votes vote × (same_subject same (subject_of vote) subject ≡ true)
   Answers true votes subject (Refused vote) =
-      Contains votes vote × (contradict same (subject_of vote) subject ≡ true)
+      Contains votes vote × (subjects_contradict same (subject_of vote) subject ≡ true)
   Answers false votes subject Closed = Unit {0}
   Answers is_open votes subject answer = ⊥
 

@@ -2,7 +2,7 @@
 
 ghost use Rattle.std.specs.Prelude.{◌≡◌, ◌⊎◌, ◌++◌, ◌∷◌, [], Err, IfOk, IfSome, List, MatchBool, OnErr, OnOk, true, false, Contains};
 ghost use Rattle.batcher_journal.specs.Answers.{Answers, WriteLeaves};
-ghost use Rattle.batcher_journal.specs.Contradictions.{IsFree, WereFree, contradict};
+ghost use Rattle.batcher_journal.specs.Contradictions.{IsFree, WereFree};
 ghost use Rattle.batcher_journal.specs.Lives.{NeverContradicts};
 ghost use Rattle.batcher_journal.specs.Ready.{IsReady};
 ghost use Rattle.batcher_journal.specs.declared.log.LogFault.TheVariants.{Failed, OutOfMemory as NoMemory};
@@ -11,6 +11,7 @@ ghost use Rattle.batcher_journal.specs.declared.journal.WriteFault.TheVariants.{
 ghost use Rattle.batcher_types.specs.Votes.{same_subject, subject_of};
 
 use crate::log::{Log, LogFault};
+use batcher_evidence::contradict;
 use batcher_types::messages::{Digest, Subject, Vote};
 use std::alloc::Global;
 use std::marker::Model;
@@ -26,23 +27,6 @@ pub enum Answer<G, D> {
     Refused(Vote<G, D>),
     /// The disk failed, and nothing is known until the journal is opened again.
     Closed,
-}
-
-/// Whether the two may not both be signed.
-pub fn contradict<D: Digest>(one: &Subject<D>, other: &Subject<D>) -> bool
-    ensures { result ≡ contradict D.eq one.now other.now }
-{
-    match (one, other) {
-        (Subject::Notarize { proposal: p }, Subject::Notarize { proposal: q })
-        | (Subject::Finalize { proposal: p }, Subject::Finalize { proposal: q }) => {
-            p.round == q.round && *p != *q
-        }
-        (Subject::Nullify { round }, Subject::Finalize { proposal })
-        | (Subject::Finalize { proposal }, Subject::Nullify { round }) => *round == proposal.round,
-        (Subject::Notarize { .. }, Subject::Nullify { .. } | Subject::Finalize { .. })
-        | (Subject::Nullify { .. }, Subject::Notarize { .. } | Subject::Nullify { .. })
-        | (Subject::Finalize { .. }, Subject::Notarize { .. }) => false,
-    }
 }
 
 /// Why a vote wasn't written.
@@ -218,7 +202,7 @@ fn answer_of<G: Copy, D: Digest>(votes: &[Vote<G, D>], subject: &Subject<D>) -> 
         if other.is_same(subject) {
             return Answer::Known(*vote);
         }
-        if contradict(&other, subject) {
+        if contradict(other, *subject) {
             return Answer::Refused(*vote);
         }
     }

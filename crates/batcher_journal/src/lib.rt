@@ -5,7 +5,5 @@
 mod journal;
 mod log;
 
-pub use journal::{
-    Answer, Journal, OpenFault, WriteFault, contradict, handed_out_never_contradict,
-};
+pub use journal::{Answer, Journal, OpenFault, WriteFault, handed_out_never_contradict};
 pub use log::{Log, LogFault, MemoryLog};
