@@ -1,5 +1,9 @@
-pub mod Free
-pub mod Lives
-pub mod Loops
 pub mod Symmetric
+pub mod Texts
+pub mod Loops
+pub mod Following
+pub mod Splitting
 pub mod Writes
+pub mod Raises
+pub mod Lives
+pub mod Rounds

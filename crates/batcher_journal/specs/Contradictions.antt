@@ -1,5 +1,5 @@
 -- Lists of own votes in which none contradict each other.
-use Rattle.std.specs.Prelude.{◌≡◌, ◌<◌, ℕ, Bool, true, false, List, All, Contains, length, slice_index_or, take}
+use Rattle.std.specs.Prelude.{◌≡◌, Bool, true, false, List, All, Contains}
 use Rattle.batcher.specs.Reports.{subjects_contradict}
 use Rattle.batcher_types.specs.Votes.{same_subject, subject_of}
 use Rattle.batcher_types.specs.declared.messages.Subject.{Subject}
@@ -14,11 +14,6 @@ module _ {G D : Type 0} (same : D → D → Bool) where
   -- none of the votes is for the subject, and none contradicts it
   abbrev pub IsFree : List (Vote G D) → Subject D → Type 0
   IsFree votes subject = All (LeavesFree subject) votes
-
-  -- In the order in which they were written each was free.
-  abbrev pub WereFree : List (Vote G D) → Type 0
-  WereFree votes = (i : ℕ) (vote : Vote G D) → i < length votes
-      → vote ≡ slice_index_or votes i vote → IsFree (take i votes) (subject_of vote)
 
   -- no two of the votes contradict each other
   abbrev pub AreCompatible : List (Vote G D) → Type 0

@@ -2,8 +2,15 @@
 //! restarts no two votes that were handed out contradict each other, and none has two signatures.
 #![tactic(auto)]
 
+mod asking;
 mod journal;
-mod log;
+mod owner;
+mod parts;
+mod raising;
+mod votes;
 
-pub use journal::{Answer, Journal, OpenFault, WriteFault, handed_out_never_contradict};
-pub use log::{Log, LogFault, MemoryLog};
+pub use journal::{
+    Answer, BeginFault, Journal, OpenFault, RaiseFault, WriteFault, bytes_are_of_one_journal,
+    handed_out_never_contradict,
+};
+pub use owner::Owner;

@@ -1,0 +1,10 @@
+pub mod Sums
+pub mod Distance
+pub mod OneReading
+pub mod Exact
+pub mod SoFar
+pub mod Torn
+pub mod Turns
+pub mod Writing
+pub mod Choosing
+pub mod Bits

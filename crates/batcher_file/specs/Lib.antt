@@ -1,0 +1,9 @@
+pub mod Checksums
+pub mod Frames
+pub mod Near
+pub mod Opened
+pub mod Disks
+pub mod Pairs
+pub mod Settled
+pub mod Refusals
+pub mod Rot

@@ -1,0 +1,86 @@
+// A frame: a number and how many bytes there are, with their checksum, and the bytes with theirs.
+
+ghost use Rattle.std.specs.Prelude.{◌≡◌, ◌++◌, ◌∷◌, [], IfOk, IfSome, List, None, OnErr, OnOk, length, ℕ};
+ghost use Rattle.std.specs.List.{fold};
+ghost use Rattle.std.specs.Int.{w64};
+ghost use Rattle.batcher_codec.specs.Format.{Decodes, StartsWith, number_bytes};
+ghost use Rattle.batcher_file.specs.Checksums.{checksum, summed};
+ghost use Rattle.batcher_file.specs.Frames.{IsFrame, closed_gate, frame, frame_format, header};
+
+use batcher_codec::{Codec, DecodeFault};
+use std::alloc::{AllocError, Global};
+
+const START: u64 = 14695981039346656037;
+
+const PRIME: u64 = 1099511628211;
+
+// A checksum goes on over more bytes.
+fn sum_on(sum: u64, bytes: &[u8]) -> u64
+    ensures { result ≡ fold summed sum bytes.now }
+{
+    let mut sum = sum;
+    for byte in bytes {
+        sum = (sum ^ (*byte as u64)).wrapping_mul(PRIME);
+    }
+    sum
+}
+
+fn header_sum(number: u64, count: u64) -> u64
+    ensures { result ≡ checksum (header number count) }
+{
+    sum_on(sum_on(START, &number.to_be_bytes()), &count.to_be_bytes())
+}
+
+/// A frame and a closed gate behind it.
+pub fn frame_of(alloc: Global, number: u64, bytes: &[u8]) -> Result<Vec<u8>, AllocError>
+    ensures { IfOk result (λ it. it.items ≡ frame number bytes.now ++ closed_gate ∷ []) }
+{
+    let mut out = Vec::new(alloc);
+    let count = bytes.len() as u64;
+    number.encode(&mut out)?;
+    count.encode(&mut out)?;
+    header_sum(number, count).encode(&mut out)?;
+    out.extend_from_slice(bytes)?;
+    sum_on(START, bytes).encode(&mut out)?;
+    out.push(0)?;
+    Ok(out)
+}
+
+/// The frame at the front: its number, its bytes, and what follows it.
+pub fn frame_in(bytes: &[u8]) -> Result<(u64, &[u8], &[u8]), DecodeFault>
+    ensures { Decodes (λ x. ((x.0, x.1.now), x.2.now)) result (frame_format.decoding bytes.now) }
+{
+    let (number, rest) = u64::decode(bytes)?;
+    let (count, rest) = u64::decode(rest)?;
+    let (sum, rest) = u64::decode(rest)?;
+    if sum != header_sum(number, count) {
+        return Err(DecodeFault::Malformed);
+    }
+    if (rest.len() as u64) < count {
+        return Err(DecodeFault::Short);
+    }
+    let (inside, rest) = rest.split_at(count as usize);
+    let (sum, rest) = u64::decode(rest)?;
+    if sum != sum_on(START, inside) {
+        return Err(DecodeFault::Malformed);
+    }
+    Ok((number, inside, rest))
+}
+
+/// What is inside the frame at the front, and what follows it, if it has the number that is due.
+pub fn frame_due(bytes: &[u8], due: u64) -> Option<(&[u8], &[u8])>
+    ensures some { IfSome result (λ x. IsFrame due x.0.now x.1.now bytes.now) }
+    ensures none { result ≡ None → (inside after : List ℕ)
+        → IsFrame due inside after bytes.now → ⊥ }
+{
+    match frame_in(bytes) {
+        Ok((number, inside, after)) => {
+            if number == due {
+                Some((inside, after))
+            } else {
+                None
+            }
+        }
+        Err(_) => None,
+    }
+}

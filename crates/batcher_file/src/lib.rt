@@ -1,0 +1,13 @@
+//! A list of bytes in a file, which outlives a crash at any moment.
+#![tactic(auto)]
+
+mod contents;
+mod disk;
+mod frame;
+mod log;
+mod opening;
+mod rot;
+
+pub use log::FileLog;
+pub use opening::OpenFault;
+pub use rot::{no_bit_is_missed, two_files_hold_one_thing};

@@ -1,0 +1,111 @@
+-- A journal of which the floor was raised.
+use Rattle.std.proofs.Common.{◌≡◌, ◌⊎◌, ◌+◌, ◌<◌, ◌≤◌, ◌++◌, ◌∙◌, ℕ, zero, suc, Bool, true, false, not, cond, List, [], ◌∷◌, ap, arith, get_or, inl, inr, length, refl, subst, sym, take}
+use Rattle.std.proofs.lemmas.List.{append-nil, get_or_default, take_all}
+use Rattle.std.proofs.lemmas.List.Elements.{All-filter, filter_more}
+use Rattle.batcher_codec.specs.Format.{Format}
+use Rattle.batcher_journal.specs.Answers.{MayFollow}
+use Rattle.batcher_journal.specs.Contradictions.{IsFree, LeavesFree}
+use Rattle.batcher_journal.specs.Floors.{from_floor, is_below, is_over}
+use Rattle.batcher_journal.specs.Ready.{IsReady}
+use Rattle.batcher_journal.specs.Text.{AreValues, floor_format, text}
+use Rattle.batcher_journal.proofs.Following.{followed}
+use Rattle.batcher_types.specs.Votes.{subject_of}
+use Rattle.batcher_types.specs.declared.messages.Vote.{Vote}
+use Rattle.batcher_types.specs.declared.positions.Round.{Round}
+
+module _ {G D : Type 0} (same : D → D → Bool) where
+  one_follows : (floor : Round) (old : List (Vote G D)) (vote : Vote G D)
+      → IsFree same old (subject_of vote)
+      → is_over floor vote ≡ false → MayFollow same floor old (vote ∷ [])
+  one_follows floor old vote free above zero other lt is = (
+    rw (is, append-nil old) free,
+    ap (λ v. is_over floor v) is ∙ above,
+  )
+  one_follows floor old vote free above (suc i) other lt is = absurd (omega arith)
+
+  -- Votes that a floor leaves were each to be signed as those before it that are left were there.
+  module _ (old new : Round) (votes : List (Vote G D)) (follows : MayFollow same old [] votes) where
+    abbrev Left : ℕ → List (Vote G D)
+    Left i = from_floor new (take i votes)
+
+    step : (i : ℕ) → i < length votes → (vote : Vote G D) → vote ≡ get_or votes i vote
+        → MayFollow same new [] (Left i) → (b : Bool) → is_over new vote ≡ b
+        → MayFollow same new [] (Left i ++ cond (not b) (vote ∷ []) [])
+    step i lt vote is so_far true over = subst (MayFollow same new []) (sym (append-nil (Left i))) so_far
+    step i lt vote is so_far false above =
+        let free : IsFree same (Left i) (subject_of vote) =
+        All-filter (λ v. not (is_over new v)) (LeavesFree same (subject_of vote)) (take i votes) (follows i vote lt is).0 in
+        followed same new (Left i) (vote ∷ []) so_far (one_follows new (Left i) vote free above)
+
+    goes_on : (i : ℕ) → i < length votes → (vote : Vote G D) → vote ≡ get_or votes i vote
+        → MayFollow same new [] (Left i) → MayFollow same new [] (Left (i + 1))
+    goes_on i lt vote is so_far =
+        let more : Left (i + 1) ≡ Left i ++ cond (not (is_over new vote)) (vote ∷ []) [] =
+        filter_more (λ v. not (is_over new v)) votes i vote lt
+        ∙ ap (λ v. Left i ++ cond (not (is_over new v)) (v ∷ []) []) (sym is) in
+        subst (MayFollow same new []) (sym more) (step i lt vote is so_far (is_over new vote) refl)
+
+    up_to : (default : Vote G D) (i : ℕ) → i ≤ length votes → MayFollow same new [] (Left i)
+    up_to default zero le = λ j vote lt is. absurd (omega arith)
+    up_to default (suc i) le =
+        let lt : i < length votes = omega arith in
+        let vote : Vote G D = get_or votes i default in
+        let is : vote ≡ get_or votes i vote = get_or_default votes i default vote lt in
+        let count : i + 1 ≡ suc i = omega arith in
+        subst (λ n. MayFollow same new [] (Left n)) count (goes_on i lt vote is (up_to default i (omega arith)))
+
+  pub left_follow : (old new : Round) (votes : List (Vote G D)) → MayFollow same old [] votes
+      → MayFollow same new [] (from_floor new votes)
+  left_follow old new [] follows = λ j vote lt is. absurd (omega arith)
+  left_follow old new (vote ∷ votes) follows =
+      subst (λ vs. MayFollow same new [] (from_floor new vs))
+      (take_all (length (vote ∷ votes)) (vote ∷ votes) (omega arith))
+      (up_to old new (vote ∷ votes) follows vote (length (vote ∷ votes)) (omega arith))
+
+module _ {G D L : Type 0} (f : Format (Vote G D)) (same : D → D → Bool) (is_settled : L → Type 0)
+    (written : L → List ℕ) (log : L) (owner : List ℕ) (floor : Round) (finalization : List ℕ)
+    (votes : List (Vote G D))
+    (ready : IsReady f same is_settled written log owner floor finalization votes) where
+  pub raise_leaves : (new_owner : List ℕ) (new : Round) (proof left bytes : List ℕ) (kept : List
+      (Vote G D))
+      → is_below floor new ≡ false → bytes ≡ text f new_owner new proof kept → kept
+      ≡ from_floor new votes
+      → (left ≡ written log) ⊎ (left ≡ bytes)
+      → (left ≡ text f owner floor finalization votes)
+      ⊎ ((is_below floor new ≡ false) × (left ≡ text f new_owner new proof (from_floor new votes)))
+  raise_leaves new_owner new proof left bytes kept lower is kept_are (inl old) = inl (old ∙ ready.known)
+  raise_leaves new_owner new proof left bytes kept lower is kept_are (inr there) =
+      inr (lower, there ∙ is ∙ ap (λ vs. text f new_owner new proof vs) kept_are)
+
+  pub ready_raised : (after : L) (new_owner : List ℕ) (new : Round) (proof now bytes : List ℕ)
+      (kept : List (Vote G D))
+      → bytes ≡ text f new_owner new proof kept → kept ≡ from_floor new votes → now ≡ proof
+      → floor_format.IsValue (new, proof) → AreValues f kept → is_settled after → written after
+      ≡ bytes
+      → IsReady f same is_settled written after new_owner new now kept
+  ready_raised after new_owner new proof now bytes kept is kept_are now_is floor_value values settled there = rw now_is (record {
+    settled = settled;
+    known = there ∙ is;
+    floor_value = floor_value;
+    values = values;
+    followed = subst (MayFollow same new []) (sym kept_are) (left_follow same floor new votes ready.followed);
+  })
+
+-- and of one that is begun
+module _ {G D L : Type 0} (f : Format (Vote G D)) (same : D → D → Bool) (is_settled : L → Type 0)
+    (written : L → List ℕ) where
+  pub ready_begun : (after : L) (owner : List ℕ) (floor : Round) (proof now bytes : List ℕ)
+      (kept old : List (Vote G D))
+      → bytes ≡ text f owner floor proof kept → kept ≡ from_floor floor old → old ≡ [] → now ≡ proof
+      → floor_format.IsValue (floor, proof) → AreValues f kept → is_settled after → written after
+      ≡ bytes
+      → IsReady f same is_settled written after owner floor now kept
+  ready_begun after owner floor proof now bytes kept old is kept_are none now_is floor_value values settled there =
+      let empty : kept ≡ [] = kept_are ∙ ap (from_floor floor) none in
+      rw now_is (record {
+        settled = settled;
+        known = there ∙ is;
+        floor_value = floor_value;
+        values = values;
+        followed = subst (MayFollow same floor []) (sym empty) (λ j vote lt at. absurd (omega arith));
+      })

@@ -1,0 +1,125 @@
+-- Votes of a round that is over, and votes that aren't.
+use Rattle.std.proofs.Common.{◌≡◌, ◌⊎◌, ◌&&◌, ◌||◌, ◌∙◌, ◌<◌, Bool, true, false, arith, eqb, inl, inr, ltb, refl, sym}
+use Rattle.std.proofs.lemmas.Bool.{cases_eq, cases_lt, eq-eqb, eqb-true, ltb-true, lt-ltb}
+use Rattle.batcher.specs.Reports.{subjects_contradict}
+use Rattle.batcher_journal.specs.Floors.{is_below}
+use Rattle.batcher_types.specs.Votes.{round_in, same_proposal, same_round, same_subject}
+use Rattle.batcher_types.specs.declared.messages.Proposal.{Proposal}
+use Rattle.batcher_types.specs.declared.messages.Subject.{Subject}
+use Rattle.batcher_types.specs.declared.messages.Subject.TheVariants.{Notarize, Nullify, Finalize}
+use Rattle.batcher_types.specs.declared.positions.Round.{Round}
+
+both : (a b : Bool) → (a && b) ≡ true → (a ≡ true) × (b ≡ true)
+both true b e = (refl, e)
+both false b e = absurd cc
+
+-- rounds that are the same are on one side of a floor
+same_side : (floor a b : Round) → same_round a b ≡ true → is_below floor a ≡ is_below floor b
+same_side floor a b same =
+    let parts = both (eqb a.epoch.0 b.epoch.0) (eqb a.view.0 b.view.0) same in
+    rw (eqb-true a.epoch.0 b.epoch.0 parts.0, eqb-true a.view.0 b.view.0 parts.1) refl
+
+module _ {D : Type 0} (same : D → D → Bool) where
+  proposals_round : (p q : Proposal D) → same_proposal same p q ≡ true
+      → same_round p.round q.round ≡ true
+  proposals_round p q e = (both (same_round p.round q.round) _ e).0
+
+  subjects_round : (s t : Subject D) → same_subject same s t ≡ true
+      → same_round (round_in s) (round_in t) ≡ true
+  subjects_round (Notarize p) (Notarize q) e = proposals_round p q e
+  subjects_round (Notarize p) (Nullify r) e = absurd cc
+  subjects_round (Notarize p) (Finalize q) e = absurd cc
+  subjects_round (Nullify r) (Notarize q) e = absurd cc
+  subjects_round (Nullify r) (Nullify s) e = e
+  subjects_round (Nullify r) (Finalize q) e = absurd cc
+  subjects_round (Finalize p) (Notarize q) e = absurd cc
+  subjects_round (Finalize p) (Nullify r) e = absurd cc
+  subjects_round (Finalize p) (Finalize q) e = proposals_round p q e
+
+  contradicting_round : (s t : Subject D) → subjects_contradict same s t ≡ true
+      → same_round (round_in s) (round_in t) ≡ true
+  contradicting_round (Notarize p) (Notarize q) e = (both (same_round p.round q.round) _ e).0
+  contradicting_round (Notarize p) (Nullify r) e = absurd cc
+  contradicting_round (Notarize p) (Finalize q) e = absurd cc
+  contradicting_round (Nullify r) (Notarize q) e = absurd cc
+  contradicting_round (Nullify r) (Nullify s) e = absurd cc
+  contradicting_round (Nullify r) (Finalize q) e = e
+  contradicting_round (Finalize p) (Notarize q) e = absurd cc
+  contradicting_round (Finalize p) (Nullify r) e = e
+  contradicting_round (Finalize p) (Finalize q) e = (both (same_round p.round q.round) _ e).0
+
+  -- so a vote of a round that is over is apart from one of a round that isn't
+  module _ (floor : Round) (s t : Subject D) (over : is_below floor (round_in s) ≡ true)
+      (above : is_below floor (round_in t) ≡ false) where
+    apart : same_round (round_in s) (round_in t) ≡ true → ⊥
+    apart e = wrong (sym over ∙ same_side floor (round_in s) (round_in t) e ∙ above)
+      where
+        wrong : true ≡ false → ⊥
+        wrong w = absurd cc
+
+    pub other_subject : same_subject same s t ≡ false
+    other_subject = of_bool (same_subject same s t) refl
+      where
+        of_bool : (b : Bool) → same_subject same s t ≡ b → b ≡ false
+        of_bool true e = absurd (apart (subjects_round s t e))
+        of_bool false e = refl
+
+    pub no_contradiction : subjects_contradict same s t ≡ false
+    no_contradiction = of_bool (subjects_contradict same s t) refl
+      where
+        of_bool : (b : Bool) → subjects_contradict same s t ≡ b → b ≡ false
+        of_bool true e = absurd (apart (contradicting_round s t e))
+        of_bool false e = refl
+
+-- A round is before a floor by its epoch, or by its view in the same one.
+abbrev IsBefore : Round → Round → Type 0
+IsBefore floor round = (round.epoch.0 < floor.epoch.0)
+    ⊎ ((round.epoch.0 ≡ floor.epoch.0) × (round.view.0 < floor.view.0))
+
+before : (floor round : Round) → is_below floor round ≡ true → IsBefore floor round
+before floor round e = of_bool (ltb round.epoch.0 floor.epoch.0) refl e
+  where
+    of_bool : (b : Bool) → ltb round.epoch.0 floor.epoch.0 ≡ b
+        → (b || (eqb round.epoch.0 floor.epoch.0 && ltb round.view.0 floor.view.0)) ≡ true
+        → IsBefore floor round
+    of_bool true lt e = inl (ltb-true _ _ lt)
+    of_bool false ge e =
+        let parts = both (eqb round.epoch.0 floor.epoch.0) (ltb round.view.0 floor.view.0) e in
+        inr (eqb-true _ _ parts.0, ltb-true _ _ parts.1)
+
+is_before : (floor round : Round) → IsBefore floor round → is_below floor round ≡ true
+is_before floor round (inl lt) = rw (lt-ltb round.epoch.0 floor.epoch.0 lt) refl
+is_before floor round (inr same) =
+    rw (eq-eqb round.epoch.0 floor.epoch.0 same.0, lt-ltb round.view.0 floor.view.0 same.1)
+    (or_true (ltb round.epoch.0 floor.epoch.0))
+  where
+    or_true : (b : Bool) → (b || true) ≡ true
+    or_true true = refl
+    or_true false = refl
+
+-- A floor that isn't lower leaves no round that was over.
+pub still_over : (old new round : Round) → is_below old new ≡ false → is_below old round ≡ true
+    → is_below new round ≡ true
+still_over old new round up over = is_before new round (of_parts (before old round over))
+  where
+    not_before : IsBefore old new → ⊥
+    not_before it = wrong (sym (is_before old new it) ∙ up)
+      where
+        wrong : true ≡ false → ⊥
+        wrong w = absurd cc
+
+    of_parts : IsBefore old round → IsBefore new round
+    of_parts (inl lt) = elim (cases_lt new.epoch.0 old.epoch.0) [
+      | inl lower ↦ absurd (not_before (inl lower))
+      | inr le ↦ inl (omega arith)
+    ]
+    of_parts (inr same) = elim (cases_lt new.epoch.0 old.epoch.0) [
+      | inl lower ↦ absurd (not_before (inl lower))
+      | inr le ↦ elim (cases_eq new.epoch.0 old.epoch.0) [
+        | inl equal ↦ elim (cases_lt new.view.0 old.view.0) [
+          | inl lower ↦ absurd (not_before (inr (equal, lower)))
+          | inr views ↦ inr (omega (arith, same.0, equal), omega (arith, same.1))
+        ]
+        | inr other ↦ inl (omega (arith, same.0, other))
+      ]
+    ]

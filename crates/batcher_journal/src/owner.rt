@@ -1,0 +1,84 @@
+//! Whose journal it is.
+
+ghost use Rattle.std.specs.Prelude.{◌≡◌, ◌++◌, List, ℕ, OnErr, OnOk};
+ghost use Rattle.batcher_codec.specs.Format.{Decodes, StartsWith};
+ghost use Rattle.batcher_journal.specs.Text.{fields_of, floor_format, owner_format};
+
+use batcher_codec::{Codec, DecodeFault, VERSION, decode_bytes, encode_bytes};
+use batcher_types::positions::{Participant, Round};
+use std::alloc::AllocError;
+
+/// Whose journal it is: a journal is opened by no other.
+#[derive(Clone, Copy, Debug)]
+pub struct Owner<'a> {
+    /// The namespace in which the votes are signed.
+    pub namespace: &'a [u8],
+    /// What names the keys of the epoch, such as a hash of them.
+    pub keys: &'a [u8],
+    /// Whose votes they are.
+    pub participant: Participant,
+    /// How many bytes a digest has.
+    pub digest_len: u32,
+    /// How many bytes a signature has.
+    pub signature_len: u32,
+}
+
+/// Writes whose journal it is. An `Err` may leave some of it there.
+#[tactic(auto, using(batcher_codec::specs::Starting::starts))]
+pub fn put_owner(owner: &Owner, out: &mut Vec<u8>) -> Result<(), AllocError>
+    ensures ok { OnOk result
+        (out.new.items ≡ out.old.items ++ owner_format.encoding (fields_of owner.now)) }
+    ensures value { OnOk result (owner_format.IsValue (fields_of owner.now)) }
+{
+    out.push(VERSION)?;
+    owner.digest_len.encode(out)?;
+    owner.signature_len.encode(out)?;
+    owner.participant.0.encode(out)?;
+    encode_bytes(owner.keys, out)?;
+    encode_bytes(owner.namespace, out)
+}
+
+/// Reads whose journal it is, and lends the bytes after that.
+pub fn owner_in(bytes: &[u8]) -> Result<(Owner<'_>, &[u8]), DecodeFault>
+    ensures { Decodes (λ x. (fields_of x.0, x.1.now)) result (owner_format.decoding bytes.now) }
+{
+    match bytes {
+        [] => Err(DecodeFault::Short),
+        [1, rest @ ..] => {
+            let (digest_len, rest) = u32::decode(rest)?;
+            let (signature_len, rest) = u32::decode(rest)?;
+            let (participant, rest) = u32::decode(rest)?;
+            let (keys, rest) = decode_bytes(rest)?;
+            let (namespace, rest) = decode_bytes(rest)?;
+            let owner = Owner {
+                namespace,
+                keys,
+                participant: Participant(participant),
+                digest_len,
+                signature_len,
+            };
+            Ok((owner, rest))
+        }
+        [_, ..] => Err(DecodeFault::Version),
+    }
+}
+
+/// Writes the floor and the bytes of its finalization. An `Err` may leave some of it there.
+#[tactic(auto, using(batcher_codec::specs::Starting::starts))]
+pub fn put_floor(floor: Round, finalization: &[u8], out: &mut Vec<u8>) -> Result<(), AllocError>
+    ensures ok { OnOk result (out.new.items
+        ≡ out.old.items ++ floor_format.encoding (floor, finalization.now)) }
+    ensures value { OnOk result (floor_format.IsValue (floor, finalization.now)) }
+{
+    floor.encode(out)?;
+    encode_bytes(finalization, out)
+}
+
+/// Reads the floor and the bytes of its finalization, and lends the bytes after that.
+pub fn floor_in(bytes: &[u8]) -> Result<(Round, &[u8], &[u8]), DecodeFault>
+    ensures { Decodes (λ x. ((x.0, x.1.now), x.2.now)) result (floor_format.decoding bytes.now) }
+{
+    let (floor, rest) = Round::decode(bytes)?;
+    let (finalization, rest) = decode_bytes(rest)?;
+    Ok((floor, finalization, rest))
+}
