@@ -6,7 +6,7 @@ use Rattle.batcher_file.specs.Pairs.{HoldNone}
 use Rattle.batcher_file.specs.Refusals.{IsWholeBefore, Shows}
 use Rattle.batcher_file.specs.declared.contents.Contents.{Contents}
 use Rattle.batcher_file.specs.declared.opening.OpenFault.{OpenFault}
-use Rattle.batcher_file.specs.declared.opening.OpenFault.TheVariants.{Apart, Damaged, Empty, Failed, OutOfMemory, Taken}
+use Rattle.batcher_file.specs.declared.opening.OpenFault.TheVariants.{Apart, Damaged, Empty, Failed, OutOfMemory, Taken, TooLong}
 use Rattle.batcher_file.proofs.Turns.{not_blank, one_number, same_list}
 
 pub blank_unread : (file : List ℕ) → IsBlank file → IsUnread file
@@ -64,6 +64,7 @@ shown f Empty shows = f shows
 shown f Taken shows = f shows
 shown f (Damaged in_second at) shows = f shows
 shown f Apart shows = f shows
+shown f TooLong shows = tt
 
 pub whole_first : (a b : List ℕ) (fault : OpenFault) → IsWholeBefore a a fault
     → ((second : Bool) (at : ℕ) → answer fault ≡ answer (Damaged second at) → second ≡ false)
@@ -78,6 +79,7 @@ whole_first a b (Damaged true at) whole side = absurd (wrong (side true at refl)
     wrong : true ≡ false → ⊥
     wrong e = absurd cc
 whole_first a b Apart whole side = tt
+whole_first a b TooLong whole side = tt
 
 pub whole_second : (a b : List ℕ) (fault : OpenFault) → IsWholeBefore b b fault
     → ((second : Bool) (at : ℕ) → answer fault ≡ answer (Damaged second at) → second ≡ true)
@@ -92,3 +94,4 @@ whole_second a b (Damaged false at) whole side = absurd (wrong (side false at re
     wrong : false ≡ true → ⊥
     wrong e = absurd cc
 whole_second a b Apart whole side = tt
+whole_second a b TooLong whole side = tt

@@ -2,7 +2,7 @@
 use Rattle.std.specs.Prelude.{ℕ, true, false, List}
 use Rattle.batcher_file.specs.Frames.{IsReadTo}
 use Rattle.batcher_file.specs.declared.opening.OpenFault.{OpenFault}
-use Rattle.batcher_file.specs.declared.opening.OpenFault.TheVariants.{Apart, Damaged, Empty, Failed, OutOfMemory, Taken}
+use Rattle.batcher_file.specs.declared.opening.OpenFault.TheVariants.{Apart, Damaged, Empty, Failed, OutOfMemory, Taken, TooLong}
 
 -- what a fault shows of the files, where it is a fault of theirs
 abbrev pub Shows : Type 0 → OpenFault → Type 0
@@ -12,6 +12,7 @@ Shows Files Empty = Files
 Shows Files Taken = Files
 Shows Files (Damaged in_second at) = Files
 Shows Files Apart = Files
+Shows Files TooLong = Unit {0}
 
 -- the frames before the damage are whole
 abbrev pub IsWholeBefore : List ℕ → List ℕ → OpenFault → Type 0

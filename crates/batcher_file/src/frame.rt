@@ -36,6 +36,8 @@ pub fn frame_of(alloc: Global, number: u64, bytes: &[u8]) -> Result<Vec<u8>, All
     ensures { IfOk result (λ it. it.items ≡ frame number bytes.now ++ closed_gate ∷ []) }
 {
     let mut out = Vec::new(alloc);
+    // What a frame has beside its bytes, and the gate.
+    out.reserve(bytes.len() + 33)?;
     let count = bytes.len() as u64;
     number.encode(&mut out)?;
     count.encode(&mut out)?;

@@ -1,13 +1,13 @@
 //! Opening a log that a crash may have left, and making a new one.
 
-ghost use Rattle.std.specs.Prelude.{◌≡◌, ◌+◌, ◌≤◌, ◌<◌, ◌^◌, Err, IfErr, IfOk, IsTrue, List, MatchBool, OnOk, length, ℕ};
+ghost use Rattle.std.specs.Prelude.{◌≡◌, ◌+◌, ◌≤◌, ◌<◌, ◌^◌, Err, IfErr, IfOk, IsTrue, List, MatchBool, OnOk, length, ℕ, ◌⊎◌, false};
 ghost use Rattle.sqlite_disk.specs.Disk.{Only};
 ghost use Rattle.batcher_file.specs.Disks.{IsBlank};
 ghost use Rattle.batcher_file.specs.Frames.{AreContents, IsUnread};
 ghost use Rattle.batcher_file.specs.Pairs.{Hold, HoldNone, IsFound, IsTidied};
 ghost use Rattle.batcher_file.specs.Settled.{IsHonest, IsSettled};
 ghost use Rattle.batcher_file.specs.Refusals.{IsWholeBefore, Shows};
-ghost use Rattle.batcher_file.specs.declared.opening.OpenFault.TheVariants.{Damaged, OutOfMemory};
+ghost use Rattle.batcher_file.specs.declared.opening.OpenFault.TheVariants.{Damaged, Failed, OutOfMemory};
 
 use crate::contents::{Contents, Unreadable, contents_of};
 use crate::disk::{cut, renew};
@@ -33,6 +33,8 @@ pub enum OpenFault {
     Damaged { in_second: bool, at: usize },
     /// Each file is whole, but they don't belong together.
     Apart,
+    /// A file is longer than any that was written.
+    TooLong,
 }
 
 impl From<AllocError> for OpenFault {
@@ -113,6 +115,8 @@ fn read_all<K: Disk>(alloc: Global, disk: &mut K) -> Result<Vec<u8>, OpenFault>
     ensures durable { OnOk result (Only (K.seen disk.new) (K.may_leave disk.new)) }
     ensures usable { OnOk result (IsTrue (K.is_usable disk.new)) }
     ensures clean { IsTrue (K.is_clean disk.new) → IsTrue (K.is_clean disk.old) }
+    ensures failed { result ≡ Err Failed
+        → (K.is_usable disk.old ≡ false) ⊎ (0 < K.faults disk.new) }
 {
     if !disk.may_be_used() {
         return Err(OpenFault::Failed);
@@ -126,7 +130,7 @@ fn read_all<K: Disk>(alloc: Global, disk: &mut K) -> Result<Vec<u8>, OpenFault>
         Err(_) => return Err(OpenFault::Failed),
     };
     if len > MOST_BYTES {
-        return Err(OpenFault::Failed);
+        return Err(OpenFault::TooLong);
     }
     let mut bytes = vec![in alloc; 0; len]?;
     match disk.read_at(0, &mut bytes) {

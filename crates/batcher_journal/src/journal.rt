@@ -432,6 +432,11 @@ fn write_to<G: Codec, D: Digest + Codec, L: Log>(
     ensures opens { L.is_honest log.new → L.may_lose log.new → ⊥ }
 {
     let mut bytes = Vec::new(*votes.allocator());
+    // As a vote has with a digest of 32 bytes and a signature of 64.
+    match bytes.reserve(126) {
+        Ok(()) => {}
+        Err(_) => return Err(LogFault::OutOfMemory),
+    }
     match put_votes(more, &mut bytes) {
         Ok(()) => {}
         Err(_) => return Err(LogFault::OutOfMemory),

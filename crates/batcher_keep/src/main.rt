@@ -46,6 +46,14 @@ fn main(rt: HostRuntime) -> Result<()> {
                     None => println!(rt; "no journal")?,
                 }
             }
+            Some("both") => {
+                let proposal = proposal(&mut words)?;
+                let byte = byte(&mut words)?;
+                match &mut journal {
+                    Some(journal) => cast_both(&rt, journal, proposal, byte)?,
+                    None => println!(rt; "no journal")?,
+                }
+            }
             Some(kind) => {
                 let subject = subject(kind, &mut words)?;
                 let byte = byte(&mut words)?;
@@ -94,6 +102,29 @@ fn cast(
         Answer::Refused(_) => println!(rt; "refused")?,
         Answer::Over => println!(rt; "over")?,
         Answer::Closed => println!(rt; "closed")?,
+    }
+    Ok(())
+}
+
+// The same of a notarize and a finalize of one proposal, which are written at once.
+fn cast_both(
+    rt: &HostRuntime,
+    journal: &mut Keeper,
+    proposal: Proposal<Sha256Digest>,
+    byte: u8,
+) -> Result<()> {
+    let notarize = Subject::Notarize { proposal };
+    let finalize = Subject::Finalize { proposal };
+    let attestation = Attestation {
+        signer: Participant(7),
+        signature: [byte; 64],
+    };
+    match journal.write(&[
+        Vote::new(notarize, attestation),
+        Vote::new(finalize, attestation),
+    ]) {
+        Ok(()) => println!(rt; "send {byte}")?,
+        Err(fault) => println!(rt; "{fault:?}")?,
     }
     Ok(())
 }
@@ -186,14 +217,23 @@ fn subject(kind: &str, words: &mut SplitWhitespace) -> Result<Subject<Sha256Dige
     if kind == "nullify" {
         return Ok(Subject::Nullify { round });
     }
-    let parent = View::new(number(words)?);
-    let payload = Sha256Digest([byte(words)?; 32]);
-    let proposal = Proposal::new(round, parent, payload);
+    let proposal = proposal_in(round, words)?;
     match kind {
         "notarize" => Ok(Subject::Notarize { proposal }),
         "finalize" => Ok(Subject::Finalize { proposal }),
         _ => bail!("{kind} is no command"),
     }
+}
+
+fn proposal(words: &mut SplitWhitespace) -> Result<Proposal<Sha256Digest>> {
+    let round = round(words)?;
+    proposal_in(round, words)
+}
+
+fn proposal_in(round: Round, words: &mut SplitWhitespace) -> Result<Proposal<Sha256Digest>> {
+    let parent = View::new(number(words)?);
+    let payload = Sha256Digest([byte(words)?; 32]);
+    Ok(Proposal::new(round, parent, payload))
 }
 
 fn round(words: &mut SplitWhitespace) -> Result<Round> {
