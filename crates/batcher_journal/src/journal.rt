@@ -235,6 +235,27 @@ impl<G: Codec, D: Digest + Codec, L: Log> Journal<G, D, L> {
         }
     }
 
+    /// The round below which nothing is signed.
+    pub fn floor(&self) -> Round
+        ensures { result ≡ self.now.floor }
+    {
+        self.floor
+    }
+
+    /// The bytes of the floor's finalization.
+    pub fn finalization(&self) -> &[u8]
+        ensures { result.now ≡ self.now.finalization }
+    {
+        &self.finalization
+    }
+
+    /// The votes from the floor on, in the order in which they were written.
+    pub fn votes(&self) -> &[Vote<G, D>]
+        ensures { result.now ≡ self.now.votes }
+    {
+        &self.votes
+    }
+
     /// What is to be done about a subject, before it is signed.
     pub fn ask(&self, subject: &Subject<D>) -> Answer<G, D>
         ensures { Answers D.eq self.now.floor self.now.is_open self.now.votes subject.now result }
