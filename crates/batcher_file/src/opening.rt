@@ -236,6 +236,11 @@ impl<K: Disk + Drop> FileLog<K> {
         let mut copy = Vec::new(alloc);
         copy.extend_from_slice(bytes)?;
         let frame = frame_of(alloc, 1, bytes)?;
+        // What an earlier call has begun here is gone before a gate is written over.
+        match cut(&mut current, left_of(&a)) {
+            Ok(()) => {}
+            Err(_) => return Err(OpenFault::Failed),
+        }
         match cut(&mut other, left_of(&b)) {
             Ok(()) => {}
             Err(_) => return Err(OpenFault::Failed),
