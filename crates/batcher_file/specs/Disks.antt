@@ -58,3 +58,7 @@ MayRetire Whole old file = IsBlank file ⊎ IsShutting Whole old file
 abbrev pub MayBe : Type 0 → List ℕ → List ℕ → List ℕ → Type 0
 MayBe Whole old frame file =
     IsBlank file ⊎ IsShutting Whole old file ⊎ IsAtGate Whole [] unused_gate open_gate frame file
+
+-- while a file that has nothing in it is made anew
+abbrev pub MayStart : Type 0 → List ℕ → List ℕ → Type 0
+MayStart Whole frame file = IsBlank file ⊎ IsAtGate Whole [] unused_gate open_gate frame file

@@ -1,9 +1,9 @@
 // What is done to one file. A frame is behind a gate that is closed, and stays closed on the disk
 // until all of the frame is there.
 
-ghost use Rattle.std.specs.Prelude.{◌≡◌, ◌⊎◌, ◌+◌, ◌++◌, ◌<◌, ◌≤◌, ◌∷◌, ◌^◌, [], IfOk, IsTrue, List, OnErr, OnOk, drop, length, take, ℕ};
+ghost use Rattle.std.specs.Prelude.{◌≡◌, ◌⊎◌, ◌+◌, ◌++◌, ◌<◌, ◌≤◌, ◌∷◌, ◌^◌, [], IfOk, IsTrue, List, OnErr, OnOk, drop, length, min, take, ℕ};
 ghost use Rattle.sqlite_disk.specs.Disk.{Only};
-ghost use Rattle.batcher_file.specs.Disks.{Finishes, IsKept, IsShutting, MayBe, MayHave, MayRetire, unused_gate};
+ghost use Rattle.batcher_file.specs.Disks.{Finishes, IsBlank, IsKept, IsShutting, MayBe, MayHave, MayRetire, MayStart, unused_gate};
 ghost use Rattle.batcher_file.specs.Frames.{open_gate};
 
 use sqlite_disk::Disk;
@@ -54,7 +54,8 @@ pub fn cut<K: Disk>(disk: &mut K, len: usize) -> io::Result<()>
         → IsKept K.seen K.may_leave disk.new (take len (K.seen disk.old))) }
     ensures leaves { Only (K.seen disk.old) (K.may_leave disk.old) → len ≤ length (K.seen disk.old)
         → (file : List ℕ) → K.may_leave disk.new file
-        → file ≡ take len (K.seen disk.old) ++ drop len file }
+        → (file ≡ take len (K.seen disk.old) ++ drop len file)
+        × (length file ≤ length (K.seen disk.old)) }
     ensures usable { OnOk result (IsTrue (K.is_usable disk.new)) }
     ensures clean { IsTrue (K.is_clean disk.new) → IsTrue (K.is_clean disk.old) }
     ensures failed { OnErr result (0 < K.faults disk.new) }
@@ -93,4 +94,22 @@ pub fn renew<K: Disk>(disk: &mut K, frame: &[u8]) -> io::Result<()>
 {
     retire(disk)?;
     add_frame(disk, 0, frame)
+}
+
+/// Makes a file anew that has nothing in it: it has nothing until the gate of its frame is open,
+/// and then that frame.
+pub fn start<K: Disk>(disk: &mut K, len: usize, frame: &[u8]) -> io::Result<()>
+    requires usable { IsTrue (K.is_usable disk.old) }
+    requires some { 0 < length frame.now }
+    requires room { 1 + length frame.now < 2 ^ 64 }
+    ensures done { OnOk result (IsKept K.seen K.may_leave disk.new (open_gate ∷ frame.now)) }
+    ensures leaves { Only (K.seen disk.old) (K.may_leave disk.old) → IsBlank (K.seen disk.old)
+        → len ≡ min 1 (length (K.seen disk.old)) → (file : List ℕ) → K.may_leave disk.new file
+        → MayStart (Finishes K.is_mixing) frame.now file }
+    ensures usable { OnOk result (IsTrue (K.is_usable disk.new)) }
+    ensures clean { IsTrue (K.is_clean disk.new) → IsTrue (K.is_clean disk.old) }
+    ensures failed { OnErr result (0 < K.faults disk.new) }
+{
+    cut(disk, len)?;
+    renew(disk, frame)
 }

@@ -10,7 +10,7 @@ ghost use Rattle.batcher_file.specs.Refusals.{IsWholeBefore, Shows};
 ghost use Rattle.batcher_file.specs.declared.opening.OpenFault.TheVariants.{Damaged, Failed, OutOfMemory};
 
 use crate::contents::{Contents, Unreadable, contents_of};
-use crate::disk::{cut, renew};
+use crate::disk::{cut, start};
 use crate::frame::frame_of;
 use crate::log::FileLog;
 use sqlite_disk::Disk;
@@ -236,16 +236,11 @@ impl<K: Disk + Drop> FileLog<K> {
         let mut copy = Vec::new(alloc);
         copy.extend_from_slice(bytes)?;
         let frame = frame_of(alloc, 1, bytes)?;
-        // What an earlier call has begun here is gone before a gate is written over.
-        match cut(&mut current, left_of(&a)) {
-            Ok(()) => {}
-            Err(_) => return Err(OpenFault::Failed),
-        }
         match cut(&mut other, left_of(&b)) {
             Ok(()) => {}
             Err(_) => return Err(OpenFault::Failed),
         }
-        match renew(&mut current, &frame) {
+        match start(&mut current, left_of(&a), &frame) {
             Ok(()) => {}
             Err(_) => return Err(OpenFault::Failed),
         }
