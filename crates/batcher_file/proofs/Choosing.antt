@@ -59,12 +59,12 @@ answer fault = Err fault
 -- a fault of the one file is one of both
 pub shown : {P Q : Type 0} → (P → Q) → (fault : OpenFault) → Shows P fault → Shows Q fault
 shown f OutOfMemory shows = tt
-shown f Failed shows = tt
+shown f Failed shows = absurd shows
 shown f Empty shows = f shows
-shown f Taken shows = f shows
+shown f Taken shows = absurd shows
 shown f (Damaged in_second at) shows = f shows
 shown f Apart shows = f shows
-shown f TooLong shows = tt
+shown f TooLong shows = absurd shows
 
 pub whole_first : (a b : List ℕ) (fault : OpenFault) → IsWholeBefore a a fault
     → ((second : Bool) (at : ℕ) → answer fault ≡ answer (Damaged second at) → second ≡ false)

@@ -1,8 +1,8 @@
 -- Frames that are read one after the other, as a loop does.
-use Rattle.std.proofs.Common.{◌≡◌, ◌≢◌, ◌+◌, ◌-◌, ◌^◌, ◌<◌, ◌≤◌, ◌++◌, ◌∙◌, ℕ, List, [], ◌∷◌, Result, Err, ap, append_assoc, arith, inl, inr, length, refl, subst, sym}
+use Rattle.std.proofs.Common.{◌≡◌, ◌+◌, ◌-◌, ◌^◌, ◌<◌, ◌≤◌, ◌++◌, ◌∙◌, ℕ, List, [], ◌∷◌, Result, Err, ap, append_assoc, arith, inl, inr, length, refl, subst, sym}
 use Rattle.std.proofs.lemmas.List.{append-nil, length-append, length_push}
 use Rattle.std.specs.List.{concat}
-use Rattle.batcher_file.specs.Frames.{AreContents, AreFrames, AreTwoFrames, Has, IsFrame, IsReadTo, frame, frame_format, frames}
+use Rattle.batcher_file.specs.Frames.{AreFrames, AreTwoFrames, Has, IsFrame, IsReadTo, frame, frame_format, frames}
 use Rattle.batcher_file.specs.declared.contents.Contents.{Contents}
 use Rattle.batcher_file.specs.declared.contents.Unreadable.{Unreadable}
 use Rattle.batcher_file.specs.declared.contents.Unreadable.TheVariants.{Damaged}

@@ -1,5 +1,5 @@
 -- What torn writes leave around a gate.
-use Rattle.std.proofs.Common.{◌≡◌, ◌⊎◌, ◌+◌, ◌<◌, ◌≤◌, ◌++◌, ◌∙◌, ℕ, List, [], ◌∷◌, ap, append_assoc, arith, drop, get_or, inl, inr, length, refl, subst, sym, take, min}
+use Rattle.std.proofs.Common.{◌≡◌, ◌⊎◌, ◌+◌, ◌<◌, ◌≤◌, ◌++◌, ◌∙◌, ℕ, List, [], ◌∷◌, ap, append_assoc, arith, drop, get_or, inl, inr, length, refl, subst, sym, take}
 use Rattle.std.proofs.lemmas.List.{append-nil, drop-drop, drop_all, drop_at, drop_more, get_or-drop, get_or-take, get_or_at, get_or_default, length-append, length-drop, length-take, same_lists, take-append-drop, take_at}
 use Rattle.sqlite_disk.specs.Disk.{Cut, Holds, Mixed, Only, Torn}
 use Rattle.batcher_file.specs.Disks.{IsShutting, MayHave}

@@ -13,7 +13,7 @@ pub record IsKept {K : Type 0} (seen : K → List ℕ) (may_leave : K → List �
 abbrev pub Finishes : {K : Type 0} → (K → Bool) → Type 0
 Finishes {K} is_mixing = (disk : K) → IsTrue (is_mixing disk)
 
--- the gate is as it was, and anything behind it
+-- the gate is as it was, and behind it is no more than a frame has
 pub record IsBeforeGate (front : List ℕ) (gate : ℕ) (frame file : List ℕ) : Type 0 where
   pub rest : List ℕ
   pub parts : file ≡ front ++ gate ∷ rest

@@ -41,6 +41,7 @@ pub record IsTornIntoTwo (next : ℕ) (file : List ℕ) : Type 0 where
   pub two : AreTwoFrames next rest
 
 -- Both files as they are between two calls: they hold these bytes, and no others can be read there.
+-- The last two follow from the rest, and are here for what a log says of crashes (`rest_settled`).
 pub record AreAtRest {K : Type 0} (seen : K → List ℕ) (may_leave : K → List ℕ → Type 0)
     (current other : K) (bytes : List ℕ) (next end : ℕ) : Type 0 where
   pub first : ℕ

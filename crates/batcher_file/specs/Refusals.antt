@@ -2,17 +2,15 @@
 use Rattle.std.specs.Prelude.{ℕ, true, false, List}
 use Rattle.batcher_file.specs.Frames.{IsReadTo}
 use Rattle.batcher_file.specs.declared.opening.OpenFault.{OpenFault}
-use Rattle.batcher_file.specs.declared.opening.OpenFault.TheVariants.{Apart, Damaged, Empty, Failed, OutOfMemory, Taken, TooLong}
+use Rattle.batcher_file.specs.declared.opening.OpenFault.TheVariants.{Apart, Damaged, Empty, OutOfMemory}
 
--- what a fault shows of the files, where it is a fault of theirs
+-- what a fault shows of the files, once they are read: memory may be out, or they are at fault
 abbrev pub Shows : Type 0 → OpenFault → Type 0
 Shows Files OutOfMemory = Unit {0}
-Shows Files Failed = Unit {0}
 Shows Files Empty = Files
-Shows Files Taken = Files
 Shows Files (Damaged in_second at) = Files
 Shows Files Apart = Files
-Shows Files TooLong = Unit {0}
+Shows Files fault = ⊥
 
 -- the frames before the damage are whole
 abbrev pub IsWholeBefore : List ℕ → List ℕ → OpenFault → Type 0

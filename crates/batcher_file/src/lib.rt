@@ -1,4 +1,4 @@
-//! A list of bytes in a file, which outlives a crash at any moment.
+//! Bytes in two files that take turns, which outlive a crash at any moment.
 #![tactic(auto)]
 
 mod contents;

@@ -16,8 +16,12 @@ use crate::log::FileLog;
 use sqlite_disk::Disk;
 use std::alloc::{AllocError, Global};
 
-// No file is longer.
-const MOST_BYTES: usize = 1 << 41;
+// No file is longer: as many bytes as a log has at most, a frame behind them, and what is around
+// it.
+const MOST_TO_READ: usize = 1 << 42;
+
+// So many bytes a log begins with at most.
+const MOST_TO_WRITE: usize = 1 << 40;
 
 /// Why a log wasn't opened.
 #[derive(Clone, Copy, Debug, PartialEq, Eq)]
@@ -110,7 +114,7 @@ fn in_use(alloc: Global, a: &[u8], b: &[u8]) -> Result<(Contents, bool), OpenFau
 // The bytes of a file, all of them on the disk now.
 fn read_all<K: Disk>(alloc: Global, disk: &mut K) -> Result<Vec<u8>, OpenFault>
     ensures bytes { IfOk result (λ it. IsTrue (K.is_clean disk.new) → it.items ≡ K.seen disk.old) }
-    ensures long { IfOk result (λ it. length it.items ≤ 2 ^ 41) }
+    ensures long { IfOk result (λ it. length it.items ≤ 2 ^ 42) }
     ensures seen { K.seen disk.new ≡ K.seen disk.old }
     ensures durable { OnOk result (Only (K.seen disk.new) (K.may_leave disk.new)) }
     ensures usable { OnOk result (IsTrue (K.is_usable disk.new)) }
@@ -129,7 +133,7 @@ fn read_all<K: Disk>(alloc: Global, disk: &mut K) -> Result<Vec<u8>, OpenFault>
         Ok(len) => len,
         Err(_) => return Err(OpenFault::Failed),
     };
-    if len > MOST_BYTES {
+    if len > MOST_TO_READ {
         return Err(OpenFault::TooLong);
     }
     let mut bytes = vec![in alloc; 0; len]?;
@@ -230,7 +234,7 @@ impl<K: Disk + Drop> FileLog<K> {
         if !is_blank(&a) || !is_blank(&b) {
             return Err(OpenFault::Taken);
         }
-        if bytes.len() > MOST_BYTES {
+        if bytes.len() > MOST_TO_WRITE {
             return Err(OpenFault::OutOfMemory);
         }
         let mut copy = Vec::new(alloc);

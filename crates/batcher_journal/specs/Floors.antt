@@ -1,5 +1,5 @@
 -- The floor of a journal: rounds before it are over, and votes of them are forgotten.
-use Rattle.std.specs.Prelude.{◌≡◌, ◌&&◌, ◌||◌, Bool, false, not, nat_eq, nat_lt, List, All}
+use Rattle.std.specs.Prelude.{◌&&◌, ◌||◌, Bool, not, nat_eq, nat_lt, List}
 use Rattle.std.specs.List.{filter}
 use Rattle.batcher_types.specs.Votes.{round_in, subject_of}
 use Rattle.batcher_types.specs.declared.messages.Vote.{Vote}

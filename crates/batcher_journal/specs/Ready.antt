@@ -32,6 +32,11 @@ module _ {G D L : Type 0} (format : Format (Vote G D)) (same : D → D → Bool)
     pub values : AreValues format votes
     pub followed : MayFollow same floor [] votes
 
+  -- what it has is on the disk, where nothing is under way
+  abbrev pub IsOnDisk : (L → Type 0) → (L → List ℕ) → JournalView G D L → Type 0
+  IsOnDisk is_settled written journal =
+      is_settled journal.log × (written journal.log ≡ text_of journal)
+
   -- A crash leaves what was there, or that and these votes, which may follow.
   abbrev pub WriteLeaves : JournalView G D L → List (Vote G D) → List ℕ → Type 0
   WriteLeaves old votes left = (left ≡ text_of old)

@@ -5,7 +5,7 @@ ghost use Rattle.batcher_codec.specs.Messages.{vote_format};
 ghost use Rattle.batcher_journal.specs.Answers.{Answers, MayFollow};
 ghost use Rattle.batcher_journal.specs.Causes.{Cause, IsOneText, IsText};
 ghost use Rattle.batcher_journal.specs.Lives.{NeverContradicts};
-ghost use Rattle.batcher_journal.specs.Ready.{HasMore, IsAsBefore, IsRaised, RaiseLeaves, WriteLeaves};
+ghost use Rattle.batcher_journal.specs.Ready.{HasMore, IsAsBefore, IsOnDisk, IsRaised, RaiseLeaves, WriteLeaves};
 ghost use Rattle.batcher_journal.specs.Floors.{is_below};
 ghost use Rattle.batcher_journal.specs.Text.{AreValues, fields_of, owner_format, votes_text};
 ghost use Rattle.batcher_journal.specs.declared.journal.BeginFault.TheVariants.{Taken};
@@ -155,6 +155,8 @@ impl<G: Codec, D: Digest + Codec, L: Log> Journal<G, D, L> {
         ensures begun { IfOk result (λ journal. (journal.is_open ≡ true) × (journal.floor ≡ floor)
             × (journal.votes ≡ []) × (journal.finalization ≡ finalization.now)
             × (journal.owner ≡ owner_format.encoding (fields_of owner.now))) }
+        ensures on_disk { IfOk result (IsOnDisk (vote_format G.format D.format) D.eq
+            L.is_settled L.written) }
         ensures taken { result ≡ Err Taken → L.written log ≢ [] }
         ensures replaces_nothing { L.written log ≢ [] → result ≡ Err Taken }
     {
@@ -273,6 +275,8 @@ impl<G: Codec, D: Digest + Codec, L: Log> Journal<G, D, L> {
         ensures written { OnOk result ((self.old.is_open ≡ true)
             × MayFollow D.eq self.old.floor self.old.votes votes.now
             × HasMore self.old self.new votes.now) }
+        ensures on_disk { OnOk result (IsOnDisk (vote_format G.format D.format) D.eq
+            L.is_settled L.written self.new) }
         ensures memory { result ≡ Err NoMemory → IsAsBefore self.old self.new }
         ensures full { result ≡ Err NoRoom → IsAsBefore self.old self.new }
         ensures not_free { result ≡ Err NotFree → (self.new ≡ self.old)
@@ -310,6 +314,8 @@ impl<G: Codec, D: Digest + Codec, L: Log> Journal<G, D, L> {
         ensures raised { OnOk result ((self.old.is_open ≡ true)
             × (is_below self.old.floor floor ≡ false)
             × IsRaised self.old self.new self.old.owner floor finalization.now) }
+        ensures on_disk { OnOk result (IsOnDisk (vote_format G.format D.format) D.eq
+            L.is_settled L.written self.new) }
         ensures memory { result ≡ Err RaiseMemory → IsAsBefore self.old self.new }
         ensures full { result ≡ Err RaiseFull → IsAsBefore self.old self.new }
         ensures lower { result ≡ Err Lower → (self.new ≡ self.old)
@@ -342,6 +348,8 @@ impl<G: Codec, D: Digest + Codec, L: Log> Journal<G, D, L> {
             × (is_below self.old.floor floor ≡ false)
             × IsRaised self.old self.new (owner_format.encoding (fields_of owner.now)) floor
             finalization.now) }
+        ensures on_disk { OnOk result (IsOnDisk (vote_format G.format D.format) D.eq
+            L.is_settled L.written self.new) }
         ensures memory { result ≡ Err RaiseMemory → IsAsBefore self.old self.new }
         ensures full { result ≡ Err RaiseFull → IsAsBefore self.old self.new }
         ensures lower { result ≡ Err Lower → (self.new ≡ self.old)
@@ -372,6 +380,8 @@ impl<G: Codec, D: Digest + Codec, L: Log> Journal<G, D, L> {
         ensures raised { OnOk result ((self.old.is_open ≡ true)
             × (is_below self.old.floor floor ≡ false)
             × IsRaised self.old self.new owner.items floor finalization.now) }
+        ensures on_disk { OnOk result (IsOnDisk (vote_format G.format D.format) D.eq
+            L.is_settled L.written self.new) }
         ensures memory { result ≡ Err RaiseMemory → IsAsBefore self.old self.new }
         ensures full { result ≡ Err RaiseFull → IsAsBefore self.old self.new }
         ensures lower { result ≡ Err Lower → (self.new ≡ self.old)

@@ -15,7 +15,7 @@ returns-clause-settled g c = record {
       c.left_of.ensures.blank (subst IsBlank (c.deref-else-not-is_blank.ensures.value ∙ sym c.deref-2.ensures.value) c.if-not-is_blank-2.ensures) in
       begun g.K.Disk.seen g.K.Disk.may_leave g.K.Disk.is_usable g.K.Disk.is_clean c.start.new.disk c.cut.new.disk
       c.args.bytes.now c.deref-4.result.now c.extend_from_slice.new.self.items (g.K.Disk.seen c.read_all-2.new.disk)
-      c.len.result c.left_of.result (omega (arith, c.if-bytes-gt-MOST_BYTES.false)) (c.deref-4.ensures.value ∙ c.in_ok-frame.ensures)
+      c.len.result c.left_of.result (omega (arith, c.if-bytes-gt-MOST_TO_WRITE.false)) (c.deref-4.ensures.value ∙ c.in_ok-frame.ensures)
       c.in-Ok-start.ensures.done
       (c.in-Ok.ensures.done (omega (arith, c.left_of.ensures.within, ap length (c.deref-2.ensures.value ∙ same)))) short
       (omega (arith, c.len.ensures, c.deref-4.ensures.len))

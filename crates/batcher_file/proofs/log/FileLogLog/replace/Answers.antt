@@ -1,7 +1,6 @@
-use Rattle.std.proofs.Common.{List, ap, arith, inl, inr, subst, ◌++◌, ◌∙◌, ◌⊎◌, ◌≡◌, ℕ}
+use Rattle.std.proofs.Common.{List, ap, arith, inl, inr, subst, ◌++◌, ◌∙◌, ℕ}
 use Rattle.std.specs.Prelude.{IsTrue}
 use Rattle.batcher_file.specs.Disks.{Finishes}
-use Rattle.batcher_file.specs.Pairs.{Hold, HoldNone}
 use Rattle.batcher_file.specs.Settled.{rest_opens, rest_settled}
 use Rattle.batcher_file.proofs.Turns.{none_turned, turned}
 use Rattle.batcher_file.proofs.Writing.{renew_leaves, renew_opens, renew_settles, retire_leaves, retire_opens}

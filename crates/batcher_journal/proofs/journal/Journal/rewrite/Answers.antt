@@ -72,6 +72,20 @@ returns-in-Ok-replace-clause-leaves g c =
     (c.in-Ok.ensures.votes ∙ ap (from_floor c.args.floor) c.deref-2.ensures.value)
     (c.replace.ensures.leaves left honest may))
 
+pub returns-in-Ok-replace-clause-on_disk : goal.returns-in-Ok-replace-clause-on_disk
+returns-in-Ok-replace-clause-on_disk g c =
+    let ready = ready_raised (vote_format g.G.Codec.format g.D.Codec.format) g.D.PartialEq.eq g.L.Log.is_settled g.L.Log.written
+    c.self.inside.log c.self.inside.owner.items c.self.inside.floor c.self.inside.finalization.items c.self.inside.votes.items
+    (c.self.invariant c.if-not-self.false) c.replace.new.self c.args.owner.items c.args.floor c.args.finalization.now c.in-Ok.raised.finalization.items
+    c.deref-3.result.now c.in-Ok.raised.votes.items
+    (c.deref-3.ensures.value ∙ c.in-Ok.ensures.text
+    ∙ ap (λ (o : List ℕ). text
+    (vote_format g.G.Codec.format g.D.Codec.format) o c.args.floor c.args.finalization.now c.in-Ok.raised.votes.items) c.deref.ensures.value)
+    (c.in-Ok.ensures.votes ∙ ap (from_floor c.args.floor) c.deref-2.ensures.value)
+    c.in-Ok.ensures.finalization c.in-Ok.ensures.values.0 c.in-Ok.ensures.values.1
+    c.in-Ok-replace.ensures.ok.0 c.in-Ok-replace.ensures.ok.1 in
+    (ready.settled, ready.known)
+
 pub invariant_of-self-in-Err-OutOfMemory : goal.invariant_of-self-in-Err-OutOfMemory
 invariant_of-self-in-Err-OutOfMemory g c =
     λ is_open.

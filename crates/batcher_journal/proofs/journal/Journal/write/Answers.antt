@@ -71,6 +71,16 @@ returns-in-Ok-clause-written g c =
       record { owner = refl; floor = refl; finalization = refl; votes_are = c.in-Ok.ensures.ok.3; is_open = c.if-not-self.false },
     )
 
+pub returns-in-Ok-clause-on_disk : goal.returns-in-Ok-clause-on_disk
+returns-in-Ok-clause-on_disk g c =
+    let ready = ready_more (vote_format g.G.Codec.format g.D.Codec.format) g.D.PartialEq.eq g.L.Log.is_settled g.L.Log.written
+    c.self.inside.log c.self.inside.owner.items c.self.inside.floor c.self.inside.finalization.items c.self.inside.votes.items
+    (c.self.invariant c.if-not-self.false) c.write_to.new.log c.args.votes.now c.write_to.new.votes.items
+    c.in-Ok.ensures.ok.0 c.in-Ok.ensures.ok.1 c.in-Ok.ensures.ok.2
+    (subst (λ vs. MayFollow g.D.PartialEq.eq c.self.inside.floor vs c.args.votes.now) c.deref.ensures.value c.if-not-may_follow.ensures)
+    c.in-Ok.ensures.ok.3 in
+    (ready.settled, ready.known)
+
 pub returns-in-Err-OutOfMemory-clause-leaves : goal.returns-in-Err-OutOfMemory-clause-leaves
 returns-in-Err-OutOfMemory-clause-leaves g c =
     λ left.
