@@ -1,5 +1,6 @@
 pub mod Symmetric
 pub mod Texts
+pub mod Sorting
 pub mod Loops
 pub mod Following
 pub mod Splitting

@@ -1,13 +1,14 @@
 -- A journal of which the floor was raised.
-use Rattle.std.proofs.Common.{◌≡◌, ◌⊎◌, ◌+◌, ◌<◌, ◌≤◌, ◌++◌, ◌∙◌, ℕ, zero, suc, Bool, true, false, not, cond, List, [], ◌∷◌, ap, arith, get_or, inl, inr, length, refl, subst, sym, take}
-use Rattle.std.proofs.lemmas.List.{append-nil, get_or_default, take_all}
+use Rattle.std.proofs.Common.{◌≡◌, ◌⊎◌, ◌+◌, ◌<◌, ◌≤◌, ◌++◌, ◌∙◌, ℕ, zero, suc, Bool, true, false, not, cond, List, [], ◌∷◌, ap, arith, drop, get_or, inl, inr, length, refl, subst, sym, take}
+use Rattle.std.proofs.lemmas.List.{append-nil, get_or_default, take-append-drop, take_all}
 use Rattle.std.proofs.lemmas.List.Elements.{All-filter, filter_more}
 use Rattle.batcher_codec.specs.Format.{Format}
 use Rattle.batcher_journal.specs.Answers.{MayFollow}
 use Rattle.batcher_journal.specs.Contradictions.{IsFree, LeavesFree}
 use Rattle.batcher_journal.specs.Floors.{from_floor, is_below, is_over}
-use Rattle.batcher_journal.specs.Ready.{IsReady}
-use Rattle.batcher_journal.specs.Text.{AreValues, floor_format, text}
+use Rattle.batcher_journal.specs.Ready.{IsReady, first_of, left_by, raised}
+use Rattle.batcher_journal.specs.Text.{Contents, IsText, OwnerFields}
+use Rattle.batcher_journal.proofs.Sorting.{all_of}
 use Rattle.batcher_journal.proofs.Following.{followed}
 use Rattle.batcher_types.specs.Votes.{subject_of}
 use Rattle.batcher_types.specs.declared.messages.Vote.{Vote}
@@ -63,49 +64,33 @@ module _ {G D : Type 0} (same : D → D → Bool) where
       (up_to old new (vote ∷ votes) follows vote (length (vote ∷ votes)) (omega arith))
 
 module _ {G D L : Type 0} (f : Format (Vote G D)) (same : D → D → Bool) (is_settled : L → Type 0)
-    (written : L → List ℕ) (log : L) (owner : List ℕ) (floor : Round) (finalization : List ℕ)
-    (votes : List (Vote G D))
-    (ready : IsReady f same is_settled written log owner floor finalization votes) where
-  pub raise_leaves : (new_owner : List ℕ) (new : Round) (proof left bytes : List ℕ) (kept : List
-      (Vote G D))
-      → is_below floor new ≡ false → bytes ≡ text f new_owner new proof kept → kept
-      ≡ from_floor new votes
-      → (left ≡ written log) ⊎ (left ≡ bytes)
-      → (left ≡ text f owner floor finalization votes)
-      ⊎ ((is_below floor new ≡ false) × (left ≡ text f new_owner new proof (from_floor new votes)))
-  raise_leaves new_owner new proof left bytes kept lower is kept_are (inl old) = inl (old ∙ ready.known)
-  raise_leaves new_owner new proof left bytes kept lower is kept_are (inr there) =
-      inr (lower, there ∙ is ∙ ap (λ vs. text f new_owner new proof vs) kept_are)
+    (written : L → List ℕ) (log : L) (w : ℕ) (old : Contents G D)
+    (ready : IsReady f same is_settled written log (first_of w old)) (owner : OwnerFields)
+    (floor : Round) (finalization : List ℕ) (new : Contents G D)
+    (new_is : new ≡ left_by owner floor finalization old.votes old.certificates) where
+  abbrev Raised : Contents G D
+  Raised = raised (first_of w old) (drop w old.certificates) owner floor finalization
 
-  pub ready_raised : (after : L) (new_owner : List ℕ) (new : Round) (proof now bytes : List ℕ)
-      (kept : List (Vote G D))
-      → bytes ≡ text f new_owner new proof kept → kept ≡ from_floor new votes → now ≡ proof
-      → floor_format.IsValue (new, proof) → AreValues f kept → is_settled after → written after
-      ≡ bytes
-      → IsReady f same is_settled written after new_owner new now kept
-  ready_raised after new_owner new proof now bytes kept is kept_are now_is floor_value values settled there = rw now_is (record {
-    settled = settled;
-    known = there ∙ is;
-    floor_value = floor_value;
-    values = values;
-    followed = subst (MayFollow same new []) (sym kept_are) (left_follow same floor new votes ready.followed);
-  })
+  -- what the floor leaves of all that is kept
+  pub raised_is : new ≡ Raised
+  raised_is =
+      new_is ∙ ap (λ its. left_by owner floor finalization old.votes its) (sym (take-append-drop w old.certificates))
 
--- and of one that is begun
-module _ {G D L : Type 0} (f : Format (Vote G D)) (same : D → D → Bool) (is_settled : L → Type 0)
-    (written : L → List ℕ) where
-  pub ready_begun : (after : L) (owner : List ℕ) (floor : Round) (proof now bytes : List ℕ)
-      (kept old : List (Vote G D))
-      → bytes ≡ text f owner floor proof kept → kept ≡ from_floor floor old → old ≡ [] → now ≡ proof
-      → floor_format.IsValue (floor, proof) → AreValues f kept → is_settled after → written after
-      ≡ bytes
-      → IsReady f same is_settled written after owner floor now kept
-  ready_begun after owner floor proof now bytes kept old is kept_are none now_is floor_value values settled there =
-      let empty : kept ≡ [] = kept_are ∙ ap (from_floor floor) none in
-      rw now_is (record {
+  pub ready_raised : (after : L) (bytes : List ℕ) (n : ℕ) → n ≡ length new.certificates
+      → IsText f bytes new → is_settled after → written after ≡ bytes
+      → IsReady f same is_settled written after (first_of n new)
+  ready_raised after bytes n n_is text settled is =
+      subst (IsReady f same is_settled written after) (sym (all_of n new n_is)) (record {
         settled = settled;
-        known = there ∙ is;
-        floor_value = floor_value;
-        values = values;
-        followed = subst (MayFollow same floor []) (sym empty) (λ j vote lt at. absurd (omega arith));
+        text = subst (λ t. IsText f t new) (sym is) text;
+        followed = subst (λ it. MayFollow same it.floor [] it.votes) (sym new_is)
+            (left_follow same old.floor floor old.votes ready.followed);
       })
+
+  pub raise_leaves : (left bytes : List ℕ) → is_below old.floor floor ≡ false → IsText f bytes new
+      → (left ≡ written log) ⊎ (left ≡ bytes)
+      → IsText f left (first_of w old) ⊎ ((is_below old.floor floor ≡ false) × IsText f left Raised)
+  raise_leaves left bytes up text (inl is) =
+      inl (subst (λ t. IsText f t (first_of w old)) (sym is) ready.text)
+  raise_leaves left bytes up text (inr is) =
+      inr (up, subst (λ t. IsText f t Raised) (sym is) (subst (IsText f bytes) raised_is text))

@@ -1,16 +1,18 @@
 -- The parts of a journal's bytes.
-use Rattle.std.proofs.Common.{◌≡◌, ◌<◌, ◌++◌, ◌∙◌, Fits, ℕ, Bool, List, [], Ok, Err, ap, arith, get_or, length, subst, sym, w8}
+use Rattle.std.proofs.Common.{◌≡◌, ◌++◌, ◌∙◌, Fits, ℕ, Bool, List, [], Ok, Err, ap, arith, get_or, subst, sym, w8}
+use Rattle.std.proofs.lemmas.List.{append-nil}
 use Rattle.batcher_codec.specs.Exact.{AreBytes-rest, bytes_is_exact, ok_is, pair_is_exact, u32_is_exact}
 use Rattle.batcher_codec.specs.Format.{AreBytes, Format, IsExact, bytes_format, pair, u32_format}
-use Rattle.batcher_codec.specs.Lawful.{round_is_exact, versioned_is_exact}
-use Rattle.batcher_codec.specs.Messages.{round_format}
+use Rattle.batcher_codec.specs.Lawful.{versioned_is_exact}
 use Rattle.batcher_codec.specs.declared.fault.DecodeFault.{DecodeFault}
 use Rattle.batcher_types.specs.declared.messages.Vote.{Vote}
 use Rattle.batcher_types.specs.declared.positions.Round.{Round}
 use Rattle.batcher_journal.specs.Answers.{MayFollow}
-use Rattle.batcher_journal.specs.Causes.{IsOneText, IsText}
-use Rattle.batcher_journal.specs.Text.{AreValues, OwnerFields, floor_format, owner_format, votes_text}
-use Rattle.batcher_journal.proofs.Texts.{one_list}
+use Rattle.batcher_journal.specs.Causes.{IsOneText}
+use Rattle.batcher_journal.specs.Records.{AreRecords, Certified, HasRecords, Record, certificates_of, certified_format, record_format, records_text, votes_of}
+use Rattle.batcher_journal.specs.Text.{Contents, IsText, OwnerFields, owner_format}
+use Rattle.batcher_journal.proofs.Sorting.{same_contents}
+use Rattle.batcher_journal.proofs.Texts.{certified_is_exact, one_list, record_is_exact, record_some}
 
 owner_exact : IsExact owner_format
 owner_exact =
@@ -20,98 +22,107 @@ owner_exact =
     (pair_is_exact u32_format (pair bytes_format bytes_format) u32_is_exact
     (pair_is_exact bytes_format bytes_format bytes_is_exact bytes_is_exact))))
 
-floor_exact : IsExact floor_format
-floor_exact = pair_is_exact round_format bytes_format round_is_exact bytes_is_exact
-
-abbrev parted : Round → List ℕ → List ℕ → (Round × List ℕ) × List ℕ
+abbrev parted : Round → List ℕ → List ℕ → Certified × List ℕ
 parted floor finalization rest = ((floor, finalization), rest)
+
+abbrev headed : OwnerFields → List ℕ → OwnerFields × List ℕ
+headed owner rest = (owner, rest)
 
 not_both : {A : Type 0} (x : A) (fault : DecodeFault) → Ok x ≡ Err fault → ⊥
 not_both x fault e = absurd cc
 
-module _ {G D : Type 0} (f : Format (Vote G D)) (exact : IsExact f)
-    (some : (vote : Vote G D) → 0 < length (f.encoding vote)) (written : List ℕ) (owner : OwnerFields) where
-  abbrev Text : Round → List ℕ → List (Vote G D) → Type 0
-  Text = IsText f written owner
-
-  module _ (floor : Round) (finalization : List ℕ) (votes : List (Vote G D)) (it : Text floor finalization votes) where
+module _ {G D : Type 0} (f : Format (Vote G D)) (exact : IsExact f) (written : List ℕ) where
+  module _ (contents : Contents G D) (it : IsText f written contents) where
     abbrev Rest : List ℕ
-    Rest = floor_format.encoding (floor, finalization) ++ votes_text f votes
+    Rest = certified_format.encoding (contents.floor, contents.finalization) ++ records_text f it.records
 
-    read_owner : owner_format.decoding written ≡ Ok (owner, Rest)
-    read_owner = ap owner_format.decoding it.parts ∙ owner_exact.again owner Rest it.owner_value
+    read_owner : owner_format.decoding written ≡ Ok (contents.owner, Rest)
+    read_owner = ap owner_format.decoding it.parts ∙ owner_exact.again contents.owner Rest it.owner_value
 
-    read_floor : floor_format.decoding Rest ≡ Ok ((floor, finalization), votes_text f votes)
-    read_floor = floor_exact.again (floor, finalization) (votes_text f votes) it.floor_value
+    read_floor : certified_format.decoding Rest
+        ≡ Ok ((contents.floor, contents.finalization), records_text f it.records)
+    read_floor =
+        certified_is_exact.again (contents.floor, contents.finalization) (records_text f it.records) it.floor_value
 
     pub no_owner : (fault : DecodeFault) → owner_format.decoding written ≡ Err fault → ⊥
-    no_owner fault read = not_both (owner, Rest) fault (sym read_owner ∙ read)
+    no_owner fault read = not_both (contents.owner, Rest) fault (sym read_owner ∙ read)
 
     module _ (other : OwnerFields) (rest : List ℕ) (read : owner_format.decoding written ≡ Ok (other, rest)) where
       rest_is : rest ≡ Rest
-      rest_is = ap (λ (p : OwnerFields × List ℕ). p.1) (ok_is (other, rest) (owner, Rest) (sym read ∙ read_owner))
+      rest_is =
+          ap (λ (p : OwnerFields × List ℕ). p.1)
+          (ok_is (other, rest) (contents.owner, Rest) (sym read ∙ read_owner))
 
-      pub no_floor : (fault : DecodeFault) → floor_format.decoding rest ≡ Err fault → ⊥
+      pub no_floor : (fault : DecodeFault) → certified_format.decoding rest ≡ Err fault → ⊥
       no_floor fault bad =
-          not_both ((floor, finalization), votes_text f votes) fault
-          (sym read_floor ∙ ap floor_format.decoding (sym rest_is) ∙ bad)
+          not_both ((contents.floor, contents.finalization), records_text f it.records) fault
+          (sym read_floor ∙ ap certified_format.decoding (sym rest_is) ∙ bad)
 
-      module _ (at : Round) (lent after : List ℕ) (found : floor_format.decoding rest ≡ Ok ((at, lent), after)) where
-        whole : parted at lent after ≡ parted floor finalization (votes_text f votes)
+      module _ (at : Round) (lent after : List ℕ) (found : certified_format.decoding rest ≡ Ok ((at, lent), after)) where
+        whole : parted at lent after
+            ≡ parted contents.floor contents.finalization (records_text f it.records)
         whole =
-            ok_is ((at, lent), after) ((floor, finalization), votes_text f votes)
-            (sym found ∙ ap floor_format.decoding rest_is ∙ read_floor)
+            ok_is (parted at lent after) (parted contents.floor contents.finalization (records_text f it.records))
+            (sym found ∙ ap certified_format.decoding rest_is ∙ read_floor)
 
-        pub no_votes : ((others : List (Vote G D)) → AreValues f others
-            → after ≡ votes_text f others → ⊥) → ⊥
-        no_votes none = none votes it.values (ap (λ (p : (Round × List ℕ) × List ℕ). p.1) whole)
+        pub no_records : ((others : List (Record G D)) → AreRecords f others
+            → after ≡ records_text f others → ⊥) → ⊥
+        no_records none = none it.records it.values (ap (λ (p : Certified × List ℕ). p.1) whole)
 
-        pub no_follow : (same : D → D → Bool) (read_votes : List (Vote G D))
-            → AreValues f read_votes
-            → after ≡ votes_text f read_votes → (MayFollow same at [] read_votes → ⊥)
-            → MayFollow same floor [] votes → ⊥
-        no_follow same read_votes values is none follows =
-            let list : votes ≡ read_votes =
-            one_list f exact some votes read_votes it.values values
-            (sym (ap (λ (p : (Round × List ℕ) × List ℕ). p.1) whole) ∙ is) in
-            let place_is : floor ≡ at = sym (ap (λ (p : (Round × List ℕ) × List ℕ). p.0.0) whole) in
-            none (subst (λ r. MayFollow same r [] read_votes) place_is (subst (MayFollow same floor []) list follows))
+        pub no_follow : (same : D → D → Bool) (votes : List (Vote G D)) (its : List Certified)
+            → HasRecords f after votes its [] → (MayFollow same at [] votes → ⊥)
+            → MayFollow same contents.floor [] contents.votes → ⊥
+        no_follow same votes its read none follows =
+            let list : it.records ≡ read.records =
+            one_list (record_format f) (record_is_exact f exact) (record_some f) it.records read.records it.values read.values
+            (sym (ap (λ (p : Certified × List ℕ). p.1) whole) ∙ read.parts ∙ append-nil (records_text f read.records)) in
+            let list_is : contents.votes ≡ votes =
+            it.votes_are ∙ ap votes_of list ∙ sym read.votes_are in
+            let place_is : contents.floor ≡ at = sym (ap (λ (p : Certified × List ℕ). p.0.0) whole) in
+            none (subst (λ r. MayFollow same r [] votes) place_is (subst (MayFollow same contents.floor []) list_is follows))
 
   -- what was read is all that is there
-  pub found_text : (other : OwnerFields) (rest : List ℕ) (at : Round) (lent after : List ℕ)
-      (votes : List (Vote G D))
-      → ((i : ℕ) → Fits w8 (get_or written i 0)) → owner_format.decoding written
-      ≡ Ok (other, rest) → other ≡ owner
-      → floor_format.decoding rest ≡ Ok ((at, lent), after) → AreValues f votes → after
-      ≡ votes_text f votes
-      → Text at lent votes
-  found_text other rest at lent after votes fits read same floor values is =
+  pub found_text : (contents : Contents G D) (other : OwnerFields) (rest after : List ℕ)
+      → ((i : ℕ) → Fits w8 (get_or written i 0)) → owner_format.decoding written ≡ Ok (other, rest)
+      → other ≡ contents.owner
+      → certified_format.decoding rest ≡ Ok ((contents.floor, contents.finalization), after)
+      → HasRecords f after contents.votes contents.certificates []
+      → IsText f written contents
+  found_text contents other rest after fits read same floor records =
       let are : AreBytes written = λ i. omega (arith, fits i) in
       let one = owner_exact.found written other rest are read in
-      let two = floor_exact.found rest (at, lent) after (AreBytes-rest written (owner_format.encoding other) rest are one.1) floor in
+      let two = certified_is_exact.found rest (contents.floor, contents.finalization) after (AreBytes-rest written (owner_format.encoding other) rest
+      are one.1) floor in
       record {
+        records = records.records;
         parts = one.1 ∙ ap (λ o. owner_format.encoding o ++ rest) same
-            ∙ ap (λ t. owner_format.encoding owner ++ t) (two.1 ∙ ap (λ t. floor_format.encoding (at, lent) ++ t) is);
+            ∙ ap (λ t. owner_format.encoding contents.owner ++ t) (two.1
+            ∙ ap (λ t. certified_format.encoding (contents.floor, contents.finalization) ++ t)
+            (records.parts ∙ append-nil (records_text f records.records)));
         owner_value = subst owner_format.IsValue same one.0;
         floor_value = two.0;
-        values = values;
+        values = records.values;
+        votes_are = records.votes_are;
+        certificates_are = records.certificates_are;
       }
 
 -- one journal has these bytes
-pub one_text : {G D : Type 0} (f : Format (Vote G D)) → IsExact f
-    → ((vote : Vote G D) → 0 < length (f.encoding vote)) → IsOneText f
-one_text f exact some written owner floor other finalization other_finalization votes others x y =
-    let first = read_owner f exact some written owner floor finalization votes x in
-    let second = read_owner f exact some written owner other other_finalization others y in
-    let one = read_floor f exact some written owner floor finalization votes x in
-    let two = read_floor f exact some written owner other other_finalization others y in
-    let rests = ap (λ (p : OwnerFields × List ℕ). p.1) (ok_is (owner, _) (owner, _) (sym first ∙ second)) in
-    let parts : parted floor finalization (votes_text f votes)
-    ≡ parted other other_finalization (votes_text f others) =
-    ok_is (parted floor finalization (votes_text f votes)) (parted other other_finalization (votes_text f others))
-    (sym one ∙ ap floor_format.decoding rests ∙ two) in (
-      ap (λ (p : (Round × List ℕ) × List ℕ). p.0.0) parts,
-      ap (λ (p : (Round × List ℕ) × List ℕ). p.0.1) parts,
-      one_list f exact some votes others x.values y.values
-          (ap (λ (p : (Round × List ℕ) × List ℕ). p.1) parts),
-    )
+pub one_text : {G D : Type 0} (f : Format (Vote G D)) → IsExact f → IsOneText f
+one_text {G} {D} f exact written x y a b =
+    let first = read_owner f exact written x a in
+    let second = read_owner f exact written y b in
+    let one = read_floor f exact written x a in
+    let two = read_floor f exact written y b in
+    let heads : headed x.owner (Rest f exact written x a) ≡ headed y.owner (Rest f exact written y b) =
+    ok_is (headed x.owner (Rest f exact written x a)) (headed y.owner (Rest f exact written y b)) (sym first ∙ second) in
+    let parts : parted x.floor x.finalization (records_text f a.records)
+    ≡ parted y.floor y.finalization (records_text f b.records) =
+    ok_is (parted x.floor x.finalization (records_text f a.records)) (parted y.floor y.finalization (records_text f b.records))
+    (sym one ∙ ap certified_format.decoding (ap (λ (p : OwnerFields × List ℕ). p.1) heads) ∙ two) in
+    let list : a.records ≡ b.records =
+    one_list (record_format f) (record_is_exact f exact) (record_some f) a.records b.records a.values b.values
+    (ap (λ (p : Certified × List ℕ). p.1) parts) in
+    same_contents x y (ap (λ (p : OwnerFields × List ℕ). p.0) heads)
+    (ap (λ (p : Certified × List ℕ). p.0.0) parts) (ap (λ (p : Certified × List ℕ). p.0.1) parts)
+    (a.votes_are ∙ ap votes_of list ∙ sym b.votes_are)
+    (a.certificates_are ∙ ap certificates_of list ∙ sym b.certificates_are)

@@ -3,9 +3,8 @@ use Rattle.std.specs.Prelude.{◌≡◌, ◌≢◌, ◌⊎◌, ℕ, Bool, List, 
 use Rattle.batcher_codec.specs.Format.{Format}
 use Rattle.batcher_codec.specs.declared.fault.DecodeFault.TheVariants.{Version}
 use Rattle.batcher_types.specs.declared.messages.Vote.{Vote}
-use Rattle.batcher_types.specs.declared.positions.Round.{Round}
 use Rattle.batcher_journal.specs.Answers.{MayFollow}
-use Rattle.batcher_journal.specs.Text.{AreValues, OwnerFields, floor_format, owner_format, text}
+use Rattle.batcher_journal.specs.Text.{Contents, IsText, OwnerFields, owner_format}
 use Rattle.batcher_journal.specs.declared.journal.OpenFault.{OpenFault}
 use Rattle.batcher_journal.specs.declared.journal.OpenFault.TheVariants.{Contradiction, Malformed, NotBegun, OtherKeys, OtherLengths, OtherNamespace, OtherParticipant, OtherVersion, OutOfMemory}
 
@@ -25,28 +24,17 @@ pub record IsAnothers (written : List ℕ) (owner : OwnerFields) (fault : OpenFa
   pub differ : Differ other owner fault
 
 module _ {G D : Type 0} (format : Format (Vote G D)) (written : List ℕ) (owner : OwnerFields) where
-  -- the bytes are a journal's of this owner
-  pub record IsText (floor : Round) (finalization : List ℕ) (votes : List (Vote G D)) : Type 0 where
-    pub parts : written ≡ text format (owner_format.encoding owner) floor finalization votes
-    pub owner_value : owner_format.IsValue owner
-    pub floor_value : floor_format.IsValue (floor, finalization)
-    pub values : AreValues format votes
-
   abbrev pub Cause : (D → D → Bool) → OpenFault → Type 0
   Cause same OutOfMemory = Unit {0}
   Cause same NotBegun = written ≡ []
   Cause same OtherVersion = owner_format.decoding written ≡ Err Version
-  Cause same Malformed = (floor : Round) (finalization : List ℕ) (votes : List (Vote G D))
-      → IsText floor finalization votes → ⊥
-  Cause same Contradiction = (floor : Round) (finalization : List ℕ) (votes : List (Vote G D))
-      → IsText floor finalization votes → MayFollow same floor [] votes → ⊥
+  Cause same Malformed = (contents : Contents G D) → contents.owner ≡ owner
+      → IsText format written contents → ⊥
+  Cause same Contradiction = (contents : Contents G D) → contents.owner ≡ owner
+      → IsText format written contents → MayFollow same contents.floor [] contents.votes → ⊥
   Cause same fault = IsAnothers written owner fault
 
--- Bytes are of one journal at most.
+-- Bytes are of one journal at most, with one owner and one contents.
 abbrev pub IsOneText : {G D : Type 0} → Format (Vote G D) → Type 0
-IsOneText {G} {D} format =
-    (written : List ℕ) (owner : OwnerFields) (floor other_floor : Round)
-    (finalization other_finalization : List ℕ) (votes other_votes : List (Vote G D))
-    → IsText format written owner floor finalization votes
-    → IsText format written owner other_floor other_finalization other_votes
-    → (floor ≡ other_floor) × (finalization ≡ other_finalization) × (votes ≡ other_votes)
+IsOneText {G} {D} format = (written : List ℕ) (x y : Contents G D)
+    → IsText format written x → IsText format written y → x ≡ y

@@ -1,6 +1,7 @@
--- The floor of a journal: rounds before it are over, and votes of them are forgotten.
+-- The floor of a journal: rounds before it are over, and what is of them is forgotten.
 use Rattle.std.specs.Prelude.{◌&&◌, ◌||◌, Bool, not, nat_eq, nat_lt, List}
 use Rattle.std.specs.List.{filter}
+use Rattle.batcher_journal.specs.Records.{Certified}
 use Rattle.batcher_types.specs.Votes.{round_in, subject_of}
 use Rattle.batcher_types.specs.declared.messages.Vote.{Vote}
 use Rattle.batcher_types.specs.declared.positions.Round.{Round}
@@ -18,3 +19,7 @@ module _ {G D : Type 0} (floor : Round) where
   -- the votes that a floor leaves
   abbrev pub from_floor : List (Vote G D) → List (Vote G D)
   from_floor votes = filter (λ vote. not (is_over vote)) votes
+
+-- the certificates that it leaves
+abbrev pub certified_from : Round → List Certified → List Certified
+certified_from floor certificates = filter (λ it. not (is_below floor it.0)) certificates

@@ -1,6 +1,8 @@
+pub mod Records
 pub mod Text
 pub mod Contradictions
 pub mod Floors
+pub mod Seen
 pub mod Answers
 pub mod Ready
 pub mod Causes

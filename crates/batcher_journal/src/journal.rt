@@ -1,23 +1,23 @@
 //! The journal of a validator's own votes.
 
-ghost use Rattle.std.specs.Prelude.{◌≡◌, ◌≢◌, ◌⊎◌, ◌++◌, [], Err, IfErr, IfOk, List, OnErr, OnOk, ℕ, true, false};
+ghost use Rattle.std.specs.Prelude.{◌≡◌, ◌≢◌, ◌⊎◌, ◌++◌, ◌≤◌, [], Err, IfErr, IfOk, List, OnErr, OnOk, drop, length, ℕ, true, false};
 ghost use Rattle.batcher_codec.specs.Messages.{vote_format};
 ghost use Rattle.batcher_journal.specs.Answers.{Answers, MayFollow};
-ghost use Rattle.batcher_journal.specs.Causes.{Cause, IsOneText, IsText};
-ghost use Rattle.batcher_journal.specs.Lives.{NeverContradicts};
-ghost use Rattle.batcher_journal.specs.Ready.{HasMore, IsAsBefore, IsOnDisk, IsRaised, RaiseLeaves, WriteLeaves};
+ghost use Rattle.batcher_journal.specs.Causes.{Cause, IsOneText};
 ghost use Rattle.batcher_journal.specs.Floors.{is_below};
-ghost use Rattle.batcher_journal.specs.Text.{AreValues, fields_of, owner_format, votes_text};
-ghost use Rattle.batcher_journal.specs.declared.journal.BeginFault.TheVariants.{Taken};
+ghost use Rattle.batcher_journal.specs.Lives.{NeverContradicts};
+ghost use Rattle.batcher_journal.specs.Ready.{Has, IsAsBefore, IsOnDisk, Keeps, RaiseLeaves, WriteLeaves, begun, raised, with_more};
+ghost use Rattle.batcher_journal.specs.Records.{AreRecords, records_of, records_text};
+ghost use Rattle.batcher_journal.specs.Text.{IsText, fields_of};
+ghost use Rattle.batcher_journal.specs.declared.journal.BeginFault.TheVariants.{Failed as BeginFailed, OutOfMemory as BeginMemory, Taken};
 ghost use Rattle.batcher_journal.specs.declared.journal.RaiseFault.TheVariants.{Closed as RaiseClosed, Full as RaiseFull, Lower, OutOfMemory as RaiseMemory};
 ghost use Rattle.batcher_journal.specs.declared.journal.WriteFault.TheVariants.{Closed as WriteClosed, Full as NoRoom, NotFree, OutOfMemory as NoMemory};
 ghost use Rattle.batcher_log.specs.declared.LogFault.TheVariants.{Failed as LogFailed, Full as LogFull, OutOfMemory as LogMemory};
 
 use crate::asking::{answer_of, is_before, may_follow};
-use crate::owner::{Owner, put_owner};
-use crate::parts::{Parts, parts_of};
-use crate::raising::{Raised, raise};
-use crate::votes::put_votes;
+use crate::contents::{Kept, Raised, first_text, kept_in, raise};
+use crate::owner::{Owner, Whose};
+use crate::records::{Certified, put_records};
 use batcher_codec::Codec;
 use batcher_log::{Log, LogFault};
 use batcher_types::messages::{Digest, Subject, Vote};
@@ -110,195 +110,213 @@ pub enum RaiseFault {
     Closed,
 }
 
+/// Why a journal wasn't opened, with the log that it isn't in.
+#[derive(Drop)]
+pub struct Unopened<L> {
+    pub fault: OpenFault,
+    pub log: L,
+}
+
 /// A validator's own votes, on a disk and in memory.
 #[derive(Drop)]
 pub struct Journal<G: Codec, D: Digest + Codec, L: Log> {
     log: L,
-    owner: Vec<u8>,
-    floor: Round,
-    finalization: Vec<u8>,
-    votes: Vec<Vote<G, D>>,
+    kept: Kept<G, D>,
+    // How many of the certificates are on the disk.
+    written: usize,
     is_open: bool,
 }
 
 impl<G: Codec, D: Digest + Codec, L: Log> Model for Journal<G, D, L> {
-    ghost use Rattle.std.specs.Prelude.{◌≡◌, true};
+    ghost use Rattle.std.specs.Prelude.{◌≡◌, ◌≤◌, drop, length, true};
     ghost use Rattle.batcher_codec.specs.Messages.{vote_format};
-    ghost use Rattle.batcher_journal.specs.Ready.{IsReady, JournalView};
+    ghost use Rattle.batcher_journal.specs.Ready.{IsReady, JournalView, first_of};
+    ghost use Rattle.batcher_journal.specs.Seen.{contents_of};
 
     ghost Value = { JournalView G D L };
 
     ghost view = { λ j. record {
       log = j.log;
-      owner = j.owner.items;
-      floor = j.floor;
-      finalization = j.finalization.items;
-      votes = j.votes.items;
+      contents = first_of j.written (contents_of j.kept);
+      unwritten = drop j.written j.kept.certificates.items;
       is_open = j.is_open;
     } };
 
-    ghost invariant = { λ j. j.is_open ≡ true → IsReady (vote_format G.format D.format) D.eq
-        L.is_settled L.written j.log j.owner.items j.floor j.finalization.items j.votes.items };
+    ghost invariant = { λ j. (j.written ≤ length j.kept.certificates.items)
+        × (j.is_open ≡ true → IsReady (vote_format G.format D.format) D.eq L.is_settled L.written
+        j.log (first_of j.written (contents_of j.kept))) };
 }
 
 impl<G: Codec, D: Digest + Codec, L: Log> Journal<G, D, L> {
-    /// A journal without votes, in a log without bytes. Nothing is signed in rounds before the
-    /// floor, which is above each round in which this participant may have voted.
+    /// Begins a journal without votes, in a log without bytes. Nothing is signed in rounds before
+    /// the floor, which is above each round in which this participant may have voted.
     pub fn begin(
         alloc: Global,
-        log: L,
+        log: &mut L,
         owner: &Owner,
         floor: Round,
         finalization: &[u8],
-    ) -> Result<Self, BeginFault>
-        requires { L.is_settled log }
-        ensures begun { IfOk result (λ journal. (journal.is_open ≡ true) × (journal.floor ≡ floor)
-            × (journal.votes ≡ []) × (journal.finalization ≡ finalization.now)
-            × (journal.owner ≡ owner_format.encoding (fields_of owner.now))) }
-        ensures on_disk { IfOk result (IsOnDisk (vote_format G.format D.format) D.eq
-            L.is_settled L.written) }
-        ensures taken { result ≡ Err Taken → L.written log ≢ [] }
-        ensures replaces_nothing { L.written log ≢ [] → result ≡ Err Taken }
+    ) -> Result<(), BeginFault>
+        requires { L.is_settled log.old }
+        ensures begun { OnOk result (L.is_settled log.new
+            × IsText (vote_format G.format D.format) (L.written log.new)
+            (begun (fields_of owner.now) floor finalization.now)) }
+        ensures memory { result ≡ Err BeginMemory
+            → L.is_settled log.new × (L.written log.new ≡ L.written log.old) }
+        ensures taken { result ≡ Err Taken → (log.new ≡ log.old) × (L.written log.old ≢ []) }
+        ensures replaces_nothing { L.written log.old ≢ [] → result ≡ Err Taken }
+        ensures failed { result ≡ Err BeginFailed → L.has_failed log.new }
+        // Whatever it answers, a crash leaves what was there, or the journal that was begun.
+        ensures leaves { (left : List ℕ) → L.is_honest log.new → L.may_leave log.new left
+            → (left ≡ L.written log.old) ⊎ IsText (vote_format G.format D.format) left
+            (begun (fields_of owner.now) floor finalization.now) }
+        ensures opens { L.is_honest log.new → L.may_lose log.new → ⊥ }
+        ensures honest { L.is_honest log.new → L.is_honest log.old }
     {
-        let mut log = log;
         if !log.bytes().is_empty() {
-            drop(log);
             return Err(BeginFault::Taken);
         }
-        let (bytes, votes) = match first_parts::<G, D>(alloc, owner) {
-            Ok(it) => it,
-            Err(_) => {
-                drop(log);
-                return Err(BeginFault::OutOfMemory);
-            }
-        };
-        let Raised {
-            text,
-            finalization,
-            votes,
-        } = match raise(alloc, &bytes, floor, finalization, &votes) {
-            Ok(raised) => raised,
-            Err(_) => {
-                drop(log);
-                return Err(BeginFault::OutOfMemory);
-            }
+        let text = match first_text::<G, D>(alloc, owner, floor, finalization) {
+            Ok(text) => text,
+            Err(_) => return Err(BeginFault::OutOfMemory),
         };
         match log.replace(&text) {
-            Ok(()) => Ok(Journal {
-                log,
-                owner: bytes,
-                floor,
-                finalization,
-                votes,
-                is_open: true,
-            }),
-            Err(LogFault::OutOfMemory | LogFault::Full) => {
-                drop(log);
-                Err(BeginFault::OutOfMemory)
-            }
-            Err(LogFault::Failed) => {
-                drop(log);
-                Err(BeginFault::Failed)
-            }
+            Ok(()) => Ok(()),
+            Err(LogFault::OutOfMemory | LogFault::Full) => Err(BeginFault::OutOfMemory),
+            Err(LogFault::Failed) => Err(BeginFault::Failed),
         }
     }
 
     /// The journal that is in a log, if it is this owner's.
-    pub fn open(alloc: Global, log: L, owner: &Owner) -> Result<Self, OpenFault>
+    pub fn open(alloc: Global, log: L, owner: &Owner) -> Result<Self, Unopened<L>>
         requires { L.is_settled log }
         ensures opened { IfOk result (λ journal. (journal.is_open ≡ true) × (journal.log ≡ log)
-            × (journal.owner ≡ owner_format.encoding (fields_of owner.now))
-            × IsText (vote_format G.format D.format) (L.written log) (fields_of owner.now)
-            journal.floor journal.finalization journal.votes) }
-        ensures refused { IfErr result (Cause (vote_format G.format D.format) (L.written log)
-            (fields_of owner.now) D.eq) }
+            × (journal.contents.owner ≡ fields_of owner.now) × (journal.unwritten ≡ [])
+            × IsText (vote_format G.format D.format) (L.written log) journal.contents) }
+        ensures refused { IfErr result (λ it. (it.log ≡ log) × Cause (vote_format G.format D.format)
+            (L.written log) (fields_of owner.now) D.eq it.fault) }
     {
-        match parts_of::<G, D>(alloc, log.bytes(), owner) {
-            Ok(parts) => {
-                let Parts {
-                    owner,
-                    floor,
-                    finalization,
-                    votes,
-                } = parts;
+        match kept_in::<G, D>(alloc, log.bytes(), owner) {
+            Ok(kept) => {
+                let written = kept.certificates.len();
                 Ok(Journal {
                     log,
-                    owner,
-                    floor,
-                    finalization,
-                    votes,
+                    kept,
+                    written,
                     is_open: true,
                 })
             }
-            Err(fault) => {
-                drop(log);
-                Err(fault)
-            }
+            Err(fault) => Err(Unopened { fault, log }),
         }
+    }
+
+    /// The log that it is in.
+    pub fn into_log(self) -> L
+        ensures { result ≡ self.log }
+    {
+        let Journal { log, .. } = self;
+        log
+    }
+
+    /// Whether no disk failed since it was opened. What an open journal has is on the disk.
+    pub fn is_open(&self) -> bool
+        ensures open { result ≡ self.now.is_open }
+        ensures on_disk { self.now.is_open ≡ true → IsOnDisk (vote_format G.format D.format) D.eq
+            L.is_settled L.written self.now }
+    {
+        self.is_open
     }
 
     /// The round below which nothing is signed.
     pub fn floor(&self) -> Round
-        ensures { result ≡ self.now.floor }
+        ensures { result ≡ self.now.contents.floor }
     {
-        self.floor
+        self.kept.floor
     }
 
     /// The bytes of the floor's finalization.
     pub fn finalization(&self) -> &[u8]
-        ensures { result.now ≡ self.now.finalization }
+        ensures { result.now ≡ self.now.contents.finalization }
     {
-        &self.finalization
+        &self.kept.finalization
     }
 
     /// The votes from the floor on, in the order in which they were written.
     pub fn votes(&self) -> &[Vote<G, D>]
-        ensures { result.now ≡ self.now.votes }
+        ensures { result.now ≡ self.now.contents.votes }
     {
-        &self.votes
+        &self.kept.votes
+    }
+
+    /// The certificates that are on the disk beside them.
+    pub fn certificates(&self) -> &[Certified]
+        ensures { result.now ≡ self.now.contents.certificates }
+    {
+        &self.kept.certificates[..self.written]
+    }
+
+    /// Keeps a certificate, of a round from the floor on. It is on the disk with the next votes,
+    /// also where there are none: a crash before that loses it.
+    pub fn keep(&mut self, round: Round, certificate: &[u8]) -> Result<(), AllocError>
+        ensures kept { OnOk result (Keeps self.old self.new (round, certificate.now)) }
+        ensures memory { OnErr result (self.new ≡ self.old) }
+    {
+        let alloc = *self.kept.certificates.allocator();
+        let it = Certified::new(alloc, round, certificate)?;
+        self.kept.certificates.push(it)?;
+        Ok(())
     }
 
     /// What is to be done about a subject, before it is signed.
     pub fn ask(&self, subject: &Subject<D>) -> Answer<G, D>
-        ensures { Answers D.eq self.now.floor self.now.is_open self.now.votes subject.now result }
+        ensures { Answers D.eq self.now.contents.floor self.now.is_open self.now.contents.votes
+            subject.now result }
     {
         if self.is_open {
-            answer_of(&self.votes, self.floor, subject)
+            answer_of(&self.kept.votes, self.kept.floor, subject)
         } else {
             Answer::Closed
         }
     }
 
-    /// Writes votes for subjects that are to be signed, each behind those before it. At `Ok` they
-    /// are on the disk, and may be sent.
+    /// Writes votes for subjects that are to be signed, each behind those before it, and the
+    /// certificates that were kept since the last time. At `Ok` all of them are on the disk, and
+    /// the votes may be sent.
     pub fn write(&mut self, votes: &[Vote<G, D>]) -> Result<(), WriteFault>
         ensures written { OnOk result ((self.old.is_open ≡ true)
-            × MayFollow D.eq self.old.floor self.old.votes votes.now
-            × HasMore self.old self.new votes.now) }
+            × MayFollow D.eq self.old.contents.floor self.old.contents.votes votes.now
+            × Has self.new (with_more self.old.contents votes.now self.old.unwritten)) }
         ensures on_disk { OnOk result (IsOnDisk (vote_format G.format D.format) D.eq
             L.is_settled L.written self.new) }
         ensures memory { result ≡ Err NoMemory → IsAsBefore self.old self.new }
         ensures full { result ≡ Err NoRoom → IsAsBefore self.old self.new }
-        ensures not_free { result ≡ Err NotFree → (self.new ≡ self.old)
-            × (MayFollow D.eq self.old.floor self.old.votes votes.now → ⊥) }
+        ensures not_free { result ≡ Err NotFree → (self.new ≡ self.old) × (MayFollow D.eq
+            self.old.contents.floor self.old.contents.votes votes.now → ⊥) }
         ensures closed { result ≡ Err WriteClosed → (self.new.is_open ≡ false)
             × ((self.old.is_open ≡ false) ⊎ L.has_failed self.new.log) }
-        // Whatever it answers, a crash leaves the votes from before it, or these too: where the
-        // disk has kept what it said.
+        ensures shut { self.old.is_open ≡ false
+            → (result ≡ Err WriteClosed) × (self.new ≡ self.old) }
+        // Whatever it answers, a crash leaves what was there before it, or these votes too: where
+        // the disk has kept what it said.
         ensures leaves { (left : List ℕ) → self.old.is_open ≡ true
             → L.is_honest self.new.log → L.may_leave self.new.log left
             → WriteLeaves (vote_format G.format D.format) D.eq self.old votes.now left }
         ensures opens { self.old.is_open ≡ true → L.is_honest self.new.log
             → L.may_lose self.new.log → ⊥ }
+        ensures honest { L.is_honest self.new.log → L.is_honest self.old.log }
     {
         if !self.is_open {
             return Err(WriteFault::Closed);
         }
-        if !may_follow(&self.votes, self.floor, votes) {
+        if !may_follow(&self.kept.votes, self.kept.floor, votes) {
             return Err(WriteFault::NotFree);
         }
-        match write_to(&mut self.log, &mut self.votes, votes) {
-            Ok(()) => Ok(()),
+        let unwritten = &self.kept.certificates[self.written..];
+        match write_to(&mut self.log, &mut self.kept.votes, votes, unwritten) {
+            Ok(()) => {
+                self.written = self.kept.certificates.len();
+                Ok(())
+            }
             Err(LogFault::OutOfMemory) => Err(WriteFault::OutOfMemory),
             Err(LogFault::Full) => Err(WriteFault::Full),
             Err(LogFault::Failed) => {
@@ -308,31 +326,37 @@ impl<G: Codec, D: Digest + Codec, L: Log> Journal<G, D, L> {
         }
     }
 
-    /// Raises the floor to a round, of which this is the finalization. Votes of rounds before it
-    /// are forgotten, and no others are signed there. At `Ok` all of it is on the disk.
+    /// Raises the floor to a round, of which this is the finalization. What is of rounds before it
+    /// is forgotten, and nothing more is signed there. At `Ok` all of it is on the disk.
     pub fn raise_floor(&mut self, floor: Round, finalization: &[u8]) -> Result<(), RaiseFault>
         ensures raised { OnOk result ((self.old.is_open ≡ true)
-            × (is_below self.old.floor floor ≡ false)
-            × IsRaised self.old self.new self.old.owner floor finalization.now) }
+            × (is_below self.old.contents.floor floor ≡ false) × Has self.new
+            (raised self.old.contents self.old.unwritten self.old.contents.owner floor
+            finalization.now)) }
         ensures on_disk { OnOk result (IsOnDisk (vote_format G.format D.format) D.eq
             L.is_settled L.written self.new) }
         ensures memory { result ≡ Err RaiseMemory → IsAsBefore self.old self.new }
         ensures full { result ≡ Err RaiseFull → IsAsBefore self.old self.new }
         ensures lower { result ≡ Err Lower → (self.new ≡ self.old)
-            × (is_below self.old.floor floor ≡ true) }
+            × (is_below self.old.contents.floor floor ≡ true) }
         ensures closed { result ≡ Err RaiseClosed → (self.new.is_open ≡ false)
             × ((self.old.is_open ≡ false) ⊎ L.has_failed self.new.log) }
+        ensures shut { self.old.is_open ≡ false
+            → (result ≡ Err RaiseClosed) × (self.new ≡ self.old) }
         // Whatever it answers, a crash leaves what was there, or what the floor leaves of it.
         ensures leaves { (left : List ℕ) → self.old.is_open ≡ true
             → L.is_honest self.new.log → L.may_leave self.new.log left
-            → RaiseLeaves (vote_format G.format D.format) D.eq self.old self.old.owner floor
-            finalization.now left }
+            → RaiseLeaves (vote_format G.format D.format) D.eq self.old self.old.contents.owner
+            floor finalization.now left }
         ensures opens { self.old.is_open ≡ true → L.is_honest self.new.log
             → L.may_lose self.new.log → ⊥ }
+        ensures honest { L.is_honest self.new.log → L.is_honest self.old.log }
     {
-        let mut owner = Vec::new(*self.owner.allocator());
-        match owner.extend_from_slice(&self.owner) {
-            Ok(()) => self.rewrite(owner, floor, finalization),
+        if !self.is_open {
+            return Err(RaiseFault::Closed);
+        }
+        match Whose::of(*self.kept.votes.allocator(), &self.kept.owner.lend()) {
+            Ok(owner) => self.begin_epoch(&owner.lend(), floor, finalization),
             Err(_) => Err(RaiseFault::OutOfMemory),
         }
     }
@@ -345,77 +369,44 @@ impl<G: Codec, D: Digest + Codec, L: Log> Journal<G, D, L> {
         finalization: &[u8],
     ) -> Result<(), RaiseFault>
         ensures raised { OnOk result ((self.old.is_open ≡ true)
-            × (is_below self.old.floor floor ≡ false)
-            × IsRaised self.old self.new (owner_format.encoding (fields_of owner.now)) floor
-            finalization.now) }
+            × (is_below self.old.contents.floor floor ≡ false) × Has self.new
+            (raised self.old.contents self.old.unwritten (fields_of owner.now) floor
+            finalization.now)) }
         ensures on_disk { OnOk result (IsOnDisk (vote_format G.format D.format) D.eq
             L.is_settled L.written self.new) }
         ensures memory { result ≡ Err RaiseMemory → IsAsBefore self.old self.new }
         ensures full { result ≡ Err RaiseFull → IsAsBefore self.old self.new }
         ensures lower { result ≡ Err Lower → (self.new ≡ self.old)
-            × (is_below self.old.floor floor ≡ true) }
+            × (is_below self.old.contents.floor floor ≡ true) }
         ensures closed { result ≡ Err RaiseClosed → (self.new.is_open ≡ false)
             × ((self.old.is_open ≡ false) ⊎ L.has_failed self.new.log) }
+        ensures shut { self.old.is_open ≡ false
+            → (result ≡ Err RaiseClosed) × (self.new ≡ self.old) }
         ensures leaves { (left : List ℕ) → self.old.is_open ≡ true
             → L.is_honest self.new.log → L.may_leave self.new.log left
-            → RaiseLeaves (vote_format G.format D.format) D.eq self.old
-            (owner_format.encoding (fields_of owner.now)) floor finalization.now left }
+            → RaiseLeaves (vote_format G.format D.format) D.eq self.old (fields_of owner.now)
+            floor finalization.now left }
         ensures opens { self.old.is_open ≡ true → L.is_honest self.new.log
             → L.may_lose self.new.log → ⊥ }
-    {
-        let mut bytes = Vec::new(*self.owner.allocator());
-        match put_owner(owner, &mut bytes) {
-            Ok(()) => self.rewrite(bytes, floor, finalization),
-            Err(_) => Err(RaiseFault::OutOfMemory),
-        }
-    }
-
-    // Raises the floor, of a journal that is to have this owner.
-    fn rewrite(
-        &mut self,
-        owner: Vec<u8>,
-        floor: Round,
-        finalization: &[u8],
-    ) -> Result<(), RaiseFault>
-        ensures raised { OnOk result ((self.old.is_open ≡ true)
-            × (is_below self.old.floor floor ≡ false)
-            × IsRaised self.old self.new owner.items floor finalization.now) }
-        ensures on_disk { OnOk result (IsOnDisk (vote_format G.format D.format) D.eq
-            L.is_settled L.written self.new) }
-        ensures memory { result ≡ Err RaiseMemory → IsAsBefore self.old self.new }
-        ensures full { result ≡ Err RaiseFull → IsAsBefore self.old self.new }
-        ensures lower { result ≡ Err Lower → (self.new ≡ self.old)
-            × (is_below self.old.floor floor ≡ true) }
-        ensures closed { result ≡ Err RaiseClosed → (self.new.is_open ≡ false)
-            × ((self.old.is_open ≡ false) ⊎ L.has_failed self.new.log) }
-        ensures leaves { (left : List ℕ) → self.old.is_open ≡ true
-            → L.is_honest self.new.log → L.may_leave self.new.log left
-            → RaiseLeaves (vote_format G.format D.format) D.eq self.old owner.items floor
-            finalization.now left }
-        ensures opens { self.old.is_open ≡ true → L.is_honest self.new.log
-            → L.may_lose self.new.log → ⊥ }
+        ensures honest { L.is_honest self.new.log → L.is_honest self.old.log }
     {
         if !self.is_open {
             return Err(RaiseFault::Closed);
         }
-        if is_before(self.floor, floor) {
+        if is_before(self.kept.floor, floor) {
             return Err(RaiseFault::Lower);
         }
-        let alloc = *owner.allocator();
-        let Raised {
-            text,
-            finalization,
-            votes,
-        } = match raise(alloc, &owner, floor, finalization, &self.votes) {
+        let alloc = *self.kept.votes.allocator();
+        let (votes, certificates) = (&self.kept.votes, &self.kept.certificates);
+        let raised = raise(alloc, owner, floor, finalization, votes, certificates);
+        let Raised { text, kept } = match raised {
             Ok(raised) => raised,
             Err(_) => return Err(RaiseFault::OutOfMemory),
         };
         match self.log.replace(&text) {
             Ok(()) => {
-                self.owner = owner;
-                self.floor = floor;
-                self.finalization = finalization;
-                self.votes = votes;
+                self.written = kept.certificates.len();
+                self.kept = kept;
                 Ok(())
             }
             Err(LogFault::OutOfMemory) => Err(RaiseFault::OutOfMemory),
@@ -428,47 +419,37 @@ impl<G: Codec, D: Digest + Codec, L: Log> Journal<G, D, L> {
     }
 }
 
-// The bytes of an owner, and no votes.
-fn first_parts<G: Copy, D: Digest>(
-    alloc: Global,
-    owner: &Owner,
-) -> Result<(Vec<u8>, Vec<Vote<G, D>>), AllocError>
-    ensures owner { IfOk result (λ it. it.0.items ≡ owner_format.encoding (fields_of owner.now)) }
-    ensures none { IfOk result (λ it. it.1.items ≡ []) }
-{
-    let mut bytes = Vec::new(alloc);
-    put_owner(owner, &mut bytes)?;
-    Ok((bytes, Vec::new(alloc)))
-}
-
-// Writes votes to the log, and then keeps them.
+// Writes votes and certificates to the log, and then keeps the votes.
 fn write_to<G: Codec, D: Digest + Codec, L: Log>(
     log: &mut L,
     votes: &mut Vec<Vote<G, D>>,
     more: &[Vote<G, D>],
+    certificates: &[Certified],
 ) -> Result<(), LogFault>
     requires { L.is_settled log.old }
     ensures ok { OnOk result (L.is_settled log.new
-        × (L.written log.new
-        ≡ L.written log.old ++ votes_text (vote_format G.format D.format) more.now)
-        × AreValues (vote_format G.format D.format) more.now
+        × (L.written log.new ≡ L.written log.old
+        ++ records_text (vote_format G.format D.format) (records_of more.now certificates.now))
+        × AreRecords (vote_format G.format D.format) (records_of more.now certificates.now)
         × (votes.new.items ≡ votes.old.items ++ more.now)) }
     ensures kept { (result ≡ Err LogMemory) ⊎ (result ≡ Err LogFull)
         → L.is_settled log.new × (L.written log.new ≡ L.written log.old) }
     ensures failed { result ≡ Err LogFailed → L.has_failed log.new }
     ensures err { OnErr result (votes.new.items ≡ votes.old.items) }
     ensures leaves { (left : List ℕ) → L.is_honest log.new → L.may_leave log.new left
-        → (left ≡ L.written log.old) ⊎ (left
-        ≡ L.written log.old ++ votes_text (vote_format G.format D.format) more.now) }
+        → (left ≡ L.written log.old) ⊎ ((left ≡ L.written log.old
+        ++ records_text (vote_format G.format D.format) (records_of more.now certificates.now))
+        × AreRecords (vote_format G.format D.format) (records_of more.now certificates.now)) }
     ensures opens { L.is_honest log.new → L.may_lose log.new → ⊥ }
+    ensures honest { L.is_honest log.new → L.is_honest log.old }
 {
     let mut bytes = Vec::new(*votes.allocator());
-    // As a vote has with a digest of 32 bytes and a signature of 64.
-    match bytes.reserve(126) {
+    // As the record of a vote has with a digest of 32 bytes and a signature of 64.
+    match bytes.reserve(127) {
         Ok(()) => {}
         Err(_) => return Err(LogFault::OutOfMemory),
     }
-    match put_votes(more, &mut bytes) {
+    match put_records(more, certificates, &mut bytes) {
         Ok(()) => {}
         Err(_) => return Err(LogFault::OutOfMemory),
     }

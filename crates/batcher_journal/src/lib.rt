@@ -3,14 +3,14 @@
 #![tactic(auto)]
 
 mod asking;
+mod contents;
 mod journal;
 mod owner;
-mod parts;
-mod raising;
-mod votes;
+mod records;
 
 pub use journal::{
-    Answer, BeginFault, Journal, OpenFault, RaiseFault, WriteFault, bytes_are_of_one_journal,
-    handed_out_never_contradict,
+    Answer, BeginFault, Journal, OpenFault, RaiseFault, Unopened, WriteFault,
+    bytes_are_of_one_journal, handed_out_never_contradict,
 };
 pub use owner::Owner;
+pub use records::Certified;

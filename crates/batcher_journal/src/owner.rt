@@ -1,12 +1,13 @@
 //! Whose journal it is.
 
-ghost use Rattle.std.specs.Prelude.{◌≡◌, ◌++◌, List, ℕ, OnErr, OnOk};
+ghost use Rattle.std.specs.Prelude.{◌≡◌, ◌++◌, IfOk, List, ℕ, OnErr, OnOk};
 ghost use Rattle.batcher_codec.specs.Format.{Decodes, StartsWith};
-ghost use Rattle.batcher_journal.specs.Text.{fields_of, floor_format, owner_format};
+ghost use Rattle.batcher_journal.specs.Text.{OwnerFields, fields_of, owner_format};
 
 use batcher_codec::{Codec, DecodeFault, VERSION, decode_bytes, encode_bytes};
-use batcher_types::positions::{Participant, Round};
-use std::alloc::AllocError;
+use batcher_types::positions::Participant;
+use std::alloc::{AllocError, Global};
+use std::marker::Model;
 
 /// Whose journal it is: a journal is opened by no other.
 #[derive(Clone, Copy, Debug)]
@@ -21,6 +22,55 @@ pub struct Owner<'a> {
     pub digest_len: u32,
     /// How many bytes a signature has.
     pub signature_len: u32,
+}
+
+/// Whose journal it is, in memory.
+#[derive(Drop)]
+pub struct Whose {
+    namespace: Vec<u8>,
+    keys: Vec<u8>,
+    participant: Participant,
+    digest_len: u32,
+    signature_len: u32,
+}
+
+impl Model for Whose {
+    ghost Value = { OwnerFields };
+
+    ghost view = { λ w. (
+      w.digest_len,
+      (w.signature_len, (w.participant.0, (w.keys.items, w.namespace.items))),
+    ) };
+}
+
+impl Whose {
+    pub fn of(alloc: Global, owner: &Owner) -> Result<Self, AllocError>
+        ensures { IfOk result (λ it. it ≡ fields_of owner.now) }
+    {
+        let mut namespace = Vec::new(alloc);
+        namespace.extend_from_slice(owner.namespace)?;
+        let mut keys = Vec::new(alloc);
+        keys.extend_from_slice(owner.keys)?;
+        Ok(Whose {
+            namespace,
+            keys,
+            participant: owner.participant,
+            digest_len: owner.digest_len,
+            signature_len: owner.signature_len,
+        })
+    }
+
+    pub fn lend(&self) -> Owner<'_>
+        ensures { fields_of result ≡ self.now }
+    {
+        Owner {
+            namespace: &self.namespace,
+            keys: &self.keys,
+            participant: self.participant,
+            digest_len: self.digest_len,
+            signature_len: self.signature_len,
+        }
+    }
 }
 
 /// Writes whose journal it is. An `Err` may leave some of it there.
@@ -61,24 +111,4 @@ pub fn owner_in(bytes: &[u8]) -> Result<(Owner<'_>, &[u8]), DecodeFault>
         }
         [_, ..] => Err(DecodeFault::Version),
     }
-}
-
-/// Writes the floor and the bytes of its finalization. An `Err` may leave some of it there.
-#[tactic(auto, using(batcher_codec::specs::Starting::starts))]
-pub fn put_floor(floor: Round, finalization: &[u8], out: &mut Vec<u8>) -> Result<(), AllocError>
-    ensures ok { OnOk result (out.new.items
-        ≡ out.old.items ++ floor_format.encoding (floor, finalization.now)) }
-    ensures value { OnOk result (floor_format.IsValue (floor, finalization.now)) }
-{
-    floor.encode(out)?;
-    encode_bytes(finalization, out)
-}
-
-/// Reads the floor and the bytes of its finalization, and lends the bytes after that.
-pub fn floor_in(bytes: &[u8]) -> Result<(Round, &[u8], &[u8]), DecodeFault>
-    ensures { Decodes (λ x. ((x.0, x.1.now), x.2.now)) result (floor_format.decoding bytes.now) }
-{
-    let (floor, rest) = Round::decode(bytes)?;
-    let (finalization, rest) = decode_bytes(rest)?;
-    Ok((floor, finalization, rest))
 }

@@ -6,7 +6,7 @@ ghost use Rattle.std.specs.Prelude.{IfOk, IfSome};
 
 use anyhow::{Result, bail};
 use batcher_file::{FileLog, OpenFault as FileFault};
-use batcher_journal::{Answer, Journal, Owner};
+use batcher_journal::{Answer, Journal, Owner, Unopened};
 use batcher_log::Log;
 use batcher_types::messages::{Attestation, Proposal, Sha256Digest, Subject, Vote};
 use batcher_types::positions::{Epoch, Participant, Round, View};
@@ -46,6 +46,21 @@ fn main(rt: HostRuntime) -> Result<()> {
                     None => println!(rt; "no journal")?,
                 }
             }
+            Some("keep") => {
+                let round = round(&mut words)?;
+                let byte = byte(&mut words)?;
+                match &mut journal {
+                    Some(journal) => match journal.keep(round, &[byte; 100]) {
+                        Ok(()) => println!(rt; "kept")?,
+                        Err(_) => println!(rt; "OutOfMemory")?,
+                    },
+                    None => println!(rt; "no journal")?,
+                }
+            }
+            Some("certificates") => match &journal {
+                Some(journal) => say_certificates(&rt, journal)?,
+                None => println!(rt; "no journal")?,
+            },
             Some("both") => {
                 let proposal = proposal(&mut words)?;
                 let byte = byte(&mut words)?;
@@ -129,6 +144,20 @@ fn cast_both(
     Ok(())
 }
 
+// Says of which rounds the certificates on the disk are, and the first byte of each.
+fn say_certificates(rt: &HostRuntime, journal: &Keeper) -> Result<()> {
+    print!(rt; "certificates")?;
+    for it in journal.certificates() {
+        let Round { epoch, view } = it.round();
+        match it.certificate() {
+            [byte, ..] => print!(rt; " {}.{}.{byte}", epoch.0, view.0)?,
+            [] => print!(rt; " {}.{}", epoch.0, view.0)?,
+        }
+    }
+    println!(rt; "")?;
+    Ok(())
+}
+
 // Begins a journal, also where that was begun before and came to no end.
 fn begin(rt: &HostRuntime, path: &str, floor: Round) -> Result<Option<Keeper>> {
     let alloc = rt.alloc();
@@ -156,12 +185,26 @@ fn begin(rt: &HostRuntime, path: &str, floor: Round) -> Result<Option<Keeper>> {
 fn begin_in(rt: &HostRuntime, log: FileLog<File>, floor: Round) -> Result<Option<Keeper>>
     requires { ⟦<FileLog<File> as Log>⟧.is_settled log }
 {
-    match Journal::begin(rt.alloc(), log, &owner(), floor, b"finalization") {
+    let mut log = log;
+    match Keeper::begin(rt.alloc(), &mut log, &owner(), floor, b"finalization") {
+        Ok(()) => open_in(rt, log, "begun"),
+        Err(fault) => {
+            println!(rt; "{fault:?}")?;
+            Ok(None)
+        }
+    }
+}
+
+// Opens the journal that is in a log, and says so in these words.
+fn open_in(rt: &HostRuntime, log: FileLog<File>, words: &str) -> Result<Option<Keeper>>
+    requires { ⟦<FileLog<File> as Log>⟧.is_settled log }
+{
+    match Journal::open(rt.alloc(), log, &owner()) {
         Ok(journal) => {
-            println!(rt; "begun")?;
+            println!(rt; "{words}")?;
             Ok(Some(journal))
         }
-        Err(fault) => {
+        Err(Unopened { fault, .. }) => {
             println!(rt; "{fault:?}")?;
             Ok(None)
         }
@@ -195,19 +238,9 @@ fn log_at(rt: &HostRuntime, path: &str) -> Result<Option<FileLog<File>>>
 
 // The journal that is at a path.
 fn opened(rt: &HostRuntime, path: &str) -> Result<Option<Keeper>> {
-    let log = match log_at(rt, path)? {
-        Some(log) => log,
-        None => return Ok(None),
-    };
-    match Journal::open(rt.alloc(), log, &owner()) {
-        Ok(journal) => {
-            println!(rt; "open")?;
-            Ok(Some(journal))
-        }
-        Err(fault) => {
-            println!(rt; "{fault:?}")?;
-            Ok(None)
-        }
+    match log_at(rt, path)? {
+        Some(log) => open_in(rt, log, "open"),
+        None => Ok(None),
     }
 }
 

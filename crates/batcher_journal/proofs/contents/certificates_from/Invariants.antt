@@ -1,0 +1,6 @@
+use Rattle.std.proofs.Common.{◌≡◌, take}
+use Rattle.batcher_journal.specs.Floors.{certified_from}
+use Rattle.batcher_journal.proofs.contents.certificates_from.Given as goal
+
+abbrev pub invariant-loop-it : goal.invariant-loop-it
+invariant-loop-it l = l.left.items ≡ certified_from l.floor (take l.it-index l.certificates)

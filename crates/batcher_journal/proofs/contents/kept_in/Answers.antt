@@ -1,0 +1,61 @@
+use Rattle.std.proofs.Common.{Err, Ok, ap, subst, sym, take, ◌∙◌}
+use Rattle.batcher_codec.specs.Lawful.{vote_is_exact}
+use Rattle.batcher_codec.specs.Messages.{vote_format}
+use Rattle.batcher_journal.specs.Answers.{MayFollow}
+use Rattle.batcher_journal.specs.Seen.{contents_of}
+use Rattle.batcher_journal.proofs.Splitting.{found_text, no_floor, no_follow, no_owner, no_records}
+use Rattle.batcher_journal.proofs.contents.kept_in.Goals as goal
+
+pub returns-in-Err : goal.returns-in-Err
+returns-in-Err g c = record {
+  found = tt;
+  owner = tt;
+  followed = tt;
+  refused = λ contents is text.
+      no_owner (vote_format g.G.Codec.format g.D.Codec.format)
+      (vote_is_exact g.G.Codec.format g.D.Codec.format g.met.G.Codec.exact g.met.D.Codec.exact)
+      c.args.bytes.now contents text _ c.in-Err.ensures;
+}
+
+pub returns-in-Err-certified_in-clause-refused : goal.returns-in-Err-certified_in-clause-refused
+returns-in-Err-certified_in-clause-refused g c =
+    λ contents is text.
+    no_floor (vote_format g.G.Codec.format g.D.Codec.format)
+    (vote_is_exact g.G.Codec.format g.D.Codec.format g.met.G.Codec.exact g.met.D.Codec.exact)
+    c.args.bytes.now contents text _ _ c.in-Ok.ensures _ c.in-Err-certified_in.ensures
+
+pub returns-in-Err-Fault-clause-refused : goal.returns-in-Err-Fault-clause-refused
+returns-in-Err-Fault-clause-refused g c =
+    λ contents is text.
+    no_records (vote_format g.G.Codec.format g.D.Codec.format)
+    (vote_is_exact g.G.Codec.format g.D.Codec.format g.met.G.Codec.exact g.met.D.Codec.exact)
+    c.args.bytes.now contents text _ _ c.in-Ok.ensures _ _ _ c.in-Ok-certified_in.ensures
+    (c.in-Err-Fault.ensures.fault c.in-Err-Fault.field-0-0 (ap (λ e. Err e) c.in-Err-Fault.field-0-is))
+
+pub returns-then-not-may_follow-clause-refused : goal.returns-then-not-may_follow-clause-refused
+returns-then-not-may_follow-clause-refused g c =
+    λ contents is text follows.
+    no_follow (vote_format g.G.Codec.format g.D.Codec.format)
+    (vote_is_exact g.G.Codec.format g.D.Codec.format g.met.G.Codec.exact g.met.D.Codec.exact)
+    c.args.bytes.now contents text _ _ c.in-Ok.ensures _ _ _ c.in-Ok-certified_in.ensures
+    g.D.PartialEq.eq _ _ c.in-Ok-records_in.ensures.found
+    (subst (λ vs. MayFollow g.D.PartialEq.eq c.in-Ok-certified_in.it.0 (take 0 vs) vs → ⊥) c.deref-2.ensures.value c.if-not-may_follow.ensures)
+    follows
+
+pub returns-clause-found : goal.returns-clause-found
+returns-clause-found g c =
+    found_text (vote_format g.G.Codec.format g.D.Codec.format)
+    (vote_is_exact g.G.Codec.format g.D.Codec.format g.met.G.Codec.exact g.met.D.Codec.exact)
+    c.args.bytes.now (contents_of (record {
+      owner = c.in_ok-of.field-0;
+      floor = c.in-Ok-certified_in.it.0;
+      finalization = c.in_ok-copy_of.field-0;
+      votes = c.in-Ok-records_in.records.votes;
+      certificates = c.in-Ok-records_in.records.certificates;
+    })) _ _ _ c.type_inv.bytes c.in-Ok.ensures (c.in-Ok-check_owner.ensures.ok ∙ sym c.in_ok-of.ensures)
+    (c.in-Ok-certified_in.ensures ∙ ap (λ t. Ok ((c.in-Ok-certified_in.it.0, t), c.in-Ok-certified_in.it.2.now)) (sym c.in_ok-copy_of.ensures))
+    c.in-Ok-records_in.ensures.found
+
+pub returns-clause-followed : goal.returns-clause-followed
+returns-clause-followed g c =
+    subst (λ vs. MayFollow g.D.PartialEq.eq c.in-Ok-certified_in.it.0 (take 0 vs) vs) c.deref-2.ensures.value c.if-not-may_follow.ensures

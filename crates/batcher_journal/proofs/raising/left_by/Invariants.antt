@@ -1,6 +1,0 @@
-use Rattle.std.proofs.Common.{◌≡◌, take}
-use Rattle.batcher_journal.specs.Floors.{from_floor}
-use Rattle.batcher_journal.proofs.raising.left_by.Given as goal
-
-abbrev pub invariant-loop-vote : goal.invariant-loop-vote
-invariant-loop-vote g l = l.left.items ≡ from_floor l.floor (take l.vote-index l.votes)

@@ -1,0 +1,10 @@
+use Rattle.std.proofs.Common.{◌≡◌, ◌++◌, map, take}
+use Rattle.batcher_codec.specs.Messages.{vote_format}
+use Rattle.batcher_journal.specs.Records.{AreRecords, Certifies, records_text}
+use Rattle.batcher_journal.proofs.records.put_certificates.Given as goal
+
+abbrev pub invariant-loop-it : goal.invariant-loop-it
+invariant-loop-it g l =
+    (l.out.items ≡ l.fn.out.items
+    ++ records_text (vote_format g.G.Codec.format g.D.Codec.format) (map Certifies (take l.it-index l.certificates)))
+    × AreRecords (vote_format g.G.Codec.format g.D.Codec.format) (map Certifies (take l.it-index l.certificates))

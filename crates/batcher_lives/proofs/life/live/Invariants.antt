@@ -1,0 +1,8 @@
+use Rattle.batcher_codec.specs.Messages.{vote_format}
+use Rattle.batcher_lives.specs.Living.{IsLived}
+use Rattle.batcher_lives.proofs.life.live.Given as goal
+
+abbrev pub invariant-loop-deed : goal.invariant-loop-deed
+invariant-loop-deed g l =
+    IsLived (vote_format g.G.Codec.format g.D.Codec.format) g.D.PartialEq.eq g.L.Log.is_honest
+    g.L.Log.may_leave l.fn.floor l.place l.handed.items

@@ -1,0 +1,15 @@
+//! Lives of a validator with a journal: what it asks and writes, and the crashes between and inside
+//! these calls, played one after the other.
+#![tactic(auto)]
+
+mod deeds;
+mod failing;
+mod life;
+mod restart;
+#[cfg(test)]
+mod tests;
+
+pub use deeds::{Deed, Lived};
+pub use failing::{FailingLog, Mishap};
+pub use life::live;
+pub use restart::Restart;
