@@ -2,6 +2,7 @@ pub mod Symmetric
 pub mod Texts
 pub mod Sorting
 pub mod Loops
+pub mod Indexing
 pub mod Following
 pub mod Splitting
 pub mod Writes

@@ -1,22 +1,18 @@
 -- What holds of all votes of a list, as a loop goes over it.
-use Rattle.std.proofs.Common.{◌≡◌, ◌+◌, ◌<◌, ◌≤◌, ℕ, Bool, false, List, [], ◌∷◌, get_or, length, subst, sym, take}
+use Rattle.std.proofs.Common.{◌≡◌, ◌+◌, ◌<◌, ◌≤◌, ℕ, Bool, List, [], ◌∷◌, get_or, length, subst, sym, take}
 use Rattle.std.specs.Prelude.{All}
 use Rattle.std.proofs.lemmas.List.{take_all, take_more}
 use Rattle.std.proofs.lemmas.List.Elements.{All-append, All-cons, All-nil}
 use Rattle.batcher_journal.specs.Contradictions.{IsFree, LeavesFree}
-use Rattle.batcher.specs.Reports.{subjects_contradict}
-use Rattle.batcher_types.specs.Votes.{same_subject, subject_of}
 use Rattle.batcher_types.specs.declared.messages.Subject.{Subject}
 use Rattle.batcher_types.specs.declared.messages.Vote.{Vote}
 
 module _ {G D : Type 0} (same : D → D → Bool) (votes : List (Vote G D)) (subject : Subject D) (i : ℕ) where
-  pub one_more : (vote : Vote G D) (other : Subject D) → i < length votes
-      → vote ≡ get_or votes i vote → IsFree same (take i votes) subject → other ≡ subject_of vote
-      → false ≡ same_subject same other subject → false ≡ subjects_contradict same other subject
+  pub one_more : (vote : Vote G D) → i < length votes → vote ≡ get_or votes i vote
+      → IsFree same (take i votes) subject → LeavesFree same subject vote
       → IsFree same (take (i + 1) votes) subject
-  one_more vote other lt is so_far of same_not contradicts_not =
+  one_more vote lt is so_far here =
       let P = LeavesFree same subject in
-      let here : P vote = rw (← of) (sym same_not, sym contradicts_not) in
       subst (All P) (sym (take_more votes i vote lt))
       (All-append P (take i votes) (get_or votes i vote ∷ []) so_far
       (All-cons P (get_or votes i vote) [] (subst P is here) (All-nil P)))

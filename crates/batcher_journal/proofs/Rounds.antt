@@ -97,6 +97,58 @@ is_before floor round (inr same) =
     or_true true = refl
     or_true false = refl
 
+-- No round is before itself, and of two one at most is before the other.
+pub not_itself : (round : Round) → is_below round round ≡ false
+not_itself round = of_bool (is_below round round) refl
+  where
+    of_parts : IsBefore round round → ⊥
+    of_parts (inl lt) = absurd (omega arith)
+    of_parts (inr same) = absurd (omega (arith, same.1))
+
+    of_bool : (b : Bool) → is_below round round ≡ b → b ≡ false
+    of_bool true e = absurd (of_parts (before round round e))
+    of_bool false e = refl
+
+pub not_reversed : (a b : Round) → is_below a b ≡ true → is_below b a ≡ false
+not_reversed a b below = of_bool (is_below b a) refl
+  where
+    both_so : IsBefore a b → IsBefore b a → ⊥
+    both_so (inl x) (inl y) = absurd (omega arith)
+    both_so (inl x) (inr y) = absurd (omega (arith, y.0))
+    both_so (inr x) (inl y) = absurd (omega (arith, x.0))
+    both_so (inr x) (inr y) = absurd (omega (arith, x.1, y.1))
+
+    of_bool : (c : Bool) → is_below b a ≡ c → c ≡ false
+    of_bool true e = absurd (both_so (before a b below) (before b a e))
+    of_bool false e = refl
+
+-- What isn't behind a round that is before a floor is before it too.
+pub earlier_below : (floor later earlier : Round) → is_below floor later ≡ true
+    → is_below earlier later ≡ false → is_below floor earlier ≡ true
+earlier_below floor later earlier below up = is_before floor earlier (of_parts (before floor later below))
+  where
+    not_before : IsBefore earlier later → ⊥
+    not_before it = wrong (sym (is_before earlier later it) ∙ up)
+      where
+        wrong : true ≡ false → ⊥
+        wrong w = absurd cc
+
+    of_parts : IsBefore floor later → IsBefore floor earlier
+    of_parts (inl lt) = elim (cases_lt later.epoch.0 earlier.epoch.0) [
+      | inl lower ↦ absurd (not_before (inl lower))
+      | inr le ↦ inl (omega arith)
+    ]
+    of_parts (inr same) = elim (cases_lt later.epoch.0 earlier.epoch.0) [
+      | inl lower ↦ absurd (not_before (inl lower))
+      | inr le ↦ elim (cases_eq later.epoch.0 earlier.epoch.0) [
+        | inl equal ↦ elim (cases_lt later.view.0 earlier.view.0) [
+          | inl lower ↦ absurd (not_before (inr (equal, lower)))
+          | inr views ↦ inr (omega (arith, same.0, equal), omega (arith, same.1))
+        ]
+        | inr other ↦ inl (omega (arith, same.0, other))
+      ]
+    ]
+
 -- A floor that isn't lower leaves no round that was over.
 pub still_over : (old new round : Round) → is_below old new ≡ false → is_below old round ≡ true
     → is_below new round ≡ true

@@ -1,6 +1,6 @@
 -- Which votes and certificates records have.
-use Rattle.std.proofs.Common.{◌≡◌, ◌-◌, ◌<◌, ◌++◌, ◌∙◌, Fits, ℕ, List, [], ◌∷◌, Ok, Err, ap, append_assoc, arith, drop, get_or, length, map, refl, subst, sym, take, w8}
-use Rattle.std.proofs.lemmas.List.{append-nil, drop_all, length-drop, take_all}
+use Rattle.std.proofs.Common.{◌≡◌, ◌<◌, ◌++◌, ◌∙◌, Fits, ℕ, List, [], ◌∷◌, Ok, Err, ap, append_assoc, arith, drop, get_or, length, map, refl, subst, sym, w8}
+use Rattle.std.proofs.lemmas.List.{append-nil, drop_all, take_all}
 use Rattle.std.proofs.lemmas.Grind.{flat_map-append}
 use Rattle.batcher_codec.specs.Format.{Format, IsExact}
 use Rattle.batcher_codec.specs.declared.fault.DecodeFault.{DecodeFault}
@@ -158,9 +158,3 @@ module _ {G D : Type 0} where
 
 pub none_left : (n : ℕ) (its : List Certified) → n ≡ length its → drop n its ≡ []
 none_left n its is = drop_all n its (omega (arith, is))
-
--- a slice from a place on
-pub rest_of : (w : ℕ) (xs ys : List Certified) → xs ≡ ys
-    → take (length xs - w) (drop w xs) ≡ drop w ys
-rest_of w xs ys is =
-    take_all (length xs - w) (drop w xs) (omega (arith, length-drop w xs)) ∙ ap (drop w) is

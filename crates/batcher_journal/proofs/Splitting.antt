@@ -8,9 +8,11 @@ use Rattle.batcher_codec.specs.declared.fault.DecodeFault.{DecodeFault}
 use Rattle.batcher_types.specs.declared.messages.Vote.{Vote}
 use Rattle.batcher_types.specs.declared.positions.Round.{Round}
 use Rattle.batcher_journal.specs.Answers.{MayFollow}
-use Rattle.batcher_journal.specs.Causes.{IsOneText}
+use Rattle.batcher_journal.specs.Causes.{Cause, IsOneText, Unfollowed}
 use Rattle.batcher_journal.specs.Records.{AreRecords, Certified, HasRecords, Record, certificates_of, certified_format, record_format, records_text, votes_of}
 use Rattle.batcher_journal.specs.Text.{Contents, IsText, OwnerFields, owner_format}
+use Rattle.batcher_journal.specs.declared.journal.OpenFault.{OpenFault}
+use Rattle.batcher_journal.specs.declared.journal.OpenFault.TheVariants.{Contradiction, Malformed, NotBegun, OtherKeys, OtherLengths, OtherNamespace, OtherParticipant, OtherVersion, OutOfMemory}
 use Rattle.batcher_journal.proofs.Sorting.{same_contents}
 use Rattle.batcher_journal.proofs.Texts.{certified_is_exact, one_list, record_is_exact, record_some}
 
@@ -80,6 +82,24 @@ module _ {G D : Type 0} (f : Format (Vote G D)) (exact : IsExact f) (written : L
             it.votes_are ∙ ap votes_of list ∙ sym read.votes_are in
             let place_is : contents.floor ≡ at = sym (ap (λ (p : Certified × List ℕ). p.0.0) whole) in
             none (subst (λ r. MayFollow same r [] votes) place_is (subst (MayFollow same contents.floor []) list_is follows))
+
+  -- votes that aren't a journal's are of none with this owner
+  pub refused : (owner other : OwnerFields) (rest : List ℕ)
+      → owner_format.decoding written ≡ Ok (other, rest)
+      → (at : Round) (lent after : List ℕ) → certified_format.decoding rest ≡ Ok ((at, lent), after)
+      → (same : D → D → Bool) (votes : List (Vote G D)) (its : List Certified)
+      → HasRecords f after votes its [] → (fault : OpenFault) → Unfollowed same at votes fault
+      → Cause f written owner same fault
+  refused owner other rest read at lent after found same votes its records OutOfMemory why = tt
+  refused owner other rest read at lent after found same votes its records Contradiction why =
+      λ contents is text. no_follow contents text other rest read at lent after found same votes its records why
+  refused owner other rest read at lent after found same votes its records NotBegun why = absurd why
+  refused owner other rest read at lent after found same votes its records OtherVersion why = absurd why
+  refused owner other rest read at lent after found same votes its records OtherLengths why = absurd why
+  refused owner other rest read at lent after found same votes its records OtherParticipant why = absurd why
+  refused owner other rest read at lent after found same votes its records OtherKeys why = absurd why
+  refused owner other rest read at lent after found same votes its records OtherNamespace why = absurd why
+  refused owner other rest read at lent after found same votes its records Malformed why = absurd why
 
   -- what was read is all that is there
   pub found_text : (contents : Contents G D) (other : OwnerFields) (rest after : List ℕ)

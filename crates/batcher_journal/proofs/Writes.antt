@@ -7,7 +7,7 @@ use Rattle.batcher_journal.specs.Ready.{IsReady, first_of, with_more}
 use Rattle.batcher_journal.specs.Records.{AreRecords, Certified, Record, certificates_of, certified_format, record_format, records_of, records_text, votes_of}
 use Rattle.batcher_journal.specs.Text.{Contents, IsText, owner_format}
 use Rattle.batcher_journal.proofs.Following.{followed}
-use Rattle.batcher_journal.proofs.Sorting.{certificates_append, certificates_are, made, text_append, votes_append, votes_are}
+use Rattle.batcher_journal.proofs.Sorting.{all_of, certificates_append, certificates_are, made, text_append, votes_append, votes_are}
 use Rattle.batcher_journal.proofs.Texts.{values_append}
 use Rattle.batcher_types.specs.declared.messages.Vote.{Vote}
 
@@ -98,3 +98,13 @@ with_values f old left first room out bytes records none same out_is values byte
       is ∙ ap (λ t. old ++ t) (bytes_is ∙ out_is ∙ ap (λ t. t ++ records_text f records) (same ∙ none)),
       values,
     )
+
+-- A journal that was read has all of its certificates on the disk.
+pub ready_opened : {G D L : Type 0} (f : Format (Vote G D)) (same : D → D → Bool)
+    (is_settled : L → Type 0) (written : L → List ℕ) (log : L) (contents : Contents G D) (n : ℕ)
+    → n ≡ length contents.certificates → is_settled log → IsText f (written log) contents
+    → MayFollow same contents.floor [] contents.votes
+    → IsReady f same is_settled written log (first_of n contents)
+ready_opened f same is_settled written log contents n is settled text follows =
+    subst (IsReady f same is_settled written log) (sym (all_of n contents is))
+    (record { settled = settled; text = text; followed = follows })

@@ -3,6 +3,7 @@ use Rattle.std.specs.Prelude.{◌≡◌, ◌≢◌, ◌⊎◌, ℕ, Bool, List, 
 use Rattle.batcher_codec.specs.Format.{Format}
 use Rattle.batcher_codec.specs.declared.fault.DecodeFault.TheVariants.{Version}
 use Rattle.batcher_types.specs.declared.messages.Vote.{Vote}
+use Rattle.batcher_types.specs.declared.positions.Round.{Round}
 use Rattle.batcher_journal.specs.Answers.{MayFollow}
 use Rattle.batcher_journal.specs.Text.{Contents, IsText, OwnerFields, owner_format}
 use Rattle.batcher_journal.specs.declared.journal.OpenFault.{OpenFault}
@@ -15,6 +16,13 @@ Differ x y OtherParticipant = x.1.1.0 ≢ y.1.1.0
 Differ x y OtherKeys = x.1.1.1.0 ≢ y.1.1.1.0
 Differ x y OtherNamespace = x.1.1.1.1 ≢ y.1.1.1.1
 Differ x y fault = ⊥
+
+-- why votes aren't those of a journal with this floor
+abbrev pub Unfollowed : {G D : Type 0} → (D → D → Bool) → Round → List (Vote G D) → OpenFault
+    → Type 0
+Unfollowed same floor votes OutOfMemory = Unit {0}
+Unfollowed same floor votes Contradiction = MayFollow same floor [] votes → ⊥
+Unfollowed same floor votes fault = ⊥
 
 -- the bytes are of another owner
 pub record IsAnothers (written : List ℕ) (owner : OwnerFields) (fault : OpenFault) : Type 0 where

@@ -1,5 +1,5 @@
 -- Lists of own votes in which none contradict each other.
-use Rattle.std.specs.Prelude.{◌≡◌, Bool, true, false, List, All, Contains}
+use Rattle.std.specs.Prelude.{◌≡◌, ◌⊎◌, Bool, true, false, List, All, Contains}
 use Rattle.batcher.specs.Reports.{subjects_contradict}
 use Rattle.batcher_types.specs.Votes.{same_subject, subject_of}
 use Rattle.batcher_types.specs.declared.messages.Subject.{Subject}
@@ -10,6 +10,12 @@ module _ {G D : Type 0} (same : D → D → Bool) where
   abbrev pub LeavesFree : Subject D → Vote G D → Type 0
   LeavesFree subject vote = (same_subject same (subject_of vote) subject ≡ false)
       × (subjects_contradict same (subject_of vote) subject ≡ false)
+
+  -- a vote among them that is for the subject, or contradicts it
+  abbrev pub Meets : List (Vote G D) → Subject D → Vote G D → Type 0
+  Meets votes subject vote = Contains votes vote
+      × ((same_subject same (subject_of vote) subject ≡ true)
+      ⊎ (subjects_contradict same (subject_of vote) subject ≡ true))
 
   -- none of the votes is for the subject, and none contradicts it
   abbrev pub IsFree : List (Vote G D) → Subject D → Type 0

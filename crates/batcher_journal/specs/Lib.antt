@@ -2,6 +2,7 @@ pub mod Records
 pub mod Text
 pub mod Contradictions
 pub mod Floors
+pub mod Index
 pub mod Seen
 pub mod Answers
 pub mod Ready

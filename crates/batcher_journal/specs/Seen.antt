@@ -15,6 +15,6 @@ module _ {G D : Type 0} where
     owner = kept.owner;
     floor = kept.floor;
     finalization = kept.finalization.items;
-    votes = kept.votes.items;
+    votes = kept.votes;
     certificates = kept.certificates.items;
   }

@@ -2,11 +2,10 @@
 
 ghost use Rattle.std.specs.Prelude.{◌≡◌, MatchBool, true};
 ghost use Rattle.batcher_journal.specs.Answers.{Answers, MayFollow};
-ghost use Rattle.batcher_journal.specs.Contradictions.{IsFree};
 ghost use Rattle.batcher_journal.specs.Floors.{is_below};
 
+use crate::indexed::{IndexedVotes, find_among};
 use crate::journal::Answer;
-use batcher_evidence::contradict;
 use batcher_types::messages::{Digest, Subject, Vote};
 use batcher_types::positions::Round;
 
@@ -19,7 +18,7 @@ pub fn is_before(floor: Round, round: Round) -> bool
 
 /// What these votes and the floor say of a subject.
 pub fn answer_of<G: Copy, D: Digest>(
-    votes: &[Vote<G, D>],
+    votes: &IndexedVotes<G, D>,
     floor: Round,
     subject: &Subject<D>,
 ) -> Answer<G, D>
@@ -28,35 +27,21 @@ pub fn answer_of<G: Copy, D: Digest>(
     if is_before(floor, subject.round()) {
         return Answer::Over;
     }
-    for vote in votes {
-        let other = vote.subject();
-        if other.is_same(subject) {
-            return Answer::Known(*vote);
+    match votes.find(subject) {
+        Some(vote) => {
+            if vote.subject().is_same(subject) {
+                Answer::Known(vote)
+            } else {
+                Answer::Refused(vote)
+            }
         }
-        if contradict(other, *subject) {
-            return Answer::Refused(*vote);
-        }
+        None => Answer::Sign,
     }
-    Answer::Sign
-}
-
-// Whether these votes leave a subject free.
-fn is_free<G: Copy, D: Digest>(votes: &[Vote<G, D>], subject: &Subject<D>) -> bool
-    ensures { MatchBool result (IsFree D.eq votes.now subject.now)
-        (IsFree D.eq votes.now subject.now → ⊥) }
-{
-    for vote in votes {
-        let other = vote.subject();
-        if other.is_same(subject) || contradict(other, *subject) {
-            return false;
-        }
-    }
-    true
 }
 
 /// Whether votes may be written behind others.
 pub fn may_follow<G: Copy, D: Digest>(
-    old: &[Vote<G, D>],
+    old: &IndexedVotes<G, D>,
     floor: Round,
     votes: &[Vote<G, D>],
 ) -> bool
@@ -68,11 +53,13 @@ pub fn may_follow<G: Copy, D: Digest>(
         if is_before(floor, subject.round()) {
             return false;
         }
-        if !is_free(old, &subject) {
-            return false;
+        match old.find(&subject) {
+            Some(_) => return false,
+            None => {}
         }
-        if !is_free(&votes[..i], &subject) {
-            return false;
+        match find_among(&votes[..i], &subject) {
+            Some(_) => return false,
+            None => {}
         }
     }
     true

@@ -3,13 +3,14 @@
 ghost use Rattle.std.specs.Prelude.{◌≡◌, ◌++◌, [], IfErr, IfOk, List, ℕ, OnOk};
 ghost use Rattle.batcher_codec.specs.Messages.{vote_format};
 ghost use Rattle.batcher_journal.specs.Answers.{MayFollow};
-ghost use Rattle.batcher_journal.specs.Causes.{Cause, Differ};
+ghost use Rattle.batcher_journal.specs.Causes.{Cause, Differ, Unfollowed};
 ghost use Rattle.batcher_journal.specs.Floors.{certified_from, from_floor};
 ghost use Rattle.batcher_journal.specs.Ready.{begun, left_by};
 ghost use Rattle.batcher_journal.specs.Seen.{contents_of};
 ghost use Rattle.batcher_journal.specs.Text.{IsText, fields_of};
 
-use crate::asking::{is_before, may_follow};
+use crate::asking::is_before;
+use crate::indexed::IndexedVotes;
 use crate::journal::OpenFault;
 use crate::owner::{Owner, Whose, owner_in, put_owner};
 use crate::records::{Certified, Records, certified_in, put_certified, put_records, records_in};
@@ -20,11 +21,11 @@ use std::alloc::{AllocError, Global};
 
 /// What is in a journal, in memory.
 #[derive(Drop)]
-pub struct Kept<G, D> {
+pub struct Kept<G: Copy, D: Digest> {
     pub owner: Whose,
     pub floor: Round,
     pub finalization: Vec<u8>,
-    pub votes: Vec<Vote<G, D>>,
+    pub votes: IndexedVotes<G, D>,
     pub certificates: Vec<Certified>,
 }
 
@@ -51,6 +52,32 @@ fn check_owner(other: &Owner, owner: &Owner) -> Result<(), OpenFault>
     Ok(())
 }
 
+// The votes with an index, if each was to be signed as it was written.
+fn indexed<G: Copy, D: Digest>(
+    alloc: Global,
+    floor: Round,
+    votes: &[Vote<G, D>],
+) -> Result<IndexedVotes<G, D>, OpenFault>
+    ensures found { IfOk result (λ it. it ≡ votes.now) }
+    ensures followed { OnOk result (MayFollow D.eq floor [] votes.now) }
+    ensures refused { IfErr result (Unfollowed D.eq floor votes.now) }
+{
+    let mut all = IndexedVotes::of(Vec::new(alloc));
+    for vote in votes {
+        let subject = vote.subject();
+        if is_before(floor, subject.round()) {
+            return Err(OpenFault::Contradiction);
+        }
+        match all.find(&subject) {
+            Some(_) => return Err(OpenFault::Contradiction),
+            None => {}
+        }
+        all.push(*vote)?;
+        all.index_more();
+    }
+    Ok(all)
+}
+
 /// What is in the bytes, if they are this owner's.
 pub fn kept_in<G: Codec, D: Digest + Codec>(
     alloc: Global,
@@ -60,7 +87,7 @@ pub fn kept_in<G: Codec, D: Digest + Codec>(
     ensures found { IfOk result (λ it.
         IsText (vote_format G.format D.format) bytes.now (contents_of it)) }
     ensures owner { IfOk result (λ it. it.owner ≡ fields_of owner.now) }
-    ensures followed { IfOk result (λ it. MayFollow D.eq it.floor [] it.votes.items) }
+    ensures followed { IfOk result (λ it. MayFollow D.eq it.floor [] it.votes) }
     ensures refused { IfErr result (Cause (vote_format G.format D.format) bytes.now
         (fields_of owner.now) D.eq) }
 {
@@ -88,9 +115,10 @@ pub fn kept_in<G: Codec, D: Digest + Codec>(
         Err(DecodeError::OutOfMemory) => return Err(OpenFault::OutOfMemory),
         Err(DecodeError::Fault(_)) => return Err(OpenFault::Malformed),
     };
-    if !may_follow(&votes[..0], floor, &votes) {
-        return Err(OpenFault::Contradiction);
-    }
+    let votes = match indexed(alloc, floor, &votes) {
+        Ok(votes) => votes,
+        Err(fault) => return Err(fault),
+    };
     Ok(Kept {
         owner: Whose::of(alloc, owner)?,
         floor,
@@ -117,7 +145,7 @@ pub fn first_text<G: Codec, D: Codec>(
 }
 
 /// What a floor leaves of a journal, in memory and as bytes.
-pub struct Raised<G, D> {
+pub struct Raised<G: Copy, D: Digest> {
     pub text: Vec<u8>,
     pub kept: Kept<G, D>,
 }
@@ -140,13 +168,13 @@ pub fn raise<G: Codec, D: Digest + Codec>(
         owner: Whose::of(alloc, owner)?,
         floor,
         finalization: copy_of(alloc, finalization)?,
-        votes: votes_from(alloc, floor, votes)?,
+        votes: IndexedVotes::of(votes_from(alloc, floor, votes)?),
         certificates: certificates_from(alloc, floor, certificates)?,
     };
     let mut text = Vec::new(alloc);
     put_owner(owner, &mut text)?;
     put_certified(floor, finalization, &mut text)?;
-    put_records(&kept.votes, &kept.certificates, &mut text)?;
+    put_records(kept.votes.as_slice(), &kept.certificates, &mut text)?;
     Ok(Raised { text, kept })
 }
 

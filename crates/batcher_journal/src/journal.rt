@@ -16,6 +16,7 @@ ghost use Rattle.batcher_log.specs.declared.LogFault.TheVariants.{Failed as LogF
 
 use crate::asking::{answer_of, is_before, may_follow};
 use crate::contents::{Kept, Raised, first_text, kept_in, raise};
+use crate::indexed::IndexedVotes;
 use crate::owner::{Owner, Whose};
 use crate::records::{Certified, put_records};
 use batcher_codec::Codec;
@@ -245,7 +246,7 @@ impl<G: Codec, D: Digest + Codec, L: Log> Journal<G, D, L> {
     pub fn votes(&self) -> &[Vote<G, D>]
         ensures { result.now ≡ self.now.contents.votes }
     {
-        &self.kept.votes
+        self.kept.votes.as_slice()
     }
 
     /// The certificates that are on the disk beside them.
@@ -314,6 +315,7 @@ impl<G: Codec, D: Digest + Codec, L: Log> Journal<G, D, L> {
         let unwritten = &self.kept.certificates[self.written..];
         match write_to(&mut self.log, &mut self.kept.votes, votes, unwritten) {
             Ok(()) => {
+                self.kept.votes.index_more();
                 self.written = self.kept.certificates.len();
                 Ok(())
             }
@@ -355,7 +357,7 @@ impl<G: Codec, D: Digest + Codec, L: Log> Journal<G, D, L> {
         if !self.is_open {
             return Err(RaiseFault::Closed);
         }
-        match Whose::of(*self.kept.votes.allocator(), &self.kept.owner.lend()) {
+        match Whose::of(self.kept.votes.allocator(), &self.kept.owner.lend()) {
             Ok(owner) => self.begin_epoch(&owner.lend(), floor, finalization),
             Err(_) => Err(RaiseFault::OutOfMemory),
         }
@@ -396,8 +398,8 @@ impl<G: Codec, D: Digest + Codec, L: Log> Journal<G, D, L> {
         if is_before(self.kept.floor, floor) {
             return Err(RaiseFault::Lower);
         }
-        let alloc = *self.kept.votes.allocator();
-        let (votes, certificates) = (&self.kept.votes, &self.kept.certificates);
+        let alloc = self.kept.votes.allocator();
+        let (votes, certificates) = (self.kept.votes.as_slice(), &self.kept.certificates);
         let raised = raise(alloc, owner, floor, finalization, votes, certificates);
         let Raised { text, kept } = match raised {
             Ok(raised) => raised,
@@ -422,7 +424,7 @@ impl<G: Codec, D: Digest + Codec, L: Log> Journal<G, D, L> {
 // Writes votes and certificates to the log, and then keeps the votes.
 fn write_to<G: Codec, D: Digest + Codec, L: Log>(
     log: &mut L,
-    votes: &mut Vec<Vote<G, D>>,
+    votes: &mut IndexedVotes<G, D>,
     more: &[Vote<G, D>],
     certificates: &[Certified],
 ) -> Result<(), LogFault>
@@ -431,11 +433,11 @@ fn write_to<G: Codec, D: Digest + Codec, L: Log>(
         × (L.written log.new ≡ L.written log.old
         ++ records_text (vote_format G.format D.format) (records_of more.now certificates.now))
         × AreRecords (vote_format G.format D.format) (records_of more.now certificates.now)
-        × (votes.new.items ≡ votes.old.items ++ more.now)) }
+        × (votes.new ≡ votes.old ++ more.now)) }
     ensures kept { (result ≡ Err LogMemory) ⊎ (result ≡ Err LogFull)
         → L.is_settled log.new × (L.written log.new ≡ L.written log.old) }
     ensures failed { result ≡ Err LogFailed → L.has_failed log.new }
-    ensures err { OnErr result (votes.new.items ≡ votes.old.items) }
+    ensures err { OnErr result (votes.new ≡ votes.old) }
     ensures leaves { (left : List ℕ) → L.is_honest log.new → L.may_leave log.new left
         → (left ≡ L.written log.old) ⊎ ((left ≡ L.written log.old
         ++ records_text (vote_format G.format D.format) (records_of more.now certificates.now))
@@ -443,7 +445,7 @@ fn write_to<G: Codec, D: Digest + Codec, L: Log>(
     ensures opens { L.is_honest log.new → L.may_lose log.new → ⊥ }
     ensures honest { L.is_honest log.new → L.is_honest log.old }
 {
-    let mut bytes = Vec::new(*votes.allocator());
+    let mut bytes = Vec::new(votes.allocator());
     // As the record of a vote has with a digest of 32 bytes and a signature of 64.
     match bytes.reserve(127) {
         Ok(()) => {}
@@ -453,8 +455,8 @@ fn write_to<G: Codec, D: Digest + Codec, L: Log>(
         Ok(()) => {}
         Err(_) => return Err(LogFault::OutOfMemory),
     }
-    let len = votes.len();
-    match votes.extend_from_slice(more) {
+    let len = votes.as_slice().len();
+    match votes.extend(more) {
         Ok(()) => {}
         Err(_) => return Err(LogFault::OutOfMemory),
     }

@@ -4,6 +4,7 @@
 
 mod asking;
 mod contents;
+mod indexed;
 mod journal;
 mod owner;
 mod records;

@@ -1,28 +1,32 @@
-use Rattle.std.proofs.Common.{ap, subst, sym, take, ◌∙◌}
+use Rattle.std.proofs.Common.{ap, refl, subst, sym, take, ◌∙◌}
 use Rattle.batcher_journal.specs.Contradictions.{IsFree}
 use Rattle.batcher_journal.specs.Floors.{is_below}
 use Rattle.batcher_journal.proofs.Following.{all_follow, more_follow, not_new, not_old}
+use Rattle.batcher_journal.proofs.Indexing.{met_not_free}
 use Rattle.batcher_journal.proofs.asking.may_follow.Goals as goal
 use Rattle.batcher_types.specs.Votes.{round_in}
 
-pub returns-then-not-is_free : goal.returns-then-not-is_free
-returns-then-not-is_free g c =
+pub returns-in-Some : goal.returns-in-Some
+returns-in-Some g c =
     not_old g.D.PartialEq.eq c.args.floor c.args.old.now c.args.votes.now c.loop-i.i c.index-votes-i.result
     c.loop-i-test.true c.index-votes-i.is
-    (subst (λ s. IsFree g.D.PartialEq.eq c.args.old.now s → ⊥) c.subject-subject.ensures c.if-not-is_free.ensures)
+    (subst (λ s. IsFree g.D.PartialEq.eq c.args.old.now s → ⊥) c.subject-subject.ensures
+    (met_not_free g.D.PartialEq.eq c.args.old.now c.subject-subject.result _ c.in-Some.ensures.some))
 
-pub returns-then-not-is_free-2 : goal.returns-then-not-is_free-2
-returns-then-not-is_free-2 g c =
+pub returns-in-Some-find_among : goal.returns-in-Some-find_among
+returns-in-Some-find_among g c =
     not_new g.D.PartialEq.eq c.args.floor c.args.old.now c.args.votes.now c.loop-i.i c.index-votes-i.result
     c.loop-i-test.true c.index-votes-i.is
-    (subst (λ s. IsFree g.D.PartialEq.eq (take c.loop-i.i c.args.votes.now) s → ⊥) c.subject-subject.ensures c.if-not-is_free-2.ensures)
+    (subst (λ s. IsFree g.D.PartialEq.eq (take c.loop-i.i c.args.votes.now) s → ⊥) c.subject-subject.ensures
+    (met_not_free g.D.PartialEq.eq (take c.loop-i.i c.args.votes.now) c.subject-subject.result _ c.in-Some-find_among.ensures.some))
 
 pub loop-i-preserved : goal.loop-i-preserved
 loop-i-preserved g c =
     more_follow g.D.PartialEq.eq c.args.floor c.args.old.now c.args.votes.now c.loop-i.i c.index-votes-i.result
     c.loop-i-test.true c.index-votes-i.is c.loop-i.invariant
-    (subst (IsFree g.D.PartialEq.eq c.args.old.now) c.subject-subject.ensures c.if-not-is_free.ensures)
-    (subst (IsFree g.D.PartialEq.eq (take c.loop-i.i c.args.votes.now)) c.subject-subject.ensures c.if-not-is_free-2.ensures)
+    (subst (IsFree g.D.PartialEq.eq c.args.old.now) c.subject-subject.ensures (c.in-None.ensures.none refl))
+    (subst (IsFree g.D.PartialEq.eq (take c.loop-i.i c.args.votes.now)) c.subject-subject.ensures
+    (c.in-None-find_among.ensures.none refl))
     (ap (is_below c.args.floor) (ap round_in (sym c.subject-subject.ensures) ∙ sym c.round.ensures) ∙ sym c.if-is_before.ensures)
 
 pub returns : goal.returns

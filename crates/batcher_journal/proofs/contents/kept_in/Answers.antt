@@ -1,9 +1,11 @@
-use Rattle.std.proofs.Common.{Err, Ok, ap, subst, sym, take, ◌∙◌}
+use Rattle.std.proofs.Common.{[], Err, Ok, ap, subst, sym, ◌∙◌}
 use Rattle.batcher_codec.specs.Lawful.{vote_is_exact}
 use Rattle.batcher_codec.specs.Messages.{vote_format}
-use Rattle.batcher_journal.specs.Answers.{MayFollow}
+use Rattle.batcher_journal.specs.Causes.{Unfollowed}
+use Rattle.batcher_journal.specs.Records.{HasRecords}
+use Rattle.batcher_journal.specs.Text.{fields_of}
 use Rattle.batcher_journal.specs.Seen.{contents_of}
-use Rattle.batcher_journal.proofs.Splitting.{found_text, no_floor, no_follow, no_owner, no_records}
+use Rattle.batcher_journal.proofs.Splitting.{found_text, no_floor, no_owner, no_records, refused}
 use Rattle.batcher_journal.proofs.contents.kept_in.Goals as goal
 
 pub returns-in-Err : goal.returns-in-Err
@@ -32,15 +34,14 @@ returns-in-Err-Fault-clause-refused g c =
     c.args.bytes.now contents text _ _ c.in-Ok.ensures _ _ _ c.in-Ok-certified_in.ensures
     (c.in-Err-Fault.ensures.fault c.in-Err-Fault.field-0-0 (ap (λ e. Err e) c.in-Err-Fault.field-0-is))
 
-pub returns-then-not-may_follow-clause-refused : goal.returns-then-not-may_follow-clause-refused
-returns-then-not-may_follow-clause-refused g c =
-    λ contents is text follows.
-    no_follow (vote_format g.G.Codec.format g.D.Codec.format)
+pub returns-in-Err-indexed-clause-refused : goal.returns-in-Err-indexed-clause-refused
+returns-in-Err-indexed-clause-refused g c =
+    refused (vote_format g.G.Codec.format g.D.Codec.format)
     (vote_is_exact g.G.Codec.format g.D.Codec.format g.met.G.Codec.exact g.met.D.Codec.exact)
-    c.args.bytes.now contents text _ _ c.in-Ok.ensures _ _ _ c.in-Ok-certified_in.ensures
-    g.D.PartialEq.eq _ _ c.in-Ok-records_in.ensures.found
-    (subst (λ vs. MayFollow g.D.PartialEq.eq c.in-Ok-certified_in.it.0 (take 0 vs) vs → ⊥) c.deref-2.ensures.value c.if-not-may_follow.ensures)
-    follows
+    c.args.bytes.now (fields_of c.args.owner.now) _ _ c.in-Ok.ensures _ _ _ c.in-Ok-certified_in.ensures
+    g.D.PartialEq.eq _ _ c.in-Ok-records_in.ensures.found c.in-Err-indexed.fault
+    (subst (λ vs. Unfollowed g.D.PartialEq.eq c.in-Ok-certified_in.it.0 vs c.in-Err-indexed.fault) c.deref.ensures.value
+    c.in-Err-indexed.ensures.refused)
 
 pub returns-clause-found : goal.returns-clause-found
 returns-clause-found g c =
@@ -50,12 +51,10 @@ returns-clause-found g c =
       owner = c.in_ok-of.field-0;
       floor = c.in-Ok-certified_in.it.0;
       finalization = c.in_ok-copy_of.field-0;
-      votes = c.in-Ok-records_in.records.votes;
+      votes = c.in-Ok-indexed.votes;
       certificates = c.in-Ok-records_in.records.certificates;
     })) _ _ _ c.type_inv.bytes c.in-Ok.ensures (c.in-Ok-check_owner.ensures.ok ∙ sym c.in_ok-of.ensures)
     (c.in-Ok-certified_in.ensures ∙ ap (λ t. Ok ((c.in-Ok-certified_in.it.0, t), c.in-Ok-certified_in.it.2.now)) (sym c.in_ok-copy_of.ensures))
-    c.in-Ok-records_in.ensures.found
-
-pub returns-clause-followed : goal.returns-clause-followed
-returns-clause-followed g c =
-    subst (λ vs. MayFollow g.D.PartialEq.eq c.in-Ok-certified_in.it.0 (take 0 vs) vs) c.deref-2.ensures.value c.if-not-may_follow.ensures
+    (subst (λ vs. HasRecords (vote_format g.G.Codec.format g.D.Codec.format) c.in-Ok-certified_in.it.2.now vs
+    c.in-Ok-records_in.records.certificates.items [])
+    (sym (c.in-Ok-indexed.ensures.found ∙ c.deref.ensures.value)) c.in-Ok-records_in.ensures.found)

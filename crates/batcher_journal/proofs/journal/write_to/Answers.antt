@@ -4,10 +4,13 @@ use Rattle.batcher_journal.specs.Records.{records_of}
 use Rattle.batcher_journal.proofs.Writes.{with_values}
 use Rattle.batcher_journal.proofs.journal.write_to.Goals as goal
 
-pub returns-in-Err-extend_from_slice-clause-leaves :
-    goal.returns-in-Err-extend_from_slice-clause-leaves
-returns-in-Err-extend_from_slice-clause-leaves g c =
+pub returns-in-Err-extend-clause-leaves : goal.returns-in-Err-extend-clause-leaves
+returns-in-Err-extend-clause-leaves g c =
     λ left honest may. inl (g.met.L.Log.settled c.args.log.now left honest c.requires may)
+
+pub returns-in-Err-extend-clause-opens : goal.returns-in-Err-extend-clause-opens
+returns-in-Err-extend-clause-opens g c =
+    λ honest lose. g.met.L.Log.kept c.args.log.now honest c.requires lose
 
 pub returns-in-Ok-append-clause-leaves : goal.returns-in-Ok-append-clause-leaves
 returns-in-Ok-append-clause-leaves g c =

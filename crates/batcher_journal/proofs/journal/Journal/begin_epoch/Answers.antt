@@ -34,10 +34,10 @@ invariant_of-self g c = (
       c.self.inside.log c.self.inside.written (contents_of c.self.inside.kept) (c.self.invariant.1 is_open) (fields_of c.args.owner.now) c.args.floor
       c.args.finalization.now
       (contents_of c.in-Ok.raised.kept) (c.in-Ok.ensures.kept
-      ∙ ap (λ vs. left_by (fields_of c.args.owner.now) c.args.floor c.args.finalization.now vs c.deref-2.result.now) c.deref.ensures.value
-      ∙ ap (λ its. left_by (fields_of c.args.owner.now) c.args.floor c.args.finalization.now c.self.inside.kept.votes.items its) c.deref-2.ensures.value)
-      c.replace.new.self c.deref-3.result.now c.len-self-inside.result (c.len-self-inside.ensures ∙ c.in-Ok.raised.kept.certificates.ok.0) (subst (λ
-      t. IsText (vote_format g.G.Codec.format g.D.Codec.format) t (contents_of c.in-Ok.raised.kept)) (sym c.deref-3.ensures.value) c.in-Ok.ensures.text)
+      ∙ ap (λ vs. left_by (fields_of c.args.owner.now) c.args.floor c.args.finalization.now vs c.deref.result.now) c.as_slice-votes.ensures
+      ∙ ap (λ its. left_by (fields_of c.args.owner.now) c.args.floor c.args.finalization.now c.self.inside.kept.votes its) c.deref.ensures.value)
+      c.replace.new.self c.deref-2.result.now c.len-self-inside.result (c.len-self-inside.ensures ∙ c.in-Ok.raised.kept.certificates.ok.0) (subst (λ
+      t. IsText (vote_format g.G.Codec.format g.D.Codec.format) t (contents_of c.in-Ok.raised.kept)) (sym c.deref-2.ensures.value) c.in-Ok.ensures.text)
       c.in-Ok-replace.ensures.ok.0 c.in-Ok-replace.ensures.ok.1,
 )
 
@@ -52,10 +52,10 @@ returns-in-Ok-replace-clause-leaves g c =
     c.self.inside.log c.self.inside.written (contents_of c.self.inside.kept) (c.self.invariant.1 is_open) (fields_of c.args.owner.now) c.args.floor
     c.args.finalization.now
     (contents_of c.in-Ok.raised.kept) (c.in-Ok.ensures.kept
-    ∙ ap (λ vs. left_by (fields_of c.args.owner.now) c.args.floor c.args.finalization.now vs c.deref-2.result.now) c.deref.ensures.value
-    ∙ ap (λ its. left_by (fields_of c.args.owner.now) c.args.floor c.args.finalization.now c.self.inside.kept.votes.items its) c.deref-2.ensures.value)
-    left c.deref-3.result.now (sym c.if-is_before.ensures) (subst (λ t. IsText (vote_format g.G.Codec.format g.D.Codec.format) t (contents_of
-    c.in-Ok.raised.kept)) (sym c.deref-3.ensures.value) c.in-Ok.ensures.text)
+    ∙ ap (λ vs. left_by (fields_of c.args.owner.now) c.args.floor c.args.finalization.now vs c.deref.result.now) c.as_slice-votes.ensures
+    ∙ ap (λ its. left_by (fields_of c.args.owner.now) c.args.floor c.args.finalization.now c.self.inside.kept.votes its) c.deref.ensures.value)
+    left c.deref-2.result.now (sym c.if-is_before.ensures) (subst (λ t. IsText (vote_format g.G.Codec.format g.D.Codec.format) t (contents_of
+    c.in-Ok.raised.kept)) (sym c.deref-2.ensures.value) c.in-Ok.ensures.text)
     (c.replace.ensures.leaves left honest may))
 
 pub returns-in-Ok-replace-clause-honest : goal.returns-in-Ok-replace-clause-honest
@@ -73,10 +73,10 @@ returns-in-Err-OutOfMemory-clause-leaves g c =
     c.self.inside.log c.self.inside.written (contents_of c.self.inside.kept) (c.self.invariant.1 is_open) (fields_of c.args.owner.now) c.args.floor
     c.args.finalization.now
     (contents_of c.in-Ok.raised.kept) (c.in-Ok.ensures.kept
-    ∙ ap (λ vs. left_by (fields_of c.args.owner.now) c.args.floor c.args.finalization.now vs c.deref-2.result.now) c.deref.ensures.value
-    ∙ ap (λ its. left_by (fields_of c.args.owner.now) c.args.floor c.args.finalization.now c.self.inside.kept.votes.items its) c.deref-2.ensures.value)
-    left c.deref-3.result.now (sym c.if-is_before.ensures) (subst (λ t. IsText (vote_format g.G.Codec.format g.D.Codec.format) t (contents_of
-    c.in-Ok.raised.kept)) (sym c.deref-3.ensures.value) c.in-Ok.ensures.text)
+    ∙ ap (λ vs. left_by (fields_of c.args.owner.now) c.args.floor c.args.finalization.now vs c.deref.result.now) c.as_slice-votes.ensures
+    ∙ ap (λ its. left_by (fields_of c.args.owner.now) c.args.floor c.args.finalization.now c.self.inside.kept.votes its) c.deref.ensures.value)
+    left c.deref-2.result.now (sym c.if-is_before.ensures) (subst (λ t. IsText (vote_format g.G.Codec.format g.D.Codec.format) t (contents_of
+    c.in-Ok.raised.kept)) (sym c.deref-2.ensures.value) c.in-Ok.ensures.text)
     (c.replace.ensures.leaves left honest may))
 
 pub returns-in-Err-OutOfMemory-clause-honest : goal.returns-in-Err-OutOfMemory-clause-honest
@@ -94,10 +94,10 @@ returns-in-Err-Full-clause-leaves g c =
     c.self.inside.log c.self.inside.written (contents_of c.self.inside.kept) (c.self.invariant.1 is_open) (fields_of c.args.owner.now) c.args.floor
     c.args.finalization.now
     (contents_of c.in-Ok.raised.kept) (c.in-Ok.ensures.kept
-    ∙ ap (λ vs. left_by (fields_of c.args.owner.now) c.args.floor c.args.finalization.now vs c.deref-2.result.now) c.deref.ensures.value
-    ∙ ap (λ its. left_by (fields_of c.args.owner.now) c.args.floor c.args.finalization.now c.self.inside.kept.votes.items its) c.deref-2.ensures.value)
-    left c.deref-3.result.now (sym c.if-is_before.ensures) (subst (λ t. IsText (vote_format g.G.Codec.format g.D.Codec.format) t (contents_of
-    c.in-Ok.raised.kept)) (sym c.deref-3.ensures.value) c.in-Ok.ensures.text)
+    ∙ ap (λ vs. left_by (fields_of c.args.owner.now) c.args.floor c.args.finalization.now vs c.deref.result.now) c.as_slice-votes.ensures
+    ∙ ap (λ its. left_by (fields_of c.args.owner.now) c.args.floor c.args.finalization.now c.self.inside.kept.votes its) c.deref.ensures.value)
+    left c.deref-2.result.now (sym c.if-is_before.ensures) (subst (λ t. IsText (vote_format g.G.Codec.format g.D.Codec.format) t (contents_of
+    c.in-Ok.raised.kept)) (sym c.deref-2.ensures.value) c.in-Ok.ensures.text)
     (c.replace.ensures.leaves left honest may))
 
 pub returns-in-Err-Full-clause-honest : goal.returns-in-Err-Full-clause-honest
@@ -133,10 +133,10 @@ returns-clause-leaves g c =
     c.self.inside.log c.self.inside.written (contents_of c.self.inside.kept) (c.self.invariant.1 is_open) (fields_of c.args.owner.now) c.args.floor
     c.args.finalization.now
     (contents_of c.in-Ok.raised.kept) (c.in-Ok.ensures.kept
-    ∙ ap (λ vs. left_by (fields_of c.args.owner.now) c.args.floor c.args.finalization.now vs c.deref-2.result.now) c.deref.ensures.value
-    ∙ ap (λ its. left_by (fields_of c.args.owner.now) c.args.floor c.args.finalization.now c.self.inside.kept.votes.items its) c.deref-2.ensures.value)
-    left c.deref-3.result.now (sym c.if-is_before.ensures) (subst (λ t. IsText (vote_format g.G.Codec.format g.D.Codec.format) t (contents_of
-    c.in-Ok.raised.kept)) (sym c.deref-3.ensures.value) c.in-Ok.ensures.text)
+    ∙ ap (λ vs. left_by (fields_of c.args.owner.now) c.args.floor c.args.finalization.now vs c.deref.result.now) c.as_slice-votes.ensures
+    ∙ ap (λ its. left_by (fields_of c.args.owner.now) c.args.floor c.args.finalization.now c.self.inside.kept.votes its) c.deref.ensures.value)
+    left c.deref-2.result.now (sym c.if-is_before.ensures) (subst (λ t. IsText (vote_format g.G.Codec.format g.D.Codec.format) t (contents_of
+    c.in-Ok.raised.kept)) (sym c.deref-2.ensures.value) c.in-Ok.ensures.text)
     (c.replace.ensures.leaves left honest may))
 
 pub returns-clause-honest : goal.returns-clause-honest

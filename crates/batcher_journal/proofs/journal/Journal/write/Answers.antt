@@ -4,7 +4,8 @@ use Rattle.batcher_journal.specs.Answers.{MayFollow}
 use Rattle.batcher_journal.specs.Ready.{Has, IsReady, WriteLeaves, first_of, with_more}
 use Rattle.batcher_journal.specs.Records.{AreRecords, records_of, records_text}
 use Rattle.batcher_journal.specs.Seen.{contents_of}
-use Rattle.batcher_journal.proofs.Sorting.{made, none_left, rest_of}
+use Rattle.batcher_journal.proofs.Indexing.{rest}
+use Rattle.batcher_journal.proofs.Sorting.{made, none_left}
 use Rattle.batcher_journal.proofs.Writes.{more_is, ready_more, ready_same, stays, write_leaves}
 use Rattle.batcher_journal.proofs.journal.Journal.write.Goals as goal
 
@@ -13,8 +14,7 @@ returns-then-not-may_follow-clause-not_free g c =
     λ fault. (
       refl,
       subst (λ v. MayFollow g.D.PartialEq.eq v.contents.floor v.contents.votes c.args.votes.now → ⊥) c.self.view_is
-          (subst (λ vs. MayFollow g.D.PartialEq.eq c.self.inside.kept.floor vs c.args.votes.now → ⊥) c.deref.ensures.value
-          c.if-not-may_follow.ensures),
+          c.if-not-may_follow.ensures,
     )
 
 pub returns-then-not-may_follow-clause-leaves : goal.returns-then-not-may_follow-clause-leaves
@@ -40,15 +40,15 @@ invariant_of-self g c = (
       c.self.inside.written (contents_of c.self.inside.kept)) (c.self.invariant.1 is_open)
       c.write_to.new.log c.args.votes.now (drop c.self.inside.written c.self.inside.kept.certificates.items) (first_of c.len-self-inside.result (made
       c.self.inside.kept.owner c.self.inside.kept.floor c.self.inside.kept.finalization.items
-      c.write_to.new.votes.items c.self.inside.kept.certificates.items)) (more_is c.self.inside.written c.len-self-inside.result (contents_of
-      c.self.inside.kept) c.args.votes.now c.write_to.new.votes.items (drop c.self.inside.written c.self.inside.kept.certificates.items)
-      (c.len-self-inside.ensures ∙ c.self.inside.kept.certificates.ok.0) c.in-Ok.ensures.ok.3 refl) c.in-Ok.ensures.ok.0
+      c.index_more.new.self c.self.inside.kept.certificates.items)) (more_is c.self.inside.written c.len-self-inside.result (contents_of
+      c.self.inside.kept) c.args.votes.now c.index_more.new.self (drop c.self.inside.written c.self.inside.kept.certificates.items)
+      (c.len-self-inside.ensures ∙ c.self.inside.kept.certificates.ok.0) (c.index_more.ensures ∙ c.in-Ok.ensures.ok.3) refl) c.in-Ok.ensures.ok.0
       (subst (λ its. g.L.Log.written c.write_to.new.log ≡ g.L.Log.written c.self.inside.log
-      ++ records_text (vote_format g.G.Codec.format g.D.Codec.format) (records_of c.args.votes.now its)) (rest_of c.self.inside.written
-      c.deref-2.result.now c.self.inside.kept.certificates.items c.deref-2.ensures.value) c.in-Ok.ensures.ok.1)
-      (subst (λ its. AreRecords (vote_format g.G.Codec.format g.D.Codec.format) (records_of c.args.votes.now its)) (rest_of c.self.inside.written
-      c.deref-2.result.now c.self.inside.kept.certificates.items c.deref-2.ensures.value) c.in-Ok.ensures.ok.2)
-      (subst (λ vs. MayFollow g.D.PartialEq.eq c.self.inside.kept.floor vs c.args.votes.now) c.deref.ensures.value c.if-not-may_follow.ensures),
+      ++ records_text (vote_format g.G.Codec.format g.D.Codec.format) (records_of c.args.votes.now its)) (rest c.self.inside.written
+      c.deref.result.now c.self.inside.kept.certificates.items c.deref.ensures.value) c.in-Ok.ensures.ok.1)
+      (subst (λ its. AreRecords (vote_format g.G.Codec.format g.D.Codec.format) (records_of c.args.votes.now its)) (rest c.self.inside.written
+      c.deref.result.now c.self.inside.kept.certificates.items c.deref.ensures.value) c.in-Ok.ensures.ok.2)
+      c.if-not-may_follow.ensures,
 )
 
 pub returns-in-Ok-clause-written : goal.returns-in-Ok-clause-written
@@ -56,16 +56,16 @@ returns-in-Ok-clause-written g c =
     subst (λ v. (v.is_open ≡ true) × MayFollow g.D.PartialEq.eq v.contents.floor v.contents.votes c.args.votes.now × Has (record {
       log = c.write_to.new.log;
       contents = first_of c.len-self-inside.result (made c.self.inside.kept.owner c.self.inside.kept.floor c.self.inside.kept.finalization.items
-          c.write_to.new.votes.items c.self.inside.kept.certificates.items);
+          c.index_more.new.self c.self.inside.kept.certificates.items);
       unwritten = drop c.len-self-inside.result c.self.inside.kept.certificates.items;
       is_open = c.self.inside.is_open;
     }) (with_more v.contents c.args.votes.now v.unwritten)) c.self.view_is (
       c.if-not-self.false,
-      (subst (λ vs. MayFollow g.D.PartialEq.eq c.self.inside.kept.floor vs c.args.votes.now) c.deref.ensures.value c.if-not-may_follow.ensures),
+      c.if-not-may_follow.ensures,
       record {
         contents_are = (more_is c.self.inside.written c.len-self-inside.result (contents_of c.self.inside.kept) c.args.votes.now
-            c.write_to.new.votes.items (drop c.self.inside.written c.self.inside.kept.certificates.items) (c.len-self-inside.ensures ∙
-            c.self.inside.kept.certificates.ok.0) c.in-Ok.ensures.ok.3 refl);
+            c.index_more.new.self (drop c.self.inside.written c.self.inside.kept.certificates.items) (c.len-self-inside.ensures ∙
+            c.self.inside.kept.certificates.ok.0) (c.index_more.ensures ∙ c.in-Ok.ensures.ok.3) refl);
         all_written = none_left c.len-self-inside.result c.self.inside.kept.certificates.items (c.len-self-inside.ensures ∙
             c.self.inside.kept.certificates.ok.0);
         is_open = c.if-not-self.false;
@@ -78,15 +78,15 @@ returns-in-Ok-clause-on_disk g c =
     (first_of c.self.inside.written (contents_of c.self.inside.kept)) (c.self.invariant.1 c.if-not-self.false)
     c.write_to.new.log c.args.votes.now (drop c.self.inside.written c.self.inside.kept.certificates.items) (first_of c.len-self-inside.result (made
     c.self.inside.kept.owner c.self.inside.kept.floor c.self.inside.kept.finalization.items
-    c.write_to.new.votes.items c.self.inside.kept.certificates.items)) (more_is c.self.inside.written c.len-self-inside.result (contents_of
-    c.self.inside.kept) c.args.votes.now c.write_to.new.votes.items (drop c.self.inside.written c.self.inside.kept.certificates.items)
-    (c.len-self-inside.ensures ∙ c.self.inside.kept.certificates.ok.0) c.in-Ok.ensures.ok.3 refl) c.in-Ok.ensures.ok.0
+    c.index_more.new.self c.self.inside.kept.certificates.items)) (more_is c.self.inside.written c.len-self-inside.result (contents_of
+    c.self.inside.kept) c.args.votes.now c.index_more.new.self (drop c.self.inside.written c.self.inside.kept.certificates.items)
+    (c.len-self-inside.ensures ∙ c.self.inside.kept.certificates.ok.0) (c.index_more.ensures ∙ c.in-Ok.ensures.ok.3) refl) c.in-Ok.ensures.ok.0
     (subst (λ its. g.L.Log.written c.write_to.new.log ≡ g.L.Log.written c.self.inside.log
-    ++ records_text (vote_format g.G.Codec.format g.D.Codec.format) (records_of c.args.votes.now its)) (rest_of c.self.inside.written
-    c.deref-2.result.now c.self.inside.kept.certificates.items c.deref-2.ensures.value) c.in-Ok.ensures.ok.1)
-    (subst (λ its. AreRecords (vote_format g.G.Codec.format g.D.Codec.format) (records_of c.args.votes.now its)) (rest_of c.self.inside.written
-    c.deref-2.result.now c.self.inside.kept.certificates.items c.deref-2.ensures.value) c.in-Ok.ensures.ok.2)
-    (subst (λ vs. MayFollow g.D.PartialEq.eq c.self.inside.kept.floor vs c.args.votes.now) c.deref.ensures.value c.if-not-may_follow.ensures) in
+    ++ records_text (vote_format g.G.Codec.format g.D.Codec.format) (records_of c.args.votes.now its)) (rest c.self.inside.written c.deref.result.now
+    c.self.inside.kept.certificates.items c.deref.ensures.value) c.in-Ok.ensures.ok.1)
+    (subst (λ its. AreRecords (vote_format g.G.Codec.format g.D.Codec.format) (records_of c.args.votes.now its)) (rest c.self.inside.written
+    c.deref.result.now c.self.inside.kept.certificates.items c.deref.ensures.value) c.in-Ok.ensures.ok.2)
+    c.if-not-may_follow.ensures in
     (ready.settled, ready.text)
 
 pub invariant_of-self-in-Err-OutOfMemory : goal.invariant_of-self-in-Err-OutOfMemory
@@ -122,11 +122,11 @@ returns-in-Ok-clause-leaves g c =
     write_leaves (vote_format g.G.Codec.format g.D.Codec.format) g.D.PartialEq.eq g.L.Log.is_settled g.L.Log.written c.self.inside.log (first_of
     c.self.inside.written (contents_of c.self.inside.kept)) (c.self.invariant.1 is_open) c.args.votes.now (drop c.self.inside.written
     c.self.inside.kept.certificates.items) left
-    (subst (λ vs. MayFollow g.D.PartialEq.eq c.self.inside.kept.floor vs c.args.votes.now) c.deref.ensures.value c.if-not-may_follow.ensures)
+    c.if-not-may_follow.ensures
     (subst (λ its. (left ≡ g.L.Log.written c.self.inside.log)
     ⊎ ((left ≡ g.L.Log.written c.self.inside.log ++ records_text (vote_format g.G.Codec.format g.D.Codec.format) (records_of c.args.votes.now its))
-    × AreRecords (vote_format g.G.Codec.format g.D.Codec.format) (records_of c.args.votes.now its))) (rest_of c.self.inside.written
-    c.deref-2.result.now c.self.inside.kept.certificates.items c.deref-2.ensures.value) (c.in-Ok.ensures.leaves left honest may)))
+    × AreRecords (vote_format g.G.Codec.format g.D.Codec.format) (records_of c.args.votes.now its))) (rest c.self.inside.written c.deref.result.now
+    c.self.inside.kept.certificates.items c.deref.ensures.value) (c.in-Ok.ensures.leaves left honest may)))
 
 pub returns-in-Err-OutOfMemory-clause-leaves : goal.returns-in-Err-OutOfMemory-clause-leaves
 returns-in-Err-OutOfMemory-clause-leaves g c =
@@ -137,11 +137,11 @@ returns-in-Err-OutOfMemory-clause-leaves g c =
     write_leaves (vote_format g.G.Codec.format g.D.Codec.format) g.D.PartialEq.eq g.L.Log.is_settled g.L.Log.written c.self.inside.log (first_of
     c.self.inside.written (contents_of c.self.inside.kept)) (c.self.invariant.1 is_open) c.args.votes.now (drop c.self.inside.written
     c.self.inside.kept.certificates.items) left
-    (subst (λ vs. MayFollow g.D.PartialEq.eq c.self.inside.kept.floor vs c.args.votes.now) c.deref.ensures.value c.if-not-may_follow.ensures)
+    c.if-not-may_follow.ensures
     (subst (λ its. (left ≡ g.L.Log.written c.self.inside.log)
     ⊎ ((left ≡ g.L.Log.written c.self.inside.log ++ records_text (vote_format g.G.Codec.format g.D.Codec.format) (records_of c.args.votes.now its))
-    × AreRecords (vote_format g.G.Codec.format g.D.Codec.format) (records_of c.args.votes.now its))) (rest_of c.self.inside.written
-    c.deref-2.result.now c.self.inside.kept.certificates.items c.deref-2.ensures.value) (c.in-Err-OutOfMemory.ensures.leaves left honest may)))
+    × AreRecords (vote_format g.G.Codec.format g.D.Codec.format) (records_of c.args.votes.now its))) (rest c.self.inside.written c.deref.result.now
+    c.self.inside.kept.certificates.items c.deref.ensures.value) (c.in-Err-OutOfMemory.ensures.leaves left honest may)))
 
 pub returns-in-Err-Full-clause-leaves : goal.returns-in-Err-Full-clause-leaves
 returns-in-Err-Full-clause-leaves g c =
@@ -152,11 +152,11 @@ returns-in-Err-Full-clause-leaves g c =
     write_leaves (vote_format g.G.Codec.format g.D.Codec.format) g.D.PartialEq.eq g.L.Log.is_settled g.L.Log.written c.self.inside.log (first_of
     c.self.inside.written (contents_of c.self.inside.kept)) (c.self.invariant.1 is_open) c.args.votes.now (drop c.self.inside.written
     c.self.inside.kept.certificates.items) left
-    (subst (λ vs. MayFollow g.D.PartialEq.eq c.self.inside.kept.floor vs c.args.votes.now) c.deref.ensures.value c.if-not-may_follow.ensures)
+    c.if-not-may_follow.ensures
     (subst (λ its. (left ≡ g.L.Log.written c.self.inside.log)
     ⊎ ((left ≡ g.L.Log.written c.self.inside.log ++ records_text (vote_format g.G.Codec.format g.D.Codec.format) (records_of c.args.votes.now its))
-    × AreRecords (vote_format g.G.Codec.format g.D.Codec.format) (records_of c.args.votes.now its))) (rest_of c.self.inside.written
-    c.deref-2.result.now c.self.inside.kept.certificates.items c.deref-2.ensures.value) (c.in-Err-Full.ensures.leaves left honest may)))
+    × AreRecords (vote_format g.G.Codec.format g.D.Codec.format) (records_of c.args.votes.now its))) (rest c.self.inside.written c.deref.result.now
+    c.self.inside.kept.certificates.items c.deref.ensures.value) (c.in-Err-Full.ensures.leaves left honest may)))
 
 pub returns-in-Err-Failed-clause-leaves : goal.returns-in-Err-Failed-clause-leaves
 returns-in-Err-Failed-clause-leaves g c =
@@ -167,8 +167,8 @@ returns-in-Err-Failed-clause-leaves g c =
     write_leaves (vote_format g.G.Codec.format g.D.Codec.format) g.D.PartialEq.eq g.L.Log.is_settled g.L.Log.written c.self.inside.log (first_of
     c.self.inside.written (contents_of c.self.inside.kept)) (c.self.invariant.1 is_open) c.args.votes.now (drop c.self.inside.written
     c.self.inside.kept.certificates.items) left
-    (subst (λ vs. MayFollow g.D.PartialEq.eq c.self.inside.kept.floor vs c.args.votes.now) c.deref.ensures.value c.if-not-may_follow.ensures)
+    c.if-not-may_follow.ensures
     (subst (λ its. (left ≡ g.L.Log.written c.self.inside.log)
     ⊎ ((left ≡ g.L.Log.written c.self.inside.log ++ records_text (vote_format g.G.Codec.format g.D.Codec.format) (records_of c.args.votes.now its))
-    × AreRecords (vote_format g.G.Codec.format g.D.Codec.format) (records_of c.args.votes.now its))) (rest_of c.self.inside.written
-    c.deref-2.result.now c.self.inside.kept.certificates.items c.deref-2.ensures.value) (c.in-Err-Failed.ensures.leaves left honest may)))
+    × AreRecords (vote_format g.G.Codec.format g.D.Codec.format) (records_of c.args.votes.now its))) (rest c.self.inside.written c.deref.result.now
+    c.self.inside.kept.certificates.items c.deref.ensures.value) (c.in-Err-Failed.ensures.leaves left honest may)))

@@ -1,6 +1,6 @@
 use Rattle.std.proofs.Common.{take}
 use Rattle.batcher_journal.specs.Contradictions.{IsFree}
-use Rattle.batcher_journal.proofs.asking.answer_of.Given as goal
+use Rattle.batcher_journal.proofs.indexed.find_among.Given as goal
 
 abbrev pub invariant-loop-vote : goal.invariant-loop-vote
 invariant-loop-vote g l = IsFree g.D.PartialEq.eq (take l.vote-index l.votes) l.subject

@@ -1,6 +1,0 @@
-use Rattle.std.proofs.Common.{take}
-use Rattle.batcher_journal.specs.Contradictions.{IsFree}
-use Rattle.batcher_journal.proofs.asking.is_free.Given as goal
-
-abbrev pub invariant-loop-vote : goal.invariant-loop-vote
-invariant-loop-vote g l = IsFree g.D.PartialEq.eq (take l.vote-index l.votes) l.subject
