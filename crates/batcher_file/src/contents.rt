@@ -5,7 +5,7 @@ ghost use Rattle.batcher_file.specs.Frames.{AreContents, AreTwoFrames, IsFrame, 
 ghost use Rattle.batcher_file.specs.Opened.{Opens};
 ghost use Rattle.batcher_file.specs.declared.contents.Unreadable.TheVariants.{Damaged};
 
-use crate::frame::{frame_due, frame_in};
+use crate::frame::{CLOSED, OPEN, frame_due, frame_in};
 use std::alloc::{AllocError, Global};
 
 // So many numbers are never reached.
@@ -73,11 +73,11 @@ fn gate_of(bytes: &[u8], due: u64) -> Gate<'_>
     ensures { Opens due bytes.now result }
 {
     match bytes {
-        [255, rest @ ..] => match frame_due(rest, due) {
+        [OPEN, rest @ ..] => match frame_due(rest, due) {
             Some((inside, after)) => Gate::Open(inside, after),
             None => Gate::Damaged,
         },
-        [0, rest @ ..] => {
+        [CLOSED, rest @ ..] => {
             if are_two_frames(rest, due) {
                 Gate::Damaged
             } else {

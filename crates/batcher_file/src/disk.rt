@@ -6,6 +6,7 @@ ghost use Rattle.sqlite_disk.specs.Disk.{Only};
 ghost use Rattle.batcher_file.specs.Disks.{Finishes, IsBlank, IsKept, IsShutting, MayBe, MayHave, MayRetire, MayStart, unused_gate};
 ghost use Rattle.batcher_file.specs.Frames.{open_gate};
 
+use crate::frame::{OPEN, UNUSED};
 use sqlite_disk::Disk;
 use std::io;
 
@@ -27,7 +28,7 @@ pub fn add_frame<K: Disk>(disk: &mut K, end: usize, frame: &[u8]) -> io::Result<
 {
     disk.write_at(end + 1, frame)?;
     disk.sync()?;
-    disk.write_at(end, &[255])?;
+    disk.write_at(end, &[OPEN])?;
     disk.sync()
 }
 
@@ -43,7 +44,7 @@ fn shut<K: Disk>(disk: &mut K) -> io::Result<()>
     ensures clean { IsTrue (K.is_clean disk.new) → IsTrue (K.is_clean disk.old) }
     ensures failed { OnErr result (0 < K.faults disk.new) }
 {
-    disk.write_at(0, &[15])?;
+    disk.write_at(0, &[UNUSED])?;
     disk.sync()
 }
 

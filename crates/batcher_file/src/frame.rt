@@ -10,6 +10,15 @@ ghost use Rattle.batcher_file.specs.Frames.{IsFrame, closed_gate, frame, frame_f
 use batcher_codec::{Codec, DecodeFault};
 use std::alloc::{AllocError, Global};
 
+/// Before a frame.
+pub const OPEN: u8 = 0xff;
+
+/// Where no frame follows, or none that is whole yet.
+pub const CLOSED: u8 = 0;
+
+/// At the front of a file that isn't in use: four bits from an open gate.
+pub const UNUSED: u8 = 0x0f;
+
 const START: u64 = 14695981039346656037;
 
 const PRIME: u64 = 1099511628211;
@@ -44,7 +53,7 @@ pub fn frame_of(alloc: Global, number: u64, bytes: &[u8]) -> Result<Vec<u8>, All
     header_sum(number, count).encode(&mut out)?;
     out.extend_from_slice(bytes)?;
     sum_on(START, bytes).encode(&mut out)?;
-    out.push(0)?;
+    out.push(CLOSED)?;
     Ok(out)
 }
 

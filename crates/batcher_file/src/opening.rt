@@ -11,7 +11,7 @@ ghost use Rattle.batcher_file.specs.declared.opening.OpenFault.TheVariants.{Dama
 
 use crate::contents::{Contents, Unreadable, contents_of};
 use crate::disk::{cut, start};
-use crate::frame::frame_of;
+use crate::frame::{UNUSED, frame_of};
 use crate::log::FileLog;
 use sqlite_disk::Disk;
 use std::alloc::{AllocError, Global};
@@ -55,7 +55,7 @@ fn is_blank(file: &[u8]) -> bool
 {
     match file {
         [] | [_] => true,
-        [15, ..] => true,
+        [UNUSED, ..] => true,
         [_, ..] => false,
     }
 }
