@@ -1,9 +1,10 @@
 //! A disk in memory that fails where it is asked to.
 
-ghost use Rattle.std.specs.Prelude.{◌≡◌, [], true, false};
+ghost use Rattle.std.specs.Prelude.{◌≡◌, [], Err, true, false};
+ghost use Rattle.batcher_log.specs.declared.LogFault.TheVariants.{Failed};
 
 use crate::restart::Restart;
-use batcher_log::{Log, LogFault};
+use batcher_log::{Log, LogFault, MemoryLog};
 use std::alloc::Global;
 
 /// What becomes of one call that writes.
@@ -17,21 +18,21 @@ pub enum Mishap {
     Behind,
 }
 
-/// Bytes in memory that are taken to outlive a crash. Each call that writes meets the next mishap,
+/// A log in memory. Each call that writes meets the next mishap,
 /// and none where there are no more.
 #[derive(Drop)]
 pub struct FailingLog<'a> {
-    bytes: Vec<u8>,
+    log: MemoryLog,
     mishaps: &'a [Mishap],
     has_failed: bool,
 }
 
 impl<'a> FailingLog<'a> {
     pub fn new(alloc: Global, mishaps: &'a [Mishap]) -> Self
-        ensures { (result.bytes.items ≡ []) × (result.has_failed ≡ false) }
+        ensures { (result.log.bytes.items ≡ []) × (result.has_failed ≡ false) }
     {
         FailingLog {
-            bytes: Vec::new(alloc),
+            log: MemoryLog::new(alloc),
             mishaps,
             has_failed: false,
         }
@@ -46,7 +47,7 @@ impl<'a> FailingLog<'a> {
 
     // The next mishap.
     fn mishap(&mut self) -> Mishap
-        ensures { (self.new.bytes ≡ self.old.bytes) × (self.new.has_failed ≡ self.old.has_failed) }
+        ensures { (self.new.log ≡ self.old.log) × (self.new.has_failed ≡ self.old.has_failed) }
     {
         match self.mishaps {
             [] => Mishap::None,
@@ -58,15 +59,26 @@ impl<'a> FailingLog<'a> {
     }
 }
 
+impl FailingLog<'_> {
+    // The disk fails.
+    fn fail(&mut self) -> Result<(), LogFault>
+        ensures failed { result ≡ Err Failed }
+        ensures log { (self.new.log ≡ self.old.log) × (self.new.has_failed ≡ true) }
+    {
+        self.has_failed = true;
+        Err(LogFault::Failed)
+    }
+}
+
 impl Log for FailingLog<'_> {
     ghost use Rattle.std.specs.Prelude.{true};
     ghost use Rattle.std.proofs.Common.{refl};
 
-    ghost written = { λ log. log.bytes.items };
+    ghost written = { λ log. log.log.bytes.items };
 
     ghost is_settled = { λ log. log.has_failed ≡ false };
 
-    ghost may_leave = { λ log left. left ≡ log.bytes.items };
+    ghost may_leave = { λ log left. left ≡ log.log.bytes.items };
 
     ghost may_lose = { λ log. ⊥ };
 
@@ -83,16 +95,11 @@ impl Log for FailingLog<'_> {
     fn append(&mut self, bytes: &[u8]) -> Result<(), LogFault> {
         let mishap = self.mishap();
         if mishap == Mishap::Before {
-            self.has_failed = true;
-            return Err(LogFault::Failed);
+            return self.fail();
         }
-        match self.bytes.extend_from_slice(bytes) {
-            Ok(()) => {}
-            Err(_) => return Err(LogFault::OutOfMemory),
-        }
+        self.log.append(bytes)?;
         if mishap == Mishap::Behind {
-            self.has_failed = true;
-            return Err(LogFault::Failed);
+            return self.fail();
         }
         Ok(())
     }
@@ -100,23 +107,17 @@ impl Log for FailingLog<'_> {
     fn replace(&mut self, bytes: &[u8]) -> Result<(), LogFault> {
         let mishap = self.mishap();
         if mishap == Mishap::Before {
-            self.has_failed = true;
-            return Err(LogFault::Failed);
+            return self.fail();
         }
-        let mut others = Vec::new(*self.bytes.allocator());
-        match others.extend_from_slice(bytes) {
-            Ok(()) => self.bytes = others,
-            Err(_) => return Err(LogFault::OutOfMemory),
-        }
+        self.log.replace(bytes)?;
         if mishap == Mishap::Behind {
-            self.has_failed = true;
-            return Err(LogFault::Failed);
+            return self.fail();
         }
         Ok(())
     }
 
     fn bytes(&self) -> &[u8] {
-        &self.bytes
+        self.log.bytes()
     }
 }
 

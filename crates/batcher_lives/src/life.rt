@@ -120,6 +120,7 @@ fn shut<G: Codec, D: Digest + Codec, L: Log>(place: Place<G, D, L>) -> L
     match place {
         Place::Open(journal) => {
             bytes_are_of_one_journal::<G, D>();
+            // What an open journal has is on the disk.
             let _ = journal.is_open();
             journal.into_log()
         }
