@@ -13,6 +13,7 @@ mod Causing
 mod Tending
 pub mod Rested
 pub mod SendingViews
+mod Agreed
 pub mod SendingBlocks
 pub mod SendingCertificates
 mod SendingWorked

@@ -31,6 +31,7 @@ use Rattle.batcher_node.specs.Represents.{config_of, is_due, receipt_from, is_wi
 use Rattle.batcher_node.specs.NodePromises.{IsForCause, AreForCause, IsNodePromised}
 use Rattle.batcher_node.proofs.Rested.{rested, few_before}
 use Rattle.batcher_node.proofs.Representation.{config_stays}
+use Rattle.batcher_node.proofs.Agreed.{sent_agree}
 use Rattle.batcher_node.proofs.Answering.{at_here}
 
 -- what was possible before
@@ -210,4 +211,6 @@ module _ {D K G C : Type 0} (x : NodeConfig D K G C)
         blocked_for_cause = each_for_cause past named possible;
         rested_are_complete = λ view. rested_there some past view (possible view);
         few_in_a_row = few_rows past named possible;
+        to_send_agree = sent_agree x past named
+            (λ view. (promised past view (possible view)).takes_in_honest.own_added_agree);
       }

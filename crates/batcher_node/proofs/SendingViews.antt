@@ -18,7 +18,7 @@ use Rattle.batcher.specs.votes.Mode.{Mode}
 use Rattle.batcher.specs.calls.Call.TheVariants.{Network as NetworkCall, Own as OwnCall, Certificate as CertificateCall, Leader as LeaderCall, Construct as ConstructCall, Forward as ForwardCall}
 use Rattle.batcher.specs.answers.Answer.TheVariants.{Network as NetworkAnswer, Own as OwnAnswer, Certificate as CertificateAnswer, Leader as LeaderAnswer, Construct as ConstructAnswer, Forward as ForwardAnswer}
 use Rattle.batcher.specs.Lists.{is_some_and}
-use Rattle.batcher.specs.Votes.{signer_of, subject_of, round_in, is_kind, kind_of, is_vote_of}
+use Rattle.batcher.specs.Votes.{signer_of, is_kind, kind_of, is_vote_of}
 use Rattle.batcher.specs.Config.{Config, config, sender_in}
 use Rattle.batcher.specs.Steps.{report_by, is_added}
 use Rattle.batcher.specs.Eligible.{is_valid}
@@ -35,7 +35,7 @@ use Rattle.batcher_node.specs.declared.answers.Verdict.TheVariants.{Recorded}
 use Rattle.batcher_node.specs.Events.{NodeEvent, vote_came, certificate_came, vote_cast, view_entered, constructed, proposal_forwarded, NodeHistory, at_view, view_history, view_history_by}
 use Rattle.batcher_node.specs.Nodes.{NodeConfig}
 use Rattle.batcher_node.specs.Represents.{IsNamed, AreNamed}
-use Rattle.batcher_node.specs.Sending.{to_send_by, votes_to_send, HearsOnly}
+use Rattle.batcher_node.specs.Sending.{to_send_by, view_of, votes_to_send, HearsOnly}
 
 -- LISTS
 module _ {X : Type 0} where
@@ -65,22 +65,19 @@ module _ {X : Type 0} where
 
 -- WHAT IS TO BE SENT WAS ADDED
 module _ {G D : Type 0} where
-  abbrev view_of : Vote G D → ℕ
-  view_of vote = (round_in (subject_of vote)).view.0
-
   -- whether it is a vote of the view that passes a test
-  abbrev in_view : ℕ → (Vote G D → Bool) → Vote G D → Bool
+  abbrev pub in_view : ℕ → (Vote G D → Bool) → Vote G D → Bool
   in_view view test vote = (view_of vote == view) && test vote
 
   -- What is reported was added.
-  reported_is_added : (vote : Vote G D) (report : Activity G D) (outcome : Outcome)
+  pub reported_is_added : (vote : Vote G D) (report : Activity G D) (outcome : Outcome)
       → Some report ≡ report_by outcome vote → is_added outcome ≡ true
   reported_is_added vote report (Added retained) is = refl
   reported_is_added vote report (Duplicate retained) is = absurd (true≢false (ap is_some is))
   reported_is_added vote report Conflicting is = absurd (true≢false (ap is_some is))
 
 module _ {D K G C : Type 0} where
-  abbrev cast_event : Vote G D → Outcome → Option (Activity G D) → Event D K G C
+  abbrev pub cast_event : Vote G D → Outcome → Option (Activity G D) → Event D K G C
   cast_event vote outcome report = (OwnCall vote, OwnAnswer outcome report)
 
   added_before : (test : Vote G D → Bool) (more past : History D K G C)

@@ -21,6 +21,7 @@ use Rattle.batcher_node.specs.declared.answers.Cause.TheVariants.{Vote as ForVot
 use Rattle.batcher_node.specs.Events.{NodeEvent, vote_came, certificate_came, constructed, NodeHistory, view_history, is_peer}
 use Rattle.batcher_node.specs.Nodes.{NodeView, NodeConfig, IsAtRest, cause_at}
 use Rattle.batcher_node.specs.Represents.{NodeRepresents, config_of, is_due}
+use Rattle.batcher_node.specs.Sending.{ToSendAgree}
 
 module _ {D K G C : Type 0} (x : NodeConfig D K G C) where
   -- Whom an event blocks gave cause: by what it did itself in the view of its vote, with this vote
@@ -58,6 +59,8 @@ module _ {D K G C : Type 0} (x : NodeConfig D K G C) where
         → (kind : Kind) → is_kind_due (config_of x past view) (view_history view past) kind ≡ false
     -- No view is constructed five times in a row: it rests after four at most.
     pub few_in_a_row : (view : ℕ) → ends_in_constructions 5 (view_history view past) ≡ false
+    -- No two votes that are to be sent contradict each other, of whatever views they are.
+    pub to_send_agree : ToSendAgree past
 
   -- Where a node rests, each view from the finalized one on has a certificate of each kind of which
   -- a quorum of votes that count is valid. No vote of a skipped view counts.

@@ -1,8 +1,9 @@
 -- What comes of a participant that sends another node just what its own answered as to be sent.
-use Rattle.std.specs.Prelude.{◌≡◌, ◌==◌, ⊤, ℕ, true, false, List, [], ◌∷◌, ◌++◌, Some, All}
+use Rattle.std.specs.Prelude.{◌≡◌, ◌==◌, ◌≤◌, ◌&&◌, ⊤, ℕ, Bool, true, false, List, [], ◌∷◌, ◌++◌, Some, All}
 use Rattle.std.specs.List.{AllPass}
 use Rattle.batcher.specs.messages.Vote.{Vote}
-use Rattle.batcher.specs.Votes.{signer_of}
+use Rattle.batcher.specs.Lists.{count}
+use Rattle.batcher.specs.Votes.{excludes, round_in, signer_of, subject_of}
 use Rattle.batcher.specs.Verifiers.{certifies_itself, BatchCertifies}
 use Rattle.batcher.specs.Reports.{IsAmong}
 use Rattle.batcher_node.specs.declared.answers.Receipt.TheVariants.{Answered}
@@ -10,6 +11,14 @@ use Rattle.batcher_node.specs.declared.answers.Verdict.TheVariants.{Recorded}
 use Rattle.batcher_node.specs.Events.{NodeEvent, vote_came, certificate_came, vote_cast, constructed, NodeHistory, is_peer}
 use Rattle.batcher_node.specs.Nodes.{NodeView, NodeConfig}
 use Rattle.batcher_node.specs.Represents.{NodeRepresents}
+
+module _ {G D : Type 0} where
+  abbrev pub view_of : Vote G D → ℕ
+  view_of vote = (round_in (subject_of vote)).view.0
+
+  -- whether two votes of one view exclude each other
+  abbrev pub excludes_in_view : Vote G D → Vote G D → Bool
+  excludes_in_view a b = (view_of b == view_of a) && excludes a b
 
 module _ {D K G C : Type 0} where
   -- the vote that the node cast and was answered as to be sent, if the event is that
@@ -21,6 +30,11 @@ module _ {D K G C : Type 0} where
   abbrev pub votes_to_send : NodeHistory D K G C → List (Vote G D)
   votes_to_send [] = []
   votes_to_send (event ∷ past) = to_send_by event ++ votes_to_send past
+
+  -- No two votes of one view that are to be sent exclude each other, equal ones neither: a view has
+  -- one notarize of a signer at most, and one nullify or finalize. So no two contradict each other.
+  abbrev pub ToSendAgree : NodeHistory D K G C → Type 0
+  ToSendAgree past = (v : Vote G D) → count (excludes_in_view v) (votes_to_send past) ≤ 1
 
 module _ {D K G C : Type 0} (x : NodeConfig D K G C) where
   -- What a node hears under a participant's key: of votes just these, and of certificates such as
