@@ -1,8 +1,8 @@
 -- Two files that aren't opened hold nothing.
-use Rattle.std.proofs.Common.{◌≡◌, ◌≢◌, ℕ, Bool, true, false, List, Result, Err, ap, arith, inl, inr, length, refl}
+use Rattle.std.proofs.Common.{◌≡◌, ◌≢◌, ℕ, Bool, true, false, List, Result, Err, ap, arith, inl, inr, length, min, refl}
 use Rattle.batcher_file.specs.Disks.{IsBlank}
 use Rattle.batcher_file.specs.Frames.{AreContents, IsUnread}
-use Rattle.batcher_file.specs.Pairs.{HoldNone}
+use Rattle.batcher_file.specs.Pairs.{HoldNone, IsOther, IsTidied}
 use Rattle.batcher_file.specs.Refusals.{IsWholeBefore, Shows}
 use Rattle.batcher_file.specs.declared.contents.Contents.{Contents}
 use Rattle.batcher_file.specs.declared.opening.OpenFault.{OpenFault}
@@ -95,3 +95,20 @@ whole_second a b (Damaged false at) whole side = absurd (wrong (side false at re
     wrong e = absurd cc
 whole_second a b Apart whole side = tt
 whole_second a b TooLong whole side = tt
+
+-- how much of the other is left
+pub record IsLeft (len : ℕ) (file : List ℕ) : Type 0 where
+  pub blank : IsBlank file → len ≡ min 1 (length file)
+  pub used : (IsBlank file → ⊥) → len ≡ length file
+
+pub tidies : (current other : List ℕ) (first next end : ℕ) (bytes : List ℕ) (len : ℕ)
+    → AreContents current first next end bytes × IsOther first other → IsLeft len other
+    → IsTidied current other first next end bytes len
+tidies current other first next end bytes len found left = record {
+  contents = found.0;
+  either = elim found.1 [
+    | inl blank ↦ inl (blank, left.blank blank)
+    | inr older ↦
+        inr (older, left.used (not_blank older.number older.all other older.has))
+  ];
+}

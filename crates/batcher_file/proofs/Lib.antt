@@ -4,7 +4,13 @@ pub mod OneReading
 pub mod Exact
 pub mod SoFar
 pub mod Torn
+pub mod Doing
+pub mod Leaving
 pub mod Turns
+pub mod Tidying
 pub mod Writing
+pub mod Logs
+pub mod Making
+pub mod Reopening
 pub mod Choosing
 pub mod Bits

@@ -39,7 +39,7 @@ tails : (r s : List ℕ) → 255 ∷ r ≡ 255 ∷ s → r ≡ s
 tails r s e = cc
 
 -- and its frames have one first number
-one_first : (m n : ℕ) (file : List ℕ) → HasFirst m file → HasFirst n file → m ≡ n
+pub one_first : (m n : ℕ) (file : List ℕ) → HasFirst m file → HasFirst n file → m ≡ n
 one_first m n file a b =
     let rests : a.rest ≡ b.rest = tails a.rest b.rest (sym a.parts ∙ b.parts) in
     let read_a = frame_read a.rest m a.inside a.after a.framed in
@@ -66,7 +66,7 @@ frame_long number bytes =
     )
 
 -- a file that begins with a frame isn't blank
-first_not_blank : (n : ℕ) (file : List ℕ) → HasFirst n file → IsBlank file → ⊥
+pub first_not_blank : (n : ℕ) (file : List ℕ) → HasFirst n file → IsBlank file → ⊥
 first_not_blank n file it blank =
     elim blank [
       | inl short ↦

@@ -45,10 +45,10 @@ module _ {K : Type 0} (seen : K → List ℕ) (may_leave : K → List ℕ → Ty
   }
 
   module _ (Whole : Type 0) (old : FileLog K) (bytes frame_is : List ℕ)
-      (few : old.next < 2 ^ 63 - 2) (len : length bytes < 2 ^ 64)
-      (framed : frame_is ≡ frame old.next bytes ++ 0 ∷ []) (settled : IsSettled seen may_leave is_usable is_clean old) where
+      (few : old.files.next < 2 ^ 63 - 2) (len : length bytes < 2 ^ 64)
+      (framed : frame_is ≡ frame old.files.next bytes ++ 0 ∷ []) (settled : IsSettled seen may_leave is_usable is_clean old) where
     abbrev OldRest : Type 0
-    OldRest = Rest old.current old.other old.bytes.items old.next old.end
+    OldRest = Rest old.current old.other old.files.bytes.items old.files.next old.files.end
 
     frame_as : (rest : OldRest) → frame_is ≡ frame (rest.first + length rest.all) bytes ++ 0 ∷ []
     frame_as rest = framed ∙ ap (λ (n : ℕ). frame n bytes ++ 0 ∷ []) rest.next_is
@@ -57,14 +57,14 @@ module _ {K : Type 0} (seen : K → List ℕ) (may_leave : K → List ℕ → Ty
     few_as rest = omega (arith, few, rest.next_is)
 
     module _ (current : K) (clean : IsTrue (is_clean current) → IsTrue (is_clean old.current)) where
-      pub add_leaves : ((front : List ℕ) (gate : ℕ) → length front ≡ old.end
+      pub add_leaves : ((front : List ℕ) (gate : ℕ) → length front ≡ old.files.end
           → IsKept seen may_leave old.current (front ++ gate ∷ []) → (file : List ℕ)
           → may_leave current file
           → MayHave Whole front gate frame_is file)
           → IsTrue (is_clean current) × IsTrue (is_clean old.other)
           → (file other left : List ℕ) → may_leave current file → may_leave old.other other
           → Hold file other left
-          → (left ≡ old.bytes.items) ⊎ (left ≡ old.bytes.items ++ bytes)
+          → (left ≡ old.files.bytes.items) ⊎ (left ≡ old.files.bytes.items ++ bytes)
       add_leaves leaves honest file other left file_left other_left hold =
           let rest = settled.rest (clean honest.0, honest.1) in
           let may = leaves (frames rest.first rest.all) 0 (sym rest.end_is) (record { same = rest.parts; durable = rest.current_kept }) file file_left in
@@ -75,13 +75,13 @@ module _ {K : Type 0} (seen : K → List ℕ) (may_leave : K → List ℕ → Ty
           let found = added_leaves Whole rest.first rest.all bytes file other rest.has.some (few_as rest) rest.has.values len here other_is left hold in
           rw (rest.bytes_are) found
 
-      pub add_opens : ((front : List ℕ) (gate : ℕ) → length front ≡ old.end
+      pub add_opens : ((front : List ℕ) (gate : ℕ) → length front ≡ old.files.end
           → IsKept seen may_leave old.current (front ++ gate ∷ []) → (file : List ℕ)
           → may_leave current file
           → MayHave Whole front gate frame_is file)
           → IsTrue (is_clean current) × IsTrue (is_clean old.other) → Whole
           → (file other : List ℕ) → may_leave current file → may_leave old.other other
-          → (IsTornIntoTwo old.next file → ⊥) → HoldNone file other → ⊥
+          → (IsTornIntoTwo old.files.next file → ⊥) → HoldNone file other → ⊥
       add_opens leaves honest finishes file other file_left other_left whole none =
           let rest = settled.rest (clean honest.0, honest.1) in
           let may = leaves (frames rest.first rest.all) 0 (sym rest.end_is) (record { same = rest.parts; durable = rest.current_kept }) file file_left in
@@ -94,12 +94,12 @@ module _ {K : Type 0} (seen : K → List ℕ) (may_leave : K → List ℕ → Ty
           none opens.bytes opens.hold
 
       pub add_settles : (more : List ℕ) (end : ℕ)
-          → ((front : List ℕ) (gate : ℕ) → length front ≡ old.end
+          → ((front : List ℕ) (gate : ℕ) → length front ≡ old.files.end
           → IsKept seen may_leave old.current (front ++ gate ∷ [])
           → IsKept seen may_leave current (front ++ 255 ∷ frame_is))
-          → more ≡ old.bytes.items ++ bytes → end ≡ old.end + length frame_is
+          → more ≡ old.files.bytes.items ++ bytes → end ≡ old.files.end + length frame_is
           → IsTrue (is_clean current) × IsTrue (is_clean old.other)
-          → Rest current old.other more (old.next + 1) end
+          → Rest current old.other more (old.files.next + 1) end
       add_settles more end added more_is_ end_is honest =
           let rest = settled.rest (clean honest.0, honest.1) in
           let all = rest.all ++ bytes ∷ [] in
@@ -113,7 +113,7 @@ module _ {K : Type 0} (seen : K → List ℕ) (may_leave : K → List ℕ → Ty
           let parts : seen current ≡ frames rest.first all ++ 0 ∷ [] = kept.same ∙ whole in
           let len_is : length (frames rest.first all) + 1 ≡ length (frames rest.first rest.all) + 1 + length frame_is =
           omega (arith, ap length whole, length-append (frames rest.first rest.all) (255 ∷ frame_is), length-append (frames rest.first all) (0 ∷ [])) in
-          made current old.other more (old.next + 1) end rest.first all
+          made current old.other more (old.files.next + 1) end rest.first all
           (has_all rest.first rest.all bytes rest.has.some (few_as rest) rest.has.values len (seen current) parts)
           parts kept.durable rest.short rest.other_kept
           (omega (arith, rest.next_is, length_push rest.all bytes))
@@ -127,7 +127,7 @@ module _ {K : Type 0} (seen : K → List ℕ) (may_leave : K → List ℕ → Ty
           → IsTrue (is_clean old.current) × IsTrue (is_clean other)
           → (file renewed left : List ℕ) → may_leave old.current file → may_leave other renewed
           → Hold file renewed left
-          → (left ≡ old.bytes.items) ⊎ (left ≡ bytes)
+          → (left ≡ old.files.bytes.items) ⊎ (left ≡ bytes)
       renew_leaves leaves honest file renewed left file_left renewed_left hold =
           let rest = settled.rest (honest.0, clean honest.1) in
           let may = leaves rest.other_kept renewed renewed_left in
@@ -200,12 +200,12 @@ module _ {K : Type 0} (seen : K → List ℕ) (may_leave : K → List ℕ → Ty
         pub renew_settles : (now : List ℕ) (end : ℕ) → now ≡ bytes
             → IsKept seen may_leave retired (15 ∷ []) → end ≡ length frame_is
             → IsTrue (is_clean other) × IsTrue (is_clean retired)
-            → Rest other retired now (old.next + 1) end
+            → Rest other retired now (old.files.next + 1) end
         renew_settles now end now_is gone end_is honest =
             let rest = settled.rest (clean_retired honest.1, clean honest.0) in
             let next = rest.first + length rest.all in
             let whole = renewed_has rest kept in
-            made other retired now (old.next + 1) end next (bytes ∷ [])
+            made other retired now (old.files.next + 1) end next (bytes ∷ [])
             (has_just next bytes (few_as rest) len (seen other) whole) whole kept.durable
             (inl (omega (arith, ap length gone.same))) gone.durable (omega (arith, rest.next_is))
             (omega (
@@ -238,7 +238,11 @@ module _ {K : Type 0} (seen : K → List ℕ) (may_leave : K → List ℕ → Ty
       let kept = cuts long in
       let parts : seen cut_current ≡ front =
       kept.same ∙ ap (take (end + 1)) whole ∙ take_at front has.rest (end + 1) front_len in
-      let other_kept = cuts_other it.within in
+      let within : len ≤ length (seen other) = elim it.either [
+        | inl blank ↦ omega (arith, blank.1)
+        | inr older ↦ omega (arith, older.1)
+      ] in
+      let other_kept = cuts_other within in
       let now : Has first all (seen cut_current) = record {
         some = has.some;
         few = has.few;
@@ -249,11 +253,11 @@ module _ {K : Type 0} (seen : K → List ℕ) (may_leave : K → List ℕ → Ty
       } in
       let short : (length (seen cut_other) ≤ 1) ⊎ IsOlder first (seen cut_other) =
       elim it.either [
-        | inl le ↦ inl (omega (arith, ap length other_kept.same, length-take len (seen other), le))
+        | inl blank ↦ inl (omega (arith, ap length other_kept.same, length-take len (seen other), blank.1))
         | inr older ↦
             let same : seen cut_other ≡ seen other =
-            other_kept.same ∙ take_all len (seen other) (omega (arith, older.0)) in
-            inr (subst (IsOlder first) (sym same) older.1)
+            other_kept.same ∙ take_all len (seen other) (omega (arith, older.1)) in
+            inr (subst (IsOlder first) (sym same) older.0)
       ] in
       made cut_current cut_other bytes next end first all now parts kept.durable short other_kept.durable
       it.contents.next_is it.contents.end_is it.contents.bytes_are

@@ -5,5 +5,9 @@ pub mod Opened
 pub mod Disks
 pub mod Pairs
 pub mod Settled
+pub mod Steps
+pub mod Plans
+pub mod Carrying
+pub mod Safe
 pub mod Refusals
 pub mod Rot

@@ -1,5 +1,5 @@
 -- What is in two files that take turns: one is in use, and the other was before it.
-use Rattle.std.specs.Prelude.{◌≡◌, ◌≤◌, ◌+◌, ◌⊎◌, ◌++◌, ◌∷◌, [], ℕ, Bool, true, false, List, length}
+use Rattle.std.specs.Prelude.{◌≡◌, ◌≤◌, ◌+◌, ◌⊎◌, ◌++◌, ◌∷◌, [], ℕ, Bool, true, false, List, length, min}
 use Rattle.std.specs.List.{concat}
 use Rattle.sqlite_disk.specs.Disk.{Only}
 use Rattle.batcher_file.specs.Disks.{IsBlank}
@@ -71,8 +71,8 @@ HoldNone a b = (bytes : List ℕ) → Hold a b bytes → ⊥
 pub record IsTidied (current other : List ℕ) (first next end : ℕ) (bytes : List ℕ) (len : ℕ)
     : Type 0 where
   pub contents : AreContents current first next end bytes
-  pub within : len ≤ length other
-  pub either : (len ≤ 1) ⊎ ((len ≡ length other) × IsOlder first other)
+  pub either : (IsBlank other × (len ≡ min 1 (length other)))
+      ⊎ (IsOlder first other × (len ≡ length other))
 
 -- Two files hold one thing at most.
 abbrev pub HoldOne : Type 0

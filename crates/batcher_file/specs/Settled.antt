@@ -1,5 +1,6 @@
 -- A log in two files, as it is between two calls, and what a crash leaves of it.
 use Rattle.std.specs.Prelude.{◌≡◌, ◌<◌, ◌⊎◌, ℕ, Bool, IsTrue, List}
+use Rattle.sqlite_disk.specs.Disk.{Only}
 use Rattle.batcher_file.specs.Disks.{Finishes}
 use Rattle.batcher_file.specs.Pairs.{AreAtRest, Hold, HoldNone, IsTornIntoTwo}
 use Rattle.batcher_file.specs.declared.log.FileLog.{FileLog}
@@ -14,7 +15,14 @@ module _ {K : Type 0} (seen : K → List ℕ) (may_leave : K → List ℕ → Ty
     pub current_usable : IsTrue (is_usable log.current)
     pub other_usable : IsTrue (is_usable log.other)
     pub rest : IsHonest log
-        → AreAtRest seen may_leave log.current log.other log.bytes.items log.next log.end
+        → AreAtRest seen may_leave log.current log.other log.files.bytes.items log.files.next
+        log.files.end
+
+  -- Both files are on the disk as they are, and hold these bytes.
+  pub record IsSynced (log : FileLog K) (bytes : List ℕ) : Type 0 where
+    pub current_kept : Only (seen log.current) (may_leave log.current)
+    pub other_kept : Only (seen log.other) (may_leave log.other)
+    pub hold : Hold (seen log.current) (seen log.other) bytes
 
   -- A crash may leave two files that hold these bytes.
   pub record MayLeave (log : FileLog K) (bytes : List ℕ) : Type 0 where
@@ -32,7 +40,7 @@ module _ {K : Type 0} (seen : K → List ℕ) (may_leave : K → List ℕ → Ty
     pub current_left : may_leave log.current current
     pub other_left : may_leave log.other other
     pub finishes : Finishes is_mixing
-    pub current_torn : IsTornIntoTwo log.next current → ⊥
+    pub current_torn : IsTornIntoTwo log.files.next current → ⊥
     pub none : HoldNone current other
 
   abbrev pub HasFailed : (K → ℕ) → FileLog K → Type 0
@@ -40,7 +48,7 @@ module _ {K : Type 0} (seen : K → List ℕ) (may_leave : K → List ℕ → Ty
 
   -- What is there is found after a crash, and nothing else.
   pub rest_settled : (log : FileLog K) (left : List ℕ) → IsHonest log → IsSettled log
-      → MayLeave log left → left ≡ log.bytes.items
+      → MayLeave log left → left ≡ log.files.bytes.items
   rest_settled log left honest settled may =
       let rest = settled.rest honest in
       rest.no_others left (rw (
@@ -49,7 +57,7 @@ module _ {K : Type 0} (seen : K → List ℕ) (may_leave : K → List ℕ → Ty
       ) may.hold)
 
   pub rest_stays : ((disk : K) → may_leave disk (seen disk)) → (log : FileLog K) → IsHonest log
-      → IsSettled log → MayLeave log log.bytes.items
+      → IsSettled log → MayLeave log log.files.bytes.items
   rest_stays stay log honest settled = record {
     current = seen log.current;
     other = seen log.other;
@@ -62,7 +70,7 @@ module _ {K : Type 0} (seen : K → List ℕ) (may_leave : K → List ℕ → Ty
       → MayLose is_mixing log → ⊥
   rest_opens is_mixing log honest settled lose =
       let rest = settled.rest honest in
-      lose.none log.bytes.items (rw (
+      lose.none log.files.bytes.items (rw (
         rest.current_kept lose.current lose.current_left,
         rest.other_kept lose.other lose.other_left,
       ) rest.hold)

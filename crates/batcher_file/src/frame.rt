@@ -8,7 +8,7 @@ ghost use Rattle.batcher_file.specs.Checksums.{checksum, summed};
 ghost use Rattle.batcher_file.specs.Frames.{IsFrame, closed_gate, frame, frame_format, header};
 
 use batcher_codec::{Codec, DecodeFault};
-use std::alloc::{AllocError, Global};
+use std::alloc::AllocError;
 
 /// Before a frame.
 pub const OPEN: u8 = 0xff;
@@ -40,21 +40,21 @@ fn header_sum(number: u64, count: u64) -> u64
     sum_on(sum_on(START, &number.to_be_bytes()), &count.to_be_bytes())
 }
 
-/// A frame and a closed gate behind it.
-pub fn frame_of(alloc: Global, number: u64, bytes: &[u8]) -> Result<Vec<u8>, AllocError>
-    ensures { IfOk result (λ it. it.items ≡ frame number bytes.now ++ closed_gate ∷ []) }
+/// Puts a frame and a closed gate behind it in the place of what is there.
+pub fn put_frame(out: &mut Vec<u8>, number: u64, bytes: &[u8]) -> Result<(), AllocError>
+    ensures { OnOk result (out.new.items ≡ frame number bytes.now ++ closed_gate ∷ []) }
 {
-    let mut out = Vec::new(alloc);
+    out.clear();
     // What a frame has beside its bytes, and the gate.
     out.reserve(bytes.len() + 33)?;
     let count = bytes.len() as u64;
-    number.encode(&mut out)?;
-    count.encode(&mut out)?;
-    header_sum(number, count).encode(&mut out)?;
+    number.encode(out)?;
+    count.encode(out)?;
+    header_sum(number, count).encode(out)?;
     out.extend_from_slice(bytes)?;
-    sum_on(START, bytes).encode(&mut out)?;
+    sum_on(START, bytes).encode(out)?;
     out.push(CLOSED)?;
-    Ok(out)
+    Ok(())
 }
 
 /// The frame at the front: its number, its bytes, and what follows it.

@@ -1,17 +1,17 @@
 //! Opening a log that a crash may have left, and making a new one.
 
-ghost use Rattle.std.specs.Prelude.{◌≡◌, ◌+◌, ◌≤◌, ◌<◌, ◌^◌, Err, IfErr, IfOk, IsTrue, List, MatchBool, OnOk, length, ℕ, ◌⊎◌, false};
+ghost use Rattle.std.specs.Prelude.{◌≡◌, ◌+◌, ◌≤◌, ◌<◌, ◌^◌, ◌⊎◌, Err, IfErr, IfOk, IsTrue, List, MatchBool, OnOk, false, length, min, ℕ};
 ghost use Rattle.sqlite_disk.specs.Disk.{Only};
 ghost use Rattle.batcher_file.specs.Disks.{IsBlank};
 ghost use Rattle.batcher_file.specs.Frames.{AreContents, IsUnread};
-ghost use Rattle.batcher_file.specs.Pairs.{Hold, HoldNone, IsFound, IsTidied};
-ghost use Rattle.batcher_file.specs.Settled.{IsHonest, IsSettled};
-ghost use Rattle.batcher_file.specs.Refusals.{IsWholeBefore, Shows};
-ghost use Rattle.batcher_file.specs.declared.opening.OpenFault.TheVariants.{Damaged, Failed, OutOfMemory};
+ghost use Rattle.batcher_file.specs.Pairs.{Hold, HoldNone, IsFound};
+ghost use Rattle.batcher_file.specs.Settled.{HasFailed, IsHonest, IsSynced, IsSettled, MayLeave, MayLose};
+ghost use Rattle.batcher_file.specs.Refusals.{IsOfMaking, IsOfReading, IsRefused, IsWholeBefore, Shows};
+ghost use Rattle.batcher_file.specs.declared.opening.OpenFault.TheVariants.{Damaged, Failed, OutOfMemory, Taken, TooLong};
 
 use crate::contents::{Contents, Unreadable, contents_of};
-use crate::disk::{cut, start};
-use crate::frame::{UNUSED, frame_of};
+use crate::files::TwoFiles;
+use crate::frame::UNUSED;
 use crate::log::FileLog;
 use sqlite_disk::Disk;
 use std::alloc::{AllocError, Global};
@@ -19,9 +19,6 @@ use std::alloc::{AllocError, Global};
 // No file is longer: as many bytes as a log has at most, a frame behind them, and what is around
 // it.
 const MOST_TO_READ: usize = 1 << 42;
-
-// So many bytes a log begins with at most.
-const MOST_TO_WRITE: usize = 1 << 40;
 
 /// Why a log wasn't opened.
 #[derive(Clone, Copy, Debug, PartialEq, Eq)]
@@ -49,8 +46,8 @@ impl From<AllocError> for OpenFault {
     }
 }
 
-// Whether nothing is in a file.
-fn is_blank(file: &[u8]) -> bool
+/// Whether nothing is in a file.
+pub fn is_blank(file: &[u8]) -> bool
     ensures { MatchBool result (IsBlank file.now) (IsBlank file.now → ⊥) }
 {
     match file {
@@ -75,8 +72,8 @@ fn side(alloc: Global, file: &[u8], in_second: bool) -> Result<Contents, OpenFau
     }
 }
 
-// What is in both, and whether the second is the one in use.
-fn in_use(alloc: Global, a: &[u8], b: &[u8]) -> Result<(Contents, bool), OpenFault>
+/// What is in both, and whether the second is the one in use.
+pub fn in_use(alloc: Global, a: &[u8], b: &[u8]) -> Result<(Contents, bool), OpenFault>
     ensures found { IfOk result (λ it. IsFound a.now b.now it.1 it.0.first it.0.next it.0.end
         it.0.bytes.items) }
     ensures refused { IfErr result (Shows (HoldNone a.now b.now)) }
@@ -115,7 +112,11 @@ fn in_use(alloc: Global, a: &[u8], b: &[u8]) -> Result<(Contents, bool), OpenFau
 fn read_all<K: Disk>(alloc: Global, disk: &mut K) -> Result<Vec<u8>, OpenFault>
     ensures bytes { IfOk result (λ it. IsTrue (K.is_clean disk.new) → it.items ≡ K.seen disk.old) }
     ensures long { IfOk result (λ it. length it.items ≤ 2 ^ 42) }
+    ensures too_long { result ≡ Err TooLong → IsTrue (K.is_clean disk.new)
+        → 2 ^ 42 < length (K.seen disk.old) }
+    ensures cause { IfErr result IsOfReading }
     ensures seen { K.seen disk.new ≡ K.seen disk.old }
+    ensures crash { (file : List ℕ) → K.may_leave disk.new file → K.may_leave disk.old file }
     ensures durable { OnOk result (Only (K.seen disk.new) (K.may_leave disk.new)) }
     ensures usable { OnOk result (IsTrue (K.is_usable disk.new)) }
     ensures clean { IsTrue (K.is_clean disk.new) → IsTrue (K.is_clean disk.old) }
@@ -143,55 +144,9 @@ fn read_all<K: Disk>(alloc: Global, disk: &mut K) -> Result<Vec<u8>, OpenFault>
     }
 }
 
-// Cuts what is behind the frames of the one file, and what an unfinished one has begun in the
-// other.
-fn settle<K: Disk + Drop>(
-    alloc: Global,
-    current: K,
-    other: K,
-    contents: Contents,
-    len: usize,
-) -> Result<FileLog<K>, OpenFault>
-    requires current_usable { IsTrue (K.is_usable current) }
-    requires other_usable { IsTrue (K.is_usable other) }
-    requires room { contents.end + 1 < 2 ^ 64 }
-    requires read { IsTrue (K.is_clean current) → IsTrue (K.is_clean other)
-        → IsTidied (K.seen current) (K.seen other) contents.first contents.next contents.end
-        contents.bytes.items len }
-    ensures settled { IfOk result (IsSettled K.seen K.may_leave K.is_usable K.is_clean) }
-    ensures bytes { IfOk result (λ log. log.bytes.items ≡ contents.bytes.items) }
-    ensures honest { IfOk result (λ log. IsHonest K.seen K.may_leave K.is_usable K.is_clean log
-        → IsTrue (K.is_clean current) × IsTrue (K.is_clean other)) }
-{
-    let (mut current, mut other) = (current, other);
-    match cut(&mut current, contents.end + 1) {
-        Ok(()) => {}
-        Err(_) => return Err(OpenFault::Failed),
-    }
-    match cut(&mut other, len) {
-        Ok(()) => {}
-        Err(_) => return Err(OpenFault::Failed),
-    }
-    let Contents {
-        bytes,
-        first: _,
-        next,
-        end,
-    } = contents;
-    Ok(FileLog {
-        alloc,
-        current,
-        other,
-        bytes,
-        next,
-        end,
-    })
-}
-
-// How much of the file that isn't in use is to be left.
-fn left_of(file: &[u8]) -> usize
-    ensures within { result ≤ length file.now }
-    ensures blank { IsBlank file.now → result ≤ 1 }
+/// How much of the file that isn't in use is to be left.
+pub fn left_of(file: &[u8]) -> usize
+    ensures blank { IsBlank file.now → result ≡ min 1 (length file.now) }
     ensures used { (IsBlank file.now → ⊥) → result ≡ length file.now }
 {
     if is_blank(file) && !file.is_empty() {
@@ -202,59 +157,84 @@ fn left_of(file: &[u8]) -> usize
 }
 
 impl<K: Disk + Drop> FileLog<K> {
-    /// The log that is in two files, also after a crash. What a crash left unfinished is cut off.
-    pub fn open(alloc: Global, first: K, second: K) -> Result<Self, OpenFault>
-        ensures settled { IfOk result (IsSettled K.seen K.may_leave K.is_usable K.is_clean) }
-        ensures found { IfOk result (λ log.
-            IsHonest K.seen K.may_leave K.is_usable K.is_clean log
-            → Hold (K.seen first) (K.seen second) log.bytes.items) }
+    /// A log in two files, of which nothing is read yet: it is to be opened, or created.
+    pub fn new(alloc: Global, first: K, second: K) -> Self
+        ensures { (result.current ≡ first) × (result.other ≡ second) }
     {
-        let (mut first, mut second) = (first, second);
-        let a = read_all(alloc, &mut first)?;
-        let b = read_all(alloc, &mut second)?;
-        let (contents, is_turned) = in_use(alloc, &a, &b)?;
-        if is_turned {
-            settle(alloc, second, first, contents, left_of(&a))
-        } else {
-            settle(alloc, first, second, contents, left_of(&b))
+        FileLog {
+            files: TwoFiles::new(alloc),
+            current: first,
+            other: second,
         }
     }
 
-    /// A new log that has these bytes, in two files that have nothing in them.
-    pub fn create(alloc: Global, first: K, second: K, bytes: &[u8]) -> Result<Self, OpenFault>
-        ensures settled { IfOk result (IsSettled K.seen K.may_leave K.is_usable K.is_clean) }
-        ensures bytes { IfOk result (λ log. log.bytes.items ≡ bytes.now) }
-        ensures blank { IfOk result (λ log.
-            IsHonest K.seen K.may_leave K.is_usable K.is_clean log
-            → IsBlank (K.seen first) × IsBlank (K.seen second)) }
+    /// Opens the log that is in the two files, also after a crash, or after a failure. What a crash
+    /// left unfinished is cut off.
+    pub fn open(&mut self) -> Result<(), OpenFault>
+        ensures settled { OnOk result
+            (IsSettled K.seen K.may_leave K.is_usable K.is_clean self.new) }
+        ensures found { OnOk result (IsHonest K.seen K.may_leave K.is_usable K.is_clean self.new
+            → Hold (K.seen self.old.current) (K.seen self.old.other) self.new.files.bytes.items) }
+        ensures refused { IfErr result (λ fault.
+            IsHonest K.seen K.may_leave K.is_usable K.is_clean self.new
+            → IsRefused (K.seen self.old.current) (K.seen self.old.other) fault) }
+        // Whatever it answers, a crash leaves nothing that it couldn't have left before.
+        ensures leaves { (left : List ℕ)
+            → IsHonest K.seen K.may_leave K.is_usable K.is_clean self.new
+            → MayLeave K.seen K.may_leave K.is_usable K.is_clean self.new left
+            → MayLeave K.seen K.may_leave K.is_usable K.is_clean self.old left }
+        // And what was there can be opened again.
+        ensures opens { (bytes : List ℕ)
+            → IsSynced K.seen K.may_leave K.is_usable K.is_clean self.old bytes
+            → IsHonest K.seen K.may_leave K.is_usable K.is_clean self.new
+            → MayLose K.seen K.may_leave K.is_usable K.is_clean K.is_mixing self.new → ⊥ }
+        ensures failed { result ≡ Err Failed → (K.is_usable self.old.current ≡ false)
+            ⊎ (K.is_usable self.old.other ≡ false)
+            ⊎ HasFailed K.seen K.may_leave K.is_usable K.is_clean K.faults self.new }
+        ensures honest { IsHonest K.seen K.may_leave K.is_usable K.is_clean self.new
+            → IsHonest K.seen K.may_leave K.is_usable K.is_clean self.old }
     {
-        let (mut current, mut other) = (first, second);
-        let a = read_all(alloc, &mut current)?;
-        let b = read_all(alloc, &mut other)?;
-        if !is_blank(&a) || !is_blank(&b) {
-            return Err(OpenFault::Taken);
+        let first = read_all(self.files.alloc, &mut self.current)?;
+        let second = read_all(self.files.alloc, &mut self.other)?;
+        let (is_turned, plan) = match self.files.open(&first, &second) {
+            Ok(opened) => opened,
+            Err(fault) => return Err(fault),
+        };
+        self.turn(is_turned);
+        match self.carry_out(plan) {
+            Ok(()) => Ok(()),
+            Err(_) => Err(OpenFault::Failed),
         }
-        if bytes.len() > MOST_TO_WRITE {
-            return Err(OpenFault::OutOfMemory);
+    }
+
+    /// Makes a log that has these bytes, in two files that have nothing in them.
+    pub fn create(&mut self, bytes: &[u8]) -> Result<(), OpenFault>
+        ensures settled { OnOk result
+            (IsSettled K.seen K.may_leave K.is_usable K.is_clean self.new) }
+        ensures bytes { OnOk result (self.new.files.bytes.items ≡ bytes.now) }
+        ensures blank { OnOk result (IsHonest K.seen K.may_leave K.is_usable K.is_clean self.new
+            → IsBlank (K.seen self.old.current) × IsBlank (K.seen self.old.other)) }
+        ensures cause { IfErr result IsOfMaking }
+        ensures taken { result ≡ Err Taken
+            → IsHonest K.seen K.may_leave K.is_usable K.is_clean self.new
+            → IsBlank (K.seen self.old.current) × IsBlank (K.seen self.old.other) → ⊥ }
+        // Whatever it answers, a crash leaves nothing but these bytes that it couldn't have left
+        // before.
+        ensures leaves { (left : List ℕ)
+            → IsHonest K.seen K.may_leave K.is_usable K.is_clean self.new
+            → MayLeave K.seen K.may_leave K.is_usable K.is_clean self.new left
+            → MayLeave K.seen K.may_leave K.is_usable K.is_clean self.old left
+            ⊎ (left ≡ bytes.now) }
+        ensures failed { result ≡ Err Failed → (K.is_usable self.old.current ≡ false)
+            ⊎ (K.is_usable self.old.other ≡ false)
+            ⊎ HasFailed K.seen K.may_leave K.is_usable K.is_clean K.faults self.new }
+    {
+        let first = read_all(self.files.alloc, &mut self.current)?;
+        let second = read_all(self.files.alloc, &mut self.other)?;
+        let plan = self.files.create(&first, &second, bytes)?;
+        match self.carry_out(plan) {
+            Ok(()) => Ok(()),
+            Err(_) => Err(OpenFault::Failed),
         }
-        let mut copy = Vec::new(alloc);
-        copy.extend_from_slice(bytes)?;
-        let frame = frame_of(alloc, 1, bytes)?;
-        match cut(&mut other, left_of(&b)) {
-            Ok(()) => {}
-            Err(_) => return Err(OpenFault::Failed),
-        }
-        match start(&mut current, left_of(&a), &frame) {
-            Ok(()) => {}
-            Err(_) => return Err(OpenFault::Failed),
-        }
-        Ok(FileLog {
-            alloc,
-            current,
-            other,
-            bytes: copy,
-            next: 2,
-            end: frame.len(),
-        })
     }
 }

@@ -2,7 +2,7 @@
 //! line of output says what came of it. docs/FORMATS.md has the texts.
 #![tactic(auto)]
 
-ghost use Rattle.std.specs.Prelude.{IfOk, IfSome};
+ghost use Rattle.std.specs.Prelude.{IfOk, IfSome, OnOk};
 
 use anyhow::{Result, bail};
 use batcher_file::{FileLog, OpenFault as FileFault};
@@ -169,16 +169,25 @@ fn begin(rt: &HostRuntime, path: &str, floor: Round) -> Result<Option<Keeper>> {
         }
         Err(_) => bail!("the file can't be opened"),
     };
-    match FileLog::create(alloc, files.db, files.log, &[]) {
-        Ok(log) => begin_in(rt, log, floor),
-        Err(FileFault::Taken) => match log_at(rt, path)? {
-            Some(log) => begin_in(rt, log, floor),
-            None => Ok(None),
-        },
+    let mut log = FileLog::new(alloc, files.db, files.log);
+    match create_or_open(&mut log) {
+        Ok(()) => begin_in(rt, log, floor),
         Err(fault) => {
+            std::mem::drop(log);
             println!(rt; "{fault:?}")?;
             Ok(None)
         }
+    }
+}
+
+// Makes a log, or opens the one that is there.
+fn create_or_open(log: &mut FileLog<File>) -> Result<(), FileFault>
+    ensures { OnOk result (⟦<FileLog<File> as Log>⟧.is_settled log.new) }
+{
+    match log.create(&[]) {
+        Ok(()) => Ok(()),
+        Err(FileFault::Taken) => log.open(),
+        Err(fault) => Err(fault),
     }
 }
 
@@ -227,9 +236,11 @@ fn log_at(rt: &HostRuntime, path: &str) -> Result<Option<FileLog<File>>>
         }
         Err(_) => bail!("the file can't be opened"),
     };
-    match FileLog::open(rt.alloc(), files.db, files.log) {
-        Ok(log) => Ok(Some(log)),
+    let mut log = FileLog::new(rt.alloc(), files.db, files.log);
+    match log.open() {
+        Ok(()) => Ok(Some(log)),
         Err(fault) => {
+            std::mem::drop(log);
             println!(rt; "{fault:?}")?;
             Ok(None)
         }

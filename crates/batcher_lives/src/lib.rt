@@ -4,6 +4,7 @@
 
 mod deeds;
 mod failing;
+mod filed;
 mod life;
 mod restart;
 #[cfg(test)]

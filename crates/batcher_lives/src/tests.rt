@@ -4,9 +4,11 @@
 use crate::deeds::{Deed, Lived};
 use crate::failing::{FailingLog, Mishap};
 use crate::life::live;
+use batcher_file::{FileLog, OpenFault};
 use batcher_journal::{Journal, Owner, Unopened};
 use batcher_types::messages::{Attestation, Proposal, Sha256Digest, Subject, Vote};
 use batcher_types::positions::{Epoch, Participant, Round, View};
+use sqlite_disk::{Fuse, Memory};
 use std::alloc::Global;
 use std::process::Abort;
 use std::test::Fail;
@@ -199,4 +201,91 @@ fn an_epoch_has_other_keys(rt: HostRuntime) -> Result<(), Fail> {
         Deed::Write(&fourth),
     ];
     play(&rt, rt.alloc(), &deeds, &[], b"other", &[1, 4], next, &[])
+}
+
+// A life over two files, of which each fails from so many calls on, until the power goes. `None` is
+// handed out where no log can be made.
+fn play_on_files(
+    rt: &impl Abort,
+    alloc: Global,
+    calls: u64,
+    other_calls: u64,
+    deeds: &[TestDeed],
+    handed_out: Option<&[u8]>,
+) -> Result<(), Fail> {
+    let mut log = FileLog::new(
+        alloc,
+        Fuse::new(Memory::new(alloc), calls),
+        Fuse::new(Memory::new(alloc), other_calls),
+    );
+    match log.create(&[]) {
+        Ok(()) => {}
+        Err(fault) => {
+            std::mem::drop(log);
+            assert_eq!(rt; fault, OpenFault::Failed);
+            assert!(rt; handed_out.is_none());
+            return Ok(());
+        }
+    }
+    let Lived { handed, log } = live(alloc, log, &owner(b"keys"), at(1), b"first", deeds);
+    std::mem::drop(log);
+    let expected = match handed_out {
+        Some(signatures) => signatures,
+        None => return Err(Fail::new("a log was made")),
+    };
+    assert_eq!(rt; handed.len(), expected.len());
+    for i in 0..expected.len() {
+        assert_eq!(rt; handed[i].attestation().signature[0], expected[i]);
+    }
+    Ok(())
+}
+
+// The first file takes 3 calls to be read, and 10 to be made. Then the journal is begun in the
+// other, and 4 calls empty the first.
+#[test]
+fn the_first_file_fails_at_any_call(rt: HostRuntime) -> Result<(), Fail> {
+    let first = [signed(notarize(1, 10), 1)];
+    let second = [signed(notarize(1, 11), 2)];
+    let deeds = [
+        Deed::Write(&first),
+        Deed::Restart(owner(b"keys")),
+        Deed::Write(&second),
+    ];
+    for calls in 0..20 {
+        let handed_out: Option<&[u8]> = if calls < 13 {
+            None
+        } else if calls < 17 {
+            Some(&[2])
+        } else {
+            Some(&[1])
+        };
+        play_on_files(&rt, rt.alloc(), calls, 100, &deeds, handed_out)?;
+    }
+    Ok(())
+}
+
+// The second file takes 3 calls to be read, and 2 to be cut. Then 8 calls make it anew, with the
+// journal, and 4 add a vote.
+#[test]
+fn the_second_file_fails_at_any_call(rt: HostRuntime) -> Result<(), Fail> {
+    let first = [signed(notarize(1, 10), 1)];
+    let second = [signed(notarize(1, 11), 2)];
+    let deeds = [
+        Deed::Write(&first),
+        Deed::Restart(owner(b"keys")),
+        Deed::Write(&second),
+    ];
+    for calls in 0..20 {
+        let handed_out: Option<&[u8]> = if calls < 5 {
+            None
+        } else if calls < 13 {
+            Some(&[])
+        } else if calls < 17 {
+            Some(&[2])
+        } else {
+            Some(&[1])
+        };
+        play_on_files(&rt, rt.alloc(), 100, calls, &deeds, handed_out)?;
+    }
+    Ok(())
 }

@@ -1,23 +1,54 @@
-use Rattle.std.proofs.Common.{List, ap, arith, length, subst, sym, ◌++◌, ◌≤◌, ◌∙◌, ℕ}
-use Rattle.std.specs.Prelude.{IsTrue}
-use Rattle.batcher_file.specs.Disks.{IsBlank}
-use Rattle.batcher_file.proofs.Writing.{begun}
+use Rattle.std.proofs.Common.{inr, ◌∙◌}
+use Rattle.batcher_file.specs.Settled.{rest_settled}
+use Rattle.batcher_file.specs.Steps.{steps}
+use Rattle.batcher_file.proofs.Making.{made_settled, making_leaves}
+use Rattle.batcher_file.proofs.Reopening.{begun_honest, done_honest}
 use Rattle.batcher_file.proofs.log.FileLog.create.Goals as goal
 
-pub returns-clause-settled : goal.returns-clause-settled
-returns-clause-settled g c = record {
-  current_usable = c.in-Ok-start.ensures.usable;
-  other_usable = c.in-Ok.ensures.usable;
+pub returns-in-Ok-clause-settled : goal.returns-in-Ok-clause-settled
+returns-in-Ok-clause-settled g c = record {
+  current_usable = c.in-Ok.ensures.done.usable;
+  other_usable = c.in-Ok.ensures.done.other_usable;
   rest = λ honest.
-      let other_clean : IsTrue (g.K.Disk.is_clean c.read_all-2.new.disk) = c.cut.ensures.clean honest.1 in
-      let same = c.in_ok-b.ensures.bytes other_clean ∙ sym c.read_all-2.ensures.seen in
-      let short : c.left_of.result ≤ 1 =
-      c.left_of.ensures.blank (subst IsBlank (c.deref-else-not-is_blank.ensures.value ∙ sym c.deref-2.ensures.value) c.if-not-is_blank-2.ensures) in
-      begun g.K.Disk.seen g.K.Disk.may_leave g.K.Disk.is_usable g.K.Disk.is_clean c.start.new.disk c.cut.new.disk
-      c.args.bytes.now c.deref-4.result.now c.extend_from_slice.new.self.items (g.K.Disk.seen c.read_all-2.new.disk)
-      c.len.result c.left_of.result (omega (arith, c.if-bytes-gt-MOST_TO_WRITE.false)) (c.deref-4.ensures.value ∙ c.in_ok-frame.ensures)
-      c.in-Ok-start.ensures.done
-      (c.in-Ok.ensures.done (omega (arith, c.left_of.ensures.within, ap length (c.deref-2.ensures.value ∙ same)))) short
-      (omega (arith, c.len.ensures, c.deref-4.ensures.len))
-      (c.in_ok-extend_from_slice.ensures.items ∙ ap (λ (t : List ℕ). t ++ c.args.bytes.now) c.new-copy.ensures.items);
+      let was = done_honest g.K.Disk.seen g.K.Disk.may_leave g.K.Disk.is_usable g.K.Disk.is_clean
+      g.K.Disk.is_mixing g.K.Disk.faults c.create.new.self.frame.items (steps c.in_ok-plan.plan.job)
+      c.read_all.new.disk c.read_all-2.new.disk c.carry_out.new.self.current c.carry_out.new.self.other
+      c.in-Ok.ensures.done.done honest.0 honest.1 in
+      made_settled g.K.Disk.seen g.K.Disk.may_leave g.K.Disk.is_usable g.K.Disk.is_clean
+      g.K.Disk.is_mixing g.K.Disk.faults c.args.bytes.now
+      (record { files = c.create.new.self; current = c.read_all.new.disk; other = c.read_all-2.new.disk })
+      c.in_ok-plan.plan c.carry_out.new.self c.in_ok-first.ensures.durable c.in_ok-second.ensures.durable
+      (rw (
+        c.in_ok-first.ensures.seen,
+        c.in_ok-second.ensures.seen,
+        ← c.deref.ensures.value ∙ c.in_ok-first.ensures.bytes was.0,
+        ← c.deref-2.ensures.value ∙ c.in_ok-second.ensures.bytes was.1,
+      ) c.in_ok-plan.ensures.made)
+      c.in-Ok.ensures.done;
 }
+
+pub returns-in-Ok-clause-leaves : goal.returns-in-Ok-clause-leaves
+returns-in-Ok-clause-leaves g c =
+    λ left honest may.
+    inr (rest_settled g.K.Disk.seen g.K.Disk.may_leave g.K.Disk.is_usable g.K.Disk.is_clean
+    c.carry_out.new.self left honest (returns-in-Ok-clause-settled g c) may
+    ∙ c.in-Ok.ensures.done.bytes ∙ c.in_ok-plan.ensures.made.bytes_are)
+
+pub returns-clause-leaves : goal.returns-clause-leaves
+returns-clause-leaves g c =
+    λ left honest may.
+    let was = begun_honest g.K.Disk.seen g.K.Disk.may_leave g.K.Disk.is_usable g.K.Disk.is_clean
+    g.K.Disk.is_mixing g.K.Disk.faults c.create.new.self.frame.items (steps c.in_ok-plan.plan.job)
+    c.read_all.new.disk c.read_all-2.new.disk c.carry_out.new.self.current c.carry_out.new.self.other
+    c.in-Err.ensures.begun.begun honest.0 honest.1 in
+    inr (making_leaves g.K.Disk.seen g.K.Disk.may_leave g.K.Disk.is_usable g.K.Disk.is_clean
+    g.K.Disk.is_mixing g.K.Disk.faults c.args.bytes.now
+    (record { files = c.create.new.self; current = c.read_all.new.disk; other = c.read_all-2.new.disk })
+    c.in_ok-plan.plan c.carry_out.new.self c.in_ok-first.ensures.durable c.in_ok-second.ensures.durable
+    (rw (
+      c.in_ok-first.ensures.seen,
+      c.in_ok-second.ensures.seen,
+      ← c.deref.ensures.value ∙ c.in_ok-first.ensures.bytes was.0,
+      ← c.deref-2.ensures.value ∙ c.in_ok-second.ensures.bytes was.1,
+    ) c.in_ok-plan.ensures.made)
+    c.in-Err.ensures.begun left may)
