@@ -1,0 +1,6 @@
+mod Counting
+mod Voting
+mod Certifying
+mod Agreeing
+mod Living
+mod Worked

@@ -1,0 +1,118 @@
+-- What one participant that keeps the policy has sent and knows.
+use Rattle.std.proofs.Common.{◌≡◌, [], ◌∷◌, inl, inr, ◌⊎◌, ⊎_elim, refl, sym, subst}
+use Rattle.batcher.specs.positions.Round.{Round}
+use Rattle.batcher.specs.messages.Proposal.{Proposal}
+use Rattle.batcher.specs.messages.Subject.{Subject}
+use Rattle.batcher.specs.messages.Subject.TheVariants.{Notarize, Nullify, Finalize}
+use Rattle.batcher_node.specs.Windows.{numbered}
+use Rattle.batcher_agreement.specs.Policy.{Act, learned, sent, Conduct, HasSent, Knows, KnowsProposal, IsGrounded, IsCleared, KeepsPolicy}
+
+same_proposal :
+    {D : Type 0} (t : Subject D) (p q : Proposal D) → t ≡ Notarize p → t ≡ Notarize q → q ≡ p
+same_proposal t p q e f = cc
+
+not_alike :
+    {D : Type 0} (t : Subject D) (p : Proposal D) (number : Round) → t ≡ Finalize p
+    → t ≡ Nullify number → ⊥
+not_alike t p number e f = absurd (cc)
+
+module _ {D : Type 0} where
+  -- what is known is known from then on
+  knows_more :
+      (e : Act D) (past : Conduct D) (s : Subject D) → Knows past s → Knows (e ∷ past) s
+  knows_more (sent t) past s h = h
+  knows_more (learned t) past s h = inr h
+
+  proposal_more :
+      (e : Act D) (past : Conduct D) (number : Round) → KnowsProposal past number
+      → KnowsProposal (e ∷ past) number
+  proposal_more e past number h =
+      record { proposal = h.proposal; of_round = h.of_round; known = more h.proposal h.known }
+    where
+      more :
+          (p : Proposal D) → Knows past (Notarize p) ⊎ Knows past (Finalize p)
+          → Knows (e ∷ past) (Notarize p) ⊎ Knows (e ∷ past) (Finalize p)
+      more p (inl k) = inl (knows_more e past (Notarize p) k)
+      more p (inr k) = inr (knows_more e past (Finalize p) k)
+
+  grounded_more :
+      (e : Act D) (past : Conduct D) (p : Proposal D) → IsGrounded past p
+      → IsGrounded (e ∷ past) p
+  grounded_more e past p h =
+      record {
+        earlier = h.earlier;
+        parent = more h.parent;
+        between = λ view above below. knows_more e past _ (h.between view above below);
+      }
+    where
+      more :
+          (p.parent.0 ≡ 0) ⊎ KnowsProposal past (numbered p.round.epoch p.parent.0)
+          → (p.parent.0 ≡ 0) ⊎ KnowsProposal (e ∷ past) (numbered p.round.epoch p.parent.0)
+      more (inl start) = inl start
+      more (inr known) = inr (proposal_more e past (numbered p.round.epoch p.parent.0) known)
+
+  -- what holds of a vote holds of an equal one
+  first_or_again :
+      (past : Conduct D) (t s : Subject D) → t ≡ s → HasSent past t ⊎ IsCleared past t
+      → HasSent past s ⊎ IsCleared past s
+  first_or_again past t s e h = subst (λ u. HasSent past u ⊎ IsCleared past u) e h
+
+  -- what is notarized has ground
+  pub sent_is_grounded :
+      (conduct : Conduct D) (p : Proposal D) → KeepsPolicy conduct → HasSent conduct (Notarize p)
+      → IsGrounded conduct p
+  sent_is_grounded [] p keeps h = absurd h
+  sent_is_grounded (learned c ∷ past) p keeps h =
+      grounded_more (learned c) past p (sent_is_grounded past p keeps h)
+  sent_is_grounded (sent t ∷ past) p keeps (inr h) =
+      grounded_more (sent t) past p (sent_is_grounded past p keeps.1 h)
+  sent_is_grounded (sent t ∷ past) p keeps (inl e) =
+      grounded_more (sent t) past p
+      (⊎_elim (λ before. sent_is_grounded past p keeps.1 before) (λ may. may.grounded)
+      (first_or_again past t (Notarize p) e keeps.0))
+
+  -- what it finalizes it knows to be notarized
+  pub sent_final_is_notarized :
+      (conduct : Conduct D) (p : Proposal D) → KeepsPolicy conduct → HasSent conduct (Finalize p)
+      → Knows conduct (Notarize p)
+  sent_final_is_notarized [] p keeps h = absurd h
+  sent_final_is_notarized (learned c ∷ past) p keeps h =
+      knows_more (learned c) past _ (sent_final_is_notarized past p keeps h)
+  sent_final_is_notarized (sent t ∷ past) p keeps (inr h) =
+      knows_more (sent t) past _ (sent_final_is_notarized past p keeps.1 h)
+  sent_final_is_notarized (sent t ∷ past) p keeps (inl e) =
+      knows_more (sent t) past _
+      (⊎_elim (λ before. sent_final_is_notarized past p keeps.1 before) (λ may. may.notarized)
+      (first_or_again past t (Finalize p) e keeps.0))
+
+  -- no two proposals of a round
+  pub one_sent :
+      (conduct : Conduct D) (p q : Proposal D) → KeepsPolicy conduct → q.round ≡ p.round
+      → HasSent conduct (Notarize p) → HasSent conduct (Notarize q) → q ≡ p
+  one_sent [] p q keeps same h k = absurd h
+  one_sent (learned c ∷ past) p q keeps same h k = one_sent past p q keeps same h k
+  one_sent (sent t ∷ past) p q keeps same (inr h) (inr k) = one_sent past p q keeps.1 same h k
+  one_sent (sent t ∷ past) p q keeps same (inl e) (inl f) = same_proposal t p q e f
+  one_sent (sent t ∷ past) p q keeps same (inl e) (inr k) =
+      ⊎_elim (λ before. one_sent past p q keeps.1 same before k) (λ may. may.no_other q same k)
+      (first_or_again past t (Notarize p) e keeps.0)
+  one_sent (sent t ∷ past) p q keeps same (inr h) (inl f) =
+      ⊎_elim
+      (λ before. one_sent past p q keeps.1 same h before)
+      (λ may. sym (may.no_other p (sym same) h))
+      (first_or_again past t (Notarize q) f keeps.0)
+
+  -- no finalize and nullify of one round
+  pub not_both :
+      (conduct : Conduct D) (p : Proposal D) → KeepsPolicy conduct
+      → HasSent conduct (Finalize p) → HasSent conduct (Nullify p.round) → ⊥
+  not_both [] p keeps h k = absurd h
+  not_both (learned c ∷ past) p keeps h k = not_both past p keeps h k
+  not_both (sent t ∷ past) p keeps (inr h) (inr k) = not_both past p keeps.1 h k
+  not_both (sent t ∷ past) p keeps (inl e) (inl f) = not_alike t p p.round e f
+  not_both (sent t ∷ past) p keeps (inl e) (inr k) =
+      ⊎_elim (λ before. not_both past p keeps.1 before k) (λ may. may.not_nullified k)
+      (first_or_again past t (Finalize p) e keeps.0)
+  not_both (sent t ∷ past) p keeps (inr h) (inl f) =
+      ⊎_elim (λ before. not_both past p keeps.1 h before) (λ may. may p refl h)
+      (first_or_again past t (Nullify p.round) f keeps.0)

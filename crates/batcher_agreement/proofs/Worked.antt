@@ -1,0 +1,110 @@
+-- The example of participants that agree, computed.
+use Rattle.std.proofs.Common.{◌≡◌, ℕ, zero, suc, true, false, not, [], ◌∷◌, Some, None, Option, inl, inr, ◌⊎◌, ap, refl, arith, sym}
+use Rattle.std.proofs.lemmas.Option.{same_Some}
+use Rattle.batcher.specs.Examples.Answers.{finalization, listing, notarization, p}
+use Rattle.batcher.specs.Keys.{index_of}
+use Rattle.batcher.specs.Votes.{subject_certified}
+use Rattle.batcher.specs.messages.Certificate.{Certificate}
+use Rattle.batcher.specs.messages.Subject.{Subject}
+use Rattle.batcher.specs.messages.Subject.TheVariants.{Finalize, Notarize, Nullify}
+use Rattle.batcher_node.specs.Represents.{AreNamed}
+use Rattle.batcher_node.specs.SendingExamples.{of_four}
+use Rattle.batcher_agreement.specs.Examples.{AgreementExamples, asked, did, is_zero}
+use Rattle.batcher_agreement.specs.Lives.{HasHeld}
+use Rattle.batcher_agreement.specs.Participants.{IsHonest}
+use Rattle.batcher_agreement.specs.Policy.{Conduct, HasSent, KeepsPolicy, learned, sent}
+
+-- The honest are 1, 2 and 3.
+each : (P : ℕ → Type 0) → P 1 → P 2 → P 3 → (i : ℕ) → IsHonest (listing 4) is_zero i → P i
+each P one two three zero honest = absurd (wrong honest.honest)
+  where
+    wrong : true ≡ false → ⊥
+    wrong e = absurd cc
+each P one two three (suc zero) honest = one
+each P one two three (suc (suc zero)) honest = two
+each P one two three (suc (suc (suc zero))) honest = three
+each P one two three (suc (suc (suc (suc i)))) honest = absurd (omega (arith, honest.takes_part))
+
+abbrev notarized : Subject ℕ
+notarized = Notarize (p 1)
+
+abbrev finalized : Subject ℕ
+finalized = Finalize (p 1)
+
+-- what each of them did
+abbrev each_did : Conduct ℕ
+each_did = learned finalized ∷ sent finalized ∷ learned notarized ∷ sent notarized ∷ []
+
+keeps : KeepsPolicy each_did
+keeps = (
+  inr (record { notarized = inl refl; not_nullified = λ h. none h }),
+  (
+    inr (record {
+      grounded = record {
+        earlier = omega arith;
+        parent = inl refl;
+        between = λ view above below. absurd (omega (arith, above, below));
+      };
+      no_other = λ q same h. absurd h;
+      not_nullified = λ h. h;
+    }),
+    tt,
+  ),
+) where
+  none : HasSent (learned notarized ∷ sent notarized ∷ []) (Nullify (p 1).round) → ⊥
+  none (inl e) = absurd cc
+  none (inr h) = h
+
+abbrev Is : Certificate ℕ ℕ → Option (Certificate ℕ ℕ) → Type 0
+Is c held = held ≡ Some c
+
+-- what its certificates are of
+of_these : (c : Certificate ℕ ℕ)
+    → Is c (Some (finalization 1))
+    ⊎ (Is c None ⊎ (Is c (Some (notarization 1)) ⊎ (Is c None ⊎ (Is c None ⊎ (Is c None ⊎ ⊥)))))
+    → (subject_certified c ≡ finalized) ⊎ (subject_certified c ≡ notarized)
+of_these c (inl e) = inl (ap subject_certified (sym (same_Some (finalization 1) c e)))
+of_these c (inr (inl e)) = absurd cc
+of_these c (inr (inr (inl e))) = inr (ap subject_certified (sym (same_Some (notarization 1) c e)))
+of_these c (inr (inr (inr (inl e)))) = absurd cc
+of_these c (inr (inr (inr (inr (inl e))))) = absurd cc
+of_these c (inr (inr (inr (inr (inr (inl e)))))) = absurd cc
+of_these c (inr (inr (inr (inr (inr (inr h)))))) = absurd h
+
+sent_either : (s : Subject ℕ) → (s ≡ finalized) ⊎ (s ≡ notarized) → HasSent each_did s
+sent_either s (inl e) = inl (sym e)
+sent_either s (inr e) = inr (inl (sym e))
+
+pub computed : AgreementExamples
+unfolding index_of
+computed = record {
+  few_faulty = record { some = omega arith; few = omega arith };
+  answered_rightly = each (λ i. AreNamed of_four (asked i)) (
+      (refl, ((refl, (refl, refl)), (refl, ((refl, (refl, refl)), ((omega arith, refl), (refl, tt))))))
+      ) (
+      (refl, ((refl, (refl, refl)), (refl, ((refl, (refl, refl)), ((omega arith, refl), (refl, tt))))))
+      ) (
+      (refl, ((refl, (refl, refl)), (refl, ((refl, (refl, refl)), ((omega arith, refl), (refl, tt))))))
+      );
+  keep_policy = each (λ i. KeepsPolicy (did i)) keeps keeps keeps;
+  backed = λ i honest c held certifies. record {
+    voted = λ j. not (is_zero j);
+    enough = omega arith;
+    unforged = λ j other voted.
+        each (λ j. HasSent (did j) (subject_certified c))
+        (sent_either (subject_certified c) (of_one i honest c held))
+        (sent_either (subject_certified c) (of_one i honest c held))
+        (sent_either (subject_certified c) (of_one i honest c held)) j other;
+  };
+  final = record {
+    holder = 1;
+    honest = record { takes_part = omega arith; honest = refl };
+    knows = inl refl;
+  };
+} where
+  of_one : (i : ℕ) → IsHonest (listing 4) is_zero i → (c : Certificate ℕ ℕ) → HasHeld (asked i) c
+      → (subject_certified c ≡ finalized) ⊎ (subject_certified c ≡ notarized)
+  of_one i honest c =
+      each (λ i. HasHeld (asked i) c
+      → (subject_certified c ≡ finalized) ⊎ (subject_certified c ≡ notarized))
+      (of_these c) (of_these c) (of_these c) i honest

@@ -1,0 +1,6 @@
+pub mod Policy
+pub mod Participants
+pub mod Agreement
+pub mod Lives
+pub mod Voters
+pub mod Examples
