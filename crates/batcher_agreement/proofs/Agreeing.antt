@@ -11,8 +11,8 @@ use Rattle.batcher_node.specs.Windows.{numbered}
 use Rattle.batcher_agreement.specs.Policy.{Conduct, Knows, IsGrounded, KnowsProposal}
 use Rattle.batcher_agreement.specs.Participants.{IsHonest, IsCertified}
 use Rattle.batcher_agreement.specs.Agreement.{IsNotarized, IsFinal, IsInChain, itself, above, Agree}
-use Rattle.batcher_agreement.proofs.Voting.{sent_is_grounded, sent_final_is_notarized, one_sent, not_both}
-use Rattle.batcher_agreement.proofs.Certifying.{AreSound, both_sent}
+use Rattle.batcher_agreement.proofs.Voting.{voted_is_grounded, voted_final_is_notarized, one_voted, not_both}
+use Rattle.batcher_agreement.proofs.Certifying.{AreSound, both_voted}
 
 -- a round by its epoch and view
 same_number :
@@ -35,23 +35,23 @@ module _ {D K G C : Type 0} (m : Meaning D K G C) (is_faulty : ℕ → Bool)
   one_notarized :
       (p q : Proposal D) → q.round ≡ p.round → notarized p → notarized q → q ≡ p
   one_notarized p q same h k =
-      let it = both_sent m is_faulty holds conduct sound (Notarize p) (Notarize q) h k in
-      one_sent (conduct it.sender) p q (sound.keep_policy it.sender it.honest) same it.first it.second
+      let it = both_voted m is_faulty holds conduct sound (Notarize p) (Notarize q) h k in
+      one_voted (conduct it.voter) p q (sound.keep_policy it.voter it.honest) same it.first it.second
 
   final_are_notarized : (p : Proposal D) → final p → notarized p
   final_are_notarized p h =
-      let it = both_sent m is_faulty holds conduct sound (Finalize p) (Finalize p) h h in
+      let it = both_voted m is_faulty holds conduct sound (Finalize p) (Finalize p) h h in
       record {
-        holder = it.sender;
+        holder = it.voter;
         honest = it.honest;
-        knows = sent_final_is_notarized (conduct it.sender) p (sound.keep_policy it.sender it.honest) it.first;
+        knows = voted_final_is_notarized (conduct it.voter) p (sound.keep_policy it.voter it.honest) it.first;
       }
 
   not_nullified :
       (p : Proposal D) → final p → IsCertified m is_faulty conduct (Nullify p.round) → ⊥
   not_nullified p h k =
-      let it = both_sent m is_faulty holds conduct sound (Finalize p) (Nullify p.round) h k in
-      not_both (conduct it.sender) p (sound.keep_policy it.sender it.honest) it.first it.second
+      let it = both_voted m is_faulty holds conduct sound (Finalize p) (Nullify p.round) h k in
+      not_both (conduct it.voter) p (sound.keep_policy it.voter it.honest) it.first it.second
 
   -- what is notarized has ground, for somebody honest
   record HasGround (q : Proposal D) : Type 0 where
@@ -61,11 +61,11 @@ module _ {D K G C : Type 0} (m : Meaning D K G C) (is_faulty : ℕ → Bool)
 
   ground : (q : Proposal D) → notarized q → HasGround q
   ground q h =
-      let it = both_sent m is_faulty holds conduct sound (Notarize q) (Notarize q) h h in
+      let it = both_voted m is_faulty holds conduct sound (Notarize q) (Notarize q) h h in
       record {
-        voter = it.sender;
+        voter = it.voter;
         honest = it.honest;
-        grounded = sent_is_grounded (conduct it.sender) q (sound.keep_policy it.sender it.honest) it.first;
+        grounded = voted_is_grounded (conduct it.voter) q (sound.keep_policy it.voter it.honest) it.first;
       }
 
   -- a known parent is notarized

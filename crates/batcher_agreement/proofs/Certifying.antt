@@ -6,14 +6,14 @@ use Rattle.batcher.specs.messages.Attestation.{Attestation}
 use Rattle.batcher.specs.messages.Certificate.{Certificate}
 use Rattle.batcher.specs.messages.Subject.{Subject}
 use Rattle.batcher_evidence.specs.SignedQuorums.{ShowsQuorum, has_signed}
-use Rattle.batcher_agreement.specs.Policy.{Conduct, HasSent, KeepsPolicy, Knows}
+use Rattle.batcher_agreement.specs.Policy.{Conduct, HasVoted, KeepsPolicy, Knows}
 use Rattle.batcher_agreement.specs.Participants.{IsHonest, IsBacked, HoldsFor, AreBacked, AreUnforged, IsCertified}
 use Rattle.batcher_agreement.specs.Voters.{AreFewFaulty}
 use Rattle.batcher_agreement.proofs.Counting.{honest_in_both, quorum_signed}
 
 module _ {D K G C : Type 0} (m : Meaning D K G C) (is_faulty : ℕ → Bool)
     (holds : ℕ → Certificate C D → Type 0) (conduct : ℕ → Conduct D) where
-  -- All that is supposed, by what each has sent and learned.
+  -- All that is supposed, by what each has voted for and learned.
   pub record AreSound : Type 0 where
     pub few_faulty : AreFewFaulty m is_faulty
     pub keep_policy : (i : ℕ) → IsHonest m is_faulty i → KeepsPolicy (conduct i)
@@ -36,12 +36,12 @@ module _ {D K G C : Type 0} (m : Meaning D K G C) (is_faulty : ℕ → Bool)
       }
 
   module _ (sound : AreSound) where
-    -- An honest participant that sent votes for both of two subjects that are certified.
-    pub record SentBoth (s t : Subject D) : Type 0 where
-      pub sender : ℕ
-      pub honest : IsHonest m is_faulty sender
-      pub first : HasSent (conduct sender) s
-      pub second : HasSent (conduct sender) t
+    -- An honest participant that voted for both of two subjects that are certified.
+    pub record VotedForBoth (s t : Subject D) : Type 0 where
+      pub voter : ℕ
+      pub honest : IsHonest m is_faulty voter
+      pub first : HasVoted (conduct voter) s
+      pub second : HasVoted (conduct voter) t
 
     held :
         (s : Subject D) (k : IsCertified m is_faulty conduct s)
@@ -54,10 +54,10 @@ module _ {D K G C : Type 0} (m : Meaning D K G C) (is_faulty : ℕ → Bool)
     backing s k =
         sound.backed k.holder k.honest (held s k).certificate (held s k).held (held s k).certifies
 
-    pub both_sent :
+    pub both_voted :
         (s t : Subject D) → IsCertified m is_faulty conduct s → IsCertified m is_faulty conduct t
-        → SentBoth s t
-    both_sent s t h k =
+        → VotedForBoth s t
+    both_voted s t h k =
         let a = backing s h in
         let b = backing t k in
         let it =
@@ -66,10 +66,10 @@ module _ {D K G C : Type 0} (m : Meaning D K G C) (is_faulty : ℕ → Bool)
         let honest : IsHonest m is_faulty it.number = record
         { takes_part = it.below; honest = it.honest } in
         record {
-          sender = it.number;
+          voter = it.number;
           honest = honest;
-          first = subst (HasSent (conduct it.number)) (held s h).is_of
+          first = subst (HasVoted (conduct it.number)) (held s h).is_of
               (a.unforged it.number honest it.first);
-          second = subst (HasSent (conduct it.number)) (held t k).is_of
+          second = subst (HasVoted (conduct it.number)) (held t k).is_of
               (b.unforged it.number honest it.second);
         }

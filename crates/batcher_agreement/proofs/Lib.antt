@@ -1,5 +1,5 @@
 mod Counting
-mod Voting
+pub mod Voting
 mod Certifying
 mod Agreeing
 mod Living

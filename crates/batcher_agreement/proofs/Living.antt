@@ -1,8 +1,7 @@
--- What a participant knows to be certified, its nodes hold certificates for, which certify.
+-- What a participant knows to be certified, it holds certificates for, which certify.
 use Rattle.std.proofs.Common.{◌≡◌, ◌≤◌, ℕ, Bool, true, List, [], ◌∷◌, ◌++◌, length, Option, Some, None, inl, inr, ◌⊎◌, ⊎_elim, refl, sym, ◌∙◌, subst}
 use Rattle.std.specs.Prelude.{All, IfSome}
 use Rattle.std.specs.List.{AllByRecursion}
-use Rattle.std.specs.Option.{option_map_or}
 use Rattle.std.proofs.lemmas.List.Elements.{recursion_from_All}
 use Rattle.batcher.specs.Meaning.{Meaning}
 use Rattle.batcher.specs.Votes.{subject_certified}
@@ -15,9 +14,9 @@ use Rattle.batcher_node.specs.Events.{NodeEvent, certificate_came, constructed, 
 use Rattle.batcher_node.specs.Nodes.{NodeView, NodeConfig}
 use Rattle.batcher_node.specs.Represents.{NodeRepresents}
 use Rattle.batcher_node.specs.Sending.{HoldsCertified}
-use Rattle.batcher_agreement.specs.Policy.{Conduct, learned, sent, Knows}
+use Rattle.batcher_agreement.specs.Policy.{Conduct, learned, voted, Knows}
 use Rattle.batcher_agreement.specs.Participants.{AreBacked}
-use Rattle.batcher_agreement.specs.Lives.{Life, held_by, sent_by, acts_of, conduct_of, HasHeld, conduct_of_lives, HasHeldInLives, IsLife}
+use Rattle.batcher_agreement.specs.Lives.{AreVerified, HasHeld, HasHeldInLives, IsLife, Life, VoterEvent, VoterHistory, acts_of, called, conduct_of, conduct_of_lives, held_by, learned_by, node_history, verified, written}
 use Rattle.batcher_agreement.specs.Voters.{AreFewFaulty, AreVoters}
 use Rattle.batcher_agreement.proofs.Certifying.{AreSound}
 
@@ -25,15 +24,10 @@ module _ {D : Type 0} where
   -- what is known, by the parts of a conduct
   known_in : (xs ys : Conduct D) (s : Subject D) → Knows (xs ++ ys) s → Knows xs s ⊎ Knows ys s
   known_in [] ys s h = inr h
-  known_in (sent t ∷ xs) ys s h = known_in xs ys s h
+  known_in (voted t ∷ xs) ys s h = known_in xs ys s h
   known_in (learned t ∷ xs) ys s (inl e) = inl (inl e)
   known_in (learned t ∷ xs) ys s (inr h) =
       ⊎_elim (λ k. inl (inr k)) (λ k. inr k) (known_in xs ys s h)
-
-  sent_tells_nothing :
-      (o : Option (Subject D)) (s : Subject D) → Knows (option_map_or (λ t. sent t ∷ []) o []) s → ⊥
-  sent_tells_nothing None s h = h
-  sent_tells_nothing (Some t) s h = h
 
 -- A certificate that was held, for a subject.
 record Found (C D : Type 0) (holds : Certificate C D → Type 0) (s : Subject D) : Type 0 where
@@ -44,7 +38,7 @@ record Found (C D : Type 0) (holds : Certificate C D → Type 0) (s : Subject D)
 module _ {C D : Type 0} where
   found_one :
       (o : Option (Certificate C D)) (s : Subject D)
-      → Knows (option_map_or (λ c. learned (subject_certified c) ∷ []) o []) s
+      → Knows (learned_by o) s
       → Found C D (λ c. o ≡ Some c) s
   found_one None s h = absurd h
   found_one (Some c) s (inl e) = record { certificate = c; is_of = e; held = refl }
@@ -52,17 +46,14 @@ module _ {C D : Type 0} where
 
 module _ {D K G C : Type 0} where
   found_by :
-      (event : NodeEvent D K G C) (s : Subject D) → Knows (acts_of event) s
+      (event : VoterEvent D K G C) (s : Subject D) → Knows (acts_of event) s
       → Found C D (λ c. held_by event ≡ Some c) s
-  found_by event s h =
-      ⊎_elim
-      (found_one (held_by event) s)
-      (λ k. absurd (sent_tells_nothing (sent_by event) s k))
-      (known_in (option_map_or (λ c. learned (subject_certified c) ∷ []) (held_by event) [])
-      (option_map_or (λ t. sent t ∷ []) (sent_by event) []) s h)
+  found_by (written vote) s h = absurd h
+  found_by (verified c) s h = found_one (Some c) s h
+  found_by (called event) s h = found_one (held_by (called event)) s h
 
   found_in :
-      (past : NodeHistory D K G C) (s : Subject D) → Knows (conduct_of past) s
+      (past : VoterHistory D K G C) (s : Subject D) → Knows (conduct_of past) s
       → Found C D (HasHeld past) s
   found_in [] s h = absurd h
   found_in (event ∷ past) s h =
@@ -96,7 +87,8 @@ module _ {D K G C : Type 0} (x : NodeConfig D K G C) where
 
   event_certifies :
       (event : NodeEvent D K G C) → HoldsCertified x event
-      → (c : Certificate C D) → held_by event ≡ Some c → certifies_itself x.meaning c ≡ true
+      → (c : Certificate C D) → held_by (called event) ≡ Some c
+      → certifies_itself x.meaning c ≡ true
   event_certifies (certificate_came peer d (Answered (Recorded changed))) holds c e =
       given_certifies (Some d) holds c e
   event_certifies (constructed view (Some batch)) holds c e =
@@ -104,11 +96,20 @@ module _ {D K G C : Type 0} (x : NodeConfig D K G C) where
   event_certifies event holds c e = absurd (cc)
 
   history_certifies :
-      (past : NodeHistory D K G C) → AllByRecursion (HoldsCertified x) past
+      (past : VoterHistory D K G C)
+      → AllByRecursion (HoldsCertified x) (node_history past) → AreVerified x.meaning past
       → (c : Certificate C D) → HasHeld past c → certifies_itself x.meaning c ≡ true
-  history_certifies [] holds c h = absurd h
-  history_certifies (event ∷ past) holds c h =
-      ⊎_elim (event_certifies event holds.0 c) (history_certifies past holds.1 c) h
+  history_certifies [] holds are c h = absurd h
+  history_certifies (called event ∷ past) holds are c (inl e) = event_certifies event holds.0 c e
+  history_certifies (called event ∷ past) holds are c (inr h) =
+      history_certifies past holds.1 are c h
+  history_certifies (verified d ∷ past) holds are c (inl e) =
+      given_certifies (Some d) are.0 c e
+  history_certifies (verified d ∷ past) holds are c (inr h) =
+      history_certifies past holds are.1 c h
+  history_certifies (written vote ∷ past) holds are c (inl e) = absurd (cc)
+  history_certifies (written vote ∷ past) holds are c (inr h) =
+      history_certifies past holds are c h
 
 module _ {S D K G C : Type 0} (meaning : S → Meaning D K G C)
     (config : NodeView S G D → NodeConfig D K G C)
@@ -124,9 +125,10 @@ module _ {S D K G C : Type 0} (meaning : S → Meaning D K G C)
       let same = is_meaning life.node ∙ is.of_scheme in
       subst (λ n. certifies_itself n c ≡ true) same
       (history_certifies (config life.node) life.past
-      (recursion_from_All (HoldsCertified (config life.node)) life.past
-      (held life.node (subst (λ n. 1 ≤ length n.participants) (sym is.of_scheme) some) life.past
-      is.represents))
+      (recursion_from_All (HoldsCertified (config life.node)) (node_history life.past)
+      (held life.node (subst (λ n. 1 ≤ length n.participants) (sym is.of_scheme) some)
+      (node_history life.past) is.represents))
+      (subst (λ n. AreVerified n life.past) (sym same) is.are_verified)
       c h)
 
   lives_certify :

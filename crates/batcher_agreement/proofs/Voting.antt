@@ -1,11 +1,11 @@
--- What one participant that keeps the policy has sent and knows.
-use Rattle.std.proofs.Common.{◌≡◌, [], ◌∷◌, inl, inr, ◌⊎◌, ⊎_elim, refl, sym, subst}
+-- What one participant that keeps the policy has voted for and knows.
+use Rattle.std.proofs.Common.{◌≡◌, [], ◌∷◌, inl, inr, ◌⊎◌, refl, sym, subst}
 use Rattle.batcher.specs.positions.Round.{Round}
 use Rattle.batcher.specs.messages.Proposal.{Proposal}
 use Rattle.batcher.specs.messages.Subject.{Subject}
 use Rattle.batcher.specs.messages.Subject.TheVariants.{Notarize, Nullify, Finalize}
 use Rattle.batcher_node.specs.Windows.{numbered}
-use Rattle.batcher_agreement.specs.Policy.{Act, learned, sent, Conduct, HasSent, Knows, KnowsProposal, IsGrounded, IsCleared, KeepsPolicy}
+use Rattle.batcher_agreement.specs.Policy.{Act, learned, voted, Conduct, HasVoted, Knows, KnowsProposal, IsGrounded, IsCleared, KeepsPolicy}
 
 same_proposal :
     {D : Type 0} (t : Subject D) (p q : Proposal D) → t ≡ Notarize p → t ≡ Notarize q → q ≡ p
@@ -18,9 +18,9 @@ not_alike t p number e f = absurd (cc)
 
 module _ {D : Type 0} where
   -- what is known is known from then on
-  knows_more :
+  pub knows_more :
       (e : Act D) (past : Conduct D) (s : Subject D) → Knows past s → Knows (e ∷ past) s
-  knows_more (sent t) past s h = h
+  knows_more (voted t) past s h = h
   knows_more (learned t) past s h = inr h
 
   proposal_more :
@@ -52,67 +52,56 @@ module _ {D : Type 0} where
       more (inr known) = inr (proposal_more e past (numbered p.round.epoch p.parent.0) known)
 
   -- what holds of a vote holds of an equal one
-  first_or_again :
-      (past : Conduct D) (t s : Subject D) → t ≡ s → HasSent past t ⊎ IsCleared past t
-      → HasSent past s ⊎ IsCleared past s
-  first_or_again past t s e h = subst (λ u. HasSent past u ⊎ IsCleared past u) e h
+  cleared_as :
+      (past : Conduct D) (t s : Subject D) → t ≡ s → IsCleared past t → IsCleared past s
+  cleared_as past t s e h = subst (IsCleared past) e h
 
   -- what is notarized has ground
-  pub sent_is_grounded :
-      (conduct : Conduct D) (p : Proposal D) → KeepsPolicy conduct → HasSent conduct (Notarize p)
+  pub voted_is_grounded :
+      (conduct : Conduct D) (p : Proposal D) → KeepsPolicy conduct → HasVoted conduct (Notarize p)
       → IsGrounded conduct p
-  sent_is_grounded [] p keeps h = absurd h
-  sent_is_grounded (learned c ∷ past) p keeps h =
-      grounded_more (learned c) past p (sent_is_grounded past p keeps h)
-  sent_is_grounded (sent t ∷ past) p keeps (inr h) =
-      grounded_more (sent t) past p (sent_is_grounded past p keeps.1 h)
-  sent_is_grounded (sent t ∷ past) p keeps (inl e) =
-      grounded_more (sent t) past p
-      (⊎_elim (λ before. sent_is_grounded past p keeps.1 before) (λ may. may.grounded)
-      (first_or_again past t (Notarize p) e keeps.0))
+  voted_is_grounded [] p keeps h = absurd h
+  voted_is_grounded (learned c ∷ past) p keeps h =
+      grounded_more (learned c) past p (voted_is_grounded past p keeps h)
+  voted_is_grounded (voted t ∷ past) p keeps (inr h) =
+      grounded_more (voted t) past p (voted_is_grounded past p keeps.1 h)
+  voted_is_grounded (voted t ∷ past) p keeps (inl e) =
+      grounded_more (voted t) past p (cleared_as past t (Notarize p) e keeps.0).grounded
 
   -- what it finalizes it knows to be notarized
-  pub sent_final_is_notarized :
-      (conduct : Conduct D) (p : Proposal D) → KeepsPolicy conduct → HasSent conduct (Finalize p)
+  pub voted_final_is_notarized :
+      (conduct : Conduct D) (p : Proposal D) → KeepsPolicy conduct → HasVoted conduct (Finalize p)
       → Knows conduct (Notarize p)
-  sent_final_is_notarized [] p keeps h = absurd h
-  sent_final_is_notarized (learned c ∷ past) p keeps h =
-      knows_more (learned c) past _ (sent_final_is_notarized past p keeps h)
-  sent_final_is_notarized (sent t ∷ past) p keeps (inr h) =
-      knows_more (sent t) past _ (sent_final_is_notarized past p keeps.1 h)
-  sent_final_is_notarized (sent t ∷ past) p keeps (inl e) =
-      knows_more (sent t) past _
-      (⊎_elim (λ before. sent_final_is_notarized past p keeps.1 before) (λ may. may.notarized)
-      (first_or_again past t (Finalize p) e keeps.0))
+  voted_final_is_notarized [] p keeps h = absurd h
+  voted_final_is_notarized (learned c ∷ past) p keeps h =
+      knows_more (learned c) past _ (voted_final_is_notarized past p keeps h)
+  voted_final_is_notarized (voted t ∷ past) p keeps (inr h) =
+      knows_more (voted t) past _ (voted_final_is_notarized past p keeps.1 h)
+  voted_final_is_notarized (voted t ∷ past) p keeps (inl e) =
+      knows_more (voted t) past _ (cleared_as past t (Finalize p) e keeps.0).notarized
 
   -- no two proposals of a round
-  pub one_sent :
+  pub one_voted :
       (conduct : Conduct D) (p q : Proposal D) → KeepsPolicy conduct → q.round ≡ p.round
-      → HasSent conduct (Notarize p) → HasSent conduct (Notarize q) → q ≡ p
-  one_sent [] p q keeps same h k = absurd h
-  one_sent (learned c ∷ past) p q keeps same h k = one_sent past p q keeps same h k
-  one_sent (sent t ∷ past) p q keeps same (inr h) (inr k) = one_sent past p q keeps.1 same h k
-  one_sent (sent t ∷ past) p q keeps same (inl e) (inl f) = same_proposal t p q e f
-  one_sent (sent t ∷ past) p q keeps same (inl e) (inr k) =
-      ⊎_elim (λ before. one_sent past p q keeps.1 same before k) (λ may. may.no_other q same k)
-      (first_or_again past t (Notarize p) e keeps.0)
-  one_sent (sent t ∷ past) p q keeps same (inr h) (inl f) =
-      ⊎_elim
-      (λ before. one_sent past p q keeps.1 same h before)
-      (λ may. sym (may.no_other p (sym same) h))
-      (first_or_again past t (Notarize q) f keeps.0)
+      → HasVoted conduct (Notarize p) → HasVoted conduct (Notarize q) → q ≡ p
+  one_voted [] p q keeps same h k = absurd h
+  one_voted (learned c ∷ past) p q keeps same h k = one_voted past p q keeps same h k
+  one_voted (voted t ∷ past) p q keeps same (inr h) (inr k) = one_voted past p q keeps.1 same h k
+  one_voted (voted t ∷ past) p q keeps same (inl e) (inl f) = same_proposal t p q e f
+  one_voted (voted t ∷ past) p q keeps same (inl e) (inr k) =
+      (cleared_as past t (Notarize p) e keeps.0).no_other q same k
+  one_voted (voted t ∷ past) p q keeps same (inr h) (inl f) =
+      sym ((cleared_as past t (Notarize q) f keeps.0).no_other p (sym same) h)
 
   -- no finalize and nullify of one round
   pub not_both :
       (conduct : Conduct D) (p : Proposal D) → KeepsPolicy conduct
-      → HasSent conduct (Finalize p) → HasSent conduct (Nullify p.round) → ⊥
+      → HasVoted conduct (Finalize p) → HasVoted conduct (Nullify p.round) → ⊥
   not_both [] p keeps h k = absurd h
   not_both (learned c ∷ past) p keeps h k = not_both past p keeps h k
-  not_both (sent t ∷ past) p keeps (inr h) (inr k) = not_both past p keeps.1 h k
-  not_both (sent t ∷ past) p keeps (inl e) (inl f) = not_alike t p p.round e f
-  not_both (sent t ∷ past) p keeps (inl e) (inr k) =
-      ⊎_elim (λ before. not_both past p keeps.1 before k) (λ may. may.not_nullified k)
-      (first_or_again past t (Finalize p) e keeps.0)
-  not_both (sent t ∷ past) p keeps (inr h) (inl f) =
-      ⊎_elim (λ before. not_both past p keeps.1 h before) (λ may. may p refl h)
-      (first_or_again past t (Nullify p.round) f keeps.0)
+  not_both (voted t ∷ past) p keeps (inr h) (inr k) = not_both past p keeps.1 h k
+  not_both (voted t ∷ past) p keeps (inl e) (inl f) = not_alike t p p.round e f
+  not_both (voted t ∷ past) p keeps (inl e) (inr k) =
+      (cleared_as past t (Finalize p) e keeps.0).not_nullified k
+  not_both (voted t ∷ past) p keeps (inr h) (inl f) =
+      cleared_as past t (Nullify p.round) f keeps.0 p refl h

@@ -10,9 +10,9 @@ use Rattle.batcher.specs.messages.Subject.TheVariants.{Finalize, Notarize, Nulli
 use Rattle.batcher_node.specs.Represents.{AreNamed}
 use Rattle.batcher_node.specs.SendingExamples.{of_four}
 use Rattle.batcher_agreement.specs.Examples.{AgreementExamples, asked, did, is_zero}
-use Rattle.batcher_agreement.specs.Lives.{HasHeld}
+use Rattle.batcher_agreement.specs.Lives.{HasHeld, node_history}
 use Rattle.batcher_agreement.specs.Participants.{IsHonest}
-use Rattle.batcher_agreement.specs.Policy.{Conduct, HasSent, KeepsPolicy, learned, sent}
+use Rattle.batcher_agreement.specs.Policy.{Conduct, HasVoted, KeepsPolicy, learned, voted}
 
 -- The honest are 1, 2 and 3.
 each : (P : ℕ → Type 0) → P 1 → P 2 → P 3 → (i : ℕ) → IsHonest (listing 4) is_zero i → P i
@@ -33,13 +33,13 @@ finalized = Finalize (p 1)
 
 -- what each of them did
 abbrev each_did : Conduct ℕ
-each_did = learned finalized ∷ sent finalized ∷ learned notarized ∷ sent notarized ∷ []
+each_did = learned finalized ∷ voted finalized ∷ learned notarized ∷ voted notarized ∷ []
 
 keeps : KeepsPolicy each_did
 keeps = (
-  inr (record { notarized = inl refl; not_nullified = λ h. none h }),
+  record { notarized = inl refl; not_nullified = λ h. none h },
   (
-    inr (record {
+    record {
       grounded = record {
         earlier = omega arith;
         parent = inl refl;
@@ -47,11 +47,11 @@ keeps = (
       };
       no_other = λ q same h. absurd h;
       not_nullified = λ h. h;
-    }),
+    },
     tt,
   ),
 ) where
-  none : HasSent (learned notarized ∷ sent notarized ∷ []) (Nullify (p 1).round) → ⊥
+  none : HasVoted (learned notarized ∷ voted notarized ∷ []) (Nullify (p 1).round) → ⊥
   none (inl e) = absurd cc
   none (inr h) = h
 
@@ -61,25 +61,28 @@ Is c held = held ≡ Some c
 -- what its certificates are of
 of_these : (c : Certificate ℕ ℕ)
     → Is c (Some (finalization 1))
-    ⊎ (Is c None ⊎ (Is c (Some (notarization 1)) ⊎ (Is c None ⊎ (Is c None ⊎ (Is c None ⊎ ⊥)))))
+    ⊎ (Is c None ⊎ (Is c None ⊎ (Is c (Some (notarization 1))
+    ⊎ (Is c None ⊎ (Is c None ⊎ (Is c None ⊎ (Is c None ⊎ ⊥)))))))
     → (subject_certified c ≡ finalized) ⊎ (subject_certified c ≡ notarized)
 of_these c (inl e) = inl (ap subject_certified (sym (same_Some (finalization 1) c e)))
 of_these c (inr (inl e)) = absurd cc
-of_these c (inr (inr (inl e))) = inr (ap subject_certified (sym (same_Some (notarization 1) c e)))
-of_these c (inr (inr (inr (inl e)))) = absurd cc
+of_these c (inr (inr (inl e))) = absurd cc
+of_these c (inr (inr (inr (inl e)))) = inr (ap subject_certified (sym (same_Some (notarization 1) c e)))
 of_these c (inr (inr (inr (inr (inl e))))) = absurd cc
 of_these c (inr (inr (inr (inr (inr (inl e)))))) = absurd cc
-of_these c (inr (inr (inr (inr (inr (inr h)))))) = absurd h
+of_these c (inr (inr (inr (inr (inr (inr (inl e))))))) = absurd cc
+of_these c (inr (inr (inr (inr (inr (inr (inr (inl e)))))))) = absurd cc
+of_these c (inr (inr (inr (inr (inr (inr (inr (inr h)))))))) = absurd h
 
-sent_either : (s : Subject ℕ) → (s ≡ finalized) ⊎ (s ≡ notarized) → HasSent each_did s
-sent_either s (inl e) = inl (sym e)
-sent_either s (inr e) = inr (inl (sym e))
+voted_either : (s : Subject ℕ) → (s ≡ finalized) ⊎ (s ≡ notarized) → HasVoted each_did s
+voted_either s (inl e) = inl (sym e)
+voted_either s (inr e) = inr (inl (sym e))
 
 pub computed : AgreementExamples
 unfolding index_of
 computed = record {
   few_faulty = record { some = omega arith; few = omega arith };
-  answered_rightly = each (λ i. AreNamed of_four (asked i)) (
+  answered_rightly = each (λ i. AreNamed of_four (node_history (asked i))) (
       (refl, ((refl, (refl, refl)), (refl, ((refl, (refl, refl)), ((omega arith, refl), (refl, tt))))))
       ) (
       (refl, ((refl, (refl, refl)), (refl, ((refl, (refl, refl)), ((omega arith, refl), (refl, tt))))))
@@ -91,10 +94,10 @@ computed = record {
     voted = λ j. not (is_zero j);
     enough = omega arith;
     unforged = λ j other voted.
-        each (λ j. HasSent (did j) (subject_certified c))
-        (sent_either (subject_certified c) (of_one i honest c held))
-        (sent_either (subject_certified c) (of_one i honest c held))
-        (sent_either (subject_certified c) (of_one i honest c held)) j other;
+        each (λ j. HasVoted (did j) (subject_certified c))
+        (voted_either (subject_certified c) (of_one i honest c held))
+        (voted_either (subject_certified c) (of_one i honest c held))
+        (voted_either (subject_certified c) (of_one i honest c held)) j other;
   };
   final = record {
     holder = 1;

@@ -1,11 +1,12 @@
--- A worked example: four participants, of whom 0 is faulty, and what their nodes were asked and
--- answered until a proposal is final.
-use Rattle.std.specs.Prelude.{◌==◌, ℕ, Bool}
-use Rattle.batcher.specs.Examples.Answers.{finalization, finalize, listing, notarization, notarize, p}
+-- A worked example: four participants, of whom 0 is faulty, and what happened to the others until
+-- a proposal is final.
+use Rattle.std.specs.Prelude.{◌==◌, ℕ, Bool, [], ◌∷◌, map}
+use Rattle.batcher.specs.Examples.Answers.{TinyVote, finalization, finalize, listing, notarization, notarize, p}
+use Rattle.batcher.specs.messages.Certificate.{Certificate}
 use Rattle.batcher_node.specs.Represents.{AreNamed}
 use Rattle.batcher_node.specs.SendingExamples.{TinyNodeHistory, begun, cast, hear_certificate, of_four}
 use Rattle.batcher_agreement.specs.Agreement.{IsFinal}
-use Rattle.batcher_agreement.specs.Lives.{HasHeld, conduct_of}
+use Rattle.batcher_agreement.specs.Lives.{HasHeld, VoterHistory, called, conduct_of, node_history, written}
 use Rattle.batcher_agreement.specs.Participants.{AreBacked, IsHonest}
 use Rattle.batcher_agreement.specs.Policy.{Conduct, KeepsPolicy}
 use Rattle.batcher_agreement.specs.Voters.{AreFewFaulty}
@@ -13,13 +14,28 @@ use Rattle.batcher_agreement.specs.Voters.{AreFewFaulty}
 abbrev pub is_zero : ℕ → Bool
 is_zero i = i == 0
 
--- The node of i: it notarizes and, once a notarization comes from 0, finalizes the proposal. Then
--- its finalization comes.
-abbrev pub asked : ℕ → TinyNodeHistory
+abbrev pub TinyHistory : Type 0
+TinyHistory = VoterHistory ℕ ℕ ℕ ℕ
+
+-- with the newest event of a node
+abbrev pub with_newest : TinyNodeHistory → TinyHistory → TinyHistory
+with_newest [] past = past
+with_newest (event ∷ earlier) past = called event ∷ past
+
+-- It votes: the vote is written, and then its node casts it.
+abbrev pub vote_for : TinyHistory → TinyVote → TinyHistory
+vote_for past vote = with_newest (cast (node_history past) vote) (written vote ∷ past)
+
+-- a certificate comes from 0
+abbrev pub hears : TinyHistory → Certificate ℕ ℕ → TinyHistory
+hears past certificate = with_newest (hear_certificate (node_history past) 0 certificate) past
+
+-- What happens to i: it notarizes and, once the notarization comes, finalizes the proposal. Then
+-- the finalization comes.
+abbrev pub asked : ℕ → TinyHistory
 asked i =
-    hear_certificate
-    (cast (hear_certificate (cast begun (notarize i 1)) 0 (notarization 1)) (finalize i 1)) 0
-    (finalization 1)
+    hears (vote_for (hears (vote_for (map called begun) (notarize i 1)) (notarization 1))
+    (finalize i 1)) (finalization 1)
 
 abbrev pub did : ℕ → Conduct ℕ
 did i = conduct_of (asked i)
@@ -27,7 +43,8 @@ did i = conduct_of (asked i)
 -- What the theorem supposes of histories can be at once, with something final.
 pub record AgreementExamples : Type 0 where
   pub few_faulty : AreFewFaulty (listing 4) is_zero
-  pub answered_rightly : (i : ℕ) → IsHonest (listing 4) is_zero i → AreNamed of_four (asked i)
+  pub answered_rightly :
+      (i : ℕ) → IsHonest (listing 4) is_zero i → AreNamed of_four (node_history (asked i))
   pub keep_policy : (i : ℕ) → IsHonest (listing 4) is_zero i → KeepsPolicy (did i)
   pub backed : AreBacked (listing 4) is_zero (λ i. HasHeld (asked i)) did
   pub final : IsFinal (listing 4) is_zero did (p 1)

@@ -1,4 +1,4 @@
--- The policy: which votes a participant may send, by what it has sent and learned before.
+-- The policy: which votes a participant may cast, by what it has cast and learned before.
 use Rattle.std.specs.Prelude.{◌≡◌, ◌<◌, ◌⊎◌, ⊤, ℕ, List, [], ◌∷◌}
 use Rattle.batcher.specs.positions.Round.{Round}
 use Rattle.batcher.specs.messages.Proposal.{Proposal}
@@ -6,26 +6,26 @@ use Rattle.batcher.specs.messages.Subject.{Subject}
 use Rattle.batcher.specs.messages.Subject.TheVariants.{Notarize, Nullify, Finalize}
 use Rattle.batcher_node.specs.Windows.{numbered}
 
--- What a participant did: it learned that a subject is certified, by a certificate that its node
--- recorded or gave, or it sent a vote for one.
+-- What a participant did: it learned that a subject is certified, by a certificate that it has, or
+-- it voted for one: the vote was written, to be sent then and as often as it likes.
 pub data Act (D : Type 0) : Type 0 where
   learned : Subject D → Act D
-  sent : Subject D → Act D
+  voted : Subject D → Act D
 
 -- all that it did, the newest first
 abbrev pub Conduct : Type 0 → Type 0
 Conduct D = List (Act D)
 
 module _ {D : Type 0} where
-  abbrev pub HasSent : Conduct D → Subject D → Type 0
-  HasSent [] s = ⊥
-  HasSent (sent t ∷ past) s = (t ≡ s) ⊎ HasSent past s
-  HasSent (learned t ∷ past) s = HasSent past s
+  abbrev pub HasVoted : Conduct D → Subject D → Type 0
+  HasVoted [] s = ⊥
+  HasVoted (voted t ∷ past) s = (t ≡ s) ⊎ HasVoted past s
+  HasVoted (learned t ∷ past) s = HasVoted past s
 
   -- it knows that this is certified
   abbrev pub Knows : Conduct D → Subject D → Type 0
   Knows [] s = ⊥
-  Knows (sent t ∷ past) s = Knows past s
+  Knows (voted t ∷ past) s = Knows past s
   Knows (learned t ∷ past) s = (t ≡ s) ⊎ Knows past s
 
   -- a proposal of the round is known to be notarized or final
@@ -46,25 +46,25 @@ module _ {D : Type 0} where
 
   pub record MayNotarize (past : Conduct D) (p : Proposal D) : Type 0 where
     pub grounded : IsGrounded past p
-    -- at most one proposal a round, and none of a round for which it sent a nullify
-    pub no_other : (q : Proposal D) → q.round ≡ p.round → HasSent past (Notarize q) → q ≡ p
-    pub not_nullified : HasSent past (Nullify p.round) → ⊥
+    -- at most one proposal a round, and none of a round that it voted to nullify
+    pub no_other : (q : Proposal D) → q.round ≡ p.round → HasVoted past (Notarize q) → q ≡ p
+    pub not_nullified : HasVoted past (Nullify p.round) → ⊥
 
   pub record MayFinalize (past : Conduct D) (p : Proposal D) : Type 0 where
     pub notarized : Knows past (Notarize p)
-    pub not_nullified : HasSent past (Nullify p.round) → ⊥
+    pub not_nullified : HasVoted past (Nullify p.round) → ⊥
 
   abbrev pub MayNullify : Conduct D → Round → Type 0
   MayNullify past number =
-      (p : Proposal D) → p.round ≡ number → HasSent past (Finalize p) → ⊥
+      (p : Proposal D) → p.round ≡ number → HasVoted past (Finalize p) → ⊥
 
   abbrev pub IsCleared : Conduct D → Subject D → Type 0
   IsCleared past (Notarize p) = MayNotarize past p
   IsCleared past (Nullify number) = MayNullify past number
   IsCleared past (Finalize p) = MayFinalize past p
 
-  -- Each vote was cleared when it was first sent. It may be sent again, as after a restart.
+  -- Each vote was cleared when it was written.
   abbrev pub KeepsPolicy : Conduct D → Type 0
   KeepsPolicy [] = ⊤
-  KeepsPolicy (sent s ∷ past) = (HasSent past s ⊎ IsCleared past s) × KeepsPolicy past
+  KeepsPolicy (voted s ∷ past) = IsCleared past s × KeepsPolicy past
   KeepsPolicy (learned s ∷ past) = KeepsPolicy past

@@ -14,8 +14,8 @@ pub record AreFewFaulty {D K G C : Type 0} (m : Meaning D K G C) (is_faulty : �
   pub some : 1 ≤ length m.participants
   pub few : count_below (length m.participants) is_faulty ≤ (length m.participants - 1) / 3
 
--- Each that isn't faulty runs nodes of the scheme, one after the other, and by what all of them
--- sent and learned it keeps the policy.
+-- Each that isn't faulty has lives with nodes of the scheme, one after the other, and keeps the
+-- policy by what it voted for and learned in all of them.
 pub record AreVoters {S D K G C : Type 0} (meaning : S → Meaning D K G C)
     (config : NodeView S G D → NodeConfig D K G C) (m : Meaning D K G C) (is_faulty : ℕ → Bool)
     (lives : ℕ → List (Life S D K G C)) : Type 0 where

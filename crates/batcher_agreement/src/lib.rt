@@ -34,8 +34,8 @@ pub fn honest_voters_agree<S: Scheme<D>, D: Digest>()
 }
 
 /// Does nothing. The same of a scheme whose certificates show attestations. It is supposed that
-/// where one shows an attestation of an honest participant which attests, that one has sent that
-/// vote (`AreUnforged`).
+/// where one shows an attestation of an honest participant which attests, that one has voted so
+/// (`AreUnforged`).
 pub fn honest_voters_agree_unless_forged<S: Accountable<D>, D: Digest>()
     ensures { (scheme : S) (is_faulty : ℕ → Bool)
         → (lives : ℕ → List (TheLife S D S.PublicKey S.Signature S.Certificate))
