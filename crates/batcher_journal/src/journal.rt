@@ -22,7 +22,7 @@ use crate::records::{Certified, put_records};
 use batcher_codec::Codec;
 use batcher_log::{Log, LogFault};
 use batcher_types::messages::{Digest, Subject, Vote};
-use batcher_types::positions::Round;
+use batcher_types::positions::{Participant, Round};
 use std::alloc::{AllocError, Global};
 use std::marker::Model;
 
@@ -226,6 +226,13 @@ impl<G: Codec, D: Digest + Codec, L: Log> Journal<G, D, L> {
             L.is_settled L.written self.now }
     {
         self.is_open
+    }
+
+    /// Whose votes they are.
+    pub fn participant(&self) -> Participant
+        ensures { result.0 ≡ self.now.contents.owner.1.1.0 }
+    {
+        self.kept.owner.lend().participant
     }
 
     /// The round below which nothing is signed.
