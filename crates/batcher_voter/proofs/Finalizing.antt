@@ -1,0 +1,67 @@
+-- A voter goes on with a final view.
+use Rattle.std.proofs.Common.{◌≡◌, ◌++◌, ◌∙◌, ℕ, List, true, false, ◌∷◌, arith, sym}
+use Rattle.batcher.specs.Verifiers.{certifies_itself}
+use Rattle.batcher.specs.Votes.{round_in, subject_certified}
+use Rattle.batcher.specs.messages.Certificate.{Certificate}
+use Rattle.batcher.specs.positions.Round.{Round}
+use Rattle.batcher_agreement.specs.Lives.{VoterHistory, called, conduct_of, verified}
+use Rattle.batcher_agreement.specs.Policy.{Conduct}
+use Rattle.batcher_journal.specs.Floors.{is_below}
+use Rattle.batcher_journal.specs.Ready.{raised}
+use Rattle.batcher_journal.specs.Records.{Certified}
+use Rattle.batcher_journal.specs.Text.{Contents, OwnerFields}
+use Rattle.batcher_node.specs.Events.{view_finalized}
+use Rattle.batcher_node.specs.Nodes.{NodeConfig}
+use Rattle.batcher_node.specs.Represents.{Meets}
+use Rattle.batcher_voter.specs.Knowledge.{Forgets, KnowledgeView, Learns}
+use Rattle.batcher_voter.specs.Remembering.{Remembers}
+use Rattle.batcher_voter.specs.Voting.{IsVoting, VoterView}
+use Rattle.batcher_voter.proofs.Calling.{remembers_learned}
+use Rattle.batcher_voter.proofs.Grounding.{learned_from, learned_more}
+use Rattle.batcher_voter.proofs.Writing.{are_there_from, no_others_from}
+
+-- what a floor leaves
+pub remembers_raised :
+    {G D : Type 0} (past : Conduct D) (contents : Contents G D) (unwritten : List Certified)
+    (owner : OwnerFields) (floor : Round) (finalization : List ℕ)
+    → is_below contents.floor floor ≡ false → Remembers past contents
+    → Remembers past (raised contents unwritten owner floor finalization)
+remembers_raised past contents unwritten owner floor finalization up has =
+    record {
+      are_there = are_there_from past contents.floor floor contents.votes up has.are_there;
+      no_others = no_others_from past floor contents.votes has.no_others;
+    }
+
+module _ {S D K G C L : Type 0} (x : NodeConfig D K G C) (old new : VoterView S G D L)
+    (c : Certificate C D) (forgotten : KnowledgeView D) where
+  pub finalized_by :
+      certifies_itself x.meaning c ≡ true
+      → Meets x old.node (view_finalized (round_in (subject_certified c)).view.0) new.node
+      → Forgets (round_in (subject_certified c)).view.0 old.knowledge forgotten
+      → Learns (subject_certified c) forgotten new.knowledge
+      → (round_in (subject_certified c)).epoch ≡ old.knowledge.epoch
+      → old.journal.is_open ≡ true
+      → is_below old.journal.contents.floor (round_in (subject_certified c)) ≡ false
+      → (finalization : List ℕ)
+      → new.journal.contents ≡ raised old.journal.contents old.journal.unwritten
+      old.journal.contents.owner (round_in (subject_certified c)) finalization
+      → (past : VoterHistory D K G C) (earlier : Conduct D) → IsVoting x past earlier old
+      → IsVoting x (called (view_finalized (round_in (subject_certified c)).view.0)
+      ∷ verified c ∷ past) earlier new
+  finalized_by certifies meets forgets learns epoch is_open up finalization contents past earlier is =
+      record {
+        represents = meets _ is.represents;
+        are_verified = (certifies, is.are_verified);
+        written_first = is.written_first;
+        keeps_policy = is.keeps_policy;
+        has_learned = learned_more (subject_certified c) forgotten new.knowledge (conduct_of past) learns
+            (epoch ∙ sym forgets.epoch)
+            (learned_from old.knowledge forgotten (conduct_of past) forgets.epoch
+            (omega (arith, forgets.floor))
+            (λ view from. forgets.each view (omega (arith, from, forgets.floor)))
+            is.has_learned);
+        remembers = λ still. rw (contents)
+            (remembers_learned (subject_certified c) (conduct_of past ++ earlier) _
+            (remembers_raised (conduct_of past ++ earlier) old.journal.contents old.journal.unwritten
+            old.journal.contents.owner (round_in (subject_certified c)) finalization up (is.remembers is_open)));
+      }

@@ -1,0 +1,172 @@
+-- What a voter that has learned what was learned knows of a view.
+use Rattle.std.proofs.Common.{◌≡◌, ◌≤◌, ◌∙◌, ℕ, Bool, true, false, ◌∷◌, Option, Some, None, inl, inr, ◌⊎◌, ap, arith, eq-eqb, refl, subst, sym}
+use Rattle.std.specs.Prelude.{MatchBool, is_some}
+use Rattle.batcher.specs.Votes.{round_in, same_proposal}
+use Rattle.batcher.specs.messages.Proposal.{Proposal}
+use Rattle.batcher.specs.messages.Subject.{Subject}
+use Rattle.batcher.specs.messages.Subject.TheVariants.{Notarize, Nullify, Finalize}
+use Rattle.batcher_agreement.specs.Policy.{Conduct, Knows, KnowsProposal, learned}
+use Rattle.batcher_node.specs.Windows.{numbered}
+use Rattle.batcher_voter.specs.Knowledge.{HasLearned, KnowledgeView, IsSame, Learns, learned_at, learned_of}
+use Rattle.batcher_voter.specs.declared.knowledge.Learned.{Learned}
+use Rattle.batcher_types.proofs.VoteLemmas.{same_proposal-true, same_round-refl}
+use Rattle.batcher_voter.specs.Refusals.{HasNoGround, IsNotNotarized, IsRefused}
+use Rattle.batcher_voter.specs.declared.answers.Rule.{Rule}
+use Rattle.batcher_voter.specs.declared.answers.Rule.TheVariants.{Contradicts, Nullified, NotNotarized, ParentBeforeFinal, ParentNotEarlier, ParentUnknown, ViewNotNullified}
+use Rattle.batcher_voter.proofs.Knowing.{finalized_is_known, known_finalized, known_notarized, known_nullified, notarized_is_known, nullified_is_known}
+
+wrong : false ≡ true → ⊥
+wrong e = absurd cc
+
+module _ {D : Type 0} where
+  pub still_learned :
+      (old new : KnowledgeView D) (past : Conduct D) → IsSame old new → HasLearned old past
+      → HasLearned new past
+  still_learned old new past same has view from =
+      same.each view ∙ has view (subst (λ f. f ≤ view) same.floor from)
+      ∙ ap (λ e. learned_of past (numbered e view)) (sym same.epoch)
+
+  pub learned_more :
+      (s : Subject D) (old new : KnowledgeView D) (past : Conduct D) → Learns s old new
+      → (round_in s).epoch ≡ old.epoch → HasLearned old past → HasLearned new (learned s ∷ past)
+  learned_more s old new past learns same has view from =
+      learns.each view
+      ∙ rw (has view (subst (λ f. f ≤ view) learns.floor from), learns.epoch, same, eq-eqb old.epoch.0 old.epoch.0 refl) refl
+
+  -- the views before a later floor are forgotten
+  pub learned_from :
+      (old new : KnowledgeView D) (past : Conduct D) → new.epoch ≡ old.epoch → old.floor ≤ new.floor
+      → ((view : ℕ) → new.floor ≤ view → learned_at new view ≡ learned_at old view)
+      → HasLearned old past → HasLearned new past
+  learned_from old new past same up each has view from =
+      each view from ∙ has view (omega (arith, up, from))
+      ∙ ap (λ e. learned_of past (numbered e view)) (sym same)
+
+  module _ (knowledge : KnowledgeView D) (past : Conduct D) (has : HasLearned knowledge past) (view : ℕ)
+      (from : knowledge.floor ≤ view) where
+    pub notarized_here :
+        (p : Proposal D) → (learned_at knowledge view).notarized ≡ Some p
+        → (p.round ≡ numbered knowledge.epoch view) × Knows past (Notarize p)
+    notarized_here p e =
+        notarized_is_known past (numbered knowledge.epoch view) p
+        (ap (λ (it : Learned D). it.notarized) (sym (has view from)) ∙ e)
+
+    finalized_here :
+        (p : Proposal D) → (learned_at knowledge view).finalized ≡ Some p
+        → (p.round ≡ numbered knowledge.epoch view) × Knows past (Finalize p)
+    finalized_here p e =
+        finalized_is_known past (numbered knowledge.epoch view) p
+        (ap (λ (it : Learned D). it.finalized) (sym (has view from)) ∙ e)
+
+    pub nullified_here :
+        (learned_at knowledge view).nullified ≡ true
+        → Knows past (Nullify (numbered knowledge.epoch view))
+    nullified_here e =
+        nullified_is_known past (numbered knowledge.epoch view)
+        (ap (λ (it : Learned D). it.nullified) (sym (has view from)) ∙ e)
+
+    pub not_nullified_here :
+        (learned_at knowledge view).nullified ≡ false
+        → Knows past (Nullify (numbered knowledge.epoch view)) → ⊥
+    not_nullified_here e known =
+        wrong (sym e ∙ ap (λ (it : Learned D). it.nullified) (has view from)
+        ∙ known_nullified past (numbered knowledge.epoch view) known)
+
+    pub not_notarized_here :
+        (learned_at knowledge view).notarized ≡ None
+        → (p : Proposal D) → p.round ≡ numbered knowledge.epoch view → Knows past (Notarize p) → ⊥
+    not_notarized_here e p same known =
+        wrong (ap is_some (sym e)
+        ∙ ap (λ (it : Learned D). is_some it.notarized) (has view from)
+        ∙ ap (λ r. is_some (learned_of past r).notarized) (sym same)
+        ∙ known_notarized past p known)
+
+    some_notarized :
+        (o : Option (Proposal D)) → (learned_at knowledge view).notarized ≡ o → is_some o ≡ true
+        → KnowsProposal past (numbered knowledge.epoch view)
+    some_notarized (Some p) e h =
+        let it = notarized_here p e in
+        record { proposal = p; of_round = it.0; known = inl it.1 }
+    some_notarized None e h = absurd (wrong h)
+
+    some_finalized :
+        (o : Option (Proposal D)) → (learned_at knowledge view).finalized ≡ o → is_some o ≡ true
+        → KnowsProposal past (numbered knowledge.epoch view)
+    some_finalized (Some p) e h =
+        let it = finalized_here p e in
+        record { proposal = p; of_round = it.0; known = inr it.1 }
+    some_finalized None e h = absurd (wrong h)
+
+    pub notarized_parent :
+        is_some (learned_at knowledge view).notarized ≡ true
+        → KnowsProposal past (numbered knowledge.epoch view)
+    notarized_parent h = some_notarized (learned_at knowledge view).notarized refl h
+
+    pub finalized_parent :
+        is_some (learned_at knowledge view).finalized ≡ true
+        → KnowsProposal past (numbered knowledge.epoch view)
+    finalized_parent h = some_finalized (learned_at knowledge view).finalized refl h
+
+    pub no_parent :
+        is_some (learned_at knowledge view).notarized ≡ false
+        → is_some (learned_at knowledge view).finalized ≡ false
+        → KnowsProposal past (numbered knowledge.epoch view) → ⊥
+    no_parent a b it = of it.proposal it.of_round it.known
+      where
+        of :
+            (p : Proposal D) → p.round ≡ numbered knowledge.epoch view
+            → Knows past (Notarize p) ⊎ Knows past (Finalize p) → ⊥
+        of p same (inl known) =
+            wrong (sym a ∙ ap (λ (it : Learned D). is_some it.notarized) (has view from)
+            ∙ ap (λ r. is_some (learned_of past r).notarized) (sym same)
+            ∙ known_notarized past p known)
+        of p same (inr known) =
+            wrong (sym b ∙ ap (λ (it : Learned D). is_some it.finalized) (has view from)
+            ∙ ap (λ r. is_some (learned_of past r).finalized) (sym same)
+            ∙ known_finalized past p known)
+
+module _ {D : Type 0} (same : D → D → Bool) (identical : (a b : D) → same a b ≡ true → a ≡ b)
+    (same_itself : (a : D) → same a a ≡ true) (knowledge : KnowledgeView D) (past : Conduct D)
+    (has : HasLearned knowledge past) (p : Proposal D) (of_epoch : p.round.epoch ≡ knowledge.epoch)
+    (from : knowledge.floor ≤ p.round.view.0) where
+  of_round : p.round ≡ numbered knowledge.epoch p.round.view.0
+  of_round = ap (λ e. numbered e p.round.view.0) of_epoch
+
+  proposal_itself : (q : Proposal D) → same_proposal same q q ≡ true
+  proposal_itself q =
+      rw (same_round-refl q.round, eq-eqb q.parent.0 q.parent.0 refl, same_itself q.payload) refl
+
+  -- a notarization is known, of this proposal or of another one
+  pub notarized_or_not :
+      (q : Proposal D) → (learned_at knowledge p.round.view.0).notarized ≡ Some q
+      → (is : Bool) → same_proposal same q p ≡ is
+      → MatchBool is (Knows past (Notarize p)) (IsNotNotarized past p)
+  notarized_or_not q e true is =
+      subst (λ (it : Proposal D). Knows past (Notarize it)) (same_proposal-true same identical q p is)
+      (notarized_here knowledge past has p.round.view.0 from q e).1
+  notarized_or_not q e false is =
+      let it = notarized_here knowledge past has p.round.view.0 from q e in
+      inr (record {
+        other = q;
+        of_round = it.0 ∙ sym of_round;
+        differs = λ equal. wrong (sym is ∙ ap (λ (x : Proposal D). same_proposal same x p) equal ∙ proposal_itself p);
+        known = it.1;
+      })
+
+  pub none_notarized :
+      (learned_at knowledge p.round.view.0).notarized ≡ None → IsNotNotarized past p
+  none_notarized e =
+      inl (not_notarized_here knowledge past has p.round.view.0 from e p of_round)
+
+-- a proposal without ground is refused
+pub refused_by_ground :
+    {G D : Type 0} (same : D → D → Bool) (all past : Conduct D) (final : ℕ) (rule : Rule G D)
+    (p : Proposal D) → HasNoGround past final rule p
+    → IsRefused same all past final rule (Notarize p)
+refused_by_ground same all past final (Contradicts vote) p h = absurd h
+refused_by_ground same all past final Nullified p h = absurd h
+refused_by_ground same all past final NotNotarized p h = absurd h
+refused_by_ground same all past final ParentNotEarlier p h = h
+refused_by_ground same all past final ParentBeforeFinal p h = h
+refused_by_ground same all past final ParentUnknown p h = h
+refused_by_ground same all past final (ViewNotNullified view) p h = h

@@ -1,0 +1,13 @@
+mod Knowing
+mod Appending
+mod Grounding
+mod Clearing
+mod Writing
+mod Windowed
+mod Voting
+mod Noding
+mod Calling
+mod Given
+mod Finalizing
+mod Beginning
+mod Leaving

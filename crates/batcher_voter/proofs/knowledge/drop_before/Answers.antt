@@ -1,0 +1,11 @@
+use Rattle.std.proofs.Common.{ap, ◌∙◌, rules}
+use Rattle.std.proofs.lemmas.Map.Made.{filter_same_pairs}
+use Rattle.batcher_node.specs.Nodes.{slot_at}
+use Rattle.batcher_node.proofs.Dropping.{is_kept, kept_from}
+use Rattle.batcher_voter.proofs.knowledge.drop_before.Goals as goal
+
+pub returns : goal.returns
+returns g c = λ other within.
+    let is = filter_same_pairs _ (is_kept c.args.view) _ (λ k v b w f t. search rules)
+    c.args.views.now.entries c.retain.new.self.entries c.retain.ensures.filtered in
+    ap (λ es. slot_at es other) is ∙ kept_from c.args.view c.args.views.now.entries other within

@@ -1,0 +1,24 @@
+use Rattle.std.proofs.Common.{◌∙◌, ap, subst, sym}
+use Rattle.batcher.specs.Votes.{subject_certified}
+use Rattle.batcher_node.specs.Events.{constructed}
+use Rattle.batcher_node.specs.Represents.{Meets}
+use Rattle.batcher_voter.specs.Knowledge.{Learns}
+use Rattle.batcher_voter.proofs.Calling.{given_is_learned, given_is_of, learning}
+use Rattle.batcher_voter.proofs.voter.Voter.construct_at.Goals as goal
+
+pub returns-in-Some-clause-meets : goal.returns-in-Some-clause-meets
+returns-in-Some-clause-meets g c =
+    let certificate = c.in-Some.certificate.now in
+    let s = subject_certified certificate in
+    let made = c.in-Ok.made in
+    learning _ c.args.self.now c.learn.new.self (constructed made.view.0 made.batch)
+    (subst (Meets _ c.args.self.now.node _) (sym c.learn.ensures.node) c.in-Ok.ensures.meets)
+    (c.learn.ensures.contents ∙ ap (λ j. j.contents) c.in-Ok.ensures.journal)
+    (c.learn.ensures.open ∙ ap (λ j. j.is_open) c.in-Ok.ensures.journal)
+    (λ earlier past h. h) s
+    (given_is_learned g.row.S-PublicKey.Denot g.row.S-Signature.Denot certificate made.view.0 made.batch
+    c.in-Some.ensures)
+    (subst (λ k. Learns s k c.learn.new.self.knowledge) c.in-Ok.ensures.knowledge c.learn.ensures.learns)
+    (ap (λ r. r.epoch) (given_is_of c.args.self.now.node.epoch made.view.0 made.batch certificate
+    c.in-Some.ensures c.in-Ok.ensures.of_view)
+    ∙ sym c.begins.ensures.begins.of_epoch)

@@ -1,0 +1,11 @@
+use Rattle.std.proofs.Common.{ap, refl}
+use Rattle.batcher_node.specs.Events.{view_entered}
+use Rattle.batcher_voter.proofs.Calling.{quiet, same_of}
+use Rattle.batcher_voter.proofs.voter.Voter.enter.Goals as goal
+
+pub returns-in-Ok-clause-meets : goal.returns-in-Ok-clause-meets
+returns-in-Ok-clause-meets g c =
+    quiet _ c.args.self.now c.call_enter.new.self (view_entered c.args.view.0 c.args.leader)
+    c.in-Ok.ensures.meets (ap (λ j. j.contents) c.in-Ok.ensures.journal)
+    (ap (λ j. j.is_open) c.in-Ok.ensures.journal) (λ earlier past h. h) refl
+    (same_of _ _ c.in-Ok.ensures.knowledge)

@@ -1,0 +1,65 @@
+use Rattle.std.proofs.Common.{◌≡◌, ◌∙◌, ap, false, subst, sym}
+use Rattle.batcher.specs.Votes.{round_in, subject_certified}
+use Rattle.batcher_journal.specs.Floors.{is_below}
+use Rattle.batcher_journal.specs.Ready.{raised}
+use Rattle.batcher_node.specs.Events.{view_finalized}
+use Rattle.batcher_node.specs.Nodes.{node_config}
+use Rattle.batcher_node.specs.Represents.{Meets}
+use Rattle.batcher_voter.specs.Knowledge.{Forgets, Learns}
+use Rattle.batcher_voter.proofs.Leaving.{leaves_raised}
+use Rattle.batcher_voter.proofs.Finalizing.{finalized_by}
+use Rattle.batcher_voter.proofs.voter.Voter.move_by.Goals as goal
+
+pub returns-in-Ok-move_to-clause-meets : goal.returns-in-Ok-move_to-clause-meets
+returns-in-Ok-move_to-clause-meets g c =
+    let old = c.args.self.now in
+    let moved = c.move_to.new.self in
+    let it = c.in-Ok-move_to.ensures in
+    let config = node_config g.S.Scheme.meaning g.S.PublicKey.Ord.cmp g.S.Signature.PartialEq.eq
+    g.D.PartialEq.eq old.node in
+    finalized_by config old c.note.new.self c.args.finalization.now moved.knowledge c.requires.certifies
+    (subst (Meets config old.node (view_finalized (round_in (subject_certified c.args.finalization.now)).view.0))
+    (sym c.note.ensures.node)
+    (subst (λ r. Meets config old.node (view_finalized r.view.0) moved.node) c.round.ensures it.meets))
+    (subst (λ r. Forgets r.view.0 old.knowledge moved.knowledge) c.round.ensures it.forgets)
+    (subst (λ s. Learns s moved.knowledge c.note.new.self.knowledge) c.subject.ensures c.note.ensures.learns)
+    (c.requires.epoch ∙ sym c.begins.ensures.begins.of_epoch)
+    it.raised.0
+    (subst (λ r. is_below old.journal.contents.floor r ≡ false) c.round.ensures it.raised.1)
+    c.deref.result.now
+    (ap (λ j. j.contents) c.note.ensures.journal ∙ it.raised.2.contents_are
+    ∙ ap (λ r. raised old.journal.contents old.journal.unwritten old.journal.contents.owner r
+    c.deref.result.now) c.round.ensures)
+
+pub returns-in-Ok-move_to-clause-leaves : goal.returns-in-Ok-move_to-clause-leaves
+returns-in-Ok-move_to-clause-leaves g c = λ left is_open honest may.
+    let old = c.args.self.now in
+    leaves_raised (node_config g.S.Scheme.meaning g.S.PublicKey.Ord.cmp g.S.Signature.PartialEq.eq
+    g.D.PartialEq.eq old.node) _ g.D.PartialEq.eq c.bytes_are_of_one_journal.ensures old is_open left
+    old.journal.contents.owner c.round.result c.deref.result.now
+    (c.move_to.ensures.leaves left is_open (subst (λ j. g.L.Log.is_honest j.log) c.note.ensures.journal honest)
+    (subst (λ j. g.L.Log.may_leave j.log left) c.note.ensures.journal may))
+
+pub returns-in-Err-OutOfMemory-clause-leaves : goal.returns-in-Err-OutOfMemory-clause-leaves
+returns-in-Err-OutOfMemory-clause-leaves g c = λ left is_open honest may.
+    let old = c.args.self.now in
+    leaves_raised (node_config g.S.Scheme.meaning g.S.PublicKey.Ord.cmp g.S.Signature.PartialEq.eq
+    g.D.PartialEq.eq old.node) _ g.D.PartialEq.eq c.bytes_are_of_one_journal.ensures old is_open left
+    old.journal.contents.owner c.round.result c.deref.result.now
+    (c.move_to.ensures.leaves left is_open honest may)
+
+pub returns-in-Err-Full-clause-leaves : goal.returns-in-Err-Full-clause-leaves
+returns-in-Err-Full-clause-leaves g c = λ left is_open honest may.
+    let old = c.args.self.now in
+    leaves_raised (node_config g.S.Scheme.meaning g.S.PublicKey.Ord.cmp g.S.Signature.PartialEq.eq
+    g.D.PartialEq.eq old.node) _ g.D.PartialEq.eq c.bytes_are_of_one_journal.ensures old is_open left
+    old.journal.contents.owner c.round.result c.deref.result.now
+    (c.move_to.ensures.leaves left is_open honest may)
+
+pub returns-clause-leaves : goal.returns-clause-leaves
+returns-clause-leaves g c = λ left is_open honest may.
+    let old = c.args.self.now in
+    leaves_raised (node_config g.S.Scheme.meaning g.S.PublicKey.Ord.cmp g.S.Signature.PartialEq.eq
+    g.D.PartialEq.eq old.node) _ g.D.PartialEq.eq c.bytes_are_of_one_journal.ensures old is_open left
+    old.journal.contents.owner c.round.result c.deref.result.now
+    (c.move_to.ensures.leaves left is_open honest may)

@@ -1,0 +1,4 @@
+pub mod Knowledge
+pub mod Remembering
+pub mod Voting
+pub mod Refusals

@@ -1,0 +1,175 @@
+-- A voter: a node and a journal, with what is known to be certified.
+use Rattle.std.specs.Prelude.{◌≡◌, ◌⊎◌, ⊤, ℕ, Bool, true, false, List, [], ◌∷◌, ◌++◌, Contains, IfSome, Some, None}
+use Rattle.batcher.specs.Votes.{round_in, subject_certified, subject_of}
+use Rattle.batcher.specs.positions.Epoch.{Epoch}
+use Rattle.batcher_node.specs.declared.node.Construction.{Construction}
+use Rattle.batcher.specs.messages.Subject.{Subject}
+use Rattle.batcher.specs.messages.Vote.{Vote}
+use Rattle.batcher.specs.votes.Outcome.{Outcome}
+use Rattle.batcher_agreement.specs.Lives.{AreVerified, VoterHistory, called, conduct_of, node_history, written}
+use Rattle.batcher_agreement.specs.Policy.{Conduct, HasVoted, IsCleared, KeepsPolicy, voted}
+use Rattle.batcher_codec.specs.Format.{Format}
+use Rattle.batcher_journal.specs.Contradictions.{IsFree}
+use Rattle.batcher_journal.specs.Ready.{JournalView}
+use Rattle.batcher_node.specs.Events.{NodeEvent, started, vote_cast}
+use Rattle.batcher_node.specs.Nodes.{NodeConfig, NodeView}
+use Rattle.batcher_node.specs.Represents.{NodeRepresents}
+use Rattle.batcher_node.specs.Windows.{is_of, numbered}
+use Rattle.batcher_node.specs.declared.answers.Receipt.{Receipt}
+use Rattle.batcher_node.specs.declared.answers.Receipt.TheVariants.{Answered}
+use Rattle.batcher_node.specs.declared.answers.Verdict.{Verdict}
+use Rattle.batcher_node.specs.declared.answers.Verdict.TheVariants.{Recorded}
+use Rattle.batcher_node.specs.declared.answers.Cast.{Cast}
+use Rattle.batcher_node.specs.declared.answers.Cast.TheVariants.{ToSend, Known as KnownVote, Outside as OutsideVote}
+use Rattle.batcher_voter.specs.Knowledge.{HasLearned, KnowledgeView}
+use Rattle.batcher_voter.specs.Refusals.{IsRefused}
+use Rattle.batcher_voter.specs.Remembering.{IsLeft, Remembers}
+use Rattle.batcher_voter.specs.declared.answers.Permission.{Permission}
+use Rattle.batcher_voter.specs.declared.answers.Permission.TheVariants.{Sign, Known, Refused, Outside, Closed}
+
+-- With scheme S, signatures G, digests D and log L.
+pub record VoterView (S G D L : Type 0) : Type 0 where
+  pub node : NodeView S G D
+  pub journal : JournalView G D L
+  pub knowledge : KnowledgeView D
+
+-- What each voter keeps true: its node, its journal and its knowledge begin with one view.
+pub record BeginWithOneView {S G D L : Type 0} (voter : VoterView S G D L) : Type 0 where
+  pub of_epoch : voter.knowledge.epoch ≡ voter.node.epoch
+  pub from_final : voter.knowledge.floor ≡ voter.node.window.finalized
+  pub floor_is :
+      voter.journal.is_open ≡ true
+      → voter.journal.contents.floor ≡ numbered voter.node.epoch voter.node.window.finalized
+
+-- What a construction gives is of its view.
+abbrev pub IsOfItsView : {C D : Type 0} → Epoch → Construction C D → Type 0
+IsOfItsView epoch made =
+    IfSome made.batch (λ batch. IfSome batch.certificate
+    (λ c. round_in (subject_certified c) ≡ numbered epoch made.view.0))
+
+-- whether a certificate was recorded
+abbrev pub is_recorded : Receipt Verdict → Bool
+is_recorded (Answered (Recorded changed)) = true
+is_recorded receipt = false
+
+-- Each vote that the node was shown had been written, in this life or before.
+abbrev pub AreWrittenFirst : {D K G C : Type 0} → Conduct D → VoterHistory D K G C → Type 0
+AreWrittenFirst earlier [] = ⊤
+AreWrittenFirst earlier (called (vote_cast vote outcome report) ∷ past) =
+    HasVoted (conduct_of past ++ earlier) (subject_of vote) × AreWrittenFirst earlier past
+AreWrittenFirst earlier (event ∷ past) = AreWrittenFirst earlier past
+
+module _ {D K G C : Type 0} (vote : Vote G D) (past : VoterHistory D K G C) (earlier : Conduct D)
+    (after : VoterHistory D K G C) where
+  -- The vote was written, now or before.
+  abbrev pub IsWritten : Type 0
+  IsWritten =
+      ((after ≡ past) × HasVoted (conduct_of past ++ earlier) (subject_of vote))
+      ⊎ (after ≡ written vote ∷ past)
+
+module _ {S D K G C L : Type 0} (x : NodeConfig D K G C) where
+  -- What a voter is after a life so far, and what its participant did in earlier ones.
+  pub record IsVoting (past : VoterHistory D K G C) (earlier : Conduct D)
+      (voter : VoterView S G D L) : Type 0 where
+    pub represents : NodeRepresents x (node_history past) voter.node
+    pub are_verified : AreVerified x.meaning past
+    pub written_first : AreWrittenFirst earlier past
+    pub keeps_policy : KeepsPolicy (conduct_of past ++ earlier)
+    -- It knows what it learned in this life, and an open journal has the votes of all lives.
+    pub has_learned : HasLearned voter.knowledge (conduct_of past)
+    pub remembers :
+        voter.journal.is_open ≡ true
+        → Remembers (conduct_of past ++ earlier) voter.journal.contents
+
+  -- A voter that was made from its journal has verified certificates, and asked its node nothing.
+  pub record HasStarted (earlier : Conduct D) (voter : VoterView S G D L) : Type 0 where
+    pub past : VoterHistory D K G C
+    pub voting : IsVoting past earlier voter
+    pub asked_nothing : node_history past ≡ started voter.node.window ∷ []
+
+  -- what is said of a voter whatever happened to it
+  abbrev pub ForEachLife : VoterView S G D L → (VoterHistory D K G C → Conduct D → Type 0) → Type 0
+  ForEachLife voter holds =
+      (past : VoterHistory D K G C) (earlier : Conduct D) → IsVoting past earlier voter
+      → holds past earlier
+
+  module _ (old new : VoterView S G D L) where
+    -- a call that is answered
+    abbrev pub VoterMeets : NodeEvent D K G C → Type 0
+    VoterMeets event = ForEachLife old (λ past earlier. IsVoting (called event ∷ past) earlier new)
+
+    -- nothing happened that counts
+    abbrev pub VoterStays : Type 0
+    VoterStays = ForEachLife old (λ past earlier. IsVoting past earlier new)
+
+  -- What the journal and the window say, by the answer.
+  abbrev pub Says : (D → D → Bool) → VoterView S G D L → Subject D → Permission G D → Type 0
+  Says same voter subject Sign =
+      (voter.journal.is_open ≡ true) × (IsFree same voter.journal.contents.votes subject
+      × (is_of x.epoch voter.node.window (round_in subject) ≡ true))
+  Says same voter subject (Known vote) =
+      (voter.journal.is_open ≡ true) × (Contains voter.journal.contents.votes vote
+      × ((subject_of vote ≡ subject)
+      × (is_of x.epoch voter.node.window (round_in subject) ≡ true)))
+  Says same voter subject (Refused rule) = voter.journal.is_open ≡ true
+  Says same voter subject Outside =
+      is_of x.epoch voter.node.window (round_in subject) ≡ false
+  Says same voter subject Closed = voter.journal.is_open ≡ false
+
+  -- what is answered of a vote that may be cast, and of one that may not
+  abbrev pub Permits : (D → D → Bool) → VoterView S G D L → Subject D → Permission G D
+      → VoterHistory D K G C → Conduct D → Type 0
+  Permits same voter subject Sign past earlier =
+      IsCleared (conduct_of past ++ earlier) subject
+      × (HasVoted (conduct_of past ++ earlier) subject → ⊥)
+  Permits same voter subject (Known vote) past earlier =
+      HasVoted (conduct_of past ++ earlier) subject
+  Permits same voter subject (Refused rule) past earlier =
+      IsRefused same (conduct_of past ++ earlier) (conduct_of past) voter.knowledge.floor rule
+      subject
+  Permits same voter subject permission past earlier = ⊤
+
+  -- what comes of a vote that was written and is shown to the node
+  abbrev pub Shows : VoterView S G D L → Vote G D → Cast G D → VoterView S G D L → Type 0
+  Shows old vote (ToSend report) new =
+      (outcome : Outcome) × VoterMeets old new (vote_cast vote outcome (Some report))
+  Shows old vote KnownVote new =
+      (outcome : Outcome) × VoterMeets old new (vote_cast vote outcome None)
+  Shows old vote OutsideVote new =
+      (is_of x.epoch old.node.window (round_in (subject_of vote)) ≡ false) × (new ≡ old)
+
+  -- The vote was written, and then the node was called.
+  pub record WritesAndCalls (vote : Vote G D) (event : NodeEvent D K G C)
+      (past : VoterHistory D K G C) (earlier : Conduct D) (new : VoterView S G D L) : Type 0 where
+    pub between : VoterHistory D K G C
+    pub is_written : IsWritten vote past earlier between
+    pub voting : IsVoting (called event ∷ between) earlier new
+
+  -- What comes of a vote that is cast. One that is to be sent had been written when the node was
+  -- shown it.
+  abbrev pub Casts : VoterView S G D L → Vote G D → Cast G D → VoterView S G D L → Type 0
+  Casts old vote (ToSend report) new = (outcome : Outcome) × ForEachLife old
+      (λ past earlier. WritesAndCalls vote (vote_cast vote outcome (Some report)) past earlier new)
+  Casts old vote KnownVote new = (outcome : Outcome) × ForEachLife old
+      (λ past earlier. WritesAndCalls vote (vote_cast vote outcome None) past earlier new)
+  Casts old vote OutsideVote new =
+      (is_of x.epoch old.node.window (round_in (subject_of vote)) ≡ false) × (new ≡ old)
+
+  -- where the node refused it: it may be written
+  pub record MayWrite (vote : Vote G D) (past : VoterHistory D K G C) (earlier : Conduct D)
+      (new : VoterView S G D L) : Type 0 where
+    pub after : VoterHistory D K G C
+    pub is_written : (after ≡ past) ⊎ (after ≡ written vote ∷ past)
+    pub voting : IsVoting after earlier new
+
+module _ {D K G C : Type 0} (format : Format (Vote G D)) (past : VoterHistory D K G C)
+    (earlier : Conduct D) where
+  -- A crash leaves what was done so far,
+  abbrev pub LeavesWhatWasDone : List ℕ → Type 0
+  LeavesWhatWasDone left = IsLeft format (conduct_of past ++ earlier) left
+
+  -- or that and the vote.
+  abbrev pub LeavesVote : Vote G D → List ℕ → Type 0
+  LeavesVote vote left =
+      LeavesWhatWasDone left
+      ⊎ IsLeft format (voted (subject_of vote) ∷ (conduct_of past ++ earlier)) left

@@ -1,0 +1,231 @@
+//! What a voter knows to be certified.
+
+ghost use Rattle.std.specs.Prelude.{◌≡◌, ◌≢◌, ◌≤◌, ◌<◌, ◌⊎◌, [], IfSome, MatchBool, MatchOption, None, OnOk, false, true, ℕ};
+ghost use Rattle.std.specs.BTreeMap.{get};
+ghost use Rattle.std.specs.Ordering.{nat_cmp};
+ghost use Rattle.batcher.specs.Votes.{round_in, same_proposal};
+ghost use Rattle.batcher.specs.messages.Subject.TheVariants.{Notarize};
+ghost use Rattle.batcher_agreement.specs.Policy.{Conduct, IsGrounded, Knows, KnowsProposal};
+ghost use Rattle.batcher_node.specs.Windows.{numbered};
+ghost use Rattle.batcher_voter.specs.Knowledge.{Forgets, HasLearned, HasRoom, IsSame, Learns, learned_at, with_learned};
+ghost use Rattle.batcher_voter.specs.Refusals.{HasNoGround, IsNotNotarized};
+
+use crate::answers::Rule;
+use batcher::messages::{Digest, Proposal, Subject};
+use batcher::positions::{Epoch, View};
+use std::alloc::{AllocError, Global};
+use std::collections::BTreeMap;
+use std::marker::Model;
+
+/// What is certified of a view.
+#[derive(Clone, Copy, Debug)]
+pub(crate) struct Learned<D> {
+    pub(crate) notarized: Option<Proposal<D>>,
+    pub(crate) nullified: bool,
+    pub(crate) finalized: Option<Proposal<D>>,
+}
+
+impl<D: Copy> Learned<D> {
+    // With a certificate of this.
+    fn with(self, subject: Subject<D>) -> Self
+        ensures { result ≡ with_learned subject self }
+    {
+        let mut learned = self;
+        match subject {
+            Subject::Notarize { proposal } => learned.notarized = Some(proposal),
+            Subject::Nullify { .. } => learned.nullified = true,
+            Subject::Finalize { proposal } => learned.finalized = Some(proposal),
+        }
+        learned
+    }
+}
+
+/// What is certified of the views of an epoch, from the floor on.
+#[derive(Drop)]
+pub(crate) struct Knowledge<D: Digest> {
+    epoch: Epoch,
+    floor: u64,
+    views: BTreeMap<u64, Learned<D>>,
+}
+
+impl<D: Digest> Model for Knowledge<D> {
+    ghost use Rattle.batcher_voter.specs.Knowledge.{KnowledgeView};
+
+    ghost Value = { KnowledgeView D };
+
+    ghost view = { λ k. record { epoch = k.epoch; floor = k.floor; views = k.views.entries } };
+}
+
+impl<D: Digest> Knowledge<D> {
+    pub(crate) fn new(alloc: Global, epoch: Epoch, floor: u64) -> Self
+        ensures nothing { HasLearned result [] }
+        ensures floor { result.floor ≡ floor }
+        ensures epoch { result.epoch ≡ epoch }
+    {
+        Knowledge {
+            epoch,
+            floor,
+            views: BTreeMap::new(alloc),
+        }
+    }
+
+    /// The first view of which something is known.
+    pub(crate) fn floor(&self) -> u64
+        ensures { result ≡ self.now.floor }
+    {
+        self.floor
+    }
+
+    pub(crate) fn epoch(&self) -> Epoch
+        ensures { result ≡ self.now.epoch }
+    {
+        self.epoch
+    }
+
+    /// What is certified of a view.
+    pub(crate) fn at(&self, view: u64) -> Learned<D>
+        ensures { result ≡ learned_at self.now view }
+    {
+        match self.views.get(&view) {
+            Some(learned) => *learned,
+            None => Learned {
+                notarized: None,
+                nullified: false,
+                finalized: None,
+            },
+        }
+    }
+
+    /// Makes room for what may be learned of a view.
+    pub(crate) fn make_room(&mut self, view: u64) -> Result<(), AllocError>
+        ensures room { OnOk result (HasRoom self.new view) }
+        ensures same { IsSame self.old self.new }
+    {
+        if self.views.contains_key(&view) {
+            return Ok(());
+        }
+        let nothing = self.at(view);
+        let _ = self.views.insert(view, nothing)?;
+        Ok(())
+    }
+
+    /// A certificate of this is there, of a view for which there is room. It takes no memory.
+    pub(crate) fn learn(&mut self, subject: Subject<D>)
+        requires { HasRoom self.old (round_in subject).view.0 }
+        ensures { Learns subject self.old self.new }
+    {
+        let view = subject.round().view.0;
+        let learned = self.at(view).with(subject);
+        match self.views.insert(view, learned) {
+            Ok(_) => {}
+            Err(_) => {}
+        }
+    }
+}
+
+impl<D: Digest> Knowledge<D> {
+    /// Whether something of this kind is known of the view.
+    pub(crate) fn has(&self, subject: &Subject<D>) -> bool {
+        let learned = self.at(subject.round().view.0);
+        match subject {
+            Subject::Notarize { .. } => learned.notarized.is_some(),
+            Subject::Nullify { .. } => learned.nullified,
+            Subject::Finalize { .. } => learned.finalized.is_some(),
+        }
+    }
+
+    /// Forgets the views before this one.
+    pub(crate) fn forget_before(&mut self, view: u64)
+        ensures { Forgets view self.old self.new }
+    {
+        self.floor = self.floor.max(view);
+        drop_before(&mut self.views, view);
+    }
+
+    /// Whether this proposal is known to be notarized.
+    pub(crate) fn is_notarized(&self, proposal: &Proposal<D>) -> bool
+        requires epoch { proposal.now.round.epoch ≡ self.now.epoch }
+        requires kept { self.now.floor ≤ proposal.now.round.view.0 }
+        ensures { (past : Conduct D) → HasLearned self.now past → MatchBool result
+            (Knows past (Notarize proposal.now)) (IsNotNotarized past proposal.now) }
+    {
+        match self.at(proposal.round.view.0).notarized {
+            Some(known) => are_same(&known, proposal),
+            None => false,
+        }
+    }
+
+    /// Why a proposal has no ground, if it has none.
+    pub(crate) fn why_no_ground<G>(&self, proposal: &Proposal<D>) -> Option<Rule<G, D>>
+        requires epoch { proposal.now.round.epoch ≡ self.now.epoch }
+        ensures { (past : Conduct D) → HasLearned self.now past → MatchOption result
+            (IsGrounded past proposal.now)
+            (λ rule. HasNoGround past self.now.floor rule proposal.now) }
+    {
+        let parent = proposal.parent;
+        if proposal.round.view.0 <= parent.0 {
+            return Some(Rule::ParentNotEarlier);
+        }
+        if parent.0 < self.floor() {
+            return Some(Rule::ParentBeforeFinal);
+        }
+        if !self.has_parent(proposal) {
+            return Some(Rule::ParentUnknown);
+        }
+        match self.gap(parent.0, proposal.round.view.0) {
+            Some(view) => Some(Rule::ViewNotNullified(View(view))),
+            None => None,
+        }
+    }
+
+    // Whether the parent is the start, or known.
+    fn has_parent(&self, proposal: &Proposal<D>) -> bool
+        requires { self.now.floor ≤ proposal.now.parent.0 }
+        ensures known { (past : Conduct D) → HasLearned self.now past → result ≡ true
+            → (proposal.now.parent.0 ≡ 0)
+            ⊎ KnowsProposal past (numbered self.now.epoch proposal.now.parent.0) }
+        ensures unknown { (past : Conduct D) → HasLearned self.now past → result ≡ false
+            → (proposal.now.parent.0 ≢ 0)
+            × (KnowsProposal past (numbered self.now.epoch proposal.now.parent.0) → ⊥) }
+    {
+        if proposal.parent.0 == 0 {
+            return true;
+        }
+        let learned = self.at(proposal.parent.0);
+        if learned.notarized.is_some() {
+            return true;
+        }
+        learned.finalized.is_some()
+    }
+
+    // A view between the two that isn't known to be nullified.
+    fn gap(&self, parent: u64, view: u64) -> Option<u64>
+        requires { parent < view }
+        ensures some { IfSome result (λ gap. (parent < gap) × ((gap < view)
+            × ((learned_at self.now gap).nullified ≡ false))) }
+        ensures none { result ≡ None → (between : ℕ) → parent < between → between < view
+            → (learned_at self.now between).nullified ≡ true }
+    {
+        for between in parent + 1..view {
+            if !self.at(between).nullified {
+                return Some(between);
+            }
+        }
+        None
+    }
+}
+
+// Whether the two are one.
+fn are_same<D: Digest>(a: &Proposal<D>, b: &Proposal<D>) -> bool
+    ensures { result ≡ same_proposal D.eq a.now b.now }
+{
+    *a == *b
+}
+
+// Drops what is known of the views before this one.
+fn drop_before<D: Digest>(views: &mut BTreeMap<u64, Learned<D>>, view: u64)
+    ensures { (other : ℕ) → view ≤ other
+        → get nat_cmp views.new other ≡ get nat_cmp views.old other }
+{
+    views.retain(move |number, _| *number >= view);
+}

@@ -1,0 +1,14 @@
+//! A voter: a validator's node and the journal of its votes. It votes by a policy by which those
+//! who follow it agree on what is final.
+#![tactic(auto)]
+
+mod answers;
+mod knowledge;
+mod starting;
+#[cfg(test)]
+mod tests;
+mod voter;
+
+pub use answers::{CastFault, FinalizeFault, Permission, Rule, StartFault};
+pub use starting::NotStarted;
+pub use voter::Voter;

@@ -1,0 +1,277 @@
+//! A voter is made from its journal.
+
+ghost use Rattle.std.specs.Prelude.{◌≡◌, ◌≤◌, ◌∷◌, [], IfErr, IfOk, OnOk, length, true};
+ghost use Rattle.batcher.specs.Verifiers.{certifies_itself};
+ghost use Rattle.batcher.specs.Votes.{round_in, subject_certified};
+ghost use Rattle.batcher_voter.specs.Knowledge.{HasLearned, HasRoom};
+ghost use Rattle.batcher_agreement.specs.Policy.{Conduct, KeepsPolicy};
+ghost use Rattle.batcher_node.specs.Events.{started};
+ghost use Rattle.batcher_node.specs.Represents.{NodeRepresents};
+ghost use Rattle.batcher_voter.specs.Remembering.{Remembers};
+ghost use Rattle.batcher_voter.specs.Voting.{HasStarted};
+
+use crate::answers::StartFault;
+use crate::knowledge::Knowledge;
+use crate::voter::Voter;
+use batcher::messages::{Certificate, Digest, Identical, Kind};
+use batcher::positions::Round;
+use batcher::scheme::Scheme;
+use batcher_codec::{Codec, DecodeError, OwnedCodec, decode_owned};
+use batcher_journal::Journal;
+use batcher_log::Log;
+use batcher_node::{Node, NodeConfigs};
+use std::alloc::Global;
+use std::rc::Rc;
+
+/// Why a voter isn't made, with the journal that it isn't made from.
+#[derive(Drop)]
+pub struct NotStarted<G: Codec, D: Digest + Codec, L: Log> {
+    pub fault: StartFault,
+    pub journal: Journal<G, D, L>,
+}
+
+impl<S: Scheme<D>, D: Digest + Codec, L: Log> Voter<S, D, L>
+where
+    S::Signature: Codec + Identical,
+    S::Certificate: OwnedCodec,
+{
+    /// The voter whose votes are in a journal. Its view is that of the journal's floor, of which it
+    /// knows the finalization, and it knows the certificates that were written with votes. All of
+    /// them are verified again.
+    pub fn start(
+        alloc: Global,
+        scheme: Rc<S>,
+        ahead: u64,
+        track_historical_votes: bool,
+        journal: Journal<S::Signature, D, L>,
+    ) -> Result<Self, NotStarted<S::Signature, D, L>>
+        requires { 1 ≤ length (S.meaning scheme.value).participants }
+        ensures voting { IfOk result (λ voter. (earlier : Conduct D) → KeepsPolicy earlier
+            → Remembers earlier journal.contents
+            → HasStarted (⟦<S as NodeConfigs<D>>⟧.of voter.node) earlier voter) }
+        ensures scheme { IfOk result (λ voter. voter.node.scheme ≡ scheme.value) }
+        ensures journal { IfOk result (λ voter. voter.journal ≡ journal) }
+        ensures refused { IfErr result (λ it. it.journal ≡ journal) }
+    {
+        let mut voter = match Voter::begin(alloc, scheme, ahead, track_historical_votes, journal) {
+            Ok(voter) => voter,
+            Err(it) => return Err(it),
+        };
+        match voter.learn_all() {
+            Ok(()) => Ok(voter),
+            Err(fault) => {
+                let journal = voter.into_journal();
+                Err(NotStarted { fault, journal })
+            }
+        }
+    }
+
+    // A node and a journal, put together.
+    fn begin(
+        alloc: Global,
+        scheme: Rc<S>,
+        ahead: u64,
+        track_historical_votes: bool,
+        journal: Journal<S::Signature, D, L>,
+    ) -> Result<Self, NotStarted<S::Signature, D, L>>
+        requires { 1 ≤ length (S.meaning scheme.value).participants }
+        ensures represents { IfOk result (λ voter. NodeRepresents
+            (⟦<S as NodeConfigs<D>>⟧.of voter.node) (started voter.node.window ∷ []) voter.node) }
+        ensures nothing { IfOk result (λ voter. HasLearned voter.knowledge []) }
+        ensures scheme { IfOk result (λ voter. voter.node.scheme ≡ scheme.value) }
+        ensures journal { IfOk result (λ voter. voter.journal ≡ journal) }
+        ensures refused { IfErr result (λ it. it.journal ≡ journal) }
+    {
+        let floor = journal.floor();
+        let made = Node::new(
+            alloc,
+            floor.epoch,
+            scheme,
+            floor.view,
+            ahead,
+            track_historical_votes,
+        );
+        match made {
+            Ok(node) => Ok(Voter {
+                alloc,
+                node,
+                journal,
+                knowledge: Knowledge::new(alloc, floor.epoch, floor.view.0),
+            }),
+            Err(_) => Err(NotStarted {
+                fault: StartFault::OutOfMemory,
+                journal,
+            }),
+        }
+    }
+
+    /// The journal of its votes.
+    pub fn into_journal(self) -> Journal<S::Signature, D, L>
+        ensures { result ≡ self.journal }
+    {
+        let Voter { node, journal, .. } = self;
+        drop(node);
+        journal
+    }
+
+    // Learns what the journal has.
+    fn learn_all(&mut self) -> Result<(), StartFault>
+        ensures started { OnOk result ((earlier : Conduct D)
+            → HasStarted (⟦<S as NodeConfigs<D>>⟧.of self.old.node) earlier self.old
+            → HasStarted (⟦<S as NodeConfigs<D>>⟧.of self.old.node) earlier self.new) }
+        ensures node { self.new.node ≡ self.old.node }
+        ensures journal { self.new.journal ≡ self.old.journal }
+    {
+        match self.learn_floor() {
+            Ok(()) => self.learn_kept(),
+            Err(fault) => Err(fault),
+        }
+    }
+
+    // Learns the floor's finalization. The start of an epoch has none.
+    fn learn_floor(&mut self) -> Result<(), StartFault>
+        ensures started { OnOk result ((earlier : Conduct D)
+            → HasStarted (⟦<S as NodeConfigs<D>>⟧.of self.old.node) earlier self.old
+            → HasStarted (⟦<S as NodeConfigs<D>>⟧.of self.old.node) earlier self.new) }
+        ensures node { self.new.node ≡ self.old.node }
+        ensures journal { self.new.journal ≡ self.old.journal }
+    {
+        if self.begins_with_epoch() {
+            return Ok(());
+        }
+        match self.floor_certificate() {
+            Ok((round, certificate)) => {
+                if certificate.kind() != Kind::Finalization {
+                    drop(certificate);
+                    return Err(StartFault::Malformed);
+                }
+                let learned = self.take_in(round, &certificate);
+                drop(certificate);
+                learned
+            }
+            Err(fault) => Err(fault),
+        }
+    }
+
+    // Learns the certificates that were written with votes.
+    fn learn_kept(&mut self) -> Result<(), StartFault>
+        ensures started { OnOk result ((earlier : Conduct D)
+            → HasStarted (⟦<S as NodeConfigs<D>>⟧.of self.old.node) earlier self.old
+            → HasStarted (⟦<S as NodeConfigs<D>>⟧.of self.old.node) earlier self.new) }
+        ensures node { self.new.node ≡ self.old.node }
+        ensures journal { self.new.journal ≡ self.old.journal }
+    {
+        for i in 0..self.journal.certificates().len() {
+            match self.learn_at(i) {
+                Ok(()) => {}
+                Err(fault) => return Err(fault),
+            }
+        }
+        Ok(())
+    }
+
+    fn learn_at(&mut self, i: usize) -> Result<(), StartFault>
+        ensures started { OnOk result ((earlier : Conduct D)
+            → HasStarted (⟦<S as NodeConfigs<D>>⟧.of self.old.node) earlier self.old
+            → HasStarted (⟦<S as NodeConfigs<D>>⟧.of self.old.node) earlier self.new) }
+        ensures node { self.new.node ≡ self.old.node }
+        ensures journal { self.new.journal ≡ self.old.journal }
+    {
+        match self.kept_certificate(i) {
+            Ok((round, certificate)) => {
+                let learned = self.take_in(round, &certificate);
+                drop(certificate);
+                learned
+            }
+            Err(fault) => Err(fault),
+        }
+    }
+
+    // Whether the floor is the start of the epoch.
+    fn begins_with_epoch(&self) -> bool {
+        self.journal.floor().view.0 == 0 && self.journal.finalization().is_empty()
+    }
+
+    fn floor_certificate(&self) -> Result<(Round, Certificate<S::Certificate, D>), StartFault> {
+        let bytes = self.journal.finalization();
+        if bytes.is_empty() {
+            return Err(StartFault::NotFinal);
+        }
+        let certificate = decoded(self.alloc, bytes)?;
+        Ok((self.journal.floor(), certificate))
+    }
+
+    fn kept_certificate(
+        &self,
+        i: usize,
+    ) -> Result<(Round, Certificate<S::Certificate, D>), StartFault> {
+        match self.journal.certificates().get(i) {
+            Some(kept) => {
+                let certificate = decoded(self.alloc, kept.certificate())?;
+                Ok((kept.round(), certificate))
+            }
+            None => Err(StartFault::Malformed),
+        }
+    }
+
+    // Verifies a certificate of a round, and learns it. One of another epoch is passed over.
+    fn take_in(
+        &mut self,
+        round: Round,
+        certificate: &Certificate<S::Certificate, D>,
+    ) -> Result<(), StartFault>
+        ensures started { OnOk result ((earlier : Conduct D)
+            → HasStarted (⟦<S as NodeConfigs<D>>⟧.of self.old.node) earlier self.old
+            → HasStarted (⟦<S as NodeConfigs<D>>⟧.of self.old.node) earlier self.new) }
+        ensures node { self.new.node ≡ self.old.node }
+        ensures journal { self.new.journal ≡ self.old.journal }
+    {
+        self.begins();
+        if certificate.round() != round {
+            return Err(StartFault::Malformed);
+        }
+        if round.epoch.0 != self.epoch().0 {
+            return Ok(());
+        }
+        if !self.verifies(certificate) {
+            return Err(StartFault::Forged);
+        }
+        match self.make_room(round.view.0) {
+            Ok(()) => self.take_in_with_room(certificate),
+            Err(_) => Err(StartFault::OutOfMemory),
+        }
+    }
+
+    fn take_in_with_room(
+        &mut self,
+        certificate: &Certificate<S::Certificate, D>,
+    ) -> Result<(), StartFault>
+        requires certifies { certifies_itself (S.meaning self.old.node.scheme) certificate.now
+            ≡ true }
+        requires epoch { (round_in (subject_certified certificate.now)).epoch
+            ≡ self.old.node.epoch }
+        requires room { HasRoom self.old.knowledge
+            (round_in (subject_certified certificate.now)).view.0 }
+        ensures started { OnOk result ((earlier : Conduct D)
+            → HasStarted (⟦<S as NodeConfigs<D>>⟧.of self.old.node) earlier self.old
+            → HasStarted (⟦<S as NodeConfigs<D>>⟧.of self.old.node) earlier self.new) }
+        ensures node { self.new.node ≡ self.old.node }
+        ensures journal { self.new.journal ≡ self.old.journal }
+    {
+        self.begins();
+        self.note(certificate.subject());
+        Ok(())
+    }
+}
+
+// The certificate that bytes are.
+fn decoded<C: OwnedCodec, D: Digest + Codec>(
+    alloc: Global,
+    bytes: &[u8],
+) -> Result<Certificate<C, D>, StartFault> {
+    match decode_owned(alloc, bytes) {
+        Ok(certificate) => Ok(certificate),
+        Err(DecodeError::OutOfMemory) => Err(StartFault::OutOfMemory),
+        Err(DecodeError::Fault(_)) => Err(StartFault::Malformed),
+    }
+}
