@@ -8,11 +8,11 @@ use Rattle.batcher_agreement.specs.Policy.{Conduct, KeepsPolicy}
 use Rattle.batcher_node.specs.Events.{started}
 use Rattle.batcher_node.specs.Nodes.{NodeConfig}
 use Rattle.batcher_node.specs.Represents.{NodeRepresents}
-use Rattle.batcher_voter.specs.Knowledge.{HasLearned, Learns}
+use Rattle.batcher_voter.specs.Knowledge.{HasLearned, IsHighest, Learns}
 use Rattle.batcher_voter.specs.Remembering.{Remembers}
 use Rattle.batcher_voter.specs.Voting.{HasStarted, IsVoting, VoterView}
 use Rattle.batcher_voter.proofs.Calling.{remembers_learned}
-use Rattle.batcher_voter.proofs.Grounding.{learned_more}
+use Rattle.batcher_voter.proofs.Grounding.{highest_more, learned_more}
 
 module _ {S D K G C L : Type 0} (x : NodeConfig D K G C) where
   -- a certificate was verified
@@ -31,6 +31,8 @@ module _ {S D K G C L : Type 0} (x : NodeConfig D K G C) where
         keeps_policy = is.keeps_policy;
         has_learned = learned_more (subject_certified c) old.knowledge new.knowledge (conduct_of past)
             learns epoch is.has_learned;
+        is_highest = highest_more (subject_certified c) old.knowledge new.knowledge (conduct_of past)
+            learns epoch is.is_highest;
         remembers = λ still. rw (journal)
             (remembers_learned (subject_certified c) (conduct_of past ++ earlier) old.journal.contents
             (is.remembers (subst (λ (j : _). j.is_open ≡ true) journal still)));
@@ -53,9 +55,10 @@ module _ {S D K G C L : Type 0} (x : NodeConfig D K G C) where
   pub begun :
       (voter : VoterView S G D L)
       → NodeRepresents x (started voter.node.window ∷ []) voter.node
-      → HasLearned voter.knowledge [] → (earlier : Conduct D) → KeepsPolicy earlier
+      → HasLearned voter.knowledge [] → IsHighest voter.knowledge [] → (earlier : Conduct D)
+      → KeepsPolicy earlier
       → Remembers earlier voter.journal.contents → HasStarted x earlier voter
-  begun voter represents nothing earlier keeps has =
+  begun voter represents nothing none_known earlier keeps has =
       record {
         past = called (started voter.node.window) ∷ [];
         voting = record {
@@ -64,6 +67,7 @@ module _ {S D K G C L : Type 0} (x : NodeConfig D K G C) where
           written_first = tt;
           keeps_policy = keeps;
           has_learned = nothing;
+          is_highest = none_known;
           remembers = λ _. has;
         };
         asked_nothing = refl;

@@ -22,7 +22,7 @@ use Rattle.batcher_node.specs.declared.answers.Verdict.TheVariants.{Forged, Know
 use Rattle.batcher_voter.specs.Knowledge.{IsSame, KnowledgeView, Learns, learned_at}
 use Rattle.batcher_voter.specs.Remembering.{Remembers}
 use Rattle.batcher_voter.specs.Voting.{AreWrittenFirst, VoterMeets, VoterStays, VoterView, is_recorded}
-use Rattle.batcher_voter.proofs.Grounding.{learned_more, still_learned}
+use Rattle.batcher_voter.proofs.Grounding.{highest_more, learned_more, still_highest, still_learned}
 
 -- what a certificate leaves of votes
 pub remembers_learned :
@@ -37,6 +37,7 @@ same_of {D = D} old new e =
     record {
       epoch = ap (λ (k : KnowledgeView D). k.epoch) e;
       floor = ap (λ (k : KnowledgeView D). k.floor) e;
+      highest = ap (λ (k : KnowledgeView D). k.highest) e;
       each = λ view. ap (λ (k : KnowledgeView D). learned_at k view) e;
     }
 
@@ -56,6 +57,7 @@ module _ {S D K G C L : Type 0} (x : NodeConfig D K G C) (old new : VoterView S 
         written_first = first earlier past is.written_first;
         keeps_policy = rw (none) is.keeps_policy;
         has_learned = rw (none) (still_learned old.knowledge new.knowledge (conduct_of past) same is.has_learned);
+        is_highest = rw (none) (still_highest old.knowledge new.knowledge (conduct_of past) same is.is_highest);
         remembers = λ still. rw (none, contents) (is.remembers (sym is_open ∙ still));
       }
 
@@ -71,6 +73,7 @@ module _ {S D K G C L : Type 0} (x : NodeConfig D K G C) (old new : VoterView S 
         written_first = first earlier past is.written_first;
         keeps_policy = rw (one) is.keeps_policy;
         has_learned = rw (one) (learned_more s old.knowledge new.knowledge (conduct_of past) learns same is.has_learned);
+        is_highest = rw (one) (highest_more s old.knowledge new.knowledge (conduct_of past) learns same is.is_highest);
         remembers = λ still. rw (one, contents)
             (remembers_learned s (conduct_of past ++ earlier) old.journal.contents
             (is.remembers (sym is_open ∙ still)));
@@ -88,6 +91,7 @@ stays_voting x old new node journal same past earlier is =
       written_first = is.written_first;
       keeps_policy = is.keeps_policy;
       has_learned = still_learned old.knowledge new.knowledge (conduct_of past) same is.has_learned;
+      is_highest = still_highest old.knowledge new.knowledge (conduct_of past) same is.is_highest;
       remembers = rw (journal) is.remembers;
     }
 

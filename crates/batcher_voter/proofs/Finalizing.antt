@@ -17,7 +17,7 @@ use Rattle.batcher_voter.specs.Knowledge.{Forgets, KnowledgeView, Learns}
 use Rattle.batcher_voter.specs.Remembering.{Remembers}
 use Rattle.batcher_voter.specs.Voting.{IsVoting, VoterView}
 use Rattle.batcher_voter.proofs.Calling.{remembers_learned}
-use Rattle.batcher_voter.proofs.Grounding.{learned_from, learned_more}
+use Rattle.batcher_voter.proofs.Grounding.{highest_from, highest_more, learned_from, learned_more}
 use Rattle.batcher_voter.proofs.Writing.{are_there_from, no_others_from}
 
 -- what a floor leaves
@@ -60,6 +60,10 @@ module _ {S D K G C L : Type 0} (x : NodeConfig D K G C) (old new : VoterView S 
             (omega (arith, forgets.floor))
             (λ view from. forgets.each view (omega (arith, from, forgets.floor)))
             is.has_learned);
+        is_highest = highest_more (subject_certified c) forgotten new.knowledge (conduct_of past) learns
+            (epoch ∙ sym forgets.epoch)
+            (highest_from (round_in (subject_certified c)).view.0 old.knowledge forgotten (conduct_of past)
+            forgets is.is_highest);
         remembers = λ still. rw (contents)
             (remembers_learned (subject_certified c) (conduct_of past ++ earlier) _
             (remembers_raised (conduct_of past ++ earlier) old.journal.contents old.journal.unwritten

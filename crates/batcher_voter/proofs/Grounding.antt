@@ -1,13 +1,15 @@
 -- What a voter that has learned what was learned knows of a view.
-use Rattle.std.proofs.Common.{◌≡◌, ◌≤◌, ◌∙◌, ℕ, Bool, true, false, ◌∷◌, Option, Some, None, inl, inr, ◌⊎◌, ap, arith, eq-eqb, refl, subst, sym}
+use Rattle.std.proofs.Common.{◌≡◌, ◌<◌, ◌≤◌, ◌∙◌, ℕ, Bool, true, false, ◌∷◌, Option, Some, None, inl, inr, ◌⊎◌, ap, arith, eq-eqb, refl, subst, sym}
 use Rattle.std.specs.Prelude.{MatchBool, is_some}
+use Rattle.std.proofs.lemmas.Bool.{cases_lt}
 use Rattle.batcher.specs.Votes.{round_in, same_proposal}
 use Rattle.batcher.specs.messages.Proposal.{Proposal}
 use Rattle.batcher.specs.messages.Subject.{Subject}
 use Rattle.batcher.specs.messages.Subject.TheVariants.{Notarize, Nullify, Finalize}
-use Rattle.batcher_agreement.specs.Policy.{Conduct, Knows, KnowsProposal, learned}
+use Rattle.batcher.specs.positions.Round.{Round}
+use Rattle.batcher_agreement.specs.Policy.{Conduct, IsGrounded, Knows, KnowsProposal, learned, voted}
 use Rattle.batcher_node.specs.Windows.{numbered}
-use Rattle.batcher_voter.specs.Knowledge.{HasLearned, KnowledgeView, IsSame, Learns, learned_at, learned_of}
+use Rattle.batcher_voter.specs.Knowledge.{AreNullified, Forgets, HasLearned, IsHighest, IsParent, KnowledgeView, KnowsOf, IsSame, Learns, learned_at, learned_of}
 use Rattle.batcher_voter.specs.declared.knowledge.Learned.{Learned}
 use Rattle.batcher_types.proofs.VoteLemmas.{same_proposal-true, same_round-refl}
 use Rattle.batcher_voter.specs.Refusals.{HasNoGround, IsNotNotarized, IsRefused}
@@ -170,3 +172,157 @@ refused_by_ground same all past final ParentNotEarlier p h = h
 refused_by_ground same all past final ParentBeforeFinal p h = h
 refused_by_ground same all past final ParentUnknown p h = h
 refused_by_ground same all past final (ViewNotNullified view) p h = h
+
+-- THE HIGHEST VIEW
+module _ {D : Type 0} where
+  pub still_highest :
+      (old new : KnowledgeView D) (past : Conduct D) → IsSame old new → IsHighest old past
+      → IsHighest new past
+  still_highest old new past same is =
+      record {
+        none_above = λ s known of. subst (λ n. (round_in s).view.0 ≤ n) (sym same.highest)
+            (is.none_above s known (of ∙ same.epoch));
+        is_known = rw (same.highest, same.floor, same.epoch) is.is_known;
+        from_floor = rw (same.highest, same.floor) is.from_floor;
+      }
+
+  knows_of_more :
+      (s : Subject D) (past : Conduct D) (number : Round) → KnowsOf past number
+      → KnowsOf (learned s ∷ past) number
+  knows_of_more s past number it =
+      record { subject = it.subject; of_round = it.of_round; known = inr it.known }
+
+  pub highest_more :
+      (s : Subject D) (old new : KnowledgeView D) (past : Conduct D) → Learns s old new
+      → (round_in s).epoch ≡ old.epoch → IsHighest old past → IsHighest new (learned s ∷ past)
+  highest_more s old new past learns of is =
+      record {
+        none_above = λ t known same. above t known same;
+        is_known = by_max (cases_lt old.highest (round_in s).view.0);
+        from_floor = omega (arith, learns.highest, learns.floor, is.from_floor);
+      }
+    where
+      above :
+          (t : Subject D) → Knows (learned s ∷ past) t → (round_in t).epoch ≡ new.epoch
+          → (round_in t).view.0 ≤ new.highest
+      above t (inl e) same =
+          subst (λ u. (round_in u).view.0 ≤ new.highest) e (omega (arith, learns.highest))
+      above t (inr known) same =
+          let low = is.none_above t known (same ∙ learns.epoch) in
+          omega (arith, low, learns.highest)
+
+      by_max :
+          (old.highest < (round_in s).view.0) ⊎ ((round_in s).view.0 ≤ old.highest)
+          → (new.highest ≡ new.floor) ⊎ KnowsOf (learned s ∷ past) (numbered new.epoch new.highest)
+      by_max (inr low) =
+          let same : new.highest ≡ old.highest = omega (arith, low, learns.highest) in
+          rw (same, learns.floor, learns.epoch)
+          (elim is.is_known [
+            | inl e ↦ inl e
+            | inr it ↦ inr (knows_of_more s past (numbered old.epoch old.highest) it)
+          ])
+      by_max (inl high) =
+          let same : new.highest ≡ (round_in s).view.0 = omega (arith, high, learns.highest) in
+          inr (record {
+            subject = s;
+            of_round = ap (λ e. numbered e (round_in s).view.0) of
+                ∙ ap (λ e. numbered e (round_in s).view.0) (sym learns.epoch)
+                ∙ ap (λ n. numbered new.epoch n) (sym same);
+            known = inl refl;
+          })
+
+  pub highest_from :
+      (first : ℕ) (old new : KnowledgeView D) (past : Conduct D) → Forgets first old new
+      → IsHighest old past → IsHighest new past
+  highest_from first old new past forgets is =
+      record {
+        none_above = λ s known same.
+            let low = is.none_above s known (same ∙ forgets.epoch) in
+            omega (arith, low, forgets.highest);
+        is_known = by_max (cases_lt first old.highest);
+        from_floor = omega (arith, forgets.highest, forgets.floor, is.from_floor);
+      }
+    where
+      by_max :
+          (first < old.highest) ⊎ (old.highest ≤ first)
+          → (new.highest ≡ new.floor) ⊎ KnowsOf past (numbered new.epoch new.highest)
+      by_max (inr low) = inl (omega (arith, low, forgets.highest, forgets.floor, is.from_floor))
+      by_max (inl high) =
+          let same : new.highest ≡ old.highest = omega (arith, high, forgets.highest) in
+          elim is.is_known [
+            | inl e ↦ inl (omega (arith, high, e, forgets.highest, forgets.floor))
+            | inr it ↦ rw (same, forgets.epoch) (inr it)
+          ]
+
+  -- a vote tells nothing of views
+  pub highest_voted :
+      (t : Subject D) (knowledge : KnowledgeView D) (past : Conduct D) → IsHighest knowledge past
+      → IsHighest knowledge (voted t ∷ past)
+  highest_voted t knowledge past is =
+      record {
+        none_above = is.none_above;
+        is_known = elim is.is_known [
+          | inl e ↦ inl e
+          | inr it ↦ inr (record { subject = it.subject; of_round = it.of_round; known = it.known })
+        ];
+        from_floor = is.from_floor;
+      }
+
+-- THE PARENT
+module _ {D : Type 0} (knowledge : KnowledgeView D) (past : Conduct D)
+    (has : HasLearned knowledge past) (p : Proposal D) (of_epoch : p.round.epoch ≡ knowledge.epoch)
+    (from : knowledge.floor ≤ p.parent.0) where
+  parent_here :
+      IsParent knowledge p.parent.0
+      → (p.parent.0 ≡ 0) ⊎ KnowsProposal past (numbered knowledge.epoch p.parent.0)
+  parent_here (inl start) = inl start
+  parent_here (inr (inl notarized)) =
+      inr (notarized_parent knowledge past has p.parent.0 from notarized)
+  parent_here (inr (inr finalized)) =
+      inr (finalized_parent knowledge past has p.parent.0 from finalized)
+
+  -- what has a parent and no gap has ground
+  pub parent_grounds :
+      p.parent.0 < p.round.view.0 → IsParent knowledge p.parent.0
+      → AreNullified knowledge p.parent.0 p.round.view.0 → IsGrounded past p
+  parent_grounds earlier parent nullified =
+      record {
+        earlier = earlier;
+        parent = subst (λ e. (p.parent.0 ≡ 0) ⊎ KnowsProposal past (numbered e p.parent.0))
+            (sym of_epoch) (parent_here parent);
+        between = λ view above below.
+            subst (λ e. Knows past (Nullify (numbered e view))) (sym of_epoch)
+            (nullified_here knowledge past has view (omega (arith, above, from))
+            (nullified view above below));
+      }
+
+  by_kinds :
+      (a b : Bool) → is_some (learned_at knowledge p.parent.0).notarized ≡ a
+      → is_some (learned_at knowledge p.parent.0).finalized ≡ b
+      → KnowsProposal past (numbered knowledge.epoch p.parent.0) → IsParent knowledge p.parent.0
+  by_kinds true b e f known = inr (inl e)
+  by_kinds false true e f known = inr (inr f)
+  by_kinds false false e f known =
+      absurd (no_parent knowledge past has p.parent.0 from e f known)
+
+  nullified_between :
+      (view : ℕ) → p.parent.0 < view → Knows past (Nullify (numbered p.round.epoch view))
+      → (n : Bool) → (learned_at knowledge view).nullified ≡ n → n ≡ true
+  nullified_between view above known true e = refl
+  nullified_between view above known false e =
+      absurd (not_nullified_here knowledge past has view (omega (arith, above, from)) e
+      (subst (λ x. Knows past (Nullify (numbered x view))) of_epoch known))
+
+  -- and what has ground has both
+  pub ground_has_parent : IsGrounded past p → IsParent knowledge p.parent.0
+  ground_has_parent ground =
+      elim ground.parent [
+        | inl start ↦ inl start
+        | inr known ↦ by_kinds _ _ refl refl
+            (subst (λ e. KnowsProposal past (numbered e p.parent.0)) of_epoch known)
+      ]
+
+  pub ground_has_no_gap :
+      IsGrounded past p → AreNullified knowledge p.parent.0 p.round.view.0
+  ground_has_no_gap ground view above below =
+      nullified_between view above (ground.between view above below) _ refl

@@ -1,5 +1,5 @@
 -- What a call of the node leaves as it was.
-use Rattle.std.proofs.Common.{◌≡◌, ◌∙◌, true, false, ◌∷◌, inr, refl, subst, sym}
+use Rattle.std.proofs.Common.{Bool, ◌≡◌, ◌∙◌, true, false, ◌∷◌, inr, refl, subst, sym}
 use Rattle.batcher.specs.Votes.{round_in, subject_of}
 use Rattle.batcher.specs.messages.Vote.{Vote}
 use Rattle.batcher_agreement.specs.Lives.{written}
@@ -7,7 +7,9 @@ use Rattle.batcher_node.specs.Nodes.{NodeConfig}
 use Rattle.batcher_node.specs.Windows.{is_of}
 use Rattle.batcher_node.specs.declared.answers.Cast.{Cast}
 use Rattle.batcher_node.specs.declared.answers.Cast.TheVariants.{ToSend, Known, Outside}
-use Rattle.batcher_voter.specs.Voting.{Casts, ForEachLife, IsVoting, MayWrite, Shows, VoterView}
+use Rattle.batcher_voter.specs.declared.answers.CastFault.{CastFault}
+use Rattle.batcher_voter.specs.declared.answers.CastFault.TheVariants.{Closed as NotOpen, Excluded, Full as NoRoom, NotOwn, OutOfMemory as NoMemory, Refused as RefusedBy, Signed}
+use Rattle.batcher_voter.specs.Voting.{WhyNotCast, WhyNotShown, Casts, ForEachLife, IsVoting, MayWrite, Shows, VoterView}
 
 module _ {S D K G C L : Type 0} (x : NodeConfig D K G C) (old between new : VoterView S G D L)
     (vote : Vote G D)
@@ -47,3 +49,16 @@ module _ {S D K G C L : Type 0} (x : NodeConfig D K G C) (old between new : Vote
         is_written = inr refl;
         voting = subst (IsVoting x (written vote ∷ past) earlier) (sym same) (ok past earlier is);
       }
+
+pub why_not_shown :
+    {S D K G C L : Type 0} (x : NodeConfig D K G C) (same : D → D → Bool)
+    (old new : VoterView S G D L)
+    (vote : Vote G D) (fault : CastFault G D) → WhyNotShown x old.node vote fault
+    → WhyNotCast x same old vote fault new
+why_not_shown x same old new vote NoMemory why = tt
+why_not_shown x same old new vote (Excluded fault) why = why
+why_not_shown x same old new vote NoRoom why = absurd why
+why_not_shown x same old new vote NotOwn why = absurd why
+why_not_shown x same old new vote (Signed known) why = absurd why
+why_not_shown x same old new vote (RefusedBy rule) why = absurd why
+why_not_shown x same old new vote NotOpen why = absurd why

@@ -16,6 +16,7 @@ use Rattle.batcher_journal.specs.Text.{Contents}
 use Rattle.batcher_node.specs.Nodes.{NodeConfig}
 use Rattle.batcher_voter.specs.Remembering.{Remembers}
 use Rattle.batcher_voter.specs.Voting.{IsVoting, VoterView}
+use Rattle.batcher_voter.proofs.Grounding.{highest_voted}
 use Rattle.batcher_voter.proofs.Writing.{are_there_with, no_others_with}
 
 module _ {G D : Type 0} where
@@ -46,6 +47,7 @@ module _ {S D K G C L : Type 0} (x : NodeConfig D K G C) (old new : VoterView S 
         written_first = is.written_first;
         keeps_policy = (cleared, is.keeps_policy);
         has_learned = rw (knowledge) is.has_learned;
+        is_highest = rw (knowledge) (highest_voted (subject_of vote) old.knowledge (conduct_of past) is.is_highest);
         remembers = λ still. rw (contents) (remembers_vote (conduct_of past ++ earlier)
             old.journal.contents vote old.journal.unwritten (is.remembers is_open));
       }

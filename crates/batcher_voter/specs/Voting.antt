@@ -1,19 +1,21 @@
 -- A voter: a node and a journal, with what is known to be certified.
-use Rattle.std.specs.Prelude.{◌≡◌, ◌⊎◌, ⊤, ℕ, Bool, true, false, List, [], ◌∷◌, ◌++◌, Contains, IfSome, Some, None}
-use Rattle.batcher.specs.Votes.{round_in, subject_certified, subject_of}
+use Rattle.std.specs.Prelude.{◌≡◌, ◌≢◌, ◌+◌, ◌<◌, ◌⊎◌, ⊤, ℕ, Bool, true, false, List, [], ◌∷◌, ◌++◌, Contains, IfSome, Some, None}
+use Rattle.batcher.specs.Votes.{round_in, signer_of, subject_certified, subject_of}
 use Rattle.batcher.specs.positions.Epoch.{Epoch}
 use Rattle.batcher_node.specs.declared.node.Construction.{Construction}
 use Rattle.batcher.specs.messages.Subject.{Subject}
 use Rattle.batcher.specs.messages.Vote.{Vote}
 use Rattle.batcher.specs.votes.Outcome.{Outcome}
 use Rattle.batcher_agreement.specs.Lives.{AreVerified, VoterHistory, called, conduct_of, node_history, written}
-use Rattle.batcher_agreement.specs.Policy.{Conduct, HasVoted, IsCleared, KeepsPolicy, voted}
+use Rattle.batcher_agreement.specs.Policy.{Conduct, HasVoted, IsCleared, KeepsPolicy, Knows, voted}
 use Rattle.batcher_codec.specs.Format.{Format}
 use Rattle.batcher_journal.specs.Contradictions.{IsFree}
 use Rattle.batcher_journal.specs.Ready.{JournalView}
-use Rattle.batcher_node.specs.Events.{NodeEvent, started, vote_cast}
+use Rattle.batcher_node.specs.Events.{NodeEvent, started, view_history, vote_cast}
 use Rattle.batcher_node.specs.Nodes.{NodeConfig, NodeView}
-use Rattle.batcher_node.specs.Represents.{NodeRepresents}
+use Rattle.batcher.specs.Answers.{own_answer}
+use Rattle.batcher.specs.Steps.{fault_or_memory}
+use Rattle.batcher_node.specs.Represents.{ForEachNodeHistory, NodeRepresents, config_of}
 use Rattle.batcher_node.specs.Windows.{is_of, numbered}
 use Rattle.batcher_node.specs.declared.answers.Receipt.{Receipt}
 use Rattle.batcher_node.specs.declared.answers.Receipt.TheVariants.{Answered}
@@ -21,9 +23,11 @@ use Rattle.batcher_node.specs.declared.answers.Verdict.{Verdict}
 use Rattle.batcher_node.specs.declared.answers.Verdict.TheVariants.{Recorded}
 use Rattle.batcher_node.specs.declared.answers.Cast.{Cast}
 use Rattle.batcher_node.specs.declared.answers.Cast.TheVariants.{ToSend, Known as KnownVote, Outside as OutsideVote}
-use Rattle.batcher_voter.specs.Knowledge.{HasLearned, KnowledgeView}
+use Rattle.batcher_voter.specs.Knowledge.{HasLearned, IsHighest, KnowledgeView, KnowsOf}
 use Rattle.batcher_voter.specs.Refusals.{IsRefused}
 use Rattle.batcher_voter.specs.Remembering.{IsLeft, Remembers}
+use Rattle.batcher_voter.specs.declared.answers.CastFault.{CastFault}
+use Rattle.batcher_voter.specs.declared.answers.CastFault.TheVariants.{Closed as NotOpen, Excluded, NotOwn, OutOfMemory as NoMemory, Refused as RefusedBy, Signed}
 use Rattle.batcher_voter.specs.declared.answers.Permission.{Permission}
 use Rattle.batcher_voter.specs.declared.answers.Permission.TheVariants.{Sign, Known, Refused, Outside, Closed}
 
@@ -47,6 +51,18 @@ IsOfItsView epoch made =
     IfSome made.batch (λ batch. IfSome batch.certificate
     (λ c. round_in (subject_certified c) ≡ numbered epoch made.view.0))
 
+-- A view is the next one: it is behind each of which a certificate is known, and behind one of
+-- these, or behind the final one.
+pub record IsNextView {S D K G C L : Type 0} (voter : VoterView S G D L)
+    (past : VoterHistory D K G C) (next : ℕ) : Type 0 where
+  pub behind_all :
+      (s : Subject D) → Knows (conduct_of past) s → (round_in s).epoch ≡ voter.node.epoch
+      → (round_in s).view.0 < next
+  pub behind_one :
+      (next ≡ voter.node.window.finalized + 1)
+      ⊎ ((view : ℕ) × ((next ≡ view + 1)
+      × KnowsOf (conduct_of past) (numbered voter.node.epoch view)))
+
 -- whether a certificate was recorded
 abbrev pub is_recorded : Receipt Verdict → Bool
 is_recorded (Answered (Recorded changed)) = true
@@ -67,6 +83,16 @@ module _ {D K G C : Type 0} (vote : Vote G D) (past : VoterHistory D K G C) (ear
       ((after ≡ past) × HasVoted (conduct_of past ++ earlier) (subject_of vote))
       ⊎ (after ≡ written vote ∷ past)
 
+module _ {S D K G C : Type 0} (x : NodeConfig D K G C) where
+  -- Why a vote that was written isn't shown to the node.
+  abbrev pub WhyNotShown : NodeView S G D → Vote G D → CastFault G D → Type 0
+  WhyNotShown node vote NoMemory = ⊤
+  WhyNotShown node vote (Excluded fault) =
+      ForEachNodeHistory x node (λ past.
+      let view = (round_in (subject_of vote)).view.0 in
+      fault ≡ fault_or_memory (own_answer (config_of x past view) (view_history view past) vote))
+  WhyNotShown node vote fault = ⊥
+
 module _ {S D K G C L : Type 0} (x : NodeConfig D K G C) where
   -- What a voter is after a life so far, and what its participant did in earlier ones.
   pub record IsVoting (past : VoterHistory D K G C) (earlier : Conduct D)
@@ -77,6 +103,7 @@ module _ {S D K G C L : Type 0} (x : NodeConfig D K G C) where
     pub keeps_policy : KeepsPolicy (conduct_of past ++ earlier)
     -- It knows what it learned in this life, and an open journal has the votes of all lives.
     pub has_learned : HasLearned voter.knowledge (conduct_of past)
+    pub is_highest : IsHighest voter.knowledge (conduct_of past)
     pub remembers :
         voter.journal.is_open ≡ true
         → Remembers (conduct_of past ++ earlier) voter.journal.contents
@@ -154,6 +181,20 @@ module _ {S D K G C L : Type 0} (x : NodeConfig D K G C) where
       (λ past earlier. WritesAndCalls vote (vote_cast vote outcome None) past earlier new)
   Casts old vote OutsideVote new =
       (is_of x.epoch old.node.window (round_in (subject_of vote)) ≡ false) × (new ≡ old)
+
+  -- Why a vote isn't cast. Memory and room in the journal may be out whenever they are needed.
+  abbrev pub WhyNotCast : (D → D → Bool) → VoterView S G D L → Vote G D → CastFault G D
+      → VoterView S G D L → Type 0
+  WhyNotCast same old vote (RefusedBy rule) new =
+      ForEachLife old (Permits same old (subject_of vote) (Refused rule))
+  WhyNotCast same old vote NotOwn new = signer_of vote ≢ old.journal.contents.owner.1.1.0
+  WhyNotCast same old vote (Signed known) new =
+      Contains old.journal.contents.votes known × ((subject_of known ≡ subject_of vote)
+      × (known ≢ vote))
+  WhyNotCast same old vote NotOpen new = new.journal.is_open ≡ false
+  WhyNotCast same old vote (Excluded fault) new =
+      WhyNotShown x old.node vote (Excluded fault)
+  WhyNotCast same old vote fault new = ⊤
 
   -- where the node refused it: it may be written
   pub record MayWrite (vote : Vote G D) (past : VoterHistory D K G C) (earlier : Conduct D)

@@ -7,7 +7,7 @@ ghost use Rattle.batcher.specs.Votes.{round_in, same_proposal};
 ghost use Rattle.batcher.specs.messages.Subject.TheVariants.{Notarize};
 ghost use Rattle.batcher_agreement.specs.Policy.{Conduct, IsGrounded, Knows, KnowsProposal};
 ghost use Rattle.batcher_node.specs.Windows.{numbered};
-ghost use Rattle.batcher_voter.specs.Knowledge.{Forgets, HasLearned, HasRoom, IsSame, Learns, learned_at, with_learned};
+ghost use Rattle.batcher_voter.specs.Knowledge.{AreNullified, Forgets, HasLearned, HasRoom, IsHighest, IsParent, IsSame, Learns, learned_at, with_learned};
 ghost use Rattle.batcher_voter.specs.Refusals.{HasNoGround, IsNotNotarized};
 
 use crate::answers::Rule;
@@ -45,6 +45,7 @@ impl<D: Copy> Learned<D> {
 pub(crate) struct Knowledge<D: Digest> {
     epoch: Epoch,
     floor: u64,
+    highest: u64,
     views: BTreeMap<u64, Learned<D>>,
 }
 
@@ -53,18 +54,25 @@ impl<D: Digest> Model for Knowledge<D> {
 
     ghost Value = { KnowledgeView D };
 
-    ghost view = { λ k. record { epoch = k.epoch; floor = k.floor; views = k.views.entries } };
+    ghost view = { λ k. record {
+      epoch = k.epoch;
+      floor = k.floor;
+      highest = k.highest;
+      views = k.views.entries;
+    } };
 }
 
 impl<D: Digest> Knowledge<D> {
     pub(crate) fn new(alloc: Global, epoch: Epoch, floor: u64) -> Self
         ensures nothing { HasLearned result [] }
+        ensures highest { IsHighest result [] }
         ensures floor { result.floor ≡ floor }
         ensures epoch { result.epoch ≡ epoch }
     {
         Knowledge {
             epoch,
             floor,
+            highest: floor,
             views: BTreeMap::new(alloc),
         }
     }
@@ -80,6 +88,13 @@ impl<D: Digest> Knowledge<D> {
         ensures { result ≡ self.now.epoch }
     {
         self.epoch
+    }
+
+    /// The highest view of which a certificate is known, or the floor.
+    pub(crate) fn highest(&self) -> u64
+        ensures { result ≡ self.now.highest }
+    {
+        self.highest
     }
 
     /// What is certified of a view.
@@ -116,6 +131,7 @@ impl<D: Digest> Knowledge<D> {
     {
         let view = subject.round().view.0;
         let learned = self.at(view).with(subject);
+        self.highest = self.highest.max(view);
         match self.views.insert(view, learned) {
             Ok(_) => {}
             Err(_) => {}
@@ -139,6 +155,7 @@ impl<D: Digest> Knowledge<D> {
         ensures { Forgets view self.old self.new }
     {
         self.floor = self.floor.max(view);
+        self.highest = self.highest.max(view);
         drop_before(&mut self.views, view);
     }
 
@@ -176,6 +193,40 @@ impl<D: Digest> Knowledge<D> {
             Some(view) => Some(Rule::ViewNotNullified(View(view))),
             None => None,
         }
+    }
+
+    /// The highest view below this one on which a proposal of it has ground.
+    pub(crate) fn parent_below(&self, view: u64) -> Option<u64>
+        ensures some { IfSome result (λ parent. (parent < view) × ((self.now.floor ≤ parent)
+            × (IsParent self.now parent × AreNullified self.now parent view))) }
+        ensures none { result ≡ None → (parent : ℕ) → self.now.floor ≤ parent → parent < view
+            → IsParent self.now parent → AreNullified self.now parent view → ⊥ }
+    {
+        let mut below = view;
+        while below > self.floor() {
+            below -= 1;
+            if self.is_parent(below) {
+                return Some(below);
+            }
+            if !self.at(below).nullified {
+                return None;
+            }
+        }
+        None
+    }
+
+    // Whether a view is the start, or has a proposal that is known to be notarized or final.
+    fn is_parent(&self, view: u64) -> bool
+        ensures { MatchBool result (IsParent self.now view) (IsParent self.now view → ⊥) }
+    {
+        if view == 0 {
+            return true;
+        }
+        let learned = self.at(view);
+        if learned.notarized.is_some() {
+            return true;
+        }
+        learned.finalized.is_some()
     }
 
     // Whether the parent is the start, or known.

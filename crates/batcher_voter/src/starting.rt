@@ -3,7 +3,7 @@
 ghost use Rattle.std.specs.Prelude.{◌≡◌, ◌≤◌, ◌∷◌, [], IfErr, IfOk, OnOk, length, true};
 ghost use Rattle.batcher.specs.Verifiers.{certifies_itself};
 ghost use Rattle.batcher.specs.Votes.{round_in, subject_certified};
-ghost use Rattle.batcher_voter.specs.Knowledge.{HasLearned, HasRoom};
+ghost use Rattle.batcher_voter.specs.Knowledge.{HasLearned, HasRoom, IsHighest};
 ghost use Rattle.batcher_agreement.specs.Policy.{Conduct, KeepsPolicy};
 ghost use Rattle.batcher_node.specs.Events.{started};
 ghost use Rattle.batcher_node.specs.Represents.{NodeRepresents};
@@ -78,6 +78,7 @@ where
         ensures represents { IfOk result (λ voter. NodeRepresents
             (⟦<S as NodeConfigs<D>>⟧.of voter.node) (started voter.node.window ∷ []) voter.node) }
         ensures nothing { IfOk result (λ voter. HasLearned voter.knowledge []) }
+        ensures highest { IfOk result (λ voter. IsHighest voter.knowledge []) }
         ensures scheme { IfOk result (λ voter. voter.node.scheme ≡ scheme.value) }
         ensures journal { IfOk result (λ voter. voter.journal ≡ journal) }
         ensures refused { IfErr result (λ it. it.journal ≡ journal) }

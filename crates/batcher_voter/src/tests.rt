@@ -127,6 +127,34 @@ impl Station {
         self.voter.ask(&subject)
     }
 
+    fn next(&self) -> Option<View> {
+        self.voter.next_view()
+    }
+
+    fn parent(&self, view: u64) -> Option<View> {
+        self.voter.parent_for(View(view))
+    }
+
+    // A view is made the final one, by a certificate.
+    fn finalize(
+        &mut self,
+        alloc: Global,
+        subject: Subject<Digest>,
+    ) -> Result<Result<(), FinalizeFault>, Fail> {
+        let finalization = self.certificate(alloc, subject)?;
+        let moved = self.voter.finalize(&finalization);
+        drop(finalization);
+        Ok(moved)
+    }
+
+    // The same by a finalization that nobody signed.
+    fn forge(&mut self, alloc: Global) -> Result<(), FinalizeFault> {
+        let forged = Certificate::new(finalize(9, 0), AttestationList::new(Vec::new(alloc)));
+        let moved = self.voter.finalize(&forged);
+        drop(forged);
+        moved
+    }
+
     // Casts a vote, which is to be sent.
     fn cast(&mut self, rt: &impl Abort, subject: Subject<Digest>) -> Vote<[u8; 32], Digest> {
         let vote = Vote::new(subject, self.scheme.sign(Participant(ME), subject));
@@ -210,6 +238,8 @@ fn vote_in(station: &mut Station, rt: &impl Abort, alloc: Global) -> Result<(), 
         Permission::Refused(Rule::Contradicts(last))
     );
     assert_eq!(rt; station.ask(notarize(9, 1)), Permission::Outside);
+    assert_eq!(rt; station.next(), Some(View(2)));
+    assert_eq!(rt; station.parent(2), Some(View(1)));
     Ok(())
 }
 
@@ -222,6 +252,8 @@ fn a_parent_is_known_and_no_view_left_out(rt: HostRuntime) -> Result<(), Fail> {
 }
 
 fn vote_above(station: &mut Station, rt: &impl Abort, alloc: Global) -> Result<(), Fail> {
+    assert_eq!(rt; station.next(), Some(View(1)));
+    assert_eq!(rt; station.parent(1), Some(View(0)));
     station.enter(rt, 3);
     assert_eq!(rt;
         station.ask(notarize(3, 3)),
@@ -234,7 +266,10 @@ fn vote_above(station: &mut Station, rt: &impl Abort, alloc: Global) -> Result<(
     station.hear(rt, alloc, notarize(1, 0))?;
     let rule = Rule::ViewNotNullified(View(2));
     assert_eq!(rt; station.ask(notarize(3, 1)), Permission::Refused(rule));
+    assert_eq!(rt; station.parent(3), None);
     station.hear(rt, alloc, nullify(2))?;
+    assert_eq!(rt; station.next(), Some(View(3)));
+    assert_eq!(rt; station.parent(3), Some(View(1)));
     assert_eq!(rt; station.ask(notarize(3, 1)), Permission::Sign);
     // What it gave up it doesn't notarize, and a proposal needs each view down to its parent.
     let _ = station.cast(rt, nullify(3));
@@ -271,10 +306,7 @@ fn go_on(station: &mut Station, rt: &impl Abort, alloc: Global) -> Result<(), Fa
     station.hear(rt, alloc, notarize(1, 0))?;
     let _ = station.cast(rt, finalize(1, 0));
     station.hear(rt, alloc, finalize(1, 0))?;
-    let finalization = station.certificate(alloc, finalize(1, 0))?;
-    let moved = station.voter.finalize(&finalization);
-    drop(finalization);
-    assert_eq!(rt; moved, Ok(()));
+    assert_eq!(rt; station.finalize(alloc, finalize(1, 0))?, Ok(()));
     station.enter(rt, 2);
     station.hear(rt, alloc, nullify(2))?;
     station.enter(rt, 3);
@@ -283,6 +315,8 @@ fn go_on(station: &mut Station, rt: &impl Abort, alloc: Global) -> Result<(), Fa
 }
 
 fn went_on(station: &mut Station, rt: &impl Abort) -> Result<(), Fail> {
+    assert_eq!(rt; station.next(), Some(View(3)));
+    assert_eq!(rt; station.parent(3), Some(View(1)));
     station.enter(rt, 3);
     // Its vote is sent again, and it knows what that rests on.
     let vote = station.cast(rt, notarize(3, 1));
@@ -310,25 +344,19 @@ fn a_finalization_is_verified(rt: HostRuntime) -> Result<(), Fail> {
 }
 
 fn verify(station: &mut Station, rt: &impl Abort, alloc: Global) -> Result<(), Fail> {
-    // One of another view than its attestations are for.
-    let forged = Certificate::new(finalize(9, 0), AttestationList::new(Vec::new(alloc)));
-    let moved = station.voter.finalize(&forged);
-    drop(forged);
-    assert_eq!(rt; moved, Err(FinalizeFault::Forged));
-    let notarization = station.certificate(alloc, notarize(9, 0))?;
-    let moved = station.voter.finalize(&notarization);
-    drop(notarization);
-    assert_eq!(rt; moved, Err(FinalizeFault::NotOfEpoch));
+    assert_eq!(rt; station.forge(alloc), Err(FinalizeFault::Forged));
+    assert_eq!(rt;
+        station.finalize(alloc, notarize(9, 0))?,
+        Err(FinalizeFault::NotOfEpoch)
+    );
     // Who fell behind goes on from a view that is far ahead.
-    let finalization = station.certificate(alloc, finalize(90, 1))?;
-    let moved = station.voter.finalize(&finalization);
-    drop(finalization);
-    assert_eq!(rt; moved, Ok(()));
+    assert_eq!(rt; station.finalize(alloc, finalize(90, 1))?, Ok(()));
+    assert_eq!(rt; station.next(), Some(View(91)));
     station.enter(rt, 91);
     assert_eq!(rt; station.ask(notarize(91, 90)), Permission::Sign);
-    let passed = station.certificate(alloc, finalize(89, 1))?;
-    let moved = station.voter.finalize(&passed);
-    drop(passed);
-    assert_eq!(rt; moved, Err(FinalizeFault::Passed));
+    assert_eq!(rt;
+        station.finalize(alloc, finalize(89, 1))?,
+        Err(FinalizeFault::Passed)
+    );
     Ok(())
 }

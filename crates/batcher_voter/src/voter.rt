@@ -1,11 +1,12 @@
 //! A voter: a node and a journal, which vote by the policy.
 
-ghost use Rattle.std.specs.Prelude.{◌≡◌, ◌≢◌, ◌<◌, ◌≤◌, ◌⊎◌, ◌++◌, ◌∷◌, [], Contains, Err, IfErr, IfNone, IfOk, IfSome, List, MatchBool, MatchOption, None, Ok, OnErr, OnOk, length, option_and_then, ℕ, true, false};
+ghost use Rattle.std.specs.Prelude.{◌≡◌, ◌≢◌, ◌<◌, ◌≤◌, ◌+◌, ◌-◌, ◌^◌, ◌⊎◌, ◌++◌, ◌∷◌, [], Contains, Err, IfErr, IfNone, IfOk, IfSome, List, MatchBool, MatchOption, None, Ok, OnErr, OnOk, length, option_and_then, ℕ, true, false};
 ghost use Rattle.std.specs.Option.{option_copied};
 ghost use Rattle.batcher.specs.Votes.{attestation_of, kind_certified, round_in, subject_certified, subject_of};
 ghost use Rattle.batcher_agreement.specs.Lives.{called, conduct_of, verified, written};
 ghost use Rattle.batcher_agreement.specs.Policy.{Conduct, HasVoted, IsGrounded, Knows};
-ghost use Rattle.batcher_node.specs.Events.{certificate_came, constructed, view_entered, view_finalized, vote_came};
+ghost use Rattle.batcher_node.specs.Events.{certificate_came, constructed, view_entered, view_finalized, view_history, vote_came};
+ghost use Rattle.batcher.specs.messages.Proposal.{Proposal as TheProposal};
 ghost use Rattle.batcher.specs.messages.Subject.TheVariants.{Finalize, Notarize, Nullify};
 ghost use Rattle.batcher_journal.specs.Answers.{Answers, MayFollow};
 ghost use Rattle.batcher_journal.specs.Ready.{Has, IsAsBefore, IsOnDisk, RaiseLeaves, WriteLeaves, raised, with_more};
@@ -16,7 +17,9 @@ ghost use Rattle.batcher_journal.specs.declared.journal.WriteFault.TheVariants.{
 ghost use Rattle.batcher_journal.specs.Contradictions.{IsFree};
 ghost use Rattle.batcher_node.specs.Nodes.{IsAtRest, IsLedByAnother, IsNext, SameNode, slot_at};
 ghost use Rattle.batcher_node.specs.declared.answers.EnterFault.{EnterFault};
-ghost use Rattle.batcher_node.specs.Represents.{IsHeard, MayNeedIn, Meets, SimulatesCast};
+ghost use Rattle.batcher_node.specs.Represents.{ForEachNodeHistory, IsHeard, MayNeedIn, Meets, SimulatesCast, config_of};
+ghost use Rattle.batcher.specs.Answers.{own_answer};
+ghost use Rattle.batcher.specs.Steps.{fault_or_memory};
 ghost use Rattle.batcher.specs.calls.Call.TheVariants.{Certificate as CertificateCall, Network as NetworkCall};
 ghost use Rattle.batcher_node.specs.Windows.{is_of, numbered};
 ghost use Rattle.batcher.specs.Verifiers.{certifies_itself};
@@ -24,9 +27,10 @@ ghost use Rattle.batcher.specs.messages.Kind.TheVariants.{Finalization};
 ghost use Rattle.batcher_voter.specs.declared.answers.CastFault.{CastFault};
 ghost use Rattle.batcher_voter.specs.declared.answers.FinalizeFault.{FinalizeFault};
 ghost use Rattle.batcher_voter.specs.declared.answers.Permission.TheVariants.{Known, Sign};
-ghost use Rattle.batcher_voter.specs.Knowledge.{Forgets, HasLearned, HasRoom, IsSame, Learns};
+ghost use Rattle.batcher_voter.specs.Knowledge.{AreNullified, Forgets, HasLearned, HasRoom, IsParent, IsSame, Learns};
 ghost use Rattle.batcher_voter.specs.Refusals.{HasNoGround, IsNotNotarized};
-ghost use Rattle.batcher_voter.specs.Voting.{BeginWithOneView, Casts, Says, Shows, ForEachLife, IsVoting, MayWrite, Permits, VoterMeets, VoterStays, VoterView, IsOfItsView, LeavesVote, LeavesWhatWasDone, is_recorded};
+ghost use Rattle.batcher_voter.specs.Voting.{BeginWithOneView, ForEachLife, IsNextView, IsOfItsView, IsVoting, VoterMeets, VoterStays, VoterView, is_recorded};
+ghost use Rattle.batcher_voter.specs.Voting.{Casts, LeavesVote, LeavesWhatWasDone, MayWrite, Permits, Says, Shows, WhyNotCast, WhyNotShown};
 
 use crate::answers::{CastFault, FinalizeFault, Permission, Rule};
 use crate::knowledge::Knowledge;
@@ -97,6 +101,59 @@ where
             Answer::Over => Permission::Outside,
             Answer::Closed => Permission::Closed,
         }
+    }
+
+    /// The view to enter: the one behind the highest of which a certificate is known, of whatever
+    /// kind, or behind the final one. There is none behind the last number.
+    pub fn next_view(&self) -> Option<View>
+        ensures some { IfSome result (λ view. view.0 ≡ self.now.knowledge.highest + 1) }
+        ensures none { result ≡ None → self.now.knowledge.highest ≡ 2 ^ 64 - 1 }
+        ensures by_history { IfSome result (λ view. ForEachLife
+            (⟦<S as NodeConfigs<D>>⟧.of self.now.node) self.now
+            (λ past earlier. IsNextView self.now past view.0)) }
+    {
+        self.begins();
+        match self.highest().checked_add(1) {
+            Some(view) => Some(View(view)),
+            None => None,
+        }
+    }
+
+    /// The view on which a proposal of a view is to be made: the highest below it of which one is
+    /// known to be notarized or final, or the start, where each view between is known to be
+    /// nullified. None where there is no such view from the final one on.
+    pub fn parent_for(&self, view: View) -> Option<View>
+        ensures grounds { IfSome result (λ parent. ForEachLife
+            (⟦<S as NodeConfigs<D>>⟧.of self.now.node) self.now
+            (λ past earlier. (p : TheProposal D) → p.round ≡ numbered self.now.node.epoch view.0
+            → p.parent ≡ parent → IsGrounded (conduct_of past ++ earlier) p)) }
+        ensures none { result ≡ None → ForEachLife
+            (⟦<S as NodeConfigs<D>>⟧.of self.now.node) self.now
+            (λ past earlier. (p : TheProposal D) → p.round ≡ numbered self.now.node.epoch view.0
+            → self.now.node.window.finalized ≤ p.parent.0 → IsGrounded (conduct_of past) p → ⊥) }
+    {
+        self.begins();
+        match self.parent_below(view.0) {
+            Some(parent) => Some(View(parent)),
+            None => None,
+        }
+    }
+
+    fn parent_below(&self, view: u64) -> Option<u64>
+        ensures some { IfSome result (λ parent. (parent < view)
+            × ((self.now.knowledge.floor ≤ parent) × (IsParent self.now.knowledge parent
+            × AreNullified self.now.knowledge parent view))) }
+        ensures none { result ≡ None → (parent : ℕ) → self.now.knowledge.floor ≤ parent
+            → parent < view → IsParent self.now.knowledge parent
+            → AreNullified self.now.knowledge parent view → ⊥ }
+    {
+        self.knowledge.parent_below(view)
+    }
+
+    fn highest(&self) -> u64
+        ensures { result ≡ self.now.knowledge.highest }
+    {
+        self.knowledge.highest()
     }
 
     // Whether a round is of the epoch, and of a view in the window.
@@ -244,6 +301,8 @@ where
         ensures open { OnOk result (self.new.journal.is_open ≡ true) }
         ensures there { OnOk result (Contains self.new.journal.contents.votes vote) }
         ensures closed { result ≡ Err CastFault.Closed → self.new.journal.is_open ≡ false }
+        ensures why { IfErr result (λ fault. WhyNotCast (⟦<S as NodeConfigs<D>>⟧.of self.old.node)
+            D.eq self.old vote fault self.new) }
         ensures leaves { (left : List ℕ) → L.is_honest self.new.journal.log
             → L.may_leave self.new.journal.log left
             → ForEachLife (⟦<S as NodeConfigs<D>>⟧.of self.old.node) self.old (λ past earlier.
@@ -331,6 +390,8 @@ where
         ensures meets { IfOk result (λ cast. Shows (⟦<S as NodeConfigs<D>>⟧.of self.old.node)
             self.old vote cast self.new) }
         ensures refused { OnErr result (self.new ≡ self.old) }
+        ensures why { IfErr result (WhyNotShown (⟦<S as NodeConfigs<D>>⟧.of self.old.node)
+            self.old.node vote) }
         ensures same { SameNode self.old.node self.new.node }
         ensures journal { self.new.journal ≡ self.old.journal }
     {
@@ -347,6 +408,12 @@ where
             ≡ true }
         ensures meets { IfOk result (λ cast. SimulatesCast
             (⟦<S as NodeConfigs<D>>⟧.of self.old.node) self.old.node vote cast self.new.node) }
+        ensures named { IfErr result (λ fault. ForEachNodeHistory
+            (⟦<S as NodeConfigs<D>>⟧.of self.old.node) self.old.node (λ past.
+            let view = (round_in (subject_of vote)).view.0 in
+            fault ≡ fault_or_memory (own_answer
+            (config_of (⟦<S as NodeConfigs<D>>⟧.of self.old.node) past view)
+            (view_history view past) vote))) }
         ensures refused { OnErr result (self.new ≡ self.old) }
         ensures same { SameNode self.old.node self.new.node }
         ensures journal { self.new.journal ≡ self.old.journal }
@@ -370,6 +437,8 @@ where
         ensures refused { OnErr result (ForEachLife (⟦<S as NodeConfigs<D>>⟧.of self.old.node)
             self.old (λ past earlier. MayWrite (⟦<S as NodeConfigs<D>>⟧.of self.old.node) vote
             past earlier self.new)) }
+        ensures why { IfErr result (λ fault. WhyNotCast (⟦<S as NodeConfigs<D>>⟧.of self.old.node)
+            D.eq self.old vote fault self.new) }
         ensures leaves { (left : List ℕ) → self.old.journal.is_open ≡ true
             → L.is_honest self.new.journal.log → L.may_leave self.new.journal.log left
             → ForEachLife (⟦<S as NodeConfigs<D>>⟧.of self.old.node) self.old (λ past earlier.
@@ -405,6 +474,8 @@ where
         ensures refused { OnErr result (ForEachLife (⟦<S as NodeConfigs<D>>⟧.of self.old.node)
             self.old (λ past earlier. MayWrite (⟦<S as NodeConfigs<D>>⟧.of self.old.node) vote
             past earlier self.new)) }
+        ensures why { IfErr result (λ fault. WhyNotCast (⟦<S as NodeConfigs<D>>⟧.of self.old.node)
+            D.eq self.old vote fault self.new) }
         ensures leaves { (left : List ℕ) → self.old.journal.is_open ≡ true
             → L.is_honest self.new.journal.log → L.may_leave self.new.journal.log left
             → ForEachLife (⟦<S as NodeConfigs<D>>⟧.of self.old.node) self.old (λ past earlier.
@@ -436,6 +507,8 @@ where
         ensures meets { IfOk result (λ cast. Casts (⟦<S as NodeConfigs<D>>⟧.of self.old.node)
             self.old vote cast self.new) }
         ensures refused { OnErr result (self.new ≡ self.old) }
+        ensures why { IfErr result (λ fault. WhyNotCast (⟦<S as NodeConfigs<D>>⟧.of self.old.node)
+            D.eq self.old vote fault self.new) }
         ensures leaves { (left : List ℕ) → self.old.journal.is_open ≡ true
             → L.is_honest self.new.journal.log → L.may_leave self.new.journal.log left
             → ForEachLife (⟦<S as NodeConfigs<D>>⟧.of self.old.node) self.old (λ past earlier.

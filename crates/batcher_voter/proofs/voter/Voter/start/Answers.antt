@@ -12,5 +12,5 @@ returns-in-Ok-learn_all-clause-voting g c = λ earlier keeps has.
     let first = c.in-Ok.voter in
     subst (λ node. HasStarted (config node) earlier c.learn_all.new.self) (sym c.in-Ok-learn_all.ensures.node)
     (c.in-Ok-learn_all.ensures.started earlier
-    (begun (config first.node) first c.in-Ok.ensures.represents c.in-Ok.ensures.nothing earlier keeps
+    (begun (config first.node) first c.in-Ok.ensures.represents c.in-Ok.ensures.nothing c.in-Ok.ensures.highest earlier keeps
     (subst (λ journal. Remembers earlier journal.contents) (sym c.in-Ok.ensures.journal) has)))

@@ -1,7 +1,7 @@
 use Rattle.std.proofs.Common.{subst}
 use Rattle.batcher_node.specs.Nodes.{node_config}
-use Rattle.batcher_voter.specs.Voting.{Shows}
-use Rattle.batcher_voter.proofs.Noding.{wrote_alone, wrote_and_shown}
+use Rattle.batcher_voter.specs.Voting.{Shows, WhyNotShown}
+use Rattle.batcher_voter.proofs.Noding.{why_not_shown, wrote_alone, wrote_and_shown}
 use Rattle.batcher_voter.proofs.voter.Voter.write_and_show.Goals as goal
 
 pub returns-in-Ok-show-clause-meets : goal.returns-in-Ok-show-clause-meets
@@ -17,3 +17,12 @@ pub returns-in-Err-show-clause-refused : goal.returns-in-Err-show-clause-refused
 returns-in-Err-show-clause-refused g c =
     wrote_alone _ c.args.self.now c.write.new.self c.show.new.self c.args.vote c.in-Ok.ensures.ok
     c.in-Err-show.ensures.refused
+
+pub returns-in-Err-show-clause-why : goal.returns-in-Err-show-clause-why
+returns-in-Err-show-clause-why g c =
+    let config = node_config g.S.Scheme.meaning g.S.PublicKey.Ord.cmp g.S.Signature.PartialEq.eq
+    g.D.PartialEq.eq in
+    why_not_shown (config c.args.self.now.node) g.D.PartialEq.eq c.args.self.now c.show.new.self c.args.vote
+    c.in-Err-show.fault
+    (subst (λ node. WhyNotShown (config node) node c.args.vote c.in-Err-show.fault) c.in-Ok.ensures.node
+    c.in-Err-show.ensures.why)
