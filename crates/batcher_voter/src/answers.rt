@@ -54,7 +54,8 @@ pub enum CastFault<G, D> {
     Refused(Rule<G, D>),
     /// The disk failed, now or before. Open the journal again.
     Closed,
-    /// The node knows an own vote that this one excludes, and nothing has changed.
+    /// The node was shown this vote before, or one that excludes it, as it says. The vote is
+    /// written, and isn't to be sent.
     Excluded(OwnFault),
 }
 

@@ -908,6 +908,9 @@ where
         ensures refused { OnErr result (self.new.node ≡ self.old.node) }
         ensures forged { result ≡ Err FinalizeFault.Forged
             → certifies_itself (S.meaning self.old.node.scheme) finalization.now ≡ false }
+        ensures of_epoch { result ≡ Err FinalizeFault.NotOfEpoch
+            → (kind_certified finalization.now ≢ Finalization)
+            ⊎ ((round_in (subject_certified finalization.now)).epoch ≢ self.old.node.epoch) }
         ensures passed { result ≡ Err FinalizeFault.Passed
             → (round_in (subject_certified finalization.now)).view.0
             < self.old.node.window.finalized }
@@ -921,7 +924,10 @@ where
         self.begins();
         self.leaves_what_was_done();
         let round = finalization.round();
-        if finalization.kind() != Kind::Finalization || round.epoch.0 != self.knowledge.epoch().0 {
+        if finalization.kind() != Kind::Finalization {
+            return Err(FinalizeFault::NotOfEpoch);
+        }
+        if round.epoch.0 != self.epoch().0 {
             return Err(FinalizeFault::NotOfEpoch);
         }
         if round.view.0 < self.first_view() {
@@ -981,6 +987,7 @@ where
             (VoterStays (⟦<S as NodeConfigs<D>>⟧.of self.old.node) self.old self.new) }
         ensures refused { OnErr result (self.new.node ≡ self.old.node) }
         ensures forged { result ≡ Err FinalizeFault.Forged → ⊥ }
+        ensures of_epoch { result ≡ Err FinalizeFault.NotOfEpoch → ⊥ }
         ensures passed { result ≡ Err FinalizeFault.Passed → ⊥ }
         ensures closed { result ≡ Err FinalizeFault.Closed → self.new.journal.is_open ≡ false }
         ensures leaves { (left : List ℕ) → self.old.journal.is_open ≡ true
