@@ -103,6 +103,20 @@ where
         }
     }
 
+    /// The node, to look at: whom it blocks, and what its rounds have.
+    pub fn node(&self) -> &Node<S, D>
+        ensures { result.now ≡ self.now.node }
+    {
+        &self.node
+    }
+
+    /// The journal, to look at. Its votes are those to cast again after a restart.
+    pub fn journal(&self) -> &Journal<S::Signature, D, L>
+        ensures { result.now ≡ self.now.journal }
+    {
+        &self.journal
+    }
+
     /// The view to enter: the one behind the highest of which a certificate is known, of whatever
     /// kind, or behind the final one. There is none behind the last number.
     pub fn next_view(&self) -> Option<View>
