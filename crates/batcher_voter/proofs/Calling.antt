@@ -1,19 +1,22 @@
 -- A voter goes on with a call of its node.
 use Rattle.std.proofs.Common.{◌≡◌, ◌++◌, ◌∙◌, ℕ, Bool, true, [], ◌∷◌, Option, Some, None, ap, refl, subst, sym}
-use Rattle.std.specs.Prelude.{IfSome, option_and_then}
+use Rattle.std.specs.Prelude.{IfSome, MatchOption, option_and_then}
 use Rattle.std.specs.declared.cmp.Ordering.{Ordering}
 use Rattle.batcher.specs.Meaning.{Meaning}
 use Rattle.batcher.specs.Votes.{round_in, subject_certified}
 use Rattle.batcher.specs.messages.Certificate.{Certificate}
 use Rattle.batcher.specs.messages.Subject.{Subject}
 use Rattle.batcher.specs.positions.Epoch.{Epoch}
+use Rattle.batcher.specs.messages.Proposal.{Proposal}
 use Rattle.batcher.specs.verifier.Batch.{Batch}
 use Rattle.batcher_agreement.specs.Lives.{VoterEvent, VoterHistory, acts_of, called, conduct_of, learned_by}
 use Rattle.batcher_agreement.specs.Policy.{Conduct, learned}
+use Rattle.batcher.specs.positions.Participant.{Participant}
+use Rattle.batcher_journal.specs.Ready.{JournalView}
 use Rattle.batcher_journal.specs.Text.{Contents}
-use Rattle.batcher_node.specs.Events.{NodeEvent, certificate_came, constructed}
-use Rattle.batcher_node.specs.Nodes.{NodeConfig, NodeView, SameNode, node_config}
-use Rattle.batcher_node.specs.Represents.{Meets, receipt}
+use Rattle.batcher_node.specs.Events.{proposal_forwarded, NodeEvent, certificate_came, constructed}
+use Rattle.batcher_node.specs.Nodes.{slot_at, NodeConfig, NodeView, SameNode, node_config}
+use Rattle.batcher_node.specs.Represents.{SimulatesForward, Meets, receipt}
 use Rattle.batcher_node.specs.Windows.{numbered}
 use Rattle.batcher_node.specs.declared.answers.Receipt.{Receipt}
 use Rattle.batcher_node.specs.declared.answers.Receipt.TheVariants.{Answered, Dropped, Outside, Unknown}
@@ -21,7 +24,7 @@ use Rattle.batcher_node.specs.declared.answers.Verdict.{Verdict}
 use Rattle.batcher_node.specs.declared.answers.Verdict.TheVariants.{Forged, Known, Recorded}
 use Rattle.batcher_voter.specs.Knowledge.{IsSame, KnowledgeView, Learns, learned_at}
 use Rattle.batcher_voter.specs.Remembering.{Remembers}
-use Rattle.batcher_voter.specs.Voting.{AreWrittenFirst, VoterMeets, VoterStays, VoterView, is_recorded}
+use Rattle.batcher_voter.specs.Voting.{Forwards, AreWrittenFirst, VoterMeets, VoterStays, VoterView, is_recorded}
 use Rattle.batcher_voter.proofs.Grounding.{highest_more, learned_more, still_highest, still_learned}
 
 -- what a certificate leaves of votes
@@ -141,3 +144,38 @@ pub same_config :
     ≡ node_config meaning compare same_signature same_digest old
 same_config meaning compare same_signature same_digest old new same =
     rw (same.0, same.1, same.2) refl
+
+the_voter : {S G D L : Type 0} → NodeView S G D → JournalView G D L → KnowledgeView D
+    → VoterView S G D L
+the_voter node journal knowledge =
+    record { node = node; journal = journal; knowledge = knowledge }
+
+same_voter :
+    {S G D L : Type 0} (old new : VoterView S G D L) → new.node ≡ old.node
+    → new.journal ≡ old.journal → new.knowledge ≡ old.knowledge → new ≡ old
+unfolding the_voter
+same_voter old new node journal knowledge =
+    ap (λ n. the_voter n new.journal new.knowledge) node
+    ∙ ap (λ j. the_voter old.node j new.knowledge) journal
+    ∙ ap (λ k. the_voter old.node old.journal k) knowledge
+
+-- a proposal is handed on
+module _ {S D K G C L : Type 0} (x : NodeConfig D K G C) (old new : VoterView S G D L) (view : ℕ)
+    (me : Participant) (given : Option (Proposal D)) (journal : new.journal ≡ old.journal)
+    (knowledge : new.knowledge ≡ old.knowledge) where
+  by_slot :
+      {X : Type 0} (slot : Option X)
+      → MatchOption slot ((given ≡ None) × (new.node ≡ old.node))
+      (λ s. Meets x old.node (proposal_forwarded view me given) new.node)
+      → MatchOption slot ((given ≡ None) × (new ≡ old))
+      (λ s. VoterMeets x old new (proposal_forwarded view me given))
+  by_slot None it = (it.0, same_voter old new it.1 journal knowledge)
+  by_slot (Some s) meets =
+      quiet x old new (proposal_forwarded view me given) meets
+      (ap (λ (j : JournalView G D L). j.contents) journal)
+      (ap (λ (j : JournalView G D L). j.is_open) journal) (λ earlier past h. h) refl
+      (same_of old.knowledge new.knowledge knowledge)
+
+  pub forwards :
+      SimulatesForward x old.node view me given new.node → Forwards x old new view me given
+  forwards it = by_slot (slot_at old.node.rounds view) it

@@ -1,7 +1,9 @@
 -- A voter: a node and a journal, with what is known to be certified.
-use Rattle.std.specs.Prelude.{◌≡◌, ◌≢◌, ◌+◌, ◌<◌, ◌⊎◌, ⊤, ℕ, Bool, true, false, List, [], ◌∷◌, ◌++◌, Contains, IfSome, Some, None}
+use Rattle.std.specs.Prelude.{◌≡◌, ◌≢◌, ◌+◌, ◌<◌, ◌⊎◌, ⊤, ℕ, Bool, true, false, List, [], ◌∷◌, ◌++◌, Contains, IfSome, MatchOption, Option, Some, None}
 use Rattle.batcher.specs.Votes.{round_in, signer_of, subject_certified, subject_of}
+use Rattle.batcher.specs.messages.Proposal.{Proposal}
 use Rattle.batcher.specs.positions.Epoch.{Epoch}
+use Rattle.batcher.specs.positions.Participant.{Participant}
 use Rattle.batcher_node.specs.declared.node.Construction.{Construction}
 use Rattle.batcher.specs.messages.Subject.{Subject}
 use Rattle.batcher.specs.messages.Vote.{Vote}
@@ -11,8 +13,8 @@ use Rattle.batcher_agreement.specs.Policy.{Conduct, HasVoted, IsCleared, KeepsPo
 use Rattle.batcher_codec.specs.Format.{Format}
 use Rattle.batcher_journal.specs.Contradictions.{IsFree}
 use Rattle.batcher_journal.specs.Ready.{JournalView}
-use Rattle.batcher_node.specs.Events.{NodeEvent, started, view_history, vote_cast}
-use Rattle.batcher_node.specs.Nodes.{NodeConfig, NodeView}
+use Rattle.batcher_node.specs.Events.{NodeEvent, proposal_forwarded, started, view_history, vote_cast}
+use Rattle.batcher_node.specs.Nodes.{NodeConfig, NodeView, slot_at}
 use Rattle.batcher.specs.Answers.{own_answer}
 use Rattle.batcher.specs.Steps.{fault_or_memory}
 use Rattle.batcher_node.specs.Represents.{ForEachNodeHistory, NodeRepresents, config_of}
@@ -124,6 +126,12 @@ module _ {S D K G C L : Type 0} (x : NodeConfig D K G C) where
     -- a call that is answered
     abbrev pub VoterMeets : NodeEvent D K G C → Type 0
     VoterMeets event = ForEachLife old (λ past earlier. IsVoting (called event ∷ past) earlier new)
+
+    -- The proposal of a view is handed on by its round. Where the view has none, nothing changes.
+    abbrev pub Forwards : ℕ → Participant → Option (Proposal D) → Type 0
+    Forwards view me given =
+        MatchOption (slot_at old.node.rounds view) ((given ≡ None) × (new ≡ old))
+        (λ slot. VoterMeets (proposal_forwarded view me given))
 
     -- nothing happened that counts
     abbrev pub VoterStays : Type 0

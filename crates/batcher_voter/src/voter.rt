@@ -17,7 +17,7 @@ ghost use Rattle.batcher_journal.specs.declared.journal.WriteFault.TheVariants.{
 ghost use Rattle.batcher_journal.specs.Contradictions.{IsFree};
 ghost use Rattle.batcher_node.specs.Nodes.{IsAtRest, IsLedByAnother, IsNext, SameNode, slot_at};
 ghost use Rattle.batcher_node.specs.declared.answers.EnterFault.{EnterFault};
-ghost use Rattle.batcher_node.specs.Represents.{ForEachNodeHistory, IsHeard, MayNeedIn, Meets, SimulatesCast, config_of};
+ghost use Rattle.batcher_node.specs.Represents.{ForEachNodeHistory, IsHeard, MayNeedIn, Meets, SimulatesCast, SimulatesForward, config_of};
 ghost use Rattle.batcher.specs.Answers.{own_answer};
 ghost use Rattle.batcher.specs.Steps.{fault_or_memory};
 ghost use Rattle.batcher.specs.calls.Call.TheVariants.{Certificate as CertificateCall, Network as NetworkCall};
@@ -30,7 +30,7 @@ ghost use Rattle.batcher_voter.specs.declared.answers.Permission.TheVariants.{Kn
 ghost use Rattle.batcher_voter.specs.Knowledge.{AreNullified, Forgets, HasLearned, HasRoom, IsParent, IsSame, Learns};
 ghost use Rattle.batcher_voter.specs.Refusals.{HasNoGround, IsNotNotarized};
 ghost use Rattle.batcher_voter.specs.Voting.{BeginWithOneView, ForEachLife, IsNextView, IsOfItsView, IsVoting, VoterMeets, VoterStays, VoterView, is_recorded};
-ghost use Rattle.batcher_voter.specs.Voting.{Casts, LeavesVote, LeavesWhatWasDone, MayWrite, Permits, Says, Shows, WhyNotCast, WhyNotShown};
+ghost use Rattle.batcher_voter.specs.Voting.{Casts, Forwards, LeavesVote, LeavesWhatWasDone, MayWrite, Permits, Says, Shows, WhyNotCast, WhyNotShown};
 
 use crate::answers::{CastFault, FinalizeFault, Permission, Rule};
 use crate::knowledge::Knowledge;
@@ -649,6 +649,27 @@ where
     {
         self.node.promises();
         self.node.enter(view, leader)
+    }
+
+    /// The selected proposal of a view, to be handed on, as the node says.
+    pub fn try_forward_proposal(&mut self, view: View, me: Participant) -> Option<Proposal<D>>
+        ensures meets { Forwards (⟦<S as NodeConfigs<D>>⟧.of self.old.node) self.old self.new
+            view.0 me result }
+        ensures same { SameNode self.old.node self.new.node }
+    {
+        self.call_forward(view, me)
+    }
+
+    // The node hands a proposal on.
+    fn call_forward(&mut self, view: View, me: Participant) -> Option<Proposal<D>>
+        ensures meets { SimulatesForward (⟦<S as NodeConfigs<D>>⟧.of self.old.node)
+            self.old.node view.0 me result self.new.node }
+        ensures same { SameNode self.old.node self.new.node }
+        ensures journal { self.new.journal ≡ self.old.journal }
+        ensures knowledge { self.new.knowledge ≡ self.old.knowledge }
+    {
+        self.node.promises();
+        self.node.try_forward_proposal(view, me)
     }
 
     // Keeps a certificate for the disk, as far as there is memory.
