@@ -85,6 +85,13 @@ module _ {D K G C : Type 0} (vote : Vote G D) (past : VoterHistory D K G C) (ear
       ((after ≡ past) × HasVoted (conduct_of past ++ earlier) (subject_of vote))
       ⊎ (after ≡ written vote ∷ past)
 
+module _ {S G D L : Type 0} where
+  -- What the node was shown is in the journal, which is open, and so on the disk.
+  abbrev pub IsInJournal : Vote G D → VoterView S G D L → Cast G D → Type 0
+  IsInJournal vote voter OutsideVote = ⊤
+  IsInJournal vote voter cast =
+      (voter.journal.is_open ≡ true) × Contains voter.journal.contents.votes vote
+
 module _ {S D K G C : Type 0} (x : NodeConfig D K G C) where
   -- Why a vote that was written isn't shown to the node.
   abbrev pub WhyNotShown : NodeView S G D → Vote G D → CastFault G D → Type 0

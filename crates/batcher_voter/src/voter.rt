@@ -30,7 +30,7 @@ ghost use Rattle.batcher_voter.specs.declared.answers.Permission.TheVariants.{Kn
 ghost use Rattle.batcher_voter.specs.Knowledge.{AreNullified, Forgets, HasLearned, HasRoom, IsParent, IsSame, Learns};
 ghost use Rattle.batcher_voter.specs.Refusals.{HasNoGround, IsNotNotarized};
 ghost use Rattle.batcher_voter.specs.Voting.{BeginWithOneView, ForEachLife, IsNextView, IsOfItsView, IsVoting, VoterMeets, VoterStays, VoterView, is_recorded};
-ghost use Rattle.batcher_voter.specs.Voting.{Casts, Forwards, LeavesVote, LeavesWhatWasDone, MayWrite, Permits, Says, Shows, WhyNotCast, WhyNotShown};
+ghost use Rattle.batcher_voter.specs.Voting.{Casts, Forwards, LeavesVote, LeavesWhatWasDone, IsInJournal, MayWrite, Permits, Says, Shows, WhyNotCast, WhyNotShown};
 
 use crate::answers::{CastFault, FinalizeFault, Permission, Rule};
 use crate::knowledge::Knowledge;
@@ -448,6 +448,7 @@ where
             ≡ true }
         ensures meets { IfOk result (λ cast. Casts (⟦<S as NodeConfigs<D>>⟧.of self.old.node)
             self.old vote cast self.new) }
+        ensures in_journal { IfOk result (IsInJournal vote self.new) }
         ensures refused { OnErr result (ForEachLife (⟦<S as NodeConfigs<D>>⟧.of self.old.node)
             self.old (λ past earlier. MayWrite (⟦<S as NodeConfigs<D>>⟧.of self.old.node) vote
             past earlier self.new)) }
@@ -485,6 +486,7 @@ where
             (⟦<S as NodeConfigs<D>>⟧.of self.old.node) D.eq self.old (subject_of vote) Sign) }
         ensures meets { IfOk result (λ cast. Casts (⟦<S as NodeConfigs<D>>⟧.of self.old.node)
             self.old vote cast self.new) }
+        ensures in_journal { IfOk result (IsInJournal vote self.new) }
         ensures refused { OnErr result (ForEachLife (⟦<S as NodeConfigs<D>>⟧.of self.old.node)
             self.old (λ past earlier. MayWrite (⟦<S as NodeConfigs<D>>⟧.of self.old.node) vote
             past earlier self.new)) }
@@ -520,6 +522,7 @@ where
             (Known known.now)) }
         ensures meets { IfOk result (λ cast. Casts (⟦<S as NodeConfigs<D>>⟧.of self.old.node)
             self.old vote cast self.new) }
+        ensures in_journal { IfOk result (IsInJournal vote self.new) }
         ensures refused { OnErr result (self.new ≡ self.old) }
         ensures why { IfErr result (λ fault. WhyNotCast (⟦<S as NodeConfigs<D>>⟧.of self.old.node)
             D.eq self.old vote fault self.new) }
