@@ -3,7 +3,11 @@
 #![tactic(auto)]
 
 mod answers;
+mod asking;
+mod calls;
+mod casting;
 mod knowledge;
+mod moving;
 mod starting;
 #[cfg(test)]
 mod tests;

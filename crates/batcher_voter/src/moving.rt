@@ -1,0 +1,183 @@
+//! A view is made the final one.
+
+ghost use Rattle.std.specs.Prelude.{◌≡◌, ◌≢◌, ◌<◌, ◌≤◌, ◌⊎◌, ◌∷◌, Err, List, Ok, OnErr, OnOk, ℕ, true, false};
+ghost use Rattle.batcher.specs.Votes.{kind_certified, round_in, subject_certified};
+ghost use Rattle.batcher_agreement.specs.Lives.{called, verified};
+ghost use Rattle.batcher_node.specs.Events.{view_finalized};
+ghost use Rattle.batcher_journal.specs.Ready.{Has, IsAsBefore, RaiseLeaves, raised};
+ghost use Rattle.batcher_codec.specs.Messages.{vote_format};
+ghost use Rattle.batcher_journal.specs.Floors.{is_below};
+ghost use Rattle.batcher_journal.specs.declared.journal.RaiseFault.TheVariants.{Closed as RaiseClosed, Full as RaiseFull, Lower, OutOfMemory as RaiseMemory};
+ghost use Rattle.batcher_node.specs.Nodes.{SameNode};
+ghost use Rattle.batcher_node.specs.Represents.{Meets};
+ghost use Rattle.batcher.specs.Verifiers.{certifies_itself};
+ghost use Rattle.batcher.specs.messages.Kind.TheVariants.{Finalization};
+ghost use Rattle.batcher_voter.specs.declared.answers.FinalizeFault.{FinalizeFault};
+ghost use Rattle.batcher_voter.specs.Knowledge.{Forgets, HasRoom};
+ghost use Rattle.batcher_voter.specs.Voting.{ForEachLife, IsVoting, VoterStays};
+ghost use Rattle.batcher_voter.specs.Voting.{LeavesWhatWasDone};
+
+use crate::answers::FinalizeFault;
+use crate::voter::Voter;
+use batcher::messages::{Certificate, Digest, Identical, Kind};
+use batcher::positions::Round;
+use batcher::scheme::Scheme;
+use batcher_codec::{Codec, OwnedCodec, encode_owned};
+use batcher_journal::{RaiseFault, bytes_are_of_one_journal};
+use batcher_log::Log;
+use batcher_node::NodeConfigs;
+
+impl<S: Scheme<D>, D: Digest + Codec, L: Log> Voter<S, D, L>
+where
+    S::Signature: Codec + Identical,
+    S::Certificate: OwnedCodec,
+{
+    /// Makes a view the final one, by its finalization, which is verified and learned. The window,
+    /// the journal and what is known begin with it from then on.
+    pub fn finalize(
+        &mut self,
+        finalization: &Certificate<S::Certificate, D>,
+    ) -> Result<(), FinalizeFault>
+        ensures meets { OnOk result (ForEachLife (⟦<S as NodeConfigs<D>>⟧.of self.old.node) self.old
+            (λ past earlier. IsVoting (⟦<S as NodeConfigs<D>>⟧.of self.old.node)
+            (called (view_finalized (round_in (subject_certified finalization.now)).view.0)
+            ∷ verified finalization.now ∷ past) earlier self.new)) }
+        ensures begins { OnOk result (self.new.node.window.finalized
+            ≡ (round_in (subject_certified finalization.now)).view.0) }
+        ensures kind { OnOk result (kind_certified finalization.now ≡ Finalization) }
+        ensures stays { OnErr result
+            (VoterStays (⟦<S as NodeConfigs<D>>⟧.of self.old.node) self.old self.new) }
+        ensures refused { OnErr result (self.new.node ≡ self.old.node) }
+        ensures forged { result ≡ Err FinalizeFault.Forged
+            → certifies_itself (S.meaning self.old.node.scheme) finalization.now ≡ false }
+        ensures of_epoch { result ≡ Err FinalizeFault.NotOfEpoch
+            → (kind_certified finalization.now ≢ Finalization)
+            ⊎ ((round_in (subject_certified finalization.now)).epoch ≢ self.old.node.epoch) }
+        ensures passed { result ≡ Err FinalizeFault.Passed
+            → (round_in (subject_certified finalization.now)).view.0
+            < self.old.node.window.finalized }
+        ensures closed { result ≡ Err FinalizeFault.Closed → self.new.journal.is_open ≡ false }
+        ensures leaves { (left : List ℕ) → self.old.journal.is_open ≡ true
+            → L.is_honest self.new.journal.log → L.may_leave self.new.journal.log left
+            → ForEachLife (⟦<S as NodeConfigs<D>>⟧.of self.old.node) self.old (λ past earlier.
+            LeavesWhatWasDone (vote_format S.Signature.format D.format) past earlier left) }
+        ensures same { SameNode self.old.node self.new.node }
+    {
+        self.begins();
+        self.leaves_what_was_done();
+        let round = finalization.round();
+        if finalization.kind() != Kind::Finalization {
+            return Err(FinalizeFault::NotOfEpoch);
+        }
+        if round.epoch.0 != self.epoch().0 {
+            return Err(FinalizeFault::NotOfEpoch);
+        }
+        if round.view.0 < self.first_view() {
+            return Err(FinalizeFault::Passed);
+        }
+        if !self.verifies(finalization) {
+            return Err(FinalizeFault::Forged);
+        }
+        match self.make_room(round.view.0) {
+            Ok(()) => self.move_by(finalization),
+            Err(_) => Err(FinalizeFault::OutOfMemory),
+        }
+    }
+
+    // Begins with the view of a finalization, which certifies, and for which there is room.
+    fn move_by(
+        &mut self,
+        finalization: &Certificate<S::Certificate, D>,
+    ) -> Result<(), FinalizeFault>
+        requires certifies { certifies_itself (S.meaning self.old.node.scheme) finalization.now
+            ≡ true }
+        requires epoch { (round_in (subject_certified finalization.now)).epoch
+            ≡ self.old.node.epoch }
+        requires up { self.old.node.window.finalized
+            ≤ (round_in (subject_certified finalization.now)).view.0 }
+        requires room { HasRoom self.old.knowledge
+            (round_in (subject_certified finalization.now)).view.0 }
+        ensures meets { OnOk result (ForEachLife (⟦<S as NodeConfigs<D>>⟧.of self.old.node) self.old
+            (λ past earlier. IsVoting (⟦<S as NodeConfigs<D>>⟧.of self.old.node)
+            (called (view_finalized (round_in (subject_certified finalization.now)).view.0)
+            ∷ verified finalization.now ∷ past) earlier self.new)) }
+        ensures begins { OnOk result (self.new.node.window.finalized
+            ≡ (round_in (subject_certified finalization.now)).view.0) }
+        ensures stays { OnErr result
+            (VoterStays (⟦<S as NodeConfigs<D>>⟧.of self.old.node) self.old self.new) }
+        ensures refused { OnErr result (self.new.node ≡ self.old.node) }
+        ensures forged { result ≡ Err FinalizeFault.Forged → ⊥ }
+        ensures of_epoch { result ≡ Err FinalizeFault.NotOfEpoch → ⊥ }
+        ensures passed { result ≡ Err FinalizeFault.Passed → ⊥ }
+        ensures closed { result ≡ Err FinalizeFault.Closed → self.new.journal.is_open ≡ false }
+        ensures leaves { (left : List ℕ) → self.old.journal.is_open ≡ true
+            → L.is_honest self.new.journal.log → L.may_leave self.new.journal.log left
+            → ForEachLife (⟦<S as NodeConfigs<D>>⟧.of self.old.node) self.old (λ past earlier.
+            LeavesWhatWasDone (vote_format S.Signature.format D.format) past earlier left) }
+        ensures same { SameNode self.old.node self.new.node }
+    {
+        self.begins();
+        self.leaves_what_was_done();
+        bytes_are_of_one_journal::<S::Signature, D>();
+        let mut bytes = Vec::new(self.alloc);
+        match encode_owned(finalization, &mut bytes) {
+            Ok(()) => {}
+            Err(_) => return Err(FinalizeFault::OutOfMemory),
+        }
+        match self.move_to(finalization.round(), &bytes) {
+            Ok(()) => {
+                self.note(finalization.subject());
+                Ok(())
+            }
+            Err(RaiseFault::OutOfMemory) => Err(FinalizeFault::OutOfMemory),
+            Err(RaiseFault::Full) => Err(FinalizeFault::Full),
+            Err(RaiseFault::Lower) => Err(FinalizeFault::Closed),
+            Err(RaiseFault::Closed) => Err(FinalizeFault::Closed),
+        }
+    }
+
+    // Begins with a view, which isn't before the final one.
+    fn move_to(&mut self, round: Round, finalization: &[u8]) -> Result<(), RaiseFault>
+        requires epoch { round.epoch ≡ self.old.node.epoch }
+        requires up { self.old.node.window.finalized ≤ round.view.0 }
+        ensures raised { OnOk result ((self.old.journal.is_open ≡ true)
+            × (is_below self.old.journal.contents.floor round ≡ false) × Has self.new.journal
+            (raised self.old.journal.contents self.old.journal.unwritten
+            self.old.journal.contents.owner round finalization.now)) }
+        ensures meets { OnOk result (Meets (⟦<S as NodeConfigs<D>>⟧.of self.old.node)
+            self.old.node (view_finalized round.view.0) self.new.node) }
+        ensures begins { OnOk result (self.new.node.window.finalized ≡ round.view.0) }
+        ensures forgets { OnOk result (Forgets round.view.0 self.old.knowledge
+            self.new.knowledge) }
+        ensures node { OnErr result (self.new.node ≡ self.old.node) }
+        ensures knowledge { OnErr result (self.new.knowledge ≡ self.old.knowledge) }
+        ensures memory { result ≡ Err RaiseMemory
+            → IsAsBefore self.old.journal self.new.journal }
+        ensures full { result ≡ Err RaiseFull → IsAsBefore self.old.journal self.new.journal }
+        ensures lower { result ≡ Err Lower → ⊥ }
+        ensures closed { result ≡ Err RaiseClosed → self.new.journal.is_open ≡ false }
+        ensures leaves { (left : List ℕ) → self.old.journal.is_open ≡ true
+            → L.is_honest self.new.journal.log → L.may_leave self.new.journal.log left
+            → RaiseLeaves (vote_format S.Signature.format D.format) D.eq self.old.journal
+            self.old.journal.contents.owner round finalization.now left }
+        ensures same { SameNode self.old.node self.new.node }
+    {
+        self.node.promises();
+        match self.journal.raise_floor(round, finalization) {
+            Ok(()) => {
+                self.node.finalize(round.view);
+                self.knowledge.forget_before(round.view.0);
+                Ok(())
+            }
+            Err(fault) => Err(fault),
+        }
+    }
+
+    // Whether a certificate certifies what it names.
+    pub(crate) fn verifies(&self, certificate: &Certificate<S::Certificate, D>) -> bool
+        ensures { result
+            ≡ certifies_itself (S.meaning self.now.node.scheme) certificate.now }
+    {
+        self.node.verifies(certificate)
+    }
+}
