@@ -1,6 +1,6 @@
 -- What a voter that has learned what was learned knows of a view.
 use Rattle.std.proofs.Common.{◌≡◌, ◌<◌, ◌≤◌, ◌∙◌, ℕ, Bool, true, false, ◌∷◌, Option, Some, None, inl, inr, ◌⊎◌, ap, arith, eq-eqb, refl, subst, sym}
-use Rattle.std.specs.Prelude.{MatchBool, is_some}
+use Rattle.std.specs.Prelude.{◌≢◌, MatchBool, is_some}
 use Rattle.std.proofs.lemmas.Bool.{cases_lt}
 use Rattle.batcher.specs.Votes.{round_in, same_proposal}
 use Rattle.batcher.specs.messages.Proposal.{Proposal}
@@ -326,3 +326,21 @@ module _ {D : Type 0} (knowledge : KnowledgeView D) (past : Conduct D)
       IsGrounded past p → AreNullified knowledge p.parent.0 p.round.view.0
   ground_has_no_gap ground view above below =
       nullified_between view above (ground.between view above below) _ refl
+
+  pub no_parent_known :
+      (IsParent knowledge p.parent.0 → ⊥)
+      → (p.parent.0 ≢ 0)
+      × (KnowsProposal past (numbered p.round.epoch p.parent.0) → ⊥)
+  no_parent_known none = (
+    λ start. none (inl start),
+    λ known. none (by_kinds _ _ refl refl
+        (subst (λ e. KnowsProposal past (numbered e p.parent.0)) of_epoch known)),
+  )
+
+-- of two numbers of which the one isn't above
+pub not_above : (a b : ℕ) → (a < b → ⊥) → b ≤ a
+not_above a b not =
+    elim (cases_lt a b) [
+      | inl lt ↦ absurd (not lt)
+      | inr le ↦ le
+    ]

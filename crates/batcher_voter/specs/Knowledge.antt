@@ -74,6 +74,11 @@ module _ {D : Type 0} where
       (between : ℕ) → parent < between → between < view
       → (learned_at knowledge between).nullified ≡ true
 
+  -- and none of these is such a view
+  abbrev pub HaveNoParent : KnowledgeView D → ℕ → ℕ → Type 0
+  HaveNoParent knowledge parent view =
+      (between : ℕ) → parent < between → between < view → IsParent knowledge between → ⊥
+
   abbrev pub HasRoom : KnowledgeView D → ℕ → Type 0
   HasRoom knowledge view = is_some (slot_at knowledge.views view) ≡ true
 

@@ -10,7 +10,7 @@ ghost use Rattle.batcher_journal.specs.Answers.{Answers};
 ghost use Rattle.batcher_journal.specs.Contradictions.{IsFree};
 ghost use Rattle.batcher_node.specs.Windows.{is_of, numbered};
 ghost use Rattle.batcher_voter.specs.declared.answers.Permission.TheVariants.{Known, Sign};
-ghost use Rattle.batcher_voter.specs.Knowledge.{AreNullified, HasLearned, IsParent};
+ghost use Rattle.batcher_voter.specs.Knowledge.{AreNullified, HasLearned, HaveNoParent, IsParent};
 ghost use Rattle.batcher_voter.specs.Refusals.{HasNoGround, IsNotNotarized};
 ghost use Rattle.batcher_voter.specs.Voting.{ForEachLife, IsNextView};
 ghost use Rattle.batcher_voter.specs.Voting.{Permits, Says};
@@ -73,6 +73,11 @@ where
             (⟦<S as NodeConfigs<D>>⟧.of self.now.node) self.now
             (λ past earlier. (p : TheProposal D) → p.round ≡ numbered self.now.node.epoch view.0
             → p.parent ≡ parent → IsGrounded (conduct_of past ++ earlier) p)) }
+        ensures highest { IfSome result (λ parent. ForEachLife
+            (⟦<S as NodeConfigs<D>>⟧.of self.now.node) self.now
+            (λ past earlier. (p : TheProposal D) → p.round ≡ numbered self.now.node.epoch view.0
+            → self.now.node.window.finalized ≤ p.parent.0 → IsGrounded (conduct_of past) p
+            → p.parent.0 ≤ parent.0)) }
         ensures none { result ≡ None → ForEachLife
             (⟦<S as NodeConfigs<D>>⟧.of self.now.node) self.now
             (λ past earlier. (p : TheProposal D) → p.round ≡ numbered self.now.node.epoch view.0
@@ -204,7 +209,8 @@ where
     fn parent_below(&self, view: u64) -> Option<u64>
         ensures some { IfSome result (λ parent. (parent < view)
             × ((self.now.knowledge.floor ≤ parent) × (IsParent self.now.knowledge parent
-            × AreNullified self.now.knowledge parent view))) }
+            × (AreNullified self.now.knowledge parent view
+            × HaveNoParent self.now.knowledge parent view)))) }
         ensures none { result ≡ None → (parent : ℕ) → self.now.knowledge.floor ≤ parent
             → parent < view → IsParent self.now.knowledge parent
             → AreNullified self.now.knowledge parent view → ⊥ }

@@ -1,13 +1,12 @@
 //! What a voter knows to be certified.
 
-ghost use Rattle.std.specs.Prelude.{◌≡◌, ◌≢◌, ◌≤◌, ◌<◌, ◌⊎◌, [], IfSome, MatchBool, MatchOption, None, OnOk, false, true, ℕ};
+ghost use Rattle.std.specs.Prelude.{◌≡◌, ◌≤◌, ◌<◌, [], IfSome, MatchBool, MatchOption, None, OnOk, false, true, ℕ};
 ghost use Rattle.std.specs.BTreeMap.{get};
 ghost use Rattle.std.specs.Ordering.{nat_cmp};
 ghost use Rattle.batcher.specs.Votes.{round_in, same_proposal};
 ghost use Rattle.batcher.specs.messages.Subject.TheVariants.{Notarize};
-ghost use Rattle.batcher_agreement.specs.Policy.{Conduct, IsGrounded, Knows, KnowsProposal};
-ghost use Rattle.batcher_node.specs.Windows.{numbered};
-ghost use Rattle.batcher_voter.specs.Knowledge.{AreNullified, Forgets, HasLearned, HasRoom, IsHighest, IsParent, IsSame, Learns, learned_at, with_learned};
+ghost use Rattle.batcher_agreement.specs.Policy.{Conduct, IsGrounded, Knows};
+ghost use Rattle.batcher_voter.specs.Knowledge.{AreNullified, Forgets, HasLearned, HaveNoParent, HasRoom, IsHighest, IsParent, IsSame, Learns, learned_at, with_learned};
 ghost use Rattle.batcher_voter.specs.Refusals.{HasNoGround, IsNotNotarized};
 
 use crate::answers::Rule;
@@ -137,9 +136,7 @@ impl<D: Digest> Knowledge<D> {
             Err(_) => {}
         }
     }
-}
 
-impl<D: Digest> Knowledge<D> {
     /// Whether something of this kind is known of the view.
     pub(crate) fn has(&self, subject: &Subject<D>) -> bool {
         let learned = self.at(subject.round().view.0);
@@ -186,7 +183,7 @@ impl<D: Digest> Knowledge<D> {
         if parent.0 < self.floor() {
             return Some(Rule::ParentBeforeFinal);
         }
-        if !self.has_parent(proposal) {
+        if !self.is_parent(parent.0) {
             return Some(Rule::ParentUnknown);
         }
         match self.gap(parent.0, proposal.round.view.0) {
@@ -198,7 +195,8 @@ impl<D: Digest> Knowledge<D> {
     /// The highest view below this one on which a proposal of it has ground.
     pub(crate) fn parent_below(&self, view: u64) -> Option<u64>
         ensures some { IfSome result (λ parent. (parent < view) × ((self.now.floor ≤ parent)
-            × (IsParent self.now parent × AreNullified self.now parent view))) }
+            × (IsParent self.now parent × (AreNullified self.now parent view
+            × HaveNoParent self.now parent view)))) }
         ensures none { result ≡ None → (parent : ℕ) → self.now.floor ≤ parent → parent < view
             → IsParent self.now parent → AreNullified self.now parent view → ⊥ }
     {
@@ -223,26 +221,6 @@ impl<D: Digest> Knowledge<D> {
             return true;
         }
         let learned = self.at(view);
-        if learned.notarized.is_some() {
-            return true;
-        }
-        learned.finalized.is_some()
-    }
-
-    // Whether the parent is the start, or known.
-    fn has_parent(&self, proposal: &Proposal<D>) -> bool
-        requires { self.now.floor ≤ proposal.now.parent.0 }
-        ensures known { (past : Conduct D) → HasLearned self.now past → result ≡ true
-            → (proposal.now.parent.0 ≡ 0)
-            ⊎ KnowsProposal past (numbered self.now.epoch proposal.now.parent.0) }
-        ensures unknown { (past : Conduct D) → HasLearned self.now past → result ≡ false
-            → (proposal.now.parent.0 ≢ 0)
-            × (KnowsProposal past (numbered self.now.epoch proposal.now.parent.0) → ⊥) }
-    {
-        if proposal.parent.0 == 0 {
-            return true;
-        }
-        let learned = self.at(proposal.parent.0);
         if learned.notarized.is_some() {
             return true;
         }
