@@ -5,4 +5,6 @@ pub mod Convicting
 pub mod Reporting
 pub mod TwoRuns
 pub mod Forking
+pub mod Forked
+pub mod Finding
 pub mod Worked

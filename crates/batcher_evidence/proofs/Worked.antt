@@ -1,7 +1,42 @@
 -- The examples are computed.
-use Rattle.std.proofs.Common.{inl, refl}
+use Rattle.std.proofs.Common.{◌≡◌, ◌<◌, ℕ, true, [], ◌∷◌, ap, arith, get_or, inl, refl, subst, sym}
+use Rattle.batcher.specs.Verifiers.{certifies_itself}
+use Rattle.batcher.specs.Votes.{subject_certified}
+use Rattle.batcher.specs.Examples.Answers.{p, the_round}
+use Rattle.batcher.specs.messages.Proposal.{Proposal}
+use Rattle.batcher.specs.messages.Subject.TheVariants.{Nullify}
+use Rattle.batcher.specs.positions.Round.{Round}
+use Rattle.batcher_evidence.proofs.Forked.{round_of}
+use Rattle.batcher_evidence.specs.Forks.{IsFork, IsShown}
 use Rattle.batcher.specs.Keys.{index_of}
-use Rattle.batcher_evidence.specs.Examples.{EvidenceExamples}
+use Rattle.batcher_evidence.specs.Examples.{EvidenceExamples, TinyCertificate, finalized, first_three, in_full, last_three, listed, next, next_notarized, notarized, nullified}
+
+shown :
+    (k : ℕ) → (c : TinyCertificate) → k < 4 → get_or in_full k c ≡ c
+    → certifies_itself listed c ≡ true → IsShown listed in_full (subject_certified c)
+shown k c low at certifies =
+    record { certificate = c; held = (k, low, at); is_of = refl; certifies = certifies }
+
+only : (number : Round) → number.epoch ≡ next.round.epoch → 0 < number.view.0 → number.view.0 < 2
+    → IsShown listed in_full (Nullify number)
+only number epoch above below =
+    subst (λ it. IsShown listed in_full (Nullify it)) (sym (round_of number the_round epoch (omega (arith, above, below))))
+    (shown 0 (nullified last_three) (omega arith) refl refl)
+
+differ : (a b : ℕ) → a ≡ 2 → b ≡ 1 → a ≡ b → ⊥
+differ a b two one same = omega (arith, two, one, same)
+
+fork : IsFork listed in_full (p 1) (next ∷ [])
+fork =
+    record {
+      finalized = shown 1 (finalized 1 first_three) (omega arith) refl refl;
+      notarized = shown 2 (notarized 1 first_three) (omega arith) refl refl;
+      grounded = (record { certified = inl (shown 3 next_notarized (omega arith) refl refl); between = only }, tt);
+      linked = tt;
+      begins_above = (refl, omega arith);
+      ends_below = omega arith;
+      without = (λ equal. differ 2 1 refl refl (ap (λ (it : Proposal ℕ). it.payload) equal), tt);
+    }
 
 pub computed : EvidenceExamples
 unfolding index_of
@@ -15,6 +50,9 @@ computed =
       notarize_and_finalize = refl;
       notarize_and_nullify = refl;
       below_the_quorum = refl;
+      fork = fork;
+      shown_in_full = refl;
+      shown_in_part = refl;
       both_good = refl;
       second_bad = refl;
       one_vote = refl;

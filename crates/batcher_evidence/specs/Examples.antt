@@ -1,8 +1,9 @@
 -- A fork of four participants that exactly two of them made, and what is near to one.
-use Rattle.std.specs.Prelude.{◌≡◌, ◌+◌, ◌&&◌, ◌==◌, ℕ, Bool, true, nat_lt, nat_le, List, [], ◌∷◌, length, Option, Some, None}
-use Rattle.std.specs.List.{list_all, range_with_len}
+use Rattle.std.specs.Prelude.{◌≡◌, ◌+◌, ◌&&◌, ◌==◌, ℕ, Bool, true, false, nat_lt, nat_le, List, [], ◌∷◌, length, Option, Some, None}
+use Rattle.std.specs.List.{list_all, list_any, range_with_len}
 use Rattle.batcher.specs.messages.Attestation.{Attestation}
 use Rattle.batcher.specs.messages.Certificate.{Certificate}
+use Rattle.batcher.specs.messages.Proposal.{Proposal}
 use Rattle.batcher.specs.messages.Certificate.TheVariants.{Notarization as NotarizationCertificate, Nullification as NullificationCertificate, Finalization as FinalizationCertificate}
 use Rattle.batcher.specs.messages.Activity.{Activity}
 use Rattle.batcher.specs.messages.Activity.TheVariants.{ConflictingNotarize as ReportConflictingNotarize, Notarize as ReportNotarize}
@@ -18,6 +19,7 @@ use Rattle.batcher.specs.Examples.Answers.{TinyCall, the_round, p, four, signed,
 use Rattle.batcher_evidence.specs.declared.certificates.Culprit.{Culprit}
 use Rattle.batcher_evidence.specs.Culprits.{certificates_contradict, culprits_of}
 use Rattle.batcher_evidence.specs.Convictions.{convicted_by}
+use Rattle.batcher_evidence.specs.Forks.{IsFork, certify_and_contradict}
 use Rattle.batcher_evidence.specs.Rounds.{count_below, votes_contradict}
 
 abbrev pub TinyList : Type 0
@@ -72,6 +74,27 @@ both i = record { first = signed i 0; second = signed i 0 }
 abbrev pub found : TinyCertificate → TinyCertificate → Option (List (Culprit ℕ))
 found a b = culprits_of listed (λ c. c) same a b
 
+-- A fork over views: 1 is final in its view, and the next one has a proposal on the start.
+abbrev pub next : Proposal ℕ
+next =
+    record {
+      round = record { epoch = record { 0 = 0 }; view = record { 0 = 2 } };
+      parent = record { 0 = 0 };
+      payload = 2;
+    }
+
+abbrev pub next_notarized : TinyCertificate
+next_notarized = NotarizationCertificate (record { proposal = next; certificate = last_three })
+
+abbrev pub in_part : List TinyCertificate
+in_part = finalized 1 first_three ∷ notarized 1 first_three ∷ next_notarized ∷ []
+
+abbrev pub in_full : List TinyCertificate
+in_full = nullified last_three ∷ in_part
+
+abbrev pub has_contradiction : List TinyCertificate → Bool
+has_contradiction all = list_any (λ a. list_any (certify_and_contradict listed same a) all) all
+
 -- a report of two notarizes of 1, of which the second has the signature
 abbrev pub conflict : ℕ → Activity ℕ ℕ
 conflict signature =
@@ -106,6 +129,11 @@ pub record EvidenceExamples : Type 0 where
   pub notarize_and_nullify : found (notarized 1 first_three) (nullified last_three) ≡ None
   -- One of them doesn't certify.
   pub below_the_quorum : found (notarized 1 two) (notarized 2 last_three) ≡ None
+  -- A chain that is shown in full shows two certificates that contradict each other. One without
+  -- the nullification of the view that it passes over shows none.
+  pub fork : IsFork listed in_full (p 1) (next ∷ [])
+  pub shown_in_full : has_contradiction in_full ≡ true
+  pub shown_in_part : has_contradiction in_part ≡ false
   -- Two good votes convict their signer; a bad one doesn't, nor does a report of one vote.
   pub both_good : convicted_by listed same (conflict 0) ≡ Some (participant 1)
   pub second_bad : convicted_by listed same (conflict 1) ≡ None

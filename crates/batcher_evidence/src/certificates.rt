@@ -50,7 +50,7 @@ pub fn culprits<S: Accountable<D>, D: Digest>(
     Ok(Some(found))
 }
 
-fn certifies<S: Scheme<D>, D: Digest>(
+pub(crate) fn certifies<S: Scheme<D>, D: Digest>(
     scheme: &S,
     certificate: &Certificate<S::Certificate, D>,
 ) -> bool

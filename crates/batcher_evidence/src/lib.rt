@@ -8,6 +8,7 @@ ghost use Rattle.batcher.specs.messages.Subject.{Subject as TheSubject};
 ghost use Rattle.batcher_evidence.specs.SignedQuorums.{ShowsQuorum};
 
 mod certificates;
+mod forks;
 mod keyed;
 mod reports;
 mod subjects;
@@ -16,6 +17,7 @@ mod theorems;
 use batcher::messages::{Attestation, Digest};
 use batcher::scheme::Scheme;
 pub use certificates::{Culprit, culprits};
+pub use forks::{Fork, fork_among};
 pub use reports::{convicted, convicted_with};
 pub use subjects::{certificates_contradict, contradict};
 pub use theorems::{forks_take_contradicting_votes, reports_convict, rounds_are_accountable};
