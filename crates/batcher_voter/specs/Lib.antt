@@ -2,3 +2,4 @@ pub mod Knowledge
 pub mod Remembering
 pub mod Voting
 pub mod Refusals
+pub mod Needing

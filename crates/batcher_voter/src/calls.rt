@@ -6,10 +6,12 @@ ghost use Rattle.batcher.specs.Votes.{round_in, subject_certified, subject_of};
 ghost use Rattle.batcher_node.specs.Events.{certificate_came, constructed, view_entered, vote_came};
 ghost use Rattle.batcher_node.specs.Nodes.{IsAtRest, IsLedByAnother, IsNext, SameNode, slot_at};
 ghost use Rattle.batcher_node.specs.declared.answers.EnterFault.{EnterFault};
-ghost use Rattle.batcher_node.specs.Represents.{IsHeard, MayNeedIn, Meets, SimulatesForward};
-ghost use Rattle.batcher.specs.calls.Call.TheVariants.{Network as NetworkCall};
+ghost use Rattle.batcher_node.specs.Represents.{IsHeard, MayNeedIn, Meets, NextMayNeed, SimulatesForward};
+ghost use Rattle.batcher.specs.Verifiers.{certifies_itself};
+ghost use Rattle.batcher.specs.calls.Call.TheVariants.{Certificate as CertificateCall, Network as NetworkCall};
 ghost use Rattle.batcher_node.specs.Windows.{is_of};
 ghost use Rattle.batcher_voter.specs.Knowledge.{HasRoom, IsSame, Learns};
+ghost use Rattle.batcher_voter.specs.Needing.{CertificateNeeds, ConstructionNeeds};
 ghost use Rattle.batcher_voter.specs.Voting.{IsOfItsView, VoterMeets, VoterStays, is_recorded};
 ghost use Rattle.batcher_voter.specs.Voting.{Forwards};
 
@@ -145,6 +147,8 @@ where
         ensures meets { IfOk result (λ receipt. VoterMeets
             (⟦<S as NodeConfigs<D>>⟧.of self.old.node) self.old self.new
             (certificate_came peer certificate.now receipt)) }
+        ensures needed { OnErr result (CertificateNeeds (⟦<S as NodeConfigs<D>>⟧.of self.old.node)
+            self.old peer certificate.now) }
         ensures refused { OnErr result (self.new.node ≡ self.old.node) }
         ensures stays { OnErr result
             (VoterStays (⟦<S as NodeConfigs<D>>⟧.of self.old.node) self.old self.new) }
@@ -175,6 +179,13 @@ where
         ensures meets { IfOk result (λ receipt. VoterMeets
             (⟦<S as NodeConfigs<D>>⟧.of self.old.node) self.old self.new
             (certificate_came peer certificate.now receipt)) }
+        ensures heard { OnErr result (IsHeard (⟦<S as NodeConfigs<D>>⟧.of self.old.node)
+            self.old.node peer (round_in (subject_certified certificate.now))) }
+        ensures certifies { OnErr result (certifies_itself (S.meaning self.old.node.scheme)
+            certificate.now ≡ true) }
+        ensures needed { OnErr result (MayNeedIn (⟦<S as NodeConfigs<D>>⟧.of self.old.node)
+            self.old.node (round_in (subject_certified certificate.now)).view.0
+            (CertificateCall certificate.now)) }
         ensures refused { OnErr result (self.new ≡ self.old) }
         ensures same { SameNode self.old.node self.new.node }
     {
@@ -201,6 +212,7 @@ where
         ensures meets { IfOk result (λ receipt. VoterMeets
             (⟦<S as NodeConfigs<D>>⟧.of self.old.node) self.old self.new
             (certificate_came peer certificate.now receipt)) }
+        ensures heard { OnErr result ⊥ }
         ensures refused { OnErr result (self.new ≡ self.old) }
         ensures same { SameNode self.old.node self.new.node }
     {
@@ -221,6 +233,13 @@ where
         ensures within { IfOk result (λ receipt. is_recorded receipt ≡ true
             → is_of self.old.node.epoch self.old.node.window
             (round_in (subject_certified certificate.now)) ≡ true) }
+        ensures heard { OnErr result (IsHeard (⟦<S as NodeConfigs<D>>⟧.of self.old.node)
+            self.old.node peer (round_in (subject_certified certificate.now))) }
+        ensures certifies { OnErr result (certifies_itself (S.meaning self.old.node.scheme)
+            certificate.now ≡ true) }
+        ensures needed { OnErr result (MayNeedIn (⟦<S as NodeConfigs<D>>⟧.of self.old.node)
+            self.old.node (round_in (subject_certified certificate.now)).view.0
+            (CertificateCall certificate.now)) }
         ensures refused { OnErr result (self.new ≡ self.old) }
         ensures same { SameNode self.old.node self.new.node }
         ensures journal { self.new.journal ≡ self.old.journal }
@@ -242,6 +261,8 @@ where
         ensures next { IfOk result (λ made. IfSome made (λ one.
             IsNext self.old.node.rounds one.view.0)) }
         ensures rests { result ≡ Ok None → (self.new ≡ self.old) × IsAtRest self.old.node }
+        ensures needed { OnErr result
+            (ConstructionNeeds (⟦<S as NodeConfigs<D>>⟧.of self.old.node) self.old) }
         ensures refused { OnErr result (self.new.node ≡ self.old.node) }
         ensures stays { OnErr result
             (VoterStays (⟦<S as NodeConfigs<D>>⟧.of self.old.node) self.old self.new) }
@@ -278,6 +299,8 @@ where
         ensures meets { IfOk result (λ one. VoterMeets (⟦<S as NodeConfigs<D>>⟧.of self.old.node)
             self.old self.new (constructed one.view.0 one.batch)) }
         ensures next { IfOk result (λ one. one.view ≡ view) }
+        ensures needed { OnErr result
+            (NextMayNeed (⟦<S as NodeConfigs<D>>⟧.of self.old.node) self.old.node) }
         ensures refused { OnErr result (self.new ≡ self.old) }
         ensures same { SameNode self.old.node self.new.node }
     {
@@ -305,6 +328,8 @@ where
             self.old.node (constructed one.view.0 one.batch) self.new.node) }
         ensures next { IfOk result (λ one. one.view ≡ view) }
         ensures of_view { IfOk result (IsOfItsView self.old.node.epoch) }
+        ensures needed { OnErr result
+            (NextMayNeed (⟦<S as NodeConfigs<D>>⟧.of self.old.node) self.old.node) }
         ensures refused { OnErr result (self.new ≡ self.old) }
         ensures same { SameNode self.old.node self.new.node }
         ensures journal { self.new.journal ≡ self.old.journal }
@@ -312,7 +337,7 @@ where
     {
         match self.ask_construct(rng) {
             Ok(Some(made)) => Ok(made),
-            Ok(None) => Err(AllocError),
+            Ok(None) => unreachable!(),
             Err(fault) => Err(fault),
         }
     }
@@ -329,6 +354,8 @@ where
         ensures next { IfOk result (λ made. IfSome made (λ one.
             IsNext self.old.node.rounds one.view.0)) }
         ensures rests { result ≡ Ok None → (self.new ≡ self.old) × IsAtRest self.old.node }
+        ensures needed { OnErr result
+            (NextMayNeed (⟦<S as NodeConfigs<D>>⟧.of self.old.node) self.old.node) }
         ensures refused { OnErr result (self.new ≡ self.old) }
         ensures same { SameNode self.old.node self.new.node }
         ensures journal { self.new.journal ≡ self.old.journal }
@@ -389,6 +416,7 @@ where
     // Makes room for what may be learned of a view.
     pub(crate) fn make_room(&mut self, view: u64) -> Result<(), AllocError>
         ensures room { OnOk result (HasRoom self.new.knowledge view) }
+        ensures needed { OnErr result (HasRoom self.old.knowledge view → ⊥) }
         ensures stays { VoterStays (⟦<S as NodeConfigs<D>>⟧.of self.old.node) self.old self.new }
         ensures node { self.new.node ≡ self.old.node }
         ensures journal { self.new.journal ≡ self.old.journal }
@@ -401,6 +429,7 @@ where
 
     fn take_room(&mut self, view: u64) -> Result<(), AllocError>
         ensures room { OnOk result (HasRoom self.new.knowledge view) }
+        ensures needed { OnErr result (HasRoom self.old.knowledge view → ⊥) }
         ensures knowledge { IsSame self.old.knowledge self.new.knowledge }
         ensures node { self.new.node ≡ self.old.node }
         ensures journal { self.new.journal ≡ self.old.journal }

@@ -1,6 +1,6 @@
 //! What a voter knows to be certified.
 
-ghost use Rattle.std.specs.Prelude.{◌≡◌, ◌≤◌, ◌<◌, [], IfSome, MatchBool, MatchOption, None, OnOk, false, true, ℕ};
+ghost use Rattle.std.specs.Prelude.{◌≡◌, ◌≤◌, ◌<◌, [], IfSome, MatchBool, MatchOption, None, OnErr, OnOk, false, true, ℕ};
 ghost use Rattle.std.specs.BTreeMap.{get};
 ghost use Rattle.std.specs.Ordering.{nat_cmp};
 ghost use Rattle.batcher.specs.Votes.{round_in, same_proposal};
@@ -113,6 +113,7 @@ impl<D: Digest> Knowledge<D> {
     /// Makes room for what may be learned of a view.
     pub(crate) fn make_room(&mut self, view: u64) -> Result<(), AllocError>
         ensures room { OnOk result (HasRoom self.new view) }
+        ensures needed { OnErr result (HasRoom self.old view → ⊥) }
         ensures same { IsSame self.old self.new }
     {
         if self.views.contains_key(&view) {

@@ -1,4 +1,4 @@
-use Rattle.std.proofs.Common.{◌≡◌, arith, subst, sym}
+use Rattle.std.proofs.Common.{arith, subst, sym}
 use Rattle.batcher.specs.messages.Subject.TheVariants.{Nullify}
 use Rattle.batcher_agreement.specs.Policy.{Knows}
 use Rattle.batcher_node.specs.Windows.{numbered}
