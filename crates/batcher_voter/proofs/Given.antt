@@ -177,10 +177,16 @@ module _ {S D K G C : Type 0} (x : NodeConfig D K G C) (old new : NodeView S G D
     by_batch view None meets = tt
     by_batch view (Some batch) meets = by_certificate view batch meets batch.certificate refl
 
+    pub each_of_view :
+        (given : Option (Construction C D))
+        → IfSome given (λ one. Meets x old (constructed one.view.0 one.batch) new)
+        → IfSome given (IsOfItsView x.epoch)
+    each_of_view (Some one) meets = by_batch one.view.0 one.batch meets
+    each_of_view None meets = tt
+
     pub all_of_view :
         {E : Type 0} (r : Result (Option (Construction C D)) E)
         → IfOk r (λ made. IfSome made (λ one. Meets x old (constructed one.view.0 one.batch) new))
         → IfOk r (λ made. IfSome made (IsOfItsView x.epoch))
-    all_of_view (Ok (Some one)) meets = by_batch one.view.0 one.batch meets
-    all_of_view (Ok None) meets = tt
+    all_of_view (Ok given) meets = each_of_view given meets
     all_of_view (Err fault) meets = tt

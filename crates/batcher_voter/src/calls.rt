@@ -281,7 +281,7 @@ where
     }
 
     // The view of the next construction.
-    fn next_construction(&self) -> Option<View>
+    pub(crate) fn next_construction(&self) -> Option<View>
         ensures next { IfSome result (λ view. IsNext self.now.node.rounds view.0) }
         ensures none { IfNone result (IsAtRest self.now.node) }
     {
@@ -368,7 +368,7 @@ where
     }
 
     // It is known that this is certified, by a certificate of a view for which there is room.
-    fn learn(&mut self, certificate: &Certificate<S::Certificate, D>)
+    pub(crate) fn learn(&mut self, certificate: &Certificate<S::Certificate, D>)
         requires { HasRoom self.old.knowledge
             (round_in (subject_certified certificate.now)).view.0 }
         ensures learns { Learns (subject_certified certificate.now) self.old.knowledge
@@ -449,7 +449,7 @@ fn is_recorded(receipt: &Receipt<Verdict>) -> bool
 }
 
 // The certificate of a construction.
-fn certificate_in<C, D>(made: &Construction<C, D>) -> Option<&Certificate<C, D>>
+pub(crate) fn certificate_in<C, D>(made: &Construction<C, D>) -> Option<&Certificate<C, D>>
     ensures { option_copied result
         ≡ option_and_then (λ batch. batch.certificate) made.now.batch }
 {

@@ -6,6 +6,7 @@ mod answers;
 mod asking;
 mod calls;
 mod casting;
+mod concluding;
 mod knowledge;
 mod moving;
 mod starting;

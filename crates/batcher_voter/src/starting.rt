@@ -50,6 +50,13 @@ where
             → Remembers earlier journal.contents
             → HasStarted (⟦<S as NodeConfigs<D>>⟧.of voter.node) earlier voter) }
         ensures scheme { IfOk result (λ voter. voter.node.scheme ≡ scheme.value) }
+        ensures epoch { IfOk result (λ voter. voter.node.epoch ≡ journal.contents.floor.epoch) }
+        ensures retains { IfOk result (λ voter. voter.node.retains ≡ track_historical_votes) }
+        ensures window { IfOk result (λ voter. voter.node.window ≡ record {
+          finalized = journal.contents.floor.view.0;
+          current = journal.contents.floor.view.0;
+          ahead = ahead;
+        }) }
         ensures journal { IfOk result (λ voter. voter.journal ≡ journal) }
         ensures refused { IfErr result (λ it. it.journal ≡ journal) }
     {
@@ -80,6 +87,13 @@ where
         ensures nothing { IfOk result (λ voter. HasLearned voter.knowledge []) }
         ensures highest { IfOk result (λ voter. IsHighest voter.knowledge []) }
         ensures scheme { IfOk result (λ voter. voter.node.scheme ≡ scheme.value) }
+        ensures epoch { IfOk result (λ voter. voter.node.epoch ≡ journal.contents.floor.epoch) }
+        ensures retains { IfOk result (λ voter. voter.node.retains ≡ track_historical_votes) }
+        ensures window { IfOk result (λ voter. voter.node.window ≡ record {
+          finalized = journal.contents.floor.view.0;
+          current = journal.contents.floor.view.0;
+          ahead = ahead;
+        }) }
         ensures journal { IfOk result (λ voter. voter.journal ≡ journal) }
         ensures refused { IfErr result (λ it. it.journal ≡ journal) }
     {

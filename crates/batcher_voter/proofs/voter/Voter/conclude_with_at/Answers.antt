@@ -1,0 +1,28 @@
+use Rattle.std.proofs.Common.{◌∙◌, ap, subst, sym}
+use Rattle.batcher.specs.Votes.{subject_certified}
+use Rattle.batcher_node.specs.Events.{constructed}
+use Rattle.batcher_node.specs.Nodes.{node_config}
+use Rattle.batcher_node.specs.Represents.{Meets}
+use Rattle.batcher_voter.specs.Knowledge.{Learns}
+use Rattle.batcher_voter.proofs.Calling.{given_is_learned, given_is_of, learning}
+use Rattle.batcher_voter.proofs.voter.Voter.conclude_with_at.Goals as goal
+
+pub returns-in-Some-certificate_in-clause-meets : goal.returns-in-Some-certificate_in-clause-meets
+returns-in-Some-certificate_in-clause-meets g c =
+    let certificate = c.in-Some-certificate_in.certificate.now in
+    let s = subject_certified certificate in
+    let made = c.in-Some.made in
+    let config = node_config g.S.Scheme.meaning g.S.PublicKey.Ord.cmp g.S.Signature.PartialEq.eq g.D.PartialEq.eq in
+    let old = c.args.self.now.node in
+    learning _ c.args.self.now c.learn.new.self (constructed made.view.0 made.batch)
+    (subst (Meets (config old) old (constructed made.view.0 made.batch)) (sym c.learn.ensures.node)
+    c.in-Some.ensures.meets)
+    (c.learn.ensures.contents ∙ ap (λ j. j.contents) c.in-Some.ensures.journal)
+    (c.learn.ensures.open ∙ ap (λ j. j.is_open) c.in-Some.ensures.journal)
+    (λ earlier past h. h) s
+    (given_is_learned g.row.S-PublicKey.Denot g.row.S-Signature.Denot certificate made.view.0 made.batch
+    c.in-Some-certificate_in.ensures)
+    (subst (λ k. Learns s k c.learn.new.self.knowledge) c.in-Some.ensures.knowledge c.learn.ensures.learns)
+    (ap (λ r. r.epoch) (given_is_of old.epoch made.view.0 made.batch certificate c.in-Some-certificate_in.ensures
+    c.in-Some.ensures.of_view)
+    ∙ sym c.begins.ensures.begins.of_epoch)

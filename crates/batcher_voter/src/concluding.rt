@@ -1,0 +1,353 @@
+//! The constructions of a voter's node by verdicts, or by a certificate, from elsewhere.
+
+ghost use Rattle.std.specs.Prelude.{◌≡◌, IfOk, IfSome, None, Ok, OnErr, Some, is_some, map, true, ℕ};
+ghost use Rattle.batcher.specs.VerifierSteps.{certificate_for};
+ghost use Rattle.batcher.specs.Verdicts.{BatchIsAssembled};
+ghost use Rattle.batcher.specs.Verifiers.{IfGiven};
+ghost use Rattle.batcher_node.specs.Events.{constructed};
+ghost use Rattle.batcher_node.specs.Nodes.{IsNext, SameNode, slot_at};
+ghost use Rattle.batcher_node.specs.Represents.{Meets, NextMayNeed};
+ghost use Rattle.batcher_node.specs.Verdicts.{LooksAtThere, MayBeQuorumThere};
+ghost use Rattle.batcher_voter.specs.Knowledge.{HasRoom};
+ghost use Rattle.batcher_voter.specs.Needing.{ConstructionNeeds, NeedsRoom};
+ghost use Rattle.batcher_voter.specs.Voting.{IsOfItsView, VoterMeets, VoterStays};
+
+use crate::calls::certificate_in;
+use crate::voter::Voter;
+use batcher::messages::{Attestation, Digest, Identical, Subject};
+use batcher::positions::View;
+use batcher::round::RoundConfigs;
+use batcher::scheme::Scheme;
+use batcher_codec::{Codec, OwnedCodec};
+use batcher_log::Log;
+use batcher_node::{Construction, NodeConfigs};
+use std::alloc::AllocError;
+
+impl<S: Scheme<D>, D: Digest + Codec, L: Log> Voter<S, D, L>
+where
+    S::Signature: Codec + Identical,
+    S::Certificate: OwnedCodec,
+{
+    /// Makes the construction of the next view by verdicts from elsewhere, as the node does, on the
+    /// pending attestations that the `next_attempt` of its round lends. The certificate of its
+    /// batch is learned, so room for it is made first.
+    ///
+    /// None where the subject and the list aren't those of that attempt, as where a vote came
+    /// meanwhile or a lower view is next.
+    pub fn conclude(
+        &mut self,
+        subject: Subject<D>,
+        list: &[Attestation<S::Signature>],
+        verdicts: &[bool],
+    ) -> Result<Option<Construction<S::Certificate, D>>, AllocError>
+        requires { verdicts.now ≡ map ((S.meaning self.old.node.scheme).attests subject) list.now }
+        ensures meets { IfGiven result (λ one.
+            VoterMeets (⟦<S as NodeConfigs<D>>⟧.of self.old.node) self.old self.new
+            (constructed one.view.0 one.batch)) }
+        ensures gives { IfGiven result (λ one. is_some one.batch ≡ true) }
+        ensures assembled { IfGiven result (λ one. IfSome one.batch
+            (BatchIsAssembled (S.meaning self.old.node.scheme))) }
+        ensures next { IfGiven result (λ one. IsNext self.old.node.rounds one.view.0) }
+        ensures looks_at { IfGiven result (λ one. LooksAtThere ⟦<S as RoundConfigs<D>>⟧.of
+            (slot_at self.old.node.rounds one.view.0) subject list.now) }
+        ensures not_stale { (view : ℕ) → IsNext self.old.node.rounds view
+            → LooksAtThere ⟦<S as RoundConfigs<D>>⟧.of (slot_at self.old.node.rounds view) subject
+            list.now → IfOk result (λ given. is_some given ≡ true) }
+        ensures stale { result ≡ Ok None → self.new.node ≡ self.old.node }
+        ensures stale_stays { result ≡ Ok None
+            → VoterStays (⟦<S as NodeConfigs<D>>⟧.of self.old.node) self.old self.new }
+        ensures needed { OnErr result
+            (ConstructionNeeds (⟦<S as NodeConfigs<D>>⟧.of self.old.node) self.old) }
+        ensures refused { OnErr result (self.new.node ≡ self.old.node) }
+        ensures stays { OnErr result
+            (VoterStays (⟦<S as NodeConfigs<D>>⟧.of self.old.node) self.old self.new) }
+        ensures same { SameNode self.old.node self.new.node }
+    {
+        match self.next_construction() {
+            Some(view) => match self.make_room(view.0) {
+                Ok(()) => match self.conclude_at(view, subject, list, verdicts) {
+                    Ok(made) => Ok(made),
+                    Err(fault) => Err(fault),
+                },
+                Err(fault) => Err(fault),
+            },
+            None => Ok(None),
+        }
+    }
+
+    // The same in the next view, for which there is room.
+    fn conclude_at(
+        &mut self,
+        view: View,
+        subject: Subject<D>,
+        list: &[Attestation<S::Signature>],
+        verdicts: &[bool],
+    ) -> Result<Option<Construction<S::Certificate, D>>, AllocError>
+        requires verdicts { verdicts.now
+            ≡ map ((S.meaning self.old.node.scheme).attests subject) list.now }
+        requires room { HasRoom self.old.knowledge view.0 }
+        requires next { IsNext self.old.node.rounds view.0 }
+        ensures meets { IfGiven result (λ one.
+            VoterMeets (⟦<S as NodeConfigs<D>>⟧.of self.old.node) self.old self.new
+            (constructed one.view.0 one.batch)) }
+        ensures gives { IfGiven result (λ one. is_some one.batch ≡ true) }
+        ensures assembled { IfGiven result (λ one. IfSome one.batch
+            (BatchIsAssembled (S.meaning self.old.node.scheme))) }
+        ensures next { IfGiven result (λ one. IsNext self.old.node.rounds one.view.0) }
+        ensures looks_at { IfGiven result (λ one. LooksAtThere ⟦<S as RoundConfigs<D>>⟧.of
+            (slot_at self.old.node.rounds one.view.0) subject list.now) }
+        ensures not_stale { (view : ℕ) → IsNext self.old.node.rounds view
+            → LooksAtThere ⟦<S as RoundConfigs<D>>⟧.of (slot_at self.old.node.rounds view) subject
+            list.now → IfOk result (λ given. is_some given ≡ true) }
+        ensures stale { result ≡ Ok None → self.new ≡ self.old }
+        ensures needed { OnErr result
+            (NextMayNeed (⟦<S as NodeConfigs<D>>⟧.of self.old.node) self.old.node) }
+        ensures refused { OnErr result (self.new ≡ self.old) }
+        ensures same { SameNode self.old.node self.new.node }
+    {
+        self.begins();
+        match self.call_conclude(view, subject, list, verdicts) {
+            Ok(Some(made)) => match certificate_in(&made) {
+                Some(certificate) => {
+                    self.learn(certificate);
+                    Ok(Some(made))
+                }
+                None => Ok(Some(made)),
+            },
+            Ok(None) => Ok(None),
+            Err(fault) => Err(fault),
+        }
+    }
+
+    // The node makes the construction.
+    fn call_conclude(
+        &mut self,
+        view: View,
+        subject: Subject<D>,
+        list: &[Attestation<S::Signature>],
+        verdicts: &[bool],
+    ) -> Result<Option<Construction<S::Certificate, D>>, AllocError>
+        requires verdicts { verdicts.now
+            ≡ map ((S.meaning self.old.node.scheme).attests subject) list.now }
+        requires next { IsNext self.old.node.rounds view.0 }
+        ensures meets { IfGiven result (λ one. Meets (⟦<S as NodeConfigs<D>>⟧.of self.old.node)
+            self.old.node (constructed one.view.0 one.batch) self.new.node) }
+        ensures view { IfGiven result (λ one. one.view ≡ view) }
+        ensures of_view { IfGiven result (IsOfItsView self.old.node.epoch) }
+        ensures gives { IfGiven result (λ one. is_some one.batch ≡ true) }
+        ensures assembled { IfGiven result (λ one. IfSome one.batch
+            (BatchIsAssembled (S.meaning self.old.node.scheme))) }
+        ensures next { IfGiven result (λ one. IsNext self.old.node.rounds one.view.0) }
+        ensures looks_at { IfGiven result (λ one. LooksAtThere ⟦<S as RoundConfigs<D>>⟧.of
+            (slot_at self.old.node.rounds one.view.0) subject list.now) }
+        ensures not_stale { (view : ℕ) → IsNext self.old.node.rounds view
+            → LooksAtThere ⟦<S as RoundConfigs<D>>⟧.of (slot_at self.old.node.rounds view) subject
+            list.now → IfOk result (λ given. is_some given ≡ true) }
+        ensures stale { result ≡ Ok None → self.new ≡ self.old }
+        ensures needed { OnErr result
+            (NextMayNeed (⟦<S as NodeConfigs<D>>⟧.of self.old.node) self.old.node) }
+        ensures refused { OnErr result (self.new ≡ self.old) }
+        ensures same { SameNode self.old.node self.new.node }
+        ensures journal { self.new.journal ≡ self.old.journal }
+        ensures knowledge { self.new.knowledge ≡ self.old.knowledge }
+    {
+        match self.ask_conclude(subject, list, verdicts) {
+            Ok(Some(made)) => Ok(Some(made)),
+            Ok(None) => Ok(None),
+            Err(fault) => Err(fault),
+        }
+    }
+
+    fn ask_conclude(
+        &mut self,
+        subject: Subject<D>,
+        list: &[Attestation<S::Signature>],
+        verdicts: &[bool],
+    ) -> Result<Option<Construction<S::Certificate, D>>, AllocError>
+        requires { verdicts.now ≡ map ((S.meaning self.old.node.scheme).attests subject) list.now }
+        ensures meets { IfGiven result (λ one. Meets (⟦<S as NodeConfigs<D>>⟧.of self.old.node)
+            self.old.node (constructed one.view.0 one.batch) self.new.node) }
+        ensures of_view { IfGiven result (IsOfItsView self.old.node.epoch) }
+        ensures gives { IfGiven result (λ one. is_some one.batch ≡ true) }
+        ensures assembled { IfGiven result (λ one. IfSome one.batch
+            (BatchIsAssembled (S.meaning self.old.node.scheme))) }
+        ensures next { IfGiven result (λ one. IsNext self.old.node.rounds one.view.0) }
+        ensures looks_at { IfGiven result (λ one. LooksAtThere ⟦<S as RoundConfigs<D>>⟧.of
+            (slot_at self.old.node.rounds one.view.0) subject list.now) }
+        ensures not_stale { (view : ℕ) → IsNext self.old.node.rounds view
+            → LooksAtThere ⟦<S as RoundConfigs<D>>⟧.of (slot_at self.old.node.rounds view) subject
+            list.now → IfOk result (λ given. is_some given ≡ true) }
+        ensures stale { result ≡ Ok None → self.new ≡ self.old }
+        ensures needed { OnErr result
+            (NextMayNeed (⟦<S as NodeConfigs<D>>⟧.of self.old.node) self.old.node) }
+        ensures refused { OnErr result (self.new ≡ self.old) }
+        ensures same { SameNode self.old.node self.new.node }
+        ensures journal { self.new.journal ≡ self.old.journal }
+        ensures knowledge { self.new.knowledge ≡ self.old.knowledge }
+    {
+        self.node.promises();
+        let made = self.node.conclude(subject, list, verdicts);
+        self.node.promises();
+        made
+    }
+
+    /// Makes the construction of the next view by a certificate that was made elsewhere, as the
+    /// node does, of all that the `next_attempt` of its round lends. It is learned, so room for it
+    /// is made first, which is all that takes memory.
+    ///
+    /// None where the subject and the list aren't those of that attempt, or where all that it lends
+    /// is too little for a quorum.
+    pub fn conclude_with(
+        &mut self,
+        subject: Subject<D>,
+        list: &[Attestation<S::Signature>],
+        certificate: S::Certificate,
+    ) -> Result<Option<Construction<S::Certificate, D>>, AllocError>
+        requires { (S.meaning self.old.node.scheme).certifies subject certificate ≡ true }
+        ensures meets { IfGiven result (λ one.
+            VoterMeets (⟦<S as NodeConfigs<D>>⟧.of self.old.node) self.old self.new
+            (constructed one.view.0 one.batch)) }
+        ensures gives { IfGiven result (λ one. IfSome one.batch (λ batch. batch.certificate
+            ≡ Some (certificate_for subject certificate))) }
+        ensures constructs { IfGiven result (λ one. is_some one.batch ≡ true) }
+        ensures next { IfGiven result (λ one. IsNext self.old.node.rounds one.view.0) }
+        ensures looks_at { IfGiven result (λ one. LooksAtThere ⟦<S as RoundConfigs<D>>⟧.of
+            (slot_at self.old.node.rounds one.view.0) subject list.now) }
+        ensures not_stale { (view : ℕ) → IsNext self.old.node.rounds view
+            → LooksAtThere ⟦<S as RoundConfigs<D>>⟧.of (slot_at self.old.node.rounds view) subject
+            list.now
+            → MayBeQuorumThere ⟦<S as RoundConfigs<D>>⟧.of (slot_at self.old.node.rounds view)
+            → IfOk result (λ given. is_some given ≡ true) }
+        ensures stale { result ≡ Ok None → self.new.node ≡ self.old.node }
+        ensures stale_stays { result ≡ Ok None
+            → VoterStays (⟦<S as NodeConfigs<D>>⟧.of self.old.node) self.old self.new }
+        ensures needed { OnErr result (NeedsRoom self.old) }
+        ensures refused { OnErr result (self.new.node ≡ self.old.node) }
+        ensures stays { OnErr result
+            (VoterStays (⟦<S as NodeConfigs<D>>⟧.of self.old.node) self.old self.new) }
+        ensures same { SameNode self.old.node self.new.node }
+    {
+        match self.next_construction() {
+            Some(view) => match self.make_room(view.0) {
+                Ok(()) => Ok(self.conclude_with_at(view, subject, list, certificate)),
+                Err(fault) => {
+                    drop(certificate);
+                    Err(fault)
+                }
+            },
+            None => {
+                drop(certificate);
+                Ok(None)
+            }
+        }
+    }
+
+    // The same in the next view, for which there is room.
+    fn conclude_with_at(
+        &mut self,
+        view: View,
+        subject: Subject<D>,
+        list: &[Attestation<S::Signature>],
+        certificate: S::Certificate,
+    ) -> Option<Construction<S::Certificate, D>>
+        requires certifies { (S.meaning self.old.node.scheme).certifies subject certificate ≡ true }
+        requires room { HasRoom self.old.knowledge view.0 }
+        requires next { IsNext self.old.node.rounds view.0 }
+        ensures meets { IfSome result (λ one.
+            VoterMeets (⟦<S as NodeConfigs<D>>⟧.of self.old.node) self.old self.new
+            (constructed one.view.0 one.batch)) }
+        ensures gives { IfSome result (λ one. IfSome one.batch (λ batch. batch.certificate
+            ≡ Some (certificate_for subject certificate))) }
+        ensures constructs { IfSome result (λ one. is_some one.batch ≡ true) }
+        ensures next { IfSome result (λ one. IsNext self.old.node.rounds one.view.0) }
+        ensures looks_at { IfSome result (λ one. LooksAtThere ⟦<S as RoundConfigs<D>>⟧.of
+            (slot_at self.old.node.rounds one.view.0) subject list.now) }
+        ensures not_stale { (view : ℕ) → IsNext self.old.node.rounds view
+            → LooksAtThere ⟦<S as RoundConfigs<D>>⟧.of (slot_at self.old.node.rounds view) subject
+            list.now
+            → MayBeQuorumThere ⟦<S as RoundConfigs<D>>⟧.of (slot_at self.old.node.rounds view)
+            → is_some result ≡ true }
+        ensures stale { result ≡ None → self.new ≡ self.old }
+        ensures same { SameNode self.old.node self.new.node }
+    {
+        self.begins();
+        match self.call_conclude_with(view, subject, list, certificate) {
+            Some(made) => match certificate_in(&made) {
+                Some(certificate) => {
+                    self.learn(certificate);
+                    Some(made)
+                }
+                None => Some(made),
+            },
+            None => None,
+        }
+    }
+
+    // The node makes the construction.
+    fn call_conclude_with(
+        &mut self,
+        view: View,
+        subject: Subject<D>,
+        list: &[Attestation<S::Signature>],
+        certificate: S::Certificate,
+    ) -> Option<Construction<S::Certificate, D>>
+        requires certifies { (S.meaning self.old.node.scheme).certifies subject certificate ≡ true }
+        requires next { IsNext self.old.node.rounds view.0 }
+        ensures meets { IfSome result (λ one. Meets (⟦<S as NodeConfigs<D>>⟧.of self.old.node)
+            self.old.node (constructed one.view.0 one.batch) self.new.node) }
+        ensures view { IfSome result (λ one. one.view ≡ view) }
+        ensures of_view { IfSome result (IsOfItsView self.old.node.epoch) }
+        ensures gives { IfSome result (λ one. IfSome one.batch (λ batch. batch.certificate
+            ≡ Some (certificate_for subject certificate))) }
+        ensures constructs { IfSome result (λ one. is_some one.batch ≡ true) }
+        ensures next { IfSome result (λ one. IsNext self.old.node.rounds one.view.0) }
+        ensures looks_at { IfSome result (λ one. LooksAtThere ⟦<S as RoundConfigs<D>>⟧.of
+            (slot_at self.old.node.rounds one.view.0) subject list.now) }
+        ensures not_stale { (view : ℕ) → IsNext self.old.node.rounds view
+            → LooksAtThere ⟦<S as RoundConfigs<D>>⟧.of (slot_at self.old.node.rounds view) subject
+            list.now
+            → MayBeQuorumThere ⟦<S as RoundConfigs<D>>⟧.of (slot_at self.old.node.rounds view)
+            → is_some result ≡ true }
+        ensures stale { result ≡ None → self.new ≡ self.old }
+        ensures same { SameNode self.old.node self.new.node }
+        ensures journal { self.new.journal ≡ self.old.journal }
+        ensures knowledge { self.new.knowledge ≡ self.old.knowledge }
+    {
+        match self.ask_conclude_with(subject, list, certificate) {
+            Some(made) => Some(made),
+            None => None,
+        }
+    }
+
+    fn ask_conclude_with(
+        &mut self,
+        subject: Subject<D>,
+        list: &[Attestation<S::Signature>],
+        certificate: S::Certificate,
+    ) -> Option<Construction<S::Certificate, D>>
+        requires { (S.meaning self.old.node.scheme).certifies subject certificate ≡ true }
+        ensures meets { IfSome result (λ one. Meets (⟦<S as NodeConfigs<D>>⟧.of self.old.node)
+            self.old.node (constructed one.view.0 one.batch) self.new.node) }
+        ensures of_view { IfSome result (IsOfItsView self.old.node.epoch) }
+        ensures gives { IfSome result (λ one. IfSome one.batch (λ batch. batch.certificate
+            ≡ Some (certificate_for subject certificate))) }
+        ensures constructs { IfSome result (λ one. is_some one.batch ≡ true) }
+        ensures next { IfSome result (λ one. IsNext self.old.node.rounds one.view.0) }
+        ensures looks_at { IfSome result (λ one. LooksAtThere ⟦<S as RoundConfigs<D>>⟧.of
+            (slot_at self.old.node.rounds one.view.0) subject list.now) }
+        ensures not_stale { (view : ℕ) → IsNext self.old.node.rounds view
+            → LooksAtThere ⟦<S as RoundConfigs<D>>⟧.of (slot_at self.old.node.rounds view) subject
+            list.now
+            → MayBeQuorumThere ⟦<S as RoundConfigs<D>>⟧.of (slot_at self.old.node.rounds view)
+            → is_some result ≡ true }
+        ensures stale { result ≡ None → self.new ≡ self.old }
+        ensures same { SameNode self.old.node self.new.node }
+        ensures journal { self.new.journal ≡ self.old.journal }
+        ensures knowledge { self.new.knowledge ≡ self.old.knowledge }
+    {
+        self.node.promises();
+        let made = self.node.conclude_with(subject, list, certificate);
+        self.node.promises();
+        made
+    }
+}
