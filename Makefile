@@ -1,6 +1,6 @@
 # make hello               plays one view, from its leader's proposal to a certificate
 # make run [SCRIPT=file]   plays a script; without one, the first
-# make audit [SCRIPT=file] names who voted both ways in the scripts of one or two nodes; without any, in a fork
+# make audit [SCRIPT=file] names who voted both ways in scripts of nodes; without any, in a fork
 # make demo [SEED=n]       plays a network of validators, four of them faulty, and draws it; without a seed, of 1
 # make prove               proves and builds these programs, which are played unproved until then
 # make bench               proves the benchmark, plays its rows and takes their time

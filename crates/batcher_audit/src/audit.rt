@@ -1,4 +1,4 @@
-//! Plays the scripts of one or two nodes of a round, and prints the evidence that they hold.
+//! Plays the scripts of nodes, each in a view of one epoch, and prints the evidence that they hold.
 
 ghost use Rattle.std.specs.Prelude.{◌≡◌, true};
 ghost use Rattle.std.specs.List.{list_all};
@@ -47,7 +47,9 @@ fn print_audit<W: Write>(
     scripts: &Scripts,
     output: &mut Output<W>,
 ) -> Result<(), Stop> {
-    if let Some(opening) = &scripts.first.lines.opening {
+    if let Some(first) = scripts.all.first()
+        && let Some(opening) = &first.lines.opening
+    {
         output.print(AsText(opening))?;
         match opening.scheme {
             SchemeWord::Keyed => print_evidence::<Keyed<true>, W>(alloc, scripts, output)?,
@@ -97,11 +99,11 @@ impl Shows for Sealed {
     }
 }
 
-/// What a node was asked and answered.
+/// What a node was asked and answered in a view.
 #[derive(Drop)]
 struct Node<S: TestScheme> {
-    /// 1 or 2.
-    number: u8,
+    /// Which of the scripts is its, counted from 1.
+    number: usize,
     scheme: Rc<S>,
     answered: Answered<S::Certificate>,
 }
@@ -109,7 +111,7 @@ struct Node<S: TestScheme> {
 /// Plays the script of a node, if it has a `round` line.
 fn play<S: TestScheme>(
     alloc: Global,
-    number: u8,
+    number: usize,
     script: &Script,
 ) -> Result<Option<Node<S>>, AllocError> {
     let Some(opening) = &script.lines.opening else {
@@ -128,7 +130,7 @@ fn play<S: TestScheme>(
 /// A certificate that a node gave, or that was recorded there.
 #[derive(Drop)]
 struct Seen<'a, C: Drop> {
-    node: u8,
+    node: usize,
     verb: &'static str,
     certificate: &'a Certificate<C, Sha256Digest>,
 }
@@ -146,13 +148,10 @@ fn print_evidence<S: Shows, W: Write>(
     output: &mut Output<W>,
 ) -> Result<(), Stop> {
     let mut nodes = Vec::new(alloc);
-    if let Some(first) = play::<S>(alloc, 1, &scripts.first)? {
-        nodes.push(first).map_err(AllocError::from)?;
-    }
-    if let Some(script) = &scripts.second
-        && let Some(second) = play::<S>(alloc, 2, script)?
-    {
-        nodes.push(second).map_err(AllocError::from)?;
+    for (place, script) in scripts.all.iter().enumerate() {
+        if let Some(node) = play::<S>(alloc, place.saturating_add(1), script)? {
+            nodes.push(node).map_err(AllocError::from)?;
+        }
     }
     for node in &nodes {
         print_reports(alloc, node, output)?;

@@ -1,5 +1,5 @@
-//! Audits one or two nodes of a round: plays their scripts, and prints whom their reports convict
-//! and who signed certificates that contradict each other. docs/FORMATS.md has the form.
+//! Audits nodes: plays their scripts, and prints whom their reports convict and who signed
+//! certificates that contradict each other. docs/FORMATS.md has the form.
 #![tactic(auto)]
 
 mod audit;

@@ -1,4 +1,4 @@
-//! One or two scripts out of one input: the second begins at a second `round` line.
+//! The scripts out of one input: each but the first begins at a line whose first word is `round`.
 
 use batcher_reader::script::Script;
 use std::alloc::{AllocError, Global};
@@ -6,73 +6,57 @@ use std::alloc::{AllocError, Global};
 /// The scripts of an input up to its first malformed line.
 #[derive(Drop)]
 pub struct Scripts {
-    pub first: Script,
-    pub second: Option<Script>,
+    pub all: Vec<Script>,
     /// The number of the malformed line, counted through the whole input.
     pub malformed: Option<usize>,
 }
 
+impl Scripts {
+    // Reads one more, before which there are so many lines. Nothing is read behind a malformed
+    // line.
+    fn read(&mut self, alloc: Global, bytes: &[u8], before: usize) -> Result<(), AllocError> {
+        if self.malformed.is_some() {
+            return Ok(());
+        }
+        let script = Script::parse(alloc, bytes)?;
+        if let Some(first) = self.all.first()
+            && !are_of_one_epoch(first, &script)
+        {
+            self.malformed = Some(before.saturating_add(1));
+            return Ok(());
+        }
+        self.malformed = script.malformed.map(|number| number.saturating_add(before));
+        self.all.push(script)?;
+        Ok(())
+    }
+}
+
 /// Reads the scripts up to the first malformed line. Out of memory is the only error.
 ///
-/// A second `round` line that names another round, other participants or another scheme than the
+/// A later `round` line that names another epoch, other participants or another scheme than the
 /// first is malformed.
 pub fn read_scripts(alloc: Global, bytes: &[u8]) -> Result<Scripts, AllocError> {
-    let parts = part(bytes);
-    let first = Script::parse(alloc, parts.front)?;
-    let mut malformed = first.malformed;
-    let mut second = None;
-    if malformed.is_none()
-        && let Some(rest) = parts.rest
-    {
-        let script = Script::parse(alloc, rest)?;
-        if are_of_one_round(&first, &script) {
-            malformed = script
-                .malformed
-                .map(|number| number.saturating_add(parts.before));
-            second = Some(script);
-        } else {
-            malformed = Some(parts.before.saturating_add(1));
-        }
-    }
-    Ok(Scripts {
-        first,
-        second,
-        malformed,
-    })
-}
-
-/// An input in one part or two.
-#[derive(Clone, Copy)]
-struct Parts<'a> {
-    front: &'a [u8],
-    rest: Option<&'a [u8]>,
-    /// How many lines are before the second part.
-    before: usize,
-}
-
-// The parts before and from the second line whose first word is `round`.
-fn part(bytes: &[u8]) -> Parts<'_> {
-    let mut rest = bytes;
+    let mut scripts = Scripts {
+        all: Vec::new(alloc),
+        malformed: None,
+    };
+    let mut begin = 0usize;
+    let mut before = 0usize;
+    let mut at = 0usize;
     let mut is_begun = false;
-    for (before, line) in bytes.split_inclusive(|byte| *byte == b'\n').enumerate() {
+    for (number, line) in bytes.split_inclusive(|byte| *byte == b'\n').enumerate() {
         if begins_script(line) {
             if is_begun {
-                let size = bytes.len().saturating_sub(rest.len());
-                return Parts {
-                    front: bytes.get(..size).unwrap_or(bytes),
-                    rest: Some(rest),
-                    before,
-                };
+                scripts.read(alloc, bytes.get(begin..at).unwrap_or(&[]), before)?;
+                begin = at;
+                before = number;
             }
             is_begun = true;
         }
-        rest = rest.get(line.len()..).unwrap_or(&[]);
+        at = at.saturating_add(line.len());
     }
-    Parts {
-        front: bytes,
-        rest: None,
-        before: 0,
-    }
+    scripts.read(alloc, bytes.get(begin..).unwrap_or(&[]), before)?;
+    Ok(scripts)
 }
 
 // Whether the first word of a line is `round`.
@@ -85,12 +69,14 @@ fn begins_script(line: &[u8]) -> bool {
     }
 }
 
-// Whether two scripts name the same round, participants and scheme. Where the first line of one is
+// Whether two scripts name the same epoch, participants and scheme. Where the first line of one is
 // malformed there is nothing to compare, and its own reading says so.
-fn are_of_one_round(first: &Script, second: &Script) -> bool {
-    match (&first.lines.opening, &second.lines.opening) {
+fn are_of_one_epoch(first: &Script, later: &Script) -> bool {
+    match (&first.lines.opening, &later.lines.opening) {
         (Some(a), Some(b)) => {
-            a.round == b.round && a.participants == b.participants && a.scheme == b.scheme
+            a.round.epoch == b.round.epoch
+                && a.participants == b.participants
+                && a.scheme == b.scheme
         }
         _ => true,
     }
