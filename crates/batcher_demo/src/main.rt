@@ -4,8 +4,11 @@
 //! networks without drawing them, and its last line is 'N passed, M failed'.
 #![tactic(auto)]
 
+mod checks;
 mod network;
 mod picture;
+mod record;
+mod roles;
 mod station;
 mod validator;
 mod witness;
@@ -72,7 +75,9 @@ fn count(rt: &(impl AllocGlobal + Print), seeds: u64) -> Result<()> {
 
 // Whether all checks hold of the network of a seed. One of which they don't is named.
 fn holds(rt: &(impl AllocGlobal + Print), seed: u64) -> Result<bool> {
-    let checks = network::play(rt.alloc(), seed)?.checks();
+    let network = network::play(rt.alloc(), seed)?;
+    let checks = checks::check(rt.alloc(), &network)?;
+    drop(network);
     let hold = checks.hold();
     if !hold {
         println!(rt; "seed {seed}: {checks:?}")?;

@@ -1,15 +1,14 @@
-//! The network: who is faulty in which way, and how messages are delayed, brought out of their
-//! order and repeated.
+//! The network: how messages are delayed, brought out of their order, repeated and lost, what the
+//! faulty ones send instead of what they should, and who is stopped and started again.
 
-use crate::station::{AnyCertificate, AnyVote, DemoScheme, Station, numbered};
-use crate::validator::{AHEAD, Message, VALIDATORS, VIEWS, Validator, proposed};
+use crate::record::Record;
+use crate::roles::{Role, forged, giving_up, groundless, role_of, signed, spoiled};
+use crate::station::{AnyVote, DemoScheme, Station, numbered};
+use crate::validator::{Message, VALIDATORS, Validator, leader_of, proposed};
 use crate::witness::{Posted, Witness};
-use anyhow::{Result, bail};
-use batcher::messages::{Attestation, Certificate, Sha256Digest, Subject, Vote};
-use batcher::positions::{Participant, Set};
-use batcher::scheme::Name;
-use batcher_node::Cause;
-use batcher_rows::plain::{Plain, Tally, sign};
+use anyhow::Result;
+use batcher::messages::{Sha256Digest, Subject};
+use batcher::scheme::{Keyed, names};
 use rand_core::Rng;
 use rand_pcg::Pcg32;
 use std::alloc::{AllocError, Global};
@@ -28,55 +27,44 @@ const FAR: u64 = 1000;
 const SPARED: u32 = 8;
 // A repeated vote comes with so many of those before it.
 const EARLIER: usize = 8;
-// The honest validator that starts again in some networks, in one of so many steps, from the first
-// of them on.
-const RESTARTED: u32 = 7;
+// In one of so many steps validators are stopped, from the first of them on.
+const STOPS: u64 = 40;
 
-const RESTARTS: u64 = 40;
+const FIRST_STOP: u64 = 10;
+// The honest validator that is stopped where one is.
+const STOPPED: u32 = 7;
 
-const FIRST_RESTART: u64 = 10;
-
-/// What a validator does wrong.
+/// Who is stopped, and started again by its disk alone. What is on its way to it is lost.
 #[derive(Clone, Copy, Debug, PartialEq, Eq)]
-pub(crate) enum Role {
-    Honest,
-    /// Proposes two things in its view.
-    Equivocates,
-    /// Its votes don't attest.
-    SignsBadly,
-    /// Sends nothing.
-    Silent,
-    /// Sends votes of far views beside its own.
-    Floods,
-    /// Sends certificates that no quorum has made, beside its votes.
-    Forges,
-    /// Sends its votes again and again.
-    Repeats,
+pub(crate) enum Stops {
+    Nobody,
+    /// One honest validator.
+    One,
+    /// All of them in one step.
+    All,
+    /// Each of them, in a step of its own.
+    Each,
 }
 
-/// The role of a validator in the network of a seed. The six that do something wrong go round, and
-/// four in a row of them are played: so each is played in four of six networks.
-pub(crate) fn role_of(seed: u64, validator: u32) -> Role {
-    if validator % 3 != 2 {
-        return Role::Honest;
-    }
-    match (seed % 6 + 5 + u64::from(validator / 3)) % 6 {
-        0 => Role::Equivocates,
-        1 => Role::SignsBadly,
-        2 => Role::Silent,
-        3 => Role::Floods,
-        4 => Role::Forges,
-        _ => Role::Repeats,
+/// Who is stopped in the network of a seed.
+pub(crate) fn stops_of(seed: u64) -> Stops {
+    match seed / 8 % 4 {
+        0 => Stops::Nobody,
+        1 => Stops::One,
+        2 => Stops::All,
+        _ => Stops::Each,
     }
 }
 
-// In which step an honest validator starts again, in every second six of networks.
-fn restart_of(seed: u64) -> Option<usize> {
-    if seed / 6 % 2 == 1 {
-        Some((FIRST_RESTART + seed % RESTARTS) as usize)
-    } else {
-        None
-    }
+// In which step a validator is stopped, if it is.
+fn stop_of(seed: u64, validator: u32) -> Option<usize> {
+    let step = match stops_of(seed) {
+        Stops::Nobody => return None,
+        Stops::One if validator != STOPPED => return None,
+        Stops::One | Stops::All => seed,
+        Stops::Each => seed.saturating_add(u64::from(validator).saturating_mul(7)),
+    };
+    Some((FIRST_STOP + step % STOPS) as usize)
 }
 
 // A message on its way.
@@ -88,94 +76,51 @@ struct Delivery {
     message: usize,
 }
 
-/// Whether what has to hold of a network holds.
-#[derive(Clone, Copy, Debug)]
-pub(crate) struct Checks {
-    /// How many views the honest have finalized.
-    pub(crate) finalized: usize,
-    /// All honest ones have entered the view after the last, and finalized the same proposals.
-    pub(crate) agreed: bool,
-    /// The faulty ones are blocked by those that saw why, and by nobody else.
-    pub(crate) caught: bool,
-    /// No honest one is blocked by anybody.
-    pub(crate) spared: bool,
-    /// No vote that came again had an honest one construct.
-    pub(crate) rested: bool,
-    /// Each quorum of votes that came to an honest one was certified there before it rested.
-    pub(crate) completed: bool,
-}
-
-impl Checks {
-    /// Whether all hold, and something was finalized.
-    pub(crate) fn hold(&self) -> bool {
-        self.agreed
-            && self.caught
-            && self.spared
-            && self.rested
-            && self.completed
-            && self.finalized > 0
-    }
-}
-
 #[derive(Drop)]
 pub(crate) struct Network {
     alloc: Global,
-    seed: u64,
+    pub(crate) seed: u64,
     rng: Pcg32,
+    scheme: Rc<DemoScheme>,
     pub(crate) validators: Vec<Validator>,
+    pub(crate) witnesses: Vec<Witness>,
+    pub(crate) records: Vec<Record>,
     posted: Vec<Posted>,
     // Where the votes are that one validator repeats.
     repeated: Vec<usize>,
     // What comes at each step.
     calendar: Vec<Vec<Delivery>>,
-    witnesses: Vec<Witness>,
     /// The steps until nothing was on its way any more.
     pub(crate) steps: usize,
-}
-
-fn scheme_of(alloc: Global) -> Result<Rc<DemoScheme>> {
-    let mut names = Vec::new(alloc);
-    for number in 0..VALIDATORS {
-        names.push(Name(u64::from(number)))?;
-    }
-    match Set::new(names) {
-        Ok(participants) => {
-            let padding = 0;
-            Ok(Rc::new(
-                alloc,
-                Plain {
-                    participants,
-                    padding,
-                },
-            )?)
-        }
-        Err(fault) => Err(fault.into()),
-    }
-}
-
-fn validator_of(alloc: Global, scheme: &Rc<DemoScheme>, me: u32) -> Result<Validator> {
-    let signing = scheme.clone()?;
-    let station = Station::new(alloc, signing, scheme.clone()?, me, AHEAD);
-    match station? {
-        Some(station) => Validator::new(alloc, station, me),
-        None => bail!("validator {me} has no key"),
-    }
+    /// The highest view that a validator was in when one was stopped.
+    pub(crate) stopped_in: u64,
+    // Whom honest ones had blocked before they were stopped.
+    caught: Vec<u32>,
 }
 
 /// Plays a network to its end.
 pub(crate) fn play(alloc: Global, seed: u64) -> Result<Network> {
     let mut network = begin(alloc, seed)?;
-    network.run()?;
-    Ok(network)
+    match network.run() {
+        Ok(()) => Ok(network),
+        Err(fault) => {
+            drop(network);
+            Err(fault)
+        }
+    }
 }
 
 fn begin(alloc: Global, seed: u64) -> Result<Network> {
-    let scheme = scheme_of(alloc)?;
+    let participants = names(alloc, VALIDATORS)?;
+    let scheme = Rc::new(alloc, Keyed::new(participants, [16; 32]))?;
     let mut validators = Vec::new(alloc);
     let mut witnesses = Vec::new(alloc);
+    let mut records = Vec::new(alloc);
     for me in 0..VALIDATORS {
-        validators.push(validator_of(alloc, &scheme, me)?)?;
+        let station = Station::new(alloc, scheme.clone()?, me)?;
+        validators.push(Validator::new(alloc, station, me)?)?;
         witnesses.push(Witness::new(alloc)?)?;
+        records.push(Record::new(alloc)?)?;
     }
     let mut calendar = Vec::new(alloc);
     for _ in 0..STEPS {
@@ -185,12 +130,16 @@ fn begin(alloc: Global, seed: u64) -> Result<Network> {
         alloc,
         seed,
         rng: Pcg32::new(seed, 16),
+        scheme,
         validators,
+        witnesses,
+        records,
         posted: Vec::new(alloc),
         repeated: Vec::new(alloc),
         calendar,
-        witnesses,
         steps: 0,
+        stopped_in: 0,
+        caught: Vec::new(alloc),
     })
 }
 
@@ -202,8 +151,10 @@ impl Network {
 
     fn run(&mut self) -> Result<()> {
         for now in 0..STEPS {
-            if restart_of(self.seed) == Some(now) {
-                self.restart(now)?;
+            for me in 0..VALIDATORS {
+                if stop_of(self.seed, me) == Some(now) {
+                    self.restart(now, me)?;
+                }
             }
             let mut due = self.take_due(now);
             if !due.is_empty() {
@@ -250,51 +201,94 @@ impl Network {
         self.post(now, me)
     }
 
-    // A validator loses its node and starts again.
-    fn restart(&mut self, now: usize) -> Result<()> {
-        for posted in self.posted.as_mut_slice() {
-            posted.forget(RESTARTED);
+    // A validator is stopped, and started again. What is on its way to it is lost.
+    fn restart(&mut self, now: usize, me: u32) -> Result<()> {
+        for due in self.calendar.as_mut_slice() {
+            due.retain(move |delivery| delivery.to != me);
         }
-        if let Some(witness) = self.witnesses.get_mut(RESTARTED as usize) {
+        for posted in self.posted.as_mut_slice() {
+            posted.forget(me);
+        }
+        if let Some(witness) = self.witnesses.get_mut(me as usize) {
             witness.forget();
         }
-        if let Some(validator) = self.validators.get_mut(RESTARTED as usize) {
-            validator.restart(self.alloc, now)?;
+        self.note_caught(me)?;
+        let place = me as usize;
+        if place < self.validators.len() {
+            let validator = self.validators.remove(place);
+            self.stopped_in = self.stopped_in.max(validator.current);
+            let again = validator.restarted(self.alloc, now)?;
+            self.validators.insert(place, again)?;
         }
-        self.post(now, RESTARTED)
+        self.post(now, me)
+    }
+
+    // Notes whom an honest one has blocked.
+    fn note_caught(&mut self, me: u32) -> Result<(), AllocError> {
+        if self.role(me) == Role::Honest {
+            if let Some(validator) = self.validators.get(me as usize) {
+                for block in validator.blocks.as_slice() {
+                    self.caught.push(block.peer)?;
+                }
+            }
+        }
+        Ok(())
+    }
+
+    /// Whether an honest one had blocked the peer before it was stopped.
+    pub(crate) fn was_caught(&self, peer: u32) -> bool {
+        self.caught.contains(&peer)
     }
 
     // Sends what the validator has to send, as its role has it.
     fn post(&mut self, now: usize, me: u32) -> Result<()> {
-        let outbox = self.take_outbox(me);
-        let role = self.role(me);
-        for message in outbox {
+        for message in self.take_outbox(me) {
             if let Some(witness) = self.witnesses.get_mut(me as usize) {
                 witness.note(me, &message);
             }
-            match (role, message) {
-                (Role::Silent, _) => {}
-                (Role::SignsBadly, Message::Vote(vote)) => {
-                    self.send_all(now, me, Message::Vote(spoiled(&vote)))?;
+            if let Some(record) = self.records.get_mut(me as usize) {
+                record.note(&message);
+            }
+            self.post_one(now, me, message)?;
+        }
+        Ok(())
+    }
+
+    fn post_one(&mut self, now: usize, me: u32, message: Message) -> Result<()> {
+        let role = self.role(me);
+        let Message::Vote(vote) = message else {
+            if role != Role::Silent {
+                self.send_all(now, me, message)?;
+            }
+            return Ok(());
+        };
+        match role {
+            Role::Silent => {}
+            Role::SignsBadly => self.send_all(now, me, Message::Vote(spoiled(&vote)))?,
+            Role::Equivocates => self.equivocate(now, me, vote)?,
+            Role::Builds => self.build(now, me, vote)?,
+            Role::Honest => self.send_all(now, me, Message::Vote(vote))?,
+            Role::Floods => {
+                self.send_all(now, me, Message::Vote(vote))?;
+                let far = self.far_vote(me, vote.round().view.0);
+                self.send_all(now, me, Message::Vote(far))?;
+            }
+            Role::Forges => {
+                self.send_all(now, me, Message::Vote(vote))?;
+                let certificate = forged(self.alloc, &vote)?;
+                self.send_some(now, me, Message::Certificate(certificate))?;
+            }
+            Role::Repeats => {
+                self.repeated.push(self.posted.len())?;
+                self.send_all(now, me, Message::Vote(vote))?;
+                self.repeat(now, me)?;
+            }
+            Role::Contradicts => {
+                self.send_all(now, me, Message::Vote(vote))?;
+                if let Subject::Finalize { .. } = vote.subject() {
+                    let other = giving_up(&self.scheme, me, &vote);
+                    self.send_all(now, me, Message::Vote(other))?;
                 }
-                (Role::Floods, Message::Vote(vote)) => {
-                    self.send_all(now, me, Message::Vote(vote))?;
-                    let far = self.far_vote(me, vote.round().view.0);
-                    self.send_all(now, me, Message::Vote(far))?;
-                }
-                (Role::Equivocates, Message::Vote(vote)) => {
-                    self.equivocate(now, me, vote)?;
-                }
-                (Role::Forges, Message::Vote(vote)) => {
-                    self.send_all(now, me, Message::Vote(vote))?;
-                    self.send_some(now, me, Message::Certificate(forged(&vote)))?;
-                }
-                (Role::Repeats, Message::Vote(vote)) => {
-                    self.repeated.push(self.posted.len())?;
-                    self.send_all(now, me, Message::Vote(vote))?;
-                    self.repeat(now, me)?;
-                }
-                (_, message) => self.send_all(now, me, message)?,
             }
         }
         Ok(())
@@ -368,7 +362,7 @@ impl Network {
     fn far_vote(&mut self, me: u32, view: u64) -> AnyVote {
         let beyond = FAR.saturating_add(u64::from(below(&mut self.rng, VALIDATORS)));
         let round = numbered(view.saturating_add(beyond));
-        signed(me, Subject::Nullify { round })
+        signed(&self.scheme, me, Subject::Nullify { round })
     }
 
     // In its own view it sends some validators its proposal, others another, and some both.
@@ -377,11 +371,11 @@ impl Network {
             return self.send_all(now, me, Message::Vote(vote));
         };
         let view = proposal.round.view.0;
-        if view != u64::from(me) {
+        if leader_of(view) != me {
             return self.send_all(now, me, Message::Vote(vote));
         }
-        let other = proposed(view, proposal.parent.0, b'b');
-        let second = signed(me, Subject::Notarize { proposal: other });
+        let proposal = proposed(view, proposal.parent.0, b'b');
+        let second = signed(&self.scheme, me, Subject::Notarize { proposal });
         let place = self.posted.len();
         self.posted.push(Posted::new(Message::Vote(vote)))?;
         self.posted.push(Posted::new(Message::Vote(second)))?;
@@ -399,159 +393,17 @@ impl Network {
         Ok(())
     }
 
-    /// What holds of it, once it was played.
-    pub(crate) fn checks(&self) -> Checks {
-        Checks {
-            finalized: self.count_finalized(),
-            agreed: self.have_agreed(),
-            caught: self.are_caught(),
-            spared: self.are_spared(),
-            rested: self.have_rested(),
-            completed: self.have_completed(),
-        }
-    }
-
-    // How many views the first validator, an honest one, has finalized.
-    fn count_finalized(&self) -> usize {
-        let mut count = 0usize;
-        if let Some(first) = self.validators.first() {
-            for view in 1..=VIEWS {
-                if first.seen(view).finalized.is_some() {
-                    count = count.saturating_add(1);
-                }
+    // In its own view it proposes what has no ground.
+    fn build(&mut self, now: usize, me: u32, vote: AnyVote) -> Result<(), AllocError> {
+        let sent = match vote.subject() {
+            Subject::Notarize { proposal } if leader_of(proposal.round.view.0) == me => {
+                let proposal = groundless(&proposal);
+                signed(&self.scheme, me, Subject::Notarize { proposal })
             }
-        }
-        count
+            _ => vote,
+        };
+        self.send_all(now, me, Message::Vote(sent))
     }
-
-    fn have_agreed(&self) -> bool {
-        match self.validators.first() {
-            Some(first) => {
-                for validator in self.validators.as_slice() {
-                    if self.is_honest(validator) && !agrees(first, validator) {
-                        return false;
-                    }
-                }
-                true
-            }
-            None => false,
-        }
-    }
-
-    fn is_honest(&self, validator: &Validator) -> bool {
-        self.role(validator.me) == Role::Honest
-    }
-
-    // Whether the honest ones treat each as it deserves, and have found whom they are sure to find.
-    fn are_caught(&self) -> bool {
-        for peer in 0..VALIDATORS {
-            let role = self.role(peer);
-            let mut caught = false;
-            for (validator, witness) in self.validators.iter().zip(self.witnesses.iter()) {
-                if self.is_honest(validator) {
-                    if !is_just(role, validator, witness, peer) {
-                        return false;
-                    }
-                    caught = caught || validator.has_blocked(peer);
-                }
-            }
-            if !caught && (role == Role::SignsBadly || role == Role::Forges) {
-                return false;
-            }
-        }
-        self.validators.iter().all(tells_all)
-    }
-
-    fn are_spared(&self) -> bool {
-        for validator in self.validators.as_slice() {
-            for block in validator.blocks.as_slice() {
-                if self.role(block.peer) == Role::Honest {
-                    return false;
-                }
-            }
-        }
-        true
-    }
-
-    fn have_rested(&self) -> bool {
-        let mut repeats = 0usize;
-        for (validator, witness) in self.validators.iter().zip(self.witnesses.iter()) {
-            if self.is_honest(validator) {
-                if witness.was_woken {
-                    return false;
-                }
-                repeats = repeats.saturating_add(witness.repeats);
-            }
-        }
-        repeats > 0
-    }
-
-    fn have_completed(&self) -> bool {
-        for (validator, witness) in self.validators.iter().zip(self.witnesses.iter()) {
-            if self.is_honest(validator) && witness.left_quorum {
-                return false;
-            }
-        }
-        true
-    }
-}
-
-// Whether it has finalized the same as the first one, and came to the end.
-fn agrees(first: &Validator, validator: &Validator) -> bool {
-    for view in 1..=VIEWS {
-        if first.seen(view).finalized != validator.seen(view).finalized {
-            return false;
-        }
-    }
-    validator.current > VIEWS
-}
-
-// Whether an honest validator has blocked a peer of the role where it saw why, and for that alone.
-// One that started again keeps no evidence in views that it is beyond, but may know enough of them
-// to block the one that equivocates.
-fn is_just(role: Role, validator: &Validator, witness: &Witness, peer: u32) -> bool {
-    match (role, validator.cause_against(peer)) {
-        (Role::Equivocates, Some(Cause::Vote(_))) => {
-            witness.saw_both() || validator.restarted.is_some()
-        }
-        (Role::SignsBadly, Some(Cause::Signature)) => validator.has_named(peer),
-        (Role::Forges, Some(Cause::Certificate)) => witness.saw_forged,
-        (_, Some(_)) => false,
-        (Role::Equivocates, None) => !witness.saw_both(),
-        (Role::SignsBadly, None) => !validator.has_named(peer),
-        (Role::Forges, None) => !witness.saw_forged,
-        (_, None) => true,
-    }
-}
-
-// Whether the node's blocks are those that its answers reported.
-fn tells_all(validator: &Validator) -> bool {
-    validator.blocks.len() == validator.station.blocked()
-}
-
-// The certificate that the vote would make, if it were a quorum.
-fn forged(vote: &AnyVote) -> AnyCertificate {
-    let sum = vote.attestation().signature.word;
-    Certificate::new(vote.subject(), Tally { count: 1, sum })
-}
-
-// The vote of a validator. What is faulty numbers no signatures.
-fn signed(me: u32, subject: Subject<Sha256Digest>) -> AnyVote {
-    Vote::new(subject, sign(Participant::new(me), subject, 0))
-}
-
-// The vote with a bit of its signature turned.
-fn spoiled(vote: &AnyVote) -> AnyVote {
-    let attestation = vote.attestation();
-    let mut signature = attestation.signature;
-    signature.word ^= 1;
-    Vote::new(
-        vote.subject(),
-        Attestation {
-            signer: attestation.signer,
-            signature,
-        },
-    )
 }
 
 // A number below the bound, which isn't 0.

@@ -1,14 +1,17 @@
 //! The picture of a network that was played: a row for each validator, a column for each view, and
 //! below it who was blocked, and what became of the votes.
 
-use crate::network::{Checks, Network, Role, SLOWEST};
+use crate::checks::{Chain, Checks, check};
+use crate::network::{Network, SLOWEST, Stops, stops_of};
+use crate::record::{Record, Seen};
+use crate::roles::Role;
+use crate::station::AHEAD;
 use crate::validator::{
-    AHEAD, BEHIND, Counts, NOTHING, Seen, VALIDATORS, VIEWS, Validator, leader_of, letter_of,
+    BEHIND, Counts, NOTHING, VALIDATORS, VIEWS, Validator, leader_of, letter_of,
 };
 use anyhow::Result;
 use batcher::messages::Kind;
 use batcher::positions::quorum;
-use batcher::round::BlockReason;
 use batcher_node::Cause;
 
 fn word_of(role: Role) -> &'static str {
@@ -20,6 +23,8 @@ fn word_of(role: Role) -> &'static str {
         Role::Floods => "floods",
         Role::Forges => "forges",
         Role::Repeats => "repeats",
+        Role::Contradicts => "contradicts",
+        Role::Builds => "builds",
     }
 }
 
@@ -33,19 +38,21 @@ fn deed_of(role: Role) -> &'static str {
         Role::Floods => "sends a nullify of a far view with each vote",
         Role::Forges => "makes a certificate of each vote alone, and sends it to a few",
         Role::Repeats => "sends its last eight votes again with each vote",
+        Role::Contradicts => "sends a nullify of each view that it finalizes",
+        Role::Builds => "proposes on a parent that has no ground, in the view that it leads",
     }
 }
 
 /// Draws the network and says what came of it.
-pub(crate) fn draw(rt: &impl Print, seed: u64, network: &Network) -> Result<()> {
+pub(crate) fn draw(rt: &(impl AllocGlobal + Print), seed: u64, network: &Network) -> Result<()> {
     let steps = network.steps;
     let needed = quorum(VALIDATORS);
     print!(rt; "seed {seed}: {VALIDATORS} validators, quorum {needed}, {VIEWS} views, ")?;
     println!(rt; "{steps} steps; a message takes 1 to {SLOWEST} of them")?;
     println!(rt; "")?;
     draw_heading(rt)?;
-    for validator in network.validators.as_slice() {
-        draw_row(rt, validator, network.role(validator.me))?;
+    for (validator, record) in network.validators.iter().zip(network.records.iter()) {
+        draw_row(rt, validator, record, network.role(validator.me))?;
     }
     draw_total(rt, network, Kind::Notarization, "notarized at")?;
     draw_total(rt, network, Kind::Nullification, "nullified at")?;
@@ -60,8 +67,9 @@ pub(crate) fn draw(rt: &impl Print, seed: u64, network: &Network) -> Result<()> 
     }
     draw_restarts(rt, network)?;
     draw_votes(rt, network)?;
+    draw_chain(rt, network)?;
     println!(rt; "")?;
-    draw_checks(rt, &network.checks())
+    draw_checks(rt, &check(rt.alloc(), network)?)
 }
 
 fn draw_heading(rt: &impl Print) -> Result<()> {
@@ -73,30 +81,41 @@ fn draw_heading(rt: &impl Print) -> Result<()> {
     Ok(())
 }
 
-fn draw_row(rt: &impl Print, validator: &Validator, role: Role) -> Result<()> {
+fn draw_row(rt: &impl Print, validator: &Validator, record: &Record, role: Role) -> Result<()> {
     let me = validator.me;
     let word = word_of(role);
     print!(rt; "{me:>2} {word:<16}")?;
     for view in 1..=VIEWS {
-        draw_cell(rt, validator, role == Role::Silent, view)?;
+        draw_cell(
+            rt,
+            validator,
+            &record.seen(view),
+            role == Role::Silent,
+            view,
+        )?;
     }
     println!(rt; "")?;
     Ok(())
 }
 
-fn draw_cell(rt: &impl Print, validator: &Validator, is_silent: bool, view: u64) -> Result<()> {
-    let seen = validator.seen(view);
+fn draw_cell(
+    rt: &impl Print,
+    validator: &Validator,
+    seen: &Seen,
+    is_silent: bool,
+    view: u64,
+) -> Result<()> {
     let leads = if leader_of(view) == validator.me {
         '>'
     } else {
         ' '
     };
     let own = if is_silent {
-        unsent_mark(&seen)
+        unsent_mark(seen)
     } else {
-        own_mark(&seen)
+        own_mark(seen)
     };
-    let made = certified_mark(&seen);
+    let made = certified_mark(seen);
     let block = if validator.has_blocked_in(view) {
         '!'
     } else {
@@ -157,9 +176,8 @@ fn draw_total(rt: &impl Print, network: &Network, kind: Kind, title: &str) -> Re
     print!(rt; "   {title:<15}")?;
     for view in 1..=VIEWS {
         let mut count = 0u32;
-        for validator in network.validators.as_slice() {
-            let has = validator.seen(view).has(kind);
-            count = count.saturating_add(u32::from(has));
+        for record in network.records.as_slice() {
+            count = count.saturating_add(u32::from(record.seen(view).has(kind)));
         }
         print!(rt; "{count:>4} ")?;
     }
@@ -223,18 +241,34 @@ fn cause_word(cause: &Cause) -> &'static str {
     match cause {
         Cause::Signature => "a construction named its vote as bad",
         Cause::Certificate => "forged certificate",
-        Cause::Vote(BlockReason::ConflictingNotarize) => "conflicting notarizes",
-        Cause::Vote(_) => "another vote",
+        Cause::Vote(_) => "conflicting votes",
     }
 }
 
 fn draw_restarts(rt: &impl Print, network: &Network) -> Result<()> {
+    if stops_of(network.seed) == Stops::All {
+        if let Some(step) = network.validators.first().and_then(|it| it.restarted) {
+            println!(rt; "all were stopped in step {step} and started again by their disks alone")?;
+        }
+        return Ok(());
+    }
     for validator in network.validators.as_slice() {
         if let Some(step) = validator.restarted {
             let me = validator.me;
-            println!(rt; "{me:>2} lost its node in step {step} and started again")?;
+            println!(rt; "{me:>2} was stopped in step {step} and started again by its disk alone")?;
         }
     }
+    Ok(())
+}
+
+// The views whose proposals are final, each on the one before it.
+fn draw_chain(rt: &(impl AllocGlobal + Print), network: &Network) -> Result<()> {
+    print!(rt; "final chain: 0")?;
+    let chain = Chain::of(rt.alloc(), network)?;
+    for view in chain.blocks.as_slice() {
+        print!(rt; " <- {view}")?;
+    }
+    println!(rt; "")?;
     Ok(())
 }
 
@@ -259,13 +293,17 @@ fn draw_votes(rt: &impl Print, network: &Network) -> Result<()> {
 }
 
 fn draw_checks(rt: &impl Print, checks: &Checks) -> Result<()> {
-    let finalized = checks.finalized;
+    let blocks = checks.blocks;
     let agreed = yes_or_no(checks.agreed);
+    let grew = yes_or_no(checks.grew);
+    let consistent = yes_or_no(checks.consistent);
     let caught = yes_or_no(checks.caught);
     let spared = yes_or_no(checks.spared);
     let rested = yes_or_no(checks.rested);
     let completed = yes_or_no(checks.completed);
-    println!(rt; "all honest validators finalized the same {finalized} views: {agreed}")?;
+    println!(rt; "all honest validators agree on a final chain of {blocks} blocks: {agreed}")?;
+    println!(rt; "it grew, also after the last restart, and all of them came to its end: {grew}")?;
+    println!(rt; "no honest one contradicted itself: {consistent}")?;
     println!(rt; "each honest one blocked just those that it saw reason to block: {caught}")?;
     println!(rt; "no honest one is blocked by anybody: {spared}")?;
     println!(rt; "no vote that came again woke a view that was at rest: {rested}")?;

@@ -1,30 +1,32 @@
-//! A node, with what its validator signs by. Each call is in a function that promises little,
+//! A voter, with what its validator signs by. Each call is in a function that promises little,
 //! since what a call promises is carried to its caller's end.
 
-ghost use Rattle.std.specs.Prelude.{◌≡◌};
+ghost use Rattle.std.specs.Prelude.{◌≡◌, ◌<◌, length};
 
-use anyhow::Result;
+use anyhow::{Result, bail};
 use batcher::messages::{Certificate, Proposal, Sha256Digest, Subject, Vote};
 use batcher::positions::{Epoch, Participant, Round, View};
 use batcher::round::Admission;
-use batcher::scheme::{Counter, Name};
+use batcher::scheme::{AttestationList, Counter, Keyed, Name};
 use batcher::votes::Mode;
-use batcher_node::{Cast, Construction, EnterFault, Node, Receipt, Verdict};
-use batcher_rows::plain::{Padded, Plain, Tally, sign};
+use batcher_codec::{DecodeError, decode_owned};
+use batcher_journal::{Journal, Owner, Unopened};
+use batcher_log::MemoryLog;
+use batcher_node::{Cast, Cause, Construction, EnterFault, Receipt, Verdict};
+use batcher_voter::{CastFault, FinalizeFault, NotStarted, Permission, Voter};
 use std::alloc::{AllocError, Global};
 use std::marker::Model;
-use std::mem;
 use std::rc::Rc;
 
-/// The scheme of the benchmark. A signature carries a number that isn't verified, so that the same
-/// vote can be signed anew, and is another one then.
-pub(crate) type DemoScheme = Plain<u64>;
+pub(crate) type DemoScheme = Keyed<true>;
 
-pub(crate) type AnyVote = Vote<Padded<u64>, Sha256Digest>;
+pub(crate) type AnyVote = Vote<[u8; 32], Sha256Digest>;
 
-pub(crate) type AnyCertificate = Certificate<Tally, Sha256Digest>;
+pub(crate) type AnyCertificate = Certificate<AttestationList, Sha256Digest>;
 
 const EPOCH: Epoch = Epoch(16);
+// So many views beyond the current one are looked at.
+pub(crate) const AHEAD: u64 = 3;
 
 // The number of a view's round.
 pub(crate) fn numbered(view: u64) -> Round {
@@ -34,10 +36,20 @@ pub(crate) fn numbered(view: u64) -> Round {
     }
 }
 
-// The node of a participant. Contracts see it as the index.
+fn owner(me: u32) -> Owner<'static> {
+    Owner {
+        namespace: b"demo",
+        keys: b"thirteen",
+        participant: Participant::new(me),
+        digest_len: 32,
+        signature_len: 32,
+    }
+}
+
+// The voter of a participant. Contracts see it as the index.
 #[derive(Drop)]
 pub(crate) struct Station {
-    node: Node<DemoScheme, Sha256Digest>,
+    voter: Voter<DemoScheme, Sha256Digest, MemoryLog>,
     scheme: Rc<DemoScheme>,
     me: Participant,
     rng: Counter,
@@ -52,50 +64,57 @@ impl Model for Station {
 
     ghost view = { λ s. s.me.0 };
 
-    ghost invariant = { λ s. (s.node.scheme ≡ s.scheme.value)
+    ghost invariant = { λ s. (s.voter.node.scheme ≡ s.scheme.value)
         × (s.me.0 < length s.scheme.value.participants) };
 }
 
 impl Station {
-    // There is none for an index that is nobody's.
-    pub(crate) fn new(
-        alloc: Global,
-        scheme: Rc<DemoScheme>,
-        again: Rc<DemoScheme>,
-        me: u32,
-        ahead: u64,
-    ) -> Result<Option<Self>, AllocError>
-        requires { again.value ≡ scheme.value }
-    {
+    // One that begins with the epoch, on a disk without bytes.
+    pub(crate) fn new(alloc: Global, scheme: Rc<DemoScheme>, me: u32) -> Result<Self> {
+        let mut log = MemoryLog::new(alloc);
+        begin(alloc, &mut log, me)?;
         if me as usize >= scheme.participants.len() {
-            return Ok(None);
+            bail!("validator {me} has no key");
         }
-        let node = Node::new(alloc, EPOCH, again, View(0), ahead, true)?;
-        Ok(Some(Station {
-            node,
-            scheme,
-            me: Participant::new(me),
-            rng: Counter::new(0),
-            constructions: 0,
-        }))
+        Station::of(alloc, log, scheme, Participant::new(me))
     }
 
-    // Takes a new node. Its window begins where that of the lost one did.
-    pub(crate) fn restart(&mut self, alloc: Global) -> Result<(), AllocError> {
-        let window = self.node.window();
-        let again = Rc::clone(&self.scheme)?;
-        let finalized = View(window.finalized);
-        let node = Node::new(alloc, EPOCH, again, finalized, window.ahead, true)?;
-        mem::drop(mem::replace(&mut self.node, node));
-        Ok(())
+    // The same by what is on its disk.
+    fn of(alloc: Global, log: MemoryLog, scheme: Rc<DemoScheme>, me: Participant) -> Result<Self>
+        requires { me.0 < length scheme.value.participants }
+    {
+        let again = Rc::clone(&scheme)?;
+        let journal = opened(alloc, log, me.get())?;
+        match Voter::start(alloc, again, AHEAD, true, journal) {
+            Ok(voter) => Ok(Station {
+                voter,
+                scheme,
+                me,
+                rng: Counter::new(0),
+                constructions: 0,
+            }),
+            Err(NotStarted { .. }) => bail!("no voter is made of the journal"),
+        }
+    }
+
+    // It ends, and begins again by its disk alone.
+    pub(crate) fn restarted(self, alloc: Global) -> Result<Self> {
+        let Station {
+            voter,
+            scheme,
+            me,
+            ..
+        } = self;
+        let log = voter.into_journal().into_log();
+        Station::of(alloc, log, scheme, me)
     }
 
     pub(crate) fn hear_vote(
         &mut self,
         peer: Name,
         vote: AnyVote,
-    ) -> Result<Receipt<Admission<Padded<u64>, Sha256Digest>>, AllocError> {
-        self.node.receive_vote(peer, vote)
+    ) -> Result<Receipt<Admission<[u8; 32], Sha256Digest>>, AllocError> {
+        self.voter.receive_vote(peer, vote)
     }
 
     pub(crate) fn hear_certificate(
@@ -103,63 +122,112 @@ impl Station {
         peer: Name,
         certificate: &AnyCertificate,
     ) -> Result<Receipt<Verdict>, AllocError> {
-        self.node.receive_certificate(peer, certificate)
+        self.voter.receive_certificate(peer, certificate)
     }
 
-    // Signs a vote by a signature of this number, and casts it. There is none where it isn't to be
-    // sent.
-    pub(crate) fn cast(
-        &mut self,
-        subject: Subject<Sha256Digest>,
-        number: u64,
-    ) -> Result<Option<AnyVote>> {
-        let vote = Vote::new(subject, sign(self.me, subject, number));
-        match self.node.cast_vote(vote) {
-            Ok(Cast::ToSend(_)) => Ok(Some(vote)),
-            Ok(Cast::Known | Cast::Outside) => Ok(None),
-            Err(fault) => Err(fault.into()),
+    // Votes for a subject, where the policy clears it and it has no vote yet.
+    pub(crate) fn vote(&mut self, subject: Subject<Sha256Digest>) -> Result<Option<AnyVote>> {
+        match self.voter.ask(&subject) {
+            Permission::Sign => self.cast(subject),
+            Permission::Known(_) | Permission::Refused(_) | Permission::Outside => Ok(None),
+            Permission::Closed => bail!("the disk failed"),
         }
     }
 
-    pub(crate) fn enter(&mut self, view: u64, leader: u32) -> Result<(), EnterFault> {
-        self.node.enter(View(view), Participant::new(leader))
+    // Signs a vote, and casts it. There is none where it isn't to be sent. This scheme signs a
+    // subject the same each time, so a vote that was written comes out as it was.
+    pub(crate) fn cast(&mut self, subject: Subject<Sha256Digest>) -> Result<Option<AnyVote>> {
+        let vote = Vote::new(subject, self.scheme.sign(self.me, subject));
+        match self.voter.cast(vote) {
+            Ok(Cast::ToSend(_)) => Ok(Some(vote)),
+            Ok(Cast::Known | Cast::Outside) => Ok(None),
+            Err(CastFault::OutOfMemory) => Err(AllocError.into()),
+            Err(_) => bail!("a vote is refused that may be signed"),
+        }
     }
 
-    pub(crate) fn finalize(&mut self, view: u64) {
-        self.node.finalize(View(view));
+    // How many votes its disk has.
+    pub(crate) fn written(&self) -> usize {
+        self.voter.journal().votes().len()
+    }
+
+    // The vote that was written at this place.
+    pub(crate) fn written_at(&self, place: usize) -> Option<AnyVote> {
+        self.voter.journal().votes().get(place).copied()
+    }
+
+    // The certificates that its disk has.
+    pub(crate) fn kept(&self, alloc: Global) -> Result<Vec<AnyCertificate>> {
+        let mut kept = Vec::new(alloc);
+        let journal = self.voter.journal();
+        if !journal.finalization().is_empty() {
+            kept.push(decoded(alloc, journal.finalization())?)?;
+        }
+        for certified in journal.certificates() {
+            kept.push(decoded(alloc, certified.certificate())?)?;
+        }
+        Ok(kept)
+    }
+
+    pub(crate) fn enter(&mut self, view: u64, leader: u32) -> Result<(), EnterFault> {
+        self.voter.enter(View(view), Participant::new(leader))
+    }
+
+    pub(crate) fn finalize(&mut self, finalization: &AnyCertificate) -> Result<(), FinalizeFault> {
+        self.voter.finalize(finalization)
     }
 
     pub(crate) fn construct(
         &mut self,
-    ) -> Result<Option<Construction<Tally, Sha256Digest>>, AllocError> {
-        let made = self.node.try_construct(&mut self.rng)?;
+    ) -> Result<Option<Construction<AttestationList, Sha256Digest>>, AllocError> {
+        let made = self.voter.try_construct(&mut self.rng)?;
         if made.is_some() {
             self.constructions = self.constructions.saturating_add(1);
         }
         Ok(made)
     }
 
-    pub(crate) fn rounds_kept(&self) -> usize {
-        self.node.rounds_kept()
+    // The view to be in.
+    pub(crate) fn next_view(&self) -> Option<u64> {
+        match self.voter.next_view() {
+            Some(view) => Some(view.0),
+            None => None,
+        }
     }
 
-    // How many peers the node has blocked.
-    pub(crate) fn blocked(&self) -> usize {
-        let mut blocked = 0usize;
-        for cause in self.node.blocked() {
-            blocked = blocked.saturating_add(usize::from(cause.is_some()));
+    // The view on which to propose in this one.
+    pub(crate) fn parent_for(&self, view: u64) -> Option<u64> {
+        match self.voter.parent_for(View(view)) {
+            Some(parent) => Some(parent.0),
+            None => None,
         }
-        blocked
+    }
+
+    // The first view that is looked at.
+    pub(crate) fn first_view(&self) -> u64 {
+        self.voter.node().window().finalized
+    }
+
+    pub(crate) fn rounds_kept(&self) -> usize {
+        self.voter.node().rounds_kept()
+    }
+
+    // Why the node has blocked a peer, if it has.
+    pub(crate) fn cause_against(&self, peer: u32) -> Option<Cause> {
+        match self.voter.node().blocked().get(peer as usize) {
+            Some(cause) => *cause,
+            None => None,
+        }
     }
 
     // Whether messages of the view are looked at.
     pub(crate) fn looks_at(&self, view: u64) -> bool {
-        self.node.window().contains(view)
+        self.voter.node().window().contains(view)
     }
 
     // The proposal that is selected in the view.
     pub(crate) fn selected(&self, view: u64) -> Option<Proposal<Sha256Digest>> {
-        match self.node.round(View(view)) {
+        match self.voter.node().round(View(view)) {
             Some(round) => round.proposal(),
             None => None,
         }
@@ -167,9 +235,43 @@ impl Station {
 
     // Whether votes of the view are kept as evidence, and make certificates.
     pub(crate) fn keeps_evidence(&self, view: u64) -> bool {
-        match self.node.round(View(view)) {
+        match self.voter.node().round(View(view)) {
             Some(round) => round.mode() == Mode::Retaining,
             None => false,
         }
+    }
+}
+
+// Begins a journal at the start of the epoch.
+fn begin(alloc: Global, log: &mut MemoryLog, me: u32) -> Result<()> {
+    let begun = Journal::<[u8; 32], Sha256Digest, MemoryLog>::begin(
+        alloc,
+        log,
+        &owner(me),
+        numbered(0),
+        b"",
+    );
+    match begun {
+        Ok(()) => Ok(()),
+        Err(_) => bail!("no journal begins"),
+    }
+}
+
+fn opened(
+    alloc: Global,
+    log: MemoryLog,
+    me: u32,
+) -> Result<Journal<[u8; 32], Sha256Digest, MemoryLog>> {
+    match Journal::open(alloc, log, &owner(me)) {
+        Ok(journal) => Ok(journal),
+        Err(Unopened { .. }) => bail!("the journal doesn't open"),
+    }
+}
+
+fn decoded(alloc: Global, bytes: &[u8]) -> Result<AnyCertificate> {
+    match decode_owned(alloc, bytes) {
+        Ok(certificate) => Ok(certificate),
+        Err(DecodeError::OutOfMemory) => Err(AllocError.into()),
+        Err(DecodeError::Fault(_)) => bail!("the disk has bytes that are no certificate"),
     }
 }

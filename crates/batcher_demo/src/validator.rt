@@ -1,27 +1,28 @@
-//! A validator: it notarizes what leaders propose, gives views up that take too long, and finalizes
-//! what was notarized.
+//! A validator: what its voter leaves to it. It hands in what comes, asks for votes, keeps time,
+//! keeps certificates to send them again, and leads.
 
 use crate::station::{AnyCertificate, AnyVote, Station, numbered};
-use anyhow::Result;
-use batcher::messages::{Certificate, Kind, Proposal, Sha256Digest, Subject};
+use anyhow::{Result, bail};
+use batcher::messages::{Kind, Proposal, Sha256Digest, Subject};
 use batcher::positions::Participant;
-use batcher::scheme::Name;
+use batcher::scheme::{AttestationList, Name};
 use batcher::verifier::Batch;
 use batcher_node::{Cause, Construction, Receipt, Verdict};
-use batcher_rows::plain::Tally;
+use batcher_voter::FinalizeFault;
 use std::alloc::{AllocError, Global};
 
 /// How many validators there are.
 pub(crate) const VALIDATORS: u32 = 13;
 /// How many views are played. Each validator leads one.
 pub(crate) const VIEWS: u64 = 13;
-// After so many steps in a view a validator gives it up.
-const PATIENCE: usize = 6;
-/// So many views before the last finalized one are still looked at, since certificates of them may
-/// be on their way.
+// After so many steps in a view a validator gives it up, and after as many more it says again what
+// it has to say.
+const PATIENCE: usize = 8;
+// Behind the last view it says so often what it knows, for who fell behind.
+const REPEATS: u32 = 4;
+/// So many views before the last final one are still looked at, since messages of them may be on
+/// their way.
 pub(crate) const BEHIND: u64 = 4;
-/// So many views beyond the current one are looked at.
-pub(crate) const AHEAD: u64 = 3;
 
 /// What a validator sends to all others.
 #[derive(Drop)]
@@ -48,43 +49,6 @@ pub(crate) fn proposed(view: u64, parent: u64, letter: u8) -> Proposal<Sha256Dig
 pub(crate) fn letter_of(proposal: &Proposal<Sha256Digest>) -> u8 {
     proposal.payload.0[0]
 }
-
-/// What a validator has done in a view, and what it knows of it.
-#[derive(Clone, Copy, Debug)]
-pub(crate) struct Seen {
-    // What the leader proposes, as far as it was heard.
-    heard: Option<Proposal<Sha256Digest>>,
-    /// What it has notarized itself.
-    pub(crate) voted: Option<Proposal<Sha256Digest>>,
-    /// Whether it gave the view up.
-    pub(crate) gave_up: bool,
-    // Whether it voted to finalize.
-    sealed: bool,
-    pub(crate) notarized: Option<Proposal<Sha256Digest>>,
-    pub(crate) nullified: bool,
-    pub(crate) finalized: Option<Proposal<Sha256Digest>>,
-}
-
-impl Seen {
-    /// Whether there is a certificate of the kind.
-    pub(crate) fn has(&self, kind: Kind) -> bool {
-        match kind {
-            Kind::Notarization => self.notarized.is_some(),
-            Kind::Nullification => self.nullified,
-            Kind::Finalization => self.finalized.is_some(),
-        }
-    }
-}
-
-const UNSEEN: Seen = Seen {
-    heard: None,
-    voted: None,
-    gave_up: false,
-    sealed: false,
-    notarized: None,
-    nullified: false,
-    finalized: None,
-};
 
 /// That a validator has blocked a peer, by what it sent in a view.
 #[derive(Clone, Copy, Debug)]
@@ -128,28 +92,22 @@ impl Counts {
     }
 }
 
-// A vote that it has sent: what it signed, and the number of its signature.
-#[derive(Clone, Copy, Debug)]
-struct Sent {
-    subject: Subject<Sha256Digest>,
-    number: u64,
-}
-
 #[derive(Drop)]
 pub(crate) struct Validator {
     pub(crate) station: Station,
     pub(crate) me: u32,
     pub(crate) current: u64,
-    entered: usize,
-    // By their views.
-    views: Vec<Seen>,
+    // When it entered that view, or last said again what it had said.
+    since: usize,
+    said: u32,
+    // What leaders propose, as far as it was heard, by views.
+    heard: Vec<Option<Proposal<Sha256Digest>>>,
+    // The certificates that it knows of the views that are looked at.
+    certificates: Vec<AnyCertificate>,
     pub(crate) blocks: Vec<Block>,
     // Whose votes constructions have named as bad.
     named: Vec<u32>,
-    sent: Vec<Sent>,
-    // How often it has signed. Each signature has a number of its own.
-    signed: u64,
-    /// When it lost its node and started again, if it did.
+    /// When it was last stopped and started again, if it was.
     pub(crate) restarted: Option<usize>,
     pub(crate) counts: Counts,
     /// What it is about to send.
@@ -157,35 +115,97 @@ pub(crate) struct Validator {
 }
 
 impl Validator {
-    /// A validator that has entered the first view.
-    pub(crate) fn new(alloc: Global, mut station: Station, me: u32) -> Result<Self> {
-        let mut views = Vec::new(alloc);
-        for _ in 0..VIEWS + 2 {
-            views.push(UNSEEN)?;
+    /// One that begins with the epoch.
+    pub(crate) fn new(alloc: Global, station: Station, me: u32) -> Result<Self> {
+        let mut validator = Validator::of(alloc, station, me, NOTHING)?;
+        match validator.begin(alloc, 0) {
+            Ok(()) => Ok(validator),
+            Err(fault) => {
+                drop(validator);
+                Err(fault)
+            }
         }
-        station.enter(1, leader_of(1))?;
+    }
+
+    /// It is stopped, and started again by its disk alone. Only the counts are of all its lives.
+    pub(crate) fn restarted(self, alloc: Global, now: usize) -> Result<Self> {
+        let Validator {
+            station,
+            me,
+            counts,
+            ..
+        } = self;
+        let mut validator = Validator::of(alloc, station.restarted(alloc)?, me, counts)?;
+        validator.restarted = Some(now);
+        match validator.begin(alloc, now) {
+            Ok(()) => Ok(validator),
+            Err(fault) => {
+                drop(validator);
+                Err(fault)
+            }
+        }
+    }
+
+    fn of(alloc: Global, station: Station, me: u32, counts: Counts) -> Result<Self> {
+        let mut heard = Vec::new(alloc);
+        for _ in 0..VIEWS + 2 {
+            heard.push(None)?;
+        }
         Ok(Validator {
             station,
             me,
-            current: 1,
-            entered: 0,
-            views,
+            current: 0,
+            since: 0,
+            said: 0,
+            heard,
+            certificates: Vec::new(alloc),
             blocks: Vec::new(alloc),
             named: Vec::new(alloc),
-            sent: Vec::new(alloc),
-            signed: 0,
             restarted: None,
-            counts: NOTHING,
+            counts,
             outbox: Vec::new(alloc),
         })
     }
 
-    /// What it knows of a view.
-    pub(crate) fn seen(&self, view: u64) -> Seen {
-        match self.views.get(view as usize) {
-            Some(seen) => *seen,
-            None => UNSEEN,
+    // Goes on with what its disk has: it sends the certificates again, enters the views above the
+    // final one, and casts the votes again, in their order.
+    fn begin(&mut self, alloc: Global, now: usize) -> Result<()> {
+        for certificate in self.station.kept(alloc)? {
+            self.keep(certificate)?;
         }
+        let first = self.station.first_view();
+        let next = self.next_view();
+        for view in first.saturating_add(1)..=next {
+            self.station.enter(view, leader_of(view))?;
+        }
+        self.current = next;
+        self.since = now;
+        for place in 0..self.station.written() {
+            self.cast_again(place)?;
+        }
+        self.go_on(now)
+    }
+
+    fn cast_again(&mut self, place: usize) -> Result<()> {
+        if let Some(vote) = self.station.written_at(place) {
+            let cast = self.station.cast(vote.subject())?;
+            self.send(cast)?;
+        }
+        Ok(())
+    }
+
+    // Votes for a subject, where its voter clears that.
+    fn vote(&mut self, subject: Subject<Sha256Digest>) -> Result<()> {
+        let cast = self.station.vote(subject)?;
+        self.send(cast)?;
+        Ok(())
+    }
+
+    fn send(&mut self, vote: Option<AnyVote>) -> Result<(), AllocError> {
+        if let Some(vote) = vote {
+            self.outbox.push(Message::Vote(vote))?;
+        }
+        Ok(())
     }
 
     /// Whether it has blocked a peer.
@@ -211,10 +231,11 @@ impl Validator {
         }
     }
 
-    fn note(&mut self, view: u64, seen: Seen) {
-        if let Some(place) = self.views.get_mut(view as usize) {
-            *place = seen;
-        }
+    /// Whether it keeps a certificate of that kind and view.
+    pub(crate) fn has(&self, kind: Kind, view: u64) -> bool {
+        self.certificates
+            .iter()
+            .any(|c| c.kind() == kind && c.round().view.0 == view)
     }
 
     fn block(&mut self, peer: u32, view: u64, cause: Cause) -> Result<(), AllocError> {
@@ -261,136 +282,95 @@ impl Validator {
         if let Subject::Notarize { proposal } = vote.subject() {
             let view = proposal.round.view.0;
             if peer == leader_of(view) {
-                let mut seen = self.seen(view);
-                seen.heard = Some(proposal);
-                self.note(view, seen);
+                if let Some(place) = self.heard.get_mut(view as usize) {
+                    *place = Some(proposal);
+                }
             }
         }
     }
 
     // A certificate that it has is of no use again, and is not verified.
-    fn hear_certificate(
-        &mut self,
-        peer: u32,
-        certificate: &AnyCertificate,
-    ) -> Result<(), AllocError> {
-        if self.holds(certificate) {
+    fn hear_certificate(&mut self, peer: u32, certificate: &AnyCertificate) -> Result<()> {
+        let view = certificate.round().view.0;
+        if self.has(certificate.kind(), view) {
             return Ok(());
         }
-        let view = certificate.round().view.0;
-        let name = Name(u64::from(peer));
-        match self.station.hear_certificate(name, certificate)? {
-            Receipt::Answered(Verdict::Recorded(_)) => self.keep(certificate.clone()?),
-            Receipt::Answered(Verdict::Forged) => { self.block(peer, view, Cause::Certificate) }
-            Receipt::Answered(Verdict::Known)
-            | Receipt::Outside
-            | Receipt::Dropped
-            | Receipt::Unknown => Ok(()),
+        match self
+            .station
+            .hear_certificate(Name(u64::from(peer)), certificate)?
+        {
+            Receipt::Answered(Verdict::Recorded(_)) => self.keep(certificate.clone()?)?,
+            Receipt::Answered(Verdict::Forged) => self.block(peer, view, Cause::Certificate)?,
+            Receipt::Outside => self.catch_up(peer, certificate)?,
+            Receipt::Answered(Verdict::Known) | Receipt::Dropped | Receipt::Unknown => {}
         }
+        Ok(())
     }
 
-    /// Whether it has a certificate of that kind and view.
-    pub(crate) fn holds(&self, certificate: &AnyCertificate) -> bool {
-        let seen = self.seen(certificate.round().view.0);
-        seen.has(certificate.kind())
+    /// Whether a certificate would have it go on from a view beyond those that it looks at.
+    pub(crate) fn is_ahead(&self, certificate: &AnyCertificate) -> bool {
+        let view = certificate.round().view.0;
+        certificate.kind() == Kind::Finalization && view > self.station.first_view()
     }
 
-    // Keeps a certificate that is new, and sends it on.
+    // Goes on from a finalization, where it fell behind.
+    fn catch_up(&mut self, peer: u32, certificate: &AnyCertificate) -> Result<()> {
+        if !self.is_ahead(certificate) {
+            return Ok(());
+        }
+        match self.station.finalize(certificate) {
+            Ok(()) => self.keep(certificate.clone()?)?,
+            Err(FinalizeFault::Forged) => {
+                self.block(peer, certificate.round().view.0, Cause::Certificate)?;
+            }
+            Err(_) => bail!("a finalization isn't taken in"),
+        }
+        Ok(())
+    }
+
+    // Keeps a certificate, and sends it on.
     fn keep(&mut self, certificate: AnyCertificate) -> Result<(), AllocError> {
-        let view = certificate.round().view.0;
-        let mut seen = self.seen(view);
-        match &certificate {
-            Certificate::Notarization(made) => seen.notarized = Some(made.proposal),
-            Certificate::Nullification(_) => seen.nullified = true,
-            Certificate::Finalization(made) => seen.finalized = Some(made.proposal),
+        if !self.has(certificate.kind(), certificate.round().view.0) {
+            self.outbox
+                .push(Message::Certificate(certificate.clone()?))?;
+            self.certificates.push(certificate)?;
         }
-        self.note(view, seen);
-        self.outbox.push(Message::Certificate(certificate))?;
         Ok(())
     }
 
-    /// Gives the current view up when it has taken too long, and again at each step from then on.
+    /// Gives the current view up when it has taken too long, and says again what it has said, since
+    /// that may be lost.
     pub(crate) fn wait(&mut self, now: usize) -> Result<()> {
-        let view = self.current;
-        if view <= VIEWS && now.saturating_sub(self.entered) >= PATIENCE {
-            self.give_up(view)?;
+        if now.saturating_sub(self.since) >= PATIENCE {
+            self.since = now;
+            let round = numbered(self.current);
+            if self.current <= VIEWS {
+                self.vote(Subject::Nullify { round })?;
+            }
+            if self.current <= VIEWS || self.said < REPEATS {
+                self.said = self.said.saturating_add(1);
+                self.say_again()?;
+            }
         }
         self.go_on(now)
     }
 
-    // Each time its nullify is signed anew, and only the first is to be sent: peers have that one,
-    // and would block whoever sends them another.
-    fn give_up(&mut self, view: u64) -> Result<()> {
-        let round = numbered(view);
-        if self.cast(Subject::Nullify { round })? {
-            let mut seen = self.seen(view);
-            seen.gave_up = true;
-            self.note(view, seen);
+    // Sends its votes of the current view again, as they were signed, and all certificates.
+    fn say_again(&mut self) -> Result<()> {
+        for place in 0..self.station.written() {
+            if let Some(vote) = self.station.written_at(place) {
+                if vote.round().view.0 == self.current {
+                    self.send(Some(vote))?;
+                }
+            }
         }
-        Ok(())
-    }
-
-    /// Starts again with a new node, but with all that it knows of the views.
-    ///
-    /// What it has sent in views of the window it casts again as it was, before any other vote: so
-    /// its new node refuses what that excludes. Whom it had blocked is blocked again only for
-    /// another cause.
-    pub(crate) fn restart(&mut self, alloc: Global, now: usize) -> Result<()> {
-        self.station.restart(alloc)?;
-        self.restarted = Some(now);
-        self.blocks.clear();
-        self.named.clear();
-        self.station.enter(self.current, leader_of(self.current))?;
-        let sent = self.sent.len();
-        for place in 0..sent {
-            self.cast_as_sent(place)?;
-        }
-        for place in 0..sent {
-            self.cast_anew(place)?;
-        }
-        self.go_on(now)
-    }
-
-    fn cast_as_sent(&mut self, place: usize) -> Result<()> {
-        if let Some(sent) = self.sent.get(place) {
-            let Sent { subject, number } = *sent;
-            let _ = self.cast_by(subject, number)?;
-        }
-        Ok(())
-    }
-
-    // Signs anew what it has sent in a view that it is beyond. The node knows it, so nothing is
-    // sent.
-    fn cast_anew(&mut self, place: usize) -> Result<()> {
-        if let Some(sent) = self.sent.get(place) {
-            let subject = sent.subject;
-            if subject.round().view.0 < self.current {
-                let _ = self.cast(subject)?;
+        for place in 0..self.certificates.len() {
+            if let Some(certificate) = self.certificates.get(place) {
+                self.outbox
+                    .push(Message::Certificate(certificate.clone()?))?;
             }
         }
         Ok(())
-    }
-
-    // Signs a vote, and sends it where it is to be sent.
-    fn cast(&mut self, subject: Subject<Sha256Digest>) -> Result<bool> {
-        let number = self.signed;
-        self.signed = number.saturating_add(1);
-        let is_sent = self.cast_by(subject, number)?;
-        if is_sent {
-            self.sent.push(Sent { subject, number })?;
-        }
-        Ok(is_sent)
-    }
-
-    // The same by a signature of this number.
-    fn cast_by(&mut self, subject: Subject<Sha256Digest>, number: u64) -> Result<bool> {
-        match self.station.cast(subject, number)? {
-            Some(vote) => {
-                self.outbox.push(Message::Vote(vote))?;
-                Ok(true)
-            }
-            None => Ok(false),
-        }
     }
 
     // What can be done is done, until nothing is left. A turn that goes on has something to send or
@@ -405,6 +385,7 @@ impl Validator {
                 break;
             }
         }
+        self.forget()?;
         // A vote that the node knew was passed to a view too, which is to rest.
         self.construct()?;
         self.counts.rounds = self.counts.rounds.max(self.station.rounds_kept());
@@ -422,7 +403,10 @@ impl Validator {
         Ok(())
     }
 
-    fn take(&mut self, construction: Construction<Tally, Sha256Digest>) -> Result<(), AllocError> {
+    fn take(
+        &mut self,
+        construction: Construction<AttestationList, Sha256Digest>,
+    ) -> Result<(), AllocError> {
         let Construction { view, batch } = construction;
         if let Some(batch) = batch {
             let Batch {
@@ -460,101 +444,98 @@ impl Validator {
         Ok(())
     }
 
-    // Finalizes what was notarized in views that it did not give up.
+    // Votes to finalize what is notarized, where its voter clears that.
     fn finalize(&mut self) -> Result<()> {
-        let mut last = 0;
-        for view in 1..=VIEWS {
-            let seen = self.seen(view);
-            if let Some(proposal) = seen.notarized {
-                if !seen.gave_up && !seen.sealed {
-                    self.seal(view, proposal)?;
-                }
-            }
-            if seen.finalized.is_some() {
-                last = view;
+        for place in 0..self.certificates.len() {
+            if let Some(proposal) = self.notarized_at(place) {
+                self.vote(Subject::Finalize { proposal })?;
             }
         }
-        self.station.finalize(last.saturating_sub(BEHIND));
         Ok(())
     }
 
-    fn seal(&mut self, view: u64, proposal: Proposal<Sha256Digest>) -> Result<()> {
-        let _ = self.cast(Subject::Finalize { proposal })?;
-        let mut seen = self.seen(view);
-        seen.sealed = true;
-        self.note(view, seen);
-        Ok(())
+    fn notarized_at(&self, place: usize) -> Option<Proposal<Sha256Digest>> {
+        match self.certificates.get(place)?.subject() {
+            Subject::Notarize { proposal } => Some(proposal),
+            Subject::Nullify { .. } | Subject::Finalize { .. } => None,
+        }
     }
 
-    // Proposes as the leader, and else notarizes what the leader proposes on known ground.
+    // Proposes as the leader, and else notarizes what the leader proposes, where its voter clears
+    // that.
     fn notarize(&mut self) -> Result<()> {
         let view = self.current;
-        let seen = self.seen(view);
-        if view > VIEWS || seen.voted.is_some() || seen.gave_up {
+        if view > VIEWS {
             return Ok(());
         }
         let proposal = if leader_of(view) == self.me {
-            Some(proposed(view, self.parent(), b'a'))
+            match self.station.parent_for(view) {
+                Some(parent) => Some(proposed(view, parent, b'a')),
+                None => None,
+            }
         } else {
-            seen.heard
+            match self.heard.get(view as usize) {
+                Some(heard) => *heard,
+                None => None,
+            }
         };
         if let Some(proposal) = proposal {
-            if self.is_grounded(&proposal) {
-                self.vote_for(view, proposal)?;
-            }
+            self.vote(Subject::Notarize { proposal })?;
         }
         Ok(())
     }
 
-    fn vote_for(&mut self, view: u64, proposal: Proposal<Sha256Digest>) -> Result<()> {
-        if self.cast(Subject::Notarize { proposal })? {
-            let mut seen = self.seen(view);
-            seen.voted = Some(proposal);
-            self.note(view, seen);
-        }
-        Ok(())
-    }
-
-    // The last view before the current one that was notarized, or 0.
-    fn parent(&self) -> u64 {
-        let mut parent = 0;
-        for view in 1..self.current {
-            if self.seen(view).notarized.is_some() {
-                parent = view;
-            }
-        }
-        parent
-    }
-
-    // Whether the parent is notarized, and each view between was given up.
-    fn is_grounded(&self, proposal: &Proposal<Sha256Digest>) -> bool {
-        let parent = proposal.parent.0;
-        if parent >= self.current || (parent > 0 && self.seen(parent).notarized.is_none()) {
-            return false;
-        }
-        for view in parent..self.current {
-            if view > parent && !self.seen(view).nullified {
-                return false;
-            }
-        }
-        true
-    }
-
-    // Enters the view after the last one that is certified, if that is a later one.
+    // Enters the view that its voter says, if that is a later one.
     fn enter(&mut self, now: usize) -> Result<bool> {
-        let mut next = self.current;
-        for view in self.current..=VIEWS {
-            let seen = self.seen(view);
-            if seen.notarized.is_some() || seen.nullified {
-                next = view + 1;
-            }
-        }
-        if next == self.current {
+        let next = self.next_view();
+        if next <= self.current {
             return Ok(false);
         }
         self.station.enter(next, leader_of(next))?;
         self.current = next;
-        self.entered = now;
+        self.since = now;
         Ok(true)
+    }
+
+    fn next_view(&self) -> u64 {
+        match self.station.next_view() {
+            Some(next) => next,
+            None => self.current,
+        }
+    }
+
+    // Begins with a final view some views back, and forgets what is before it.
+    fn forget(&mut self) -> Result<()> {
+        let mut last = 0;
+        for certificate in self.certificates.as_slice() {
+            if certificate.kind() == Kind::Finalization {
+                last = last.max(certificate.round().view.0);
+            }
+        }
+        if let Some(place) = self.final_before(last.saturating_sub(BEHIND)) {
+            if let Some(finalization) = self.certificates.get(place) {
+                match self.station.finalize(finalization) {
+                    Ok(()) => {}
+                    Err(_) => bail!("a finalization isn't taken in"),
+                }
+            }
+            let first = self.station.first_view();
+            self.certificates.retain(move |c| c.round().view.0 >= first);
+        }
+        Ok(())
+    }
+
+    // Where the finalization of the highest view up to this one is that is above the first.
+    fn final_before(&self, view: u64) -> Option<usize> {
+        let mut found = None;
+        let mut highest = self.station.first_view();
+        for (place, certificate) in self.certificates.iter().enumerate() {
+            let of = certificate.round().view.0;
+            if certificate.kind() == Kind::Finalization && of > highest && of <= view {
+                highest = of;
+                found = Some(place);
+            }
+        }
+        found
     }
 }

@@ -1,10 +1,10 @@
 //! What a validator received, noted beside it: what it ought to have done follows from that.
 
-use crate::network::Role;
+use crate::roles::Role;
 use crate::station::AnyCertificate;
-use crate::validator::{Message, VALIDATORS, VIEWS, Validator, leader_of, letter_of};
+use crate::validator::{Message, VALIDATORS, VIEWS, Validator, letter_of};
 use anyhow::Result;
-use batcher::messages::{Proposal, Sha256Digest, Subject};
+use batcher::messages::{Kind, Proposal, Sha256Digest, Subject};
 use batcher::positions::quorum;
 use std::alloc::{AllocError, Global};
 
@@ -81,13 +81,42 @@ impl Voters {
     }
 }
 
+// What one that contradicts itself said in a view.
+#[derive(Clone, Copy)]
+struct Sides {
+    peer: u32,
+    view: u64,
+    notarized: bool,
+    notarized_another: bool,
+    nullified: bool,
+    finalized: bool,
+}
+
+impl Sides {
+    fn take(&mut self, subject: Subject<Sha256Digest>) {
+        match subject {
+            Subject::Notarize { proposal } => {
+                if is_first(&proposal) {
+                    self.notarized = true;
+                } else {
+                    self.notarized_another = true;
+                }
+            }
+            Subject::Nullify { .. } => self.nullified = true,
+            Subject::Finalize { .. } => self.finalized = true,
+        }
+    }
+
+    fn contradict(&self) -> bool {
+        (self.notarized && self.notarized_another) || (self.nullified && self.finalized)
+    }
+}
+
 /// What a validator received since it started, and what was found of it.
 #[derive(Drop)]
 pub(crate) struct Witness {
-    // Which of the two proposals of the one that equivocates it heard, while votes were kept as
-    // evidence.
-    first: bool,
-    second: bool,
+    // What those that contradict themselves said to it, while votes were kept as evidence.
+    sides: Vec<Sides>,
     /// Whether it looked at a certificate that was forged.
     pub(crate) saw_forged: bool,
     // By views.
@@ -107,8 +136,7 @@ impl Witness {
             voters.push(NOBODY)?;
         }
         Ok(Witness {
-            first: false,
-            second: false,
+            sides: Vec::new(alloc),
             saw_forged: false,
             voters,
             repeats: 0,
@@ -117,15 +145,16 @@ impl Witness {
         })
     }
 
-    /// Whether it heard both proposals.
-    pub(crate) fn saw_both(&self) -> bool {
-        self.first && self.second
+    /// Whether it heard two votes of the peer that contradict each other.
+    pub(crate) fn saw_contradiction(&self, peer: u32) -> bool {
+        self.sides
+            .iter()
+            .any(|it| it.peer == peer && it.contradict())
     }
 
-    /// The validator has lost its node.
+    /// The validator was stopped.
     pub(crate) fn forget(&mut self) {
-        self.first = false;
-        self.second = false;
+        self.sides.clear();
         self.saw_forged = false;
         for voters in self.voters.as_mut_slice() {
             *voters = NOBODY;
@@ -162,8 +191,8 @@ impl Witness {
                 self.note(from, &posted.message);
             }
         }
-        if role == Role::Equivocates {
-            self.bear(validator, from, &posted.message);
+        if role == Role::Equivocates || role == Role::Contradicts {
+            self.bear(validator, from, &posted.message)?;
         }
         Ok(())
     }
@@ -177,20 +206,36 @@ impl Witness {
         }
     }
 
-    // A message of the equivocator's two is heard by who keeps the votes of the view as evidence.
-    fn bear(&mut self, validator: &Validator, from: u32, message: &Message) {
+    // A vote of one that contradicts itself is evidence for who keeps the votes of the view.
+    fn bear(&mut self, validator: &Validator, from: u32, message: &Message) -> Result<()> {
         if let Message::Vote(vote) = message {
-            if let Subject::Notarize { proposal } = vote.subject() {
-                let view = proposal.round.view.0;
-                if from == leader_of(view) && validator.station.keeps_evidence(view) {
-                    if is_first(&proposal) {
-                        self.first = true;
-                    } else {
-                        self.second = true;
-                    }
+            let view = vote.round().view.0;
+            if validator.station.keeps_evidence(view) {
+                let place = self.place_of(from, view)?;
+                if let Some(sides) = self.sides.get_mut(place) {
+                    sides.take(vote.subject());
                 }
             }
         }
+        Ok(())
+    }
+
+    // Where it is noted what a peer said in a view.
+    fn place_of(&mut self, peer: u32, view: u64) -> Result<usize, AllocError> {
+        for (place, sides) in self.sides.iter().enumerate() {
+            if sides.peer == peer && sides.view == view {
+                return Ok(place);
+            }
+        }
+        self.sides.push(Sides {
+            peer,
+            view,
+            notarized: false,
+            notarized_another: false,
+            nullified: false,
+            finalized: false,
+        })?;
+        Ok(self.sides.len().saturating_sub(1))
     }
 
     /// Looks whether the validator, which is at rest, has a certificate of each quorum that
@@ -213,31 +258,30 @@ fn is_complete(validator: &Validator, view: u64, voters: &Voters) -> bool {
         return true;
     }
     let needed = quorum(VALIDATORS);
-    let seen = validator.seen(view);
-    if voters.nullifies.count_ones() >= needed && !seen.nullified {
+    if voters.nullifies.count_ones() >= needed && !validator.has(Kind::Nullification, view) {
         return false;
     }
     match validator.station.selected(view) {
         None => true,
         Some(proposal) => {
             let (notarizes, finalizes) = voters.count_for(&proposal);
-            (notarizes < needed || seen.notarized.is_some())
-                && (finalizes < needed || seen.finalized.is_some())
+            (notarizes < needed || validator.has(Kind::Notarization, view))
+                && (finalizes < needed || validator.has(Kind::Finalization, view))
         }
     }
 }
 
 // Whether it is of fewer votes than a quorum.
 fn is_forged(certificate: &AnyCertificate) -> bool {
-    certificate.content().count < quorum(VALIDATORS) as usize
+    certificate.content().attestations().len() < quorum(VALIDATORS) as usize
 }
 
 // Whether the validator will look at a certificate of the peer's.
 fn looks_at(validator: &Validator, from: u32, certificate: &AnyCertificate) -> bool {
     let view = certificate.round().view.0;
     !validator.has_blocked(from)
-        && !validator.holds(certificate)
-        && validator.station.looks_at(view)
+        && !validator.has(certificate.kind(), view)
+        && (validator.station.looks_at(view) || validator.is_ahead(certificate))
 }
 
 fn is_first(proposal: &Proposal<Sha256Digest>) -> bool {
