@@ -11,3 +11,4 @@ mod Given
 mod Finalizing
 mod Beginning
 mod Leaving
+pub mod Reopening

@@ -3,3 +3,4 @@ pub mod Remembering
 pub mod Voting
 pub mod Refusals
 pub mod Needing
+pub mod Reopening

@@ -418,6 +418,7 @@ where
         ensures room { OnOk result (HasRoom self.new.knowledge view) }
         ensures needed { OnErr result (HasRoom self.old.knowledge view → ⊥) }
         ensures stays { VoterStays (⟦<S as NodeConfigs<D>>⟧.of self.old.node) self.old self.new }
+        ensures knowledge { IsSame self.old.knowledge self.new.knowledge }
         ensures node { self.new.node ≡ self.old.node }
         ensures journal { self.new.journal ≡ self.old.journal }
     {

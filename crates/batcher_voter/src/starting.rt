@@ -1,9 +1,12 @@
 //! A voter is made from its journal.
 
-ghost use Rattle.std.specs.Prelude.{◌≡◌, ◌≤◌, ◌∷◌, [], IfErr, IfOk, OnOk, length, true};
+ghost use Rattle.std.specs.Prelude.{◌≡◌, ◌≢◌, ◌≤◌, ◌⊎◌, ◌∷◌, [], All, HoldsAt, IfErr, IfOk, OnOk, length, true};
 ghost use Rattle.batcher.specs.Verifiers.{certifies_itself};
-ghost use Rattle.batcher.specs.Votes.{round_in, subject_certified};
-ghost use Rattle.batcher_voter.specs.Knowledge.{HasLearned, HasRoom, IsHighest};
+ghost use Rattle.batcher.specs.Votes.{kind_certified, round_in, subject_certified};
+ghost use Rattle.batcher.specs.messages.Kind.TheVariants.{Finalization};
+ghost use Rattle.batcher_voter.specs.Knowledge.{HasLearned, HasRoom, IsHighest, Learns};
+ghost use Rattle.batcher_codec.specs.Messages.{certificate_format, versioned};
+ghost use Rattle.batcher_voter.specs.Reopening.{IsFinalView, IsKindKnown, IsTakenIn, StaysKnown};
 ghost use Rattle.batcher_agreement.specs.Policy.{Conduct, KeepsPolicy};
 ghost use Rattle.batcher_node.specs.Events.{started};
 ghost use Rattle.batcher_node.specs.Represents.{NodeRepresents};
@@ -49,6 +52,11 @@ where
         ensures voting { IfOk result (λ voter. (earlier : Conduct D) → KeepsPolicy earlier
             → Remembers earlier journal.contents
             → HasStarted (⟦<S as NodeConfigs<D>>⟧.of voter.node) earlier voter) }
+        ensures knows_floor { IfOk result (λ voter. (journal.contents.floor.view.0 ≡ 0)
+            ⊎ IsFinalView voter.knowledge journal.contents.floor.view.0) }
+        ensures knows_kept { IfOk result (λ voter. All (IsTakenIn
+            (certificate_format S.Certificate.format D.format) voter.node.epoch voter.knowledge)
+            journal.contents.certificates) }
         ensures scheme { IfOk result (λ voter. voter.node.scheme ≡ scheme.value) }
         ensures epoch { IfOk result (λ voter. voter.node.epoch ≡ journal.contents.floor.epoch) }
         ensures retains { IfOk result (λ voter. voter.node.retains ≡ track_historical_votes) }
@@ -131,23 +139,35 @@ where
 
     // Learns what the journal has.
     fn learn_all(&mut self) -> Result<(), StartFault>
+        requires { self.old.node.epoch ≡ self.old.journal.contents.floor.epoch }
         ensures started { OnOk result ((earlier : Conduct D)
             → HasStarted (⟦<S as NodeConfigs<D>>⟧.of self.old.node) earlier self.old
             → HasStarted (⟦<S as NodeConfigs<D>>⟧.of self.old.node) earlier self.new) }
+        ensures known { OnOk result ((self.old.journal.contents.floor.view.0 ≡ 0)
+            ⊎ IsFinalView self.new.knowledge self.old.journal.contents.floor.view.0) }
+        ensures kept { OnOk result (All (IsTakenIn
+            (certificate_format S.Certificate.format D.format) self.old.node.epoch
+            self.new.knowledge) self.old.journal.contents.certificates) }
         ensures node { self.new.node ≡ self.old.node }
         ensures journal { self.new.journal ≡ self.old.journal }
     {
         match self.learn_floor() {
-            Ok(()) => self.learn_kept(),
+            Ok(()) => match self.learn_kept() {
+                Ok(()) => Ok(()),
+                Err(fault) => Err(fault),
+            },
             Err(fault) => Err(fault),
         }
     }
 
     // Learns the floor's finalization. The start of an epoch has none.
     fn learn_floor(&mut self) -> Result<(), StartFault>
+        requires { self.old.node.epoch ≡ self.old.journal.contents.floor.epoch }
         ensures started { OnOk result ((earlier : Conduct D)
             → HasStarted (⟦<S as NodeConfigs<D>>⟧.of self.old.node) earlier self.old
             → HasStarted (⟦<S as NodeConfigs<D>>⟧.of self.old.node) earlier self.new) }
+        ensures known { OnOk result ((self.old.journal.contents.floor.view.0 ≡ 0)
+            ⊎ IsFinalView self.new.knowledge self.old.journal.contents.floor.view.0) }
         ensures node { self.new.node ≡ self.old.node }
         ensures journal { self.new.journal ≡ self.old.journal }
     {
@@ -173,6 +193,10 @@ where
         ensures started { OnOk result ((earlier : Conduct D)
             → HasStarted (⟦<S as NodeConfigs<D>>⟧.of self.old.node) earlier self.old
             → HasStarted (⟦<S as NodeConfigs<D>>⟧.of self.old.node) earlier self.new) }
+        ensures kept { OnOk result (All (IsTakenIn
+            (certificate_format S.Certificate.format D.format) self.old.node.epoch
+            self.new.knowledge) self.old.journal.contents.certificates) }
+        ensures stays { StaysKnown self.old.knowledge self.new.knowledge }
         ensures node { self.new.node ≡ self.old.node }
         ensures journal { self.new.journal ≡ self.old.journal }
     {
@@ -189,25 +213,38 @@ where
         ensures started { OnOk result ((earlier : Conduct D)
             → HasStarted (⟦<S as NodeConfigs<D>>⟧.of self.old.node) earlier self.old
             → HasStarted (⟦<S as NodeConfigs<D>>⟧.of self.old.node) earlier self.new) }
+        ensures kept { OnOk result (HoldsAt (IsTakenIn
+            (certificate_format S.Certificate.format D.format) self.old.node.epoch
+            self.new.knowledge) self.old.journal.contents.certificates i) }
+        ensures stays { StaysKnown self.old.knowledge self.new.knowledge }
         ensures node { self.new.node ≡ self.old.node }
         ensures journal { self.new.journal ≡ self.old.journal }
     {
         match self.kept_certificate(i) {
-            Ok((round, certificate)) => {
-                let learned = self.take_in(round, &certificate);
-                drop(certificate);
-                learned
-            }
+            Ok((round, certificate)) => match self.take_in(round, &certificate) {
+                Ok(()) => {
+                    drop(certificate);
+                    Ok(())
+                }
+                Err(fault) => {
+                    drop(certificate);
+                    Err(fault)
+                }
+            },
             Err(fault) => Err(fault),
         }
     }
 
     // Whether the floor is the start of the epoch.
-    fn begins_with_epoch(&self) -> bool {
+    fn begins_with_epoch(&self) -> bool
+        ensures { result ≡ true → self.now.journal.contents.floor.view.0 ≡ 0 }
+    {
         self.journal.floor().view.0 == 0 && self.journal.finalization().is_empty()
     }
 
-    fn floor_certificate(&self) -> Result<(Round, Certificate<S::Certificate, D>), StartFault> {
+    fn floor_certificate(&self) -> Result<(Round, Certificate<S::Certificate, D>), StartFault>
+        ensures { IfOk result (λ it. it.0 ≡ self.now.journal.contents.floor) }
+    {
         let bytes = self.journal.finalization();
         if bytes.is_empty() {
             return Err(StartFault::NotFinal);
@@ -219,7 +256,11 @@ where
     fn kept_certificate(
         &self,
         i: usize,
-    ) -> Result<(Round, Certificate<S::Certificate, D>), StartFault> {
+    ) -> Result<(Round, Certificate<S::Certificate, D>), StartFault>
+        ensures { IfOk result (λ it. HoldsAt (λ kept. (kept.0 ≡ it.0) × (kept.1
+            ≡ (versioned (certificate_format S.Certificate.format D.format)).encoding it.1))
+            self.now.journal.contents.certificates i) }
+    {
         match self.journal.certificates().get(i) {
             Some(kept) => {
                 let certificate = decoded(self.alloc, kept.certificate())?;
@@ -238,6 +279,12 @@ where
         ensures started { OnOk result ((earlier : Conduct D)
             → HasStarted (⟦<S as NodeConfigs<D>>⟧.of self.old.node) earlier self.old
             → HasStarted (⟦<S as NodeConfigs<D>>⟧.of self.old.node) earlier self.new) }
+        ensures known { OnOk result (kind_certified certificate.now ≡ Finalization
+            → round.epoch ≡ self.old.node.epoch → IsFinalView self.new.knowledge round.view.0) }
+        ensures of_round { OnOk result (round_in (subject_certified certificate.now) ≡ round) }
+        ensures learned { OnOk result ((round.epoch ≢ self.old.node.epoch)
+            ⊎ IsKindKnown self.new.knowledge (subject_certified certificate.now)) }
+        ensures stays { StaysKnown self.old.knowledge self.new.knowledge }
         ensures node { self.new.node ≡ self.old.node }
         ensures journal { self.new.journal ≡ self.old.journal }
     {
@@ -270,6 +317,9 @@ where
         ensures started { OnOk result ((earlier : Conduct D)
             → HasStarted (⟦<S as NodeConfigs<D>>⟧.of self.old.node) earlier self.old
             → HasStarted (⟦<S as NodeConfigs<D>>⟧.of self.old.node) earlier self.new) }
+        ensures learns { OnOk result (Learns (subject_certified certificate.now)
+            self.old.knowledge self.new.knowledge) }
+        ensures stays { StaysKnown self.old.knowledge self.new.knowledge }
         ensures node { self.new.node ≡ self.old.node }
         ensures journal { self.new.journal ≡ self.old.journal }
     {
@@ -283,7 +333,10 @@ where
 fn decoded<C: OwnedCodec, D: Digest + Codec>(
     alloc: Global,
     bytes: &[u8],
-) -> Result<Certificate<C, D>, StartFault> {
+) -> Result<Certificate<C, D>, StartFault>
+    ensures { IfOk result (λ it. bytes.now
+        ≡ (versioned (certificate_format C.format D.format)).encoding it) }
+{
     match decode_owned(alloc, bytes) {
         Ok(certificate) => Ok(certificate),
         Err(DecodeError::OutOfMemory) => Err(StartFault::OutOfMemory),

@@ -1,6 +1,9 @@
-use Rattle.std.proofs.Common.{◌≡◌}
+use Rattle.std.proofs.Common.{◌≡◌, ◌<◌, ℕ, slice_index_or}
 use Rattle.batcher_agreement.specs.Policy.{Conduct}
+use Rattle.batcher_codec.specs.Messages.{certificate_format}
+use Rattle.batcher_journal.specs.Records.{Certified}
 use Rattle.batcher_node.specs.Nodes.{node_config}
+use Rattle.batcher_voter.specs.Reopening.{IsTakenIn, StaysKnown}
 use Rattle.batcher_voter.specs.Voting.{HasStarted}
 use Rattle.batcher_voter.proofs.voter.Voter.learn_kept.Given as goal
 
@@ -11,4 +14,8 @@ invariant-loop-i g l =
     g.D.PartialEq.eq l.fn.self.node) earlier l.fn.self
     → HasStarted (node_config g.S.Scheme.meaning g.S.PublicKey.Ord.cmp g.S.Signature.PartialEq.eq
     g.D.PartialEq.eq l.fn.self.node) earlier l.self)
-    × ((l.self.node ≡ l.fn.self.node) × (l.self.journal ≡ l.fn.self.journal))
+    × (((k : ℕ) (d : Certified) → k < l.i
+    → IsTakenIn (certificate_format g.S.Certificate.OwnedCodec.format g.D.Codec.format) l.fn.self.node.epoch
+    l.self.knowledge (slice_index_or l.fn.self.journal.contents.certificates k d))
+    × (StaysKnown l.fn.self.knowledge l.self.knowledge
+    × ((l.self.node ≡ l.fn.self.node) × (l.self.journal ≡ l.fn.self.journal))))

@@ -1,6 +1,8 @@
-use Rattle.std.proofs.Common.{subst, sym}
+use Rattle.std.proofs.Common.{◌≡◌, ◌⊎◌, All, subst, sym}
+use Rattle.batcher_codec.specs.Messages.{certificate_format}
 use Rattle.batcher_node.specs.Nodes.{node_config}
 use Rattle.batcher_voter.specs.Remembering.{Remembers}
+use Rattle.batcher_voter.specs.Reopening.{IsFinalView, IsTakenIn}
 use Rattle.batcher_voter.specs.Voting.{HasStarted}
 use Rattle.batcher_voter.proofs.Beginning.{begun}
 use Rattle.batcher_voter.proofs.voter.Voter.start.Goals as goal
@@ -14,3 +16,19 @@ returns-in-Ok-learn_all-clause-voting g c = λ earlier keeps has.
     (c.in-Ok-learn_all.ensures.started earlier
     (begun (config first.node) first c.in-Ok.ensures.represents c.in-Ok.ensures.nothing c.in-Ok.ensures.highest earlier keeps
     (subst (λ journal. Remembers earlier journal.contents) (sym c.in-Ok.ensures.journal) has)))
+
+pub returns-in-Ok-learn_all-clause-knows_floor : goal.returns-in-Ok-learn_all-clause-knows_floor
+returns-in-Ok-learn_all-clause-knows_floor g c =
+    let knowledge = c.learn_all.new.self.knowledge in
+    subst (λ journal. (journal.contents.floor.view.0 ≡ 0) ⊎ IsFinalView knowledge journal.contents.floor.view.0)
+    c.in-Ok.ensures.journal c.in-Ok-learn_all.ensures.known
+
+pub returns-in-Ok-learn_all-clause-knows_kept : goal.returns-in-Ok-learn_all-clause-knows_kept
+returns-in-Ok-learn_all-clause-knows_kept g c =
+    let format = certificate_format g.S.Certificate.OwnedCodec.format g.D.Codec.format in
+    let knowledge = c.learn_all.new.self.knowledge in
+    subst (λ node. All (IsTakenIn format node.epoch knowledge) c.args.journal.contents.certificates)
+    (sym c.in-Ok-learn_all.ensures.node)
+    (subst
+    (λ journal. All (IsTakenIn format c.in-Ok.voter.node.epoch knowledge) journal.contents.certificates)
+    c.in-Ok.ensures.journal c.in-Ok-learn_all.ensures.kept)

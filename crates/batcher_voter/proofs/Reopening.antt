@@ -1,0 +1,47 @@
+-- What was taken in stays known.
+use Rattle.std.proofs.Common.{◌≡◌, ◌<◌, ◌+◌, ℕ, List, slice_index_or, arith, inl, inr, subst, ⊎_elim}
+use Rattle.std.proofs.lemmas.Bool.{cases_lt}
+use Rattle.batcher.specs.Votes.{subject_certified}
+use Rattle.batcher.specs.messages.Certificate.{Certificate}
+use Rattle.batcher.specs.messages.Subject.{Subject}
+use Rattle.batcher.specs.messages.Subject.TheVariants.{Notarize, Nullify, Finalize}
+use Rattle.batcher.specs.positions.Epoch.{Epoch}
+use Rattle.batcher_codec.specs.Format.{Format}
+use Rattle.batcher_journal.specs.Records.{Certified}
+use Rattle.batcher_voter.specs.Knowledge.{KnowledgeView}
+use Rattle.batcher_voter.specs.Reopening.{IsKindKnown, IsTakenIn, StaysKnown}
+
+module _ {C D : Type 0} (format : Format (Certificate C D)) (epoch : Epoch) where
+  kind_stays :
+      (old new : KnowledgeView D) → StaysKnown old new → (s : Subject D) → IsKindKnown old s
+      → IsKindKnown new s
+  kind_stays old new stays (Notarize p) h = stays.notarized p.round.view.0 h
+  kind_stays old new stays (Nullify number) h = stays.nullified number.view.0 h
+  kind_stays old new stays (Finalize p) h = stays.finalized p.round.view.0 h
+
+  taken_in_stays :
+      (old new : KnowledgeView D) → StaysKnown old new → (kept : Certified)
+      → IsTakenIn format epoch old kept → IsTakenIn format epoch new kept
+  taken_in_stays old new stays kept =
+      ⊎_elim
+      (λ other. inl other)
+      (λ known.
+      inr (record {
+        certificate = known.certificate;
+        encoded = known.encoded;
+        of_round = known.of_round;
+        known = kind_stays old new stays (subject_certified known.certificate) known.known;
+      }))
+
+  pub one_more :
+      (old new : KnowledgeView D) → StaysKnown old new → (all : List Certified) (i : ℕ)
+      → ((k : ℕ) (d : Certified) → k < i → IsTakenIn format epoch old (slice_index_or all k d))
+      → ((d : Certified) → IsTakenIn format epoch new (slice_index_or all i d))
+      → (k : ℕ) (d : Certified) → k < i + 1 → IsTakenIn format epoch new (slice_index_or all k d)
+  one_more old new stays all i before here k d low =
+      ⊎_elim
+      (λ less. taken_in_stays old new stays (slice_index_or all k d) (before k d less))
+      (λ most.
+      let is : i ≡ k = omega (arith, low, most) in
+      subst (λ at. IsTakenIn format epoch new (slice_index_or all at d)) is (here d))
+      (cases_lt k i)

@@ -1,0 +1,42 @@
+use Rattle.std.proofs.Common.{◌∙◌, slice_index_or, subst}
+use Rattle.batcher_codec.specs.Messages.{certificate_format}
+use Rattle.batcher_node.specs.Nodes.{node_config}
+use Rattle.batcher_voter.specs.Reopening.{IsTakenIn}
+use Rattle.batcher_voter.specs.Voting.{HasStarted}
+use Rattle.batcher_voter.proofs.Reopening.{one_more}
+use Rattle.batcher_voter.proofs.voter.Voter.learn_kept.Goals as goal
+
+pub loop-i-preserved : goal.loop-i-preserved
+loop-i-preserved g c =
+    let config = node_config g.S.Scheme.meaning g.S.PublicKey.Ord.cmp g.S.Signature.PartialEq.eq g.D.PartialEq.eq in
+    let format = certificate_format g.S.Certificate.OwnedCodec.format g.D.Codec.format in
+    let first = c.args.self.now in
+    let old = c.loop-i.self in
+    let new = c.learn_at.new.self in
+    let before = c.loop-i.invariant in
+    let step = c.in-Ok.ensures in
+    let epoch = first.node.epoch in
+    let all = first.journal.contents.certificates in
+    let i = c.loop-i.i in (
+      λ earlier has.
+          subst (λ node. HasStarted (config node) earlier old → HasStarted (config node) earlier new) before.1.1.1.0
+          (step.started earlier) (before.0 earlier has),
+      (
+        one_more format epoch old.knowledge new.knowledge step.stays all i before.1.0
+            (λ d.
+            subst
+            (λ journal. IsTakenIn format epoch new.knowledge (slice_index_or journal.contents.certificates i d))
+            before.1.1.1.1
+            (subst
+            (λ node. IsTakenIn format node.epoch new.knowledge (slice_index_or old.journal.contents.certificates i d))
+            before.1.1.1.0 (step.kept d))),
+        (
+          record {
+            notarized = λ view h. step.stays.notarized view (before.1.1.0.notarized view h);
+            nullified = λ view h. step.stays.nullified view (before.1.1.0.nullified view h);
+            finalized = λ view h. step.stays.finalized view (before.1.1.0.finalized view h);
+          },
+          (step.node ∙ before.1.1.1.0, step.journal ∙ before.1.1.1.1),
+        ),
+      ),
+    )
