@@ -10,6 +10,7 @@ use batcher::round::Admission;
 use batcher::scheme::{AttestationList, Counter, Keyed, Name};
 use batcher::votes::Mode;
 use batcher_codec::{DecodeError, decode_owned};
+use batcher_evidence::attests;
 use batcher_journal::{Journal, Owner, Unopened};
 use batcher_log::MemoryLog;
 use batcher_node::{Cast, Cause, Construction, EnterFault, Receipt, Verdict};
@@ -134,16 +135,22 @@ impl Station {
         }
     }
 
-    // Signs a vote, and casts it. There is none where it isn't to be sent. This scheme signs a
-    // subject the same each time, so a vote that was written comes out as it was.
-    pub(crate) fn cast(&mut self, subject: Subject<Sha256Digest>) -> Result<Option<AnyVote>> {
+    // Signs a vote, and casts it. There is none where it isn't to be sent.
+    fn cast(&mut self, subject: Subject<Sha256Digest>) -> Result<Option<AnyVote>> {
         let vote = Vote::new(subject, self.scheme.sign(self.me, subject));
-        match self.voter.cast(vote) {
-            Ok(Cast::ToSend(_)) => Ok(Some(vote)),
-            Ok(Cast::Known | Cast::Outside) => Ok(None),
-            Err(CastFault::OutOfMemory) => Err(AllocError.into()),
-            Err(_) => bail!("a vote is refused that may be signed"),
+        to_send(vote, self.voter.cast(vote))
+    }
+
+    // Casts the vote that was written at this place again, as it was signed. There is none where it
+    // isn't to be sent, as where it was cast since the start.
+    pub(crate) fn cast_again(&mut self, alloc: Global, place: usize) -> Result<Option<AnyVote>> {
+        let Some(vote) = self.written_at(place) else {
+            return Ok(None);
+        };
+        if !attests(alloc, &*self.scheme, &mut self.rng, &vote)? {
+            bail!("the disk has a vote that doesn't attest");
         }
+        to_send(vote, self.voter.cast(vote))
     }
 
     // How many votes its disk has.
@@ -239,6 +246,19 @@ impl Station {
             Some(round) => round.mode() == Mode::Retaining,
             None => false,
         }
+    }
+}
+
+// The vote, where it is to be sent.
+fn to_send(
+    vote: AnyVote,
+    cast: Result<Cast<[u8; 32], Sha256Digest>, CastFault<[u8; 32], Sha256Digest>>,
+) -> Result<Option<AnyVote>> {
+    match cast {
+        Ok(Cast::ToSend(_)) => Ok(Some(vote)),
+        Ok(Cast::Known | Cast::Outside) => Ok(None),
+        Err(CastFault::OutOfMemory) => Err(AllocError.into()),
+        Err(_) => bail!("a vote is refused that may be signed"),
     }
 }
 

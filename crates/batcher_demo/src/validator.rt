@@ -181,17 +181,10 @@ impl Validator {
         self.current = next;
         self.since = now;
         for place in 0..self.station.written() {
-            self.cast_again(place)?;
-        }
-        self.go_on(now)
-    }
-
-    fn cast_again(&mut self, place: usize) -> Result<()> {
-        if let Some(vote) = self.station.written_at(place) {
-            let cast = self.station.cast(vote.subject())?;
+            let cast = self.station.cast_again(alloc, place)?;
             self.send(cast)?;
         }
-        Ok(())
+        self.go_on(now)
     }
 
     // Votes for a subject, where its voter clears that.
@@ -519,9 +512,9 @@ impl Validator {
                     Err(_) => bail!("a finalization isn't taken in"),
                 }
             }
-            let first = self.station.first_view();
-            self.certificates.retain(move |c| c.round().view.0 >= first);
         }
+        let first = self.station.first_view();
+        self.certificates.retain(move |c| c.round().view.0 >= first);
         Ok(())
     }
 

@@ -18,7 +18,7 @@ use batcher::messages::{Attestation, Digest};
 use batcher::scheme::Scheme;
 pub use certificates::{Culprit, culprits};
 pub use forks::{Fork, fork_among};
-pub use reports::{convicted, convicted_with};
+pub use reports::{attests, convicted, convicted_with};
 pub use subjects::{certificates_contradict, contradict};
 pub use theorems::{forks_take_contradicting_votes, reports_convict, rounds_are_accountable};
 

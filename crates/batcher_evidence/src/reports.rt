@@ -172,8 +172,9 @@ fn may_convict<G: Copy, D: Digest>(a: &Vote<G, D>, b: &Vote<G, D>) -> bool
     a.signer().0 == b.signer().0 && contradict(a.subject(), b.subject())
 }
 
-// Whether the vote's attestation attests what it votes for.
-fn attests<S: Scheme<D>, D: Digest, R: CryptoRng>(
+/// Whether the vote's attestation attests what it votes for: of one that comes from elsewhere, as
+/// from a disk, before it is cast.
+pub fn attests<S: Scheme<D>, D: Digest, R: CryptoRng>(
     alloc: Global,
     scheme: &S,
     rng: &mut R,
