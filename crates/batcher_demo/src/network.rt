@@ -2,7 +2,7 @@
 //! faulty ones send instead of what they should, and who is stopped and started again.
 
 use crate::record::Record;
-use crate::roles::{Role, forged, giving_up, groundless, role_of, signed, spoiled};
+use crate::roles::{Role, foreign, forged, giving_up, groundless, role_of, signed, spoiled};
 use crate::station::{AnyVote, DemoScheme, Station, numbered};
 use crate::validator::{Message, VALIDATORS, Validator, leader_of, proposed};
 use crate::witness::{Posted, Witness};
@@ -272,6 +272,8 @@ impl Network {
                 self.send_all(now, me, Message::Vote(vote))?;
                 let far = self.far_vote(me, vote.round().view.0);
                 self.send_all(now, me, Message::Vote(far))?;
+                let certificate = foreign(self.alloc, &far);
+                self.send_some(now, me, Message::Certificate(certificate))?;
             }
             Role::Forges => {
                 self.send_all(now, me, Message::Vote(vote))?;

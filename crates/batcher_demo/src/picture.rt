@@ -35,7 +35,8 @@ fn deed_of(role: Role) -> &'static str {
         Role::Equivocates => "sends notarizes for two proposals in the view that it leads",
         Role::SignsBadly => "flips a bit of the signature of each vote that it sends",
         Role::Silent => "sends nothing: its row shows what its own node did",
-        Role::Floods => "sends a nullify of a far view with each vote",
+        Role::Floods =>
+            "sends a nullify of a far view with each vote, and finalizations of another epoch",
         Role::Forges => "makes a certificate of each vote alone, and sends it to a few",
         Role::Repeats => "sends its last eight votes again with each vote",
         Role::Contradicts => "sends a nullify of each view that it finalizes",

@@ -3,7 +3,7 @@
 use crate::station::{AnyCertificate, AnyVote, DemoScheme, numbered};
 use crate::validator::proposed;
 use batcher::messages::{Attestation, Certificate, Proposal, Sha256Digest, Subject, Vote};
-use batcher::positions::Participant;
+use batcher::positions::{Epoch, Participant, Round, View};
 use batcher::scheme::AttestationList;
 use std::alloc::{AllocError, Global};
 
@@ -59,6 +59,17 @@ pub(crate) fn forged(alloc: Global, vote: &AnyVote) -> Result<AnyCertificate, Al
     let mut attestations = Vec::new(alloc);
     attestations.push(vote.attestation())?;
     Ok(Certificate::new(vote.subject(), AttestationList::new(attestations)))
+}
+
+/// A finalization of another epoch and a far view, which nobody signed. It has to stop nobody.
+pub(crate) fn foreign(alloc: Global, far: &AnyVote) -> AnyCertificate {
+    let view = far.round().view;
+    let round = Round::new(Epoch(0), view);
+    let proposal = Proposal::new(round, View(0), Sha256Digest([b'x'; 32]));
+    Certificate::new(
+        Subject::Finalize { proposal },
+        AttestationList::new(Vec::new(alloc)),
+    )
 }
 
 /// The vote of a validator.

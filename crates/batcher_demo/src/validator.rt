@@ -303,7 +303,9 @@ impl Validator {
     /// Whether a certificate would have it go on from a view beyond those that it looks at.
     pub(crate) fn is_ahead(&self, certificate: &AnyCertificate) -> bool {
         let view = certificate.round().view.0;
-        certificate.kind() == Kind::Finalization && view > self.station.first_view()
+        certificate.kind() == Kind::Finalization
+            && certificate.round() == numbered(view)
+            && view > self.station.first_view()
     }
 
     // Goes on from a finalization, where it fell behind.
@@ -316,7 +318,10 @@ impl Validator {
             Err(FinalizeFault::Forged) => {
                 self.block(peer, certificate.round().view.0, Cause::Certificate)?;
             }
-            Err(_) => bail!("a finalization isn't taken in"),
+            Err(FinalizeFault::NotOfEpoch | FinalizeFault::Passed) => {}
+            Err(FinalizeFault::OutOfMemory | FinalizeFault::Full | FinalizeFault::Closed) => {
+                bail!("the disk or memory has no room for a finalization");
+            }
         }
         Ok(())
     }
