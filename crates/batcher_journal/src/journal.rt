@@ -224,6 +224,8 @@ impl<G: Codec, D: Digest + Codec, L: Log> Journal<G, D, L> {
         ensures open { result ≡ self.now.is_open }
         ensures on_disk { self.now.is_open ≡ true → IsOnDisk (vote_format G.format D.format) D.eq
             L.is_settled L.written self.now }
+        ensures followed { self.now.is_open ≡ true
+            → MayFollow D.eq self.now.contents.floor [] self.now.contents.votes }
     {
         self.is_open
     }

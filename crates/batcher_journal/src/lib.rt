@@ -9,6 +9,7 @@ mod journal;
 mod owner;
 mod records;
 
+pub use asking::is_before;
 pub use journal::{
     Answer, BeginFault, Journal, OpenFault, RaiseFault, Unopened, WriteFault,
     bytes_are_of_one_journal, handed_out_never_contradict,

@@ -4,3 +4,4 @@ pub mod Voting
 pub mod Refusals
 pub mod Needing
 pub mod Reopening
+pub mod Journals

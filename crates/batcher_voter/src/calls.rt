@@ -46,6 +46,8 @@ where
             self.old.node (round_in (subject_of vote)).view.0 (NetworkCall peer vote)) }
         ensures refused { OnErr result (self.new ≡ self.old) }
         ensures same { SameNode self.old.node self.new.node }
+        ensures contents { self.new.journal.contents ≡ self.old.journal.contents }
+        ensures open { self.new.journal.is_open ≡ self.old.journal.is_open }
     {
         match self.call_vote(peer, vote) {
             Ok(receipt) => Ok(receipt),
@@ -88,6 +90,8 @@ where
             → slot_at self.old.node.rounds view.0 ≡ None }
         ensures refused { OnErr result (self.new ≡ self.old) }
         ensures same { SameNode self.old.node self.new.node }
+        ensures contents { self.new.journal.contents ≡ self.old.journal.contents }
+        ensures open { self.new.journal.is_open ≡ self.old.journal.is_open }
     {
         match self.call_enter(view, leader) {
             Ok(()) => Ok(()),
@@ -121,6 +125,8 @@ where
         ensures meets { Forwards (⟦<S as NodeConfigs<D>>⟧.of self.old.node) self.old self.new
             view.0 me result }
         ensures same { SameNode self.old.node self.new.node }
+        ensures contents { self.new.journal.contents ≡ self.old.journal.contents }
+        ensures open { self.new.journal.is_open ≡ self.old.journal.is_open }
     {
         self.call_forward(view, me)
     }
@@ -153,6 +159,8 @@ where
         ensures stays { OnErr result
             (VoterStays (⟦<S as NodeConfigs<D>>⟧.of self.old.node) self.old self.new) }
         ensures same { SameNode self.old.node self.new.node }
+        ensures contents { self.new.journal.contents ≡ self.old.journal.contents }
+        ensures open { self.new.journal.is_open ≡ self.old.journal.is_open }
     {
         let view = certificate.round().view.0;
         if !self.is_within(certificate.round()) {
@@ -188,6 +196,8 @@ where
             (CertificateCall certificate.now)) }
         ensures refused { OnErr result (self.new ≡ self.old) }
         ensures same { SameNode self.old.node self.new.node }
+        ensures contents { self.new.journal.contents ≡ self.old.journal.contents }
+        ensures open { self.new.journal.is_open ≡ self.old.journal.is_open }
     {
         self.begins();
         match self.call_certificate(peer, certificate) {
@@ -215,6 +225,8 @@ where
         ensures heard { OnErr result ⊥ }
         ensures refused { OnErr result (self.new ≡ self.old) }
         ensures same { SameNode self.old.node self.new.node }
+        ensures contents { self.new.journal.contents ≡ self.old.journal.contents }
+        ensures open { self.new.journal.is_open ≡ self.old.journal.is_open }
     {
         match self.call_certificate(peer, certificate) {
             Ok(receipt) => Ok(receipt),
@@ -267,6 +279,8 @@ where
         ensures stays { OnErr result
             (VoterStays (⟦<S as NodeConfigs<D>>⟧.of self.old.node) self.old self.new) }
         ensures same { SameNode self.old.node self.new.node }
+        ensures contents { self.new.journal.contents ≡ self.old.journal.contents }
+        ensures open { self.new.journal.is_open ≡ self.old.journal.is_open }
     {
         match self.next_construction() {
             Some(view) => match self.make_room(view.0) {
@@ -303,6 +317,8 @@ where
             (NextMayNeed (⟦<S as NodeConfigs<D>>⟧.of self.old.node) self.old.node) }
         ensures refused { OnErr result (self.new ≡ self.old) }
         ensures same { SameNode self.old.node self.new.node }
+        ensures contents { self.new.journal.contents ≡ self.old.journal.contents }
+        ensures open { self.new.journal.is_open ≡ self.old.journal.is_open }
     {
         self.begins();
         match self.call_construct(view, rng) {

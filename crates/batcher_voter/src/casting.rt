@@ -6,6 +6,7 @@ ghost use Rattle.batcher_agreement.specs.Lives.{written};
 ghost use Rattle.batcher_node.specs.Events.{view_history};
 ghost use Rattle.batcher_journal.specs.Answers.{MayFollow};
 ghost use Rattle.batcher_journal.specs.Ready.{Has, IsAsBefore, WriteLeaves, with_more};
+ghost use Rattle.batcher_voter.specs.Journals.{MayGain};
 ghost use Rattle.batcher_codec.specs.Messages.{vote_format};
 ghost use Rattle.batcher_journal.specs.declared.journal.WriteFault.TheVariants.{Closed as WriteClosed, Full as NoRoom, NotFree, OutOfMemory as NoMemory};
 ghost use Rattle.batcher_node.specs.Nodes.{SameNode};
@@ -53,6 +54,7 @@ where
             → ForEachLife (⟦<S as NodeConfigs<D>>⟧.of self.old.node) self.old (λ past earlier.
             LeavesVote (vote_format S.Signature.format D.format) past earlier vote left) }
         ensures same { SameNode self.old.node self.new.node }
+        ensures gains { MayGain vote self.old.journal self.new.journal }
     {
         self.rests(&vote);
         if vote.signer().0 != self.journal.participant().0 {
@@ -91,6 +93,7 @@ where
             → ForEachLife (⟦<S as NodeConfigs<D>>⟧.of self.old.node) self.old (λ past earlier.
             LeavesVote (vote_format S.Signature.format D.format) past earlier vote left) }
         ensures same { SameNode self.old.node self.new.node }
+        ensures gains { MayGain vote self.old.journal self.new.journal }
     {
         match self.write(vote) {
             Ok(()) => match self.show(vote) {
@@ -125,6 +128,7 @@ where
             → ForEachLife (⟦<S as NodeConfigs<D>>⟧.of self.old.node) self.old (λ past earlier.
             LeavesVote (vote_format S.Signature.format D.format) past earlier vote left) }
         ensures same { SameNode self.old.node self.new.node }
+        ensures gains { MayGain vote self.old.journal self.new.journal }
     {
         self.rests(&vote);
         if !is_one_vote(&vote, known) {
@@ -156,6 +160,7 @@ where
             → L.may_leave self.new.journal.log left
             → ForEachLife (⟦<S as NodeConfigs<D>>⟧.of self.old.node) self.old (λ past earlier.
             LeavesVote (vote_format S.Signature.format D.format) past earlier vote left) }
+        ensures gains { MayGain vote self.old.journal self.new.journal }
         ensures node { self.new.node ≡ self.old.node }
     {
         bytes_are_of_one_journal::<S::Signature, D>();

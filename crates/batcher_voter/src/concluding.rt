@@ -62,6 +62,8 @@ where
         ensures stays { OnErr result
             (VoterStays (⟦<S as NodeConfigs<D>>⟧.of self.old.node) self.old self.new) }
         ensures same { SameNode self.old.node self.new.node }
+        ensures contents { self.new.journal.contents ≡ self.old.journal.contents }
+        ensures open { self.new.journal.is_open ≡ self.old.journal.is_open }
     {
         match self.next_construction() {
             Some(view) => match self.make_room(view.0) {
@@ -104,6 +106,8 @@ where
             (NextMayNeed (⟦<S as NodeConfigs<D>>⟧.of self.old.node) self.old.node) }
         ensures refused { OnErr result (self.new ≡ self.old) }
         ensures same { SameNode self.old.node self.new.node }
+        ensures contents { self.new.journal.contents ≡ self.old.journal.contents }
+        ensures open { self.new.journal.is_open ≡ self.old.journal.is_open }
     {
         self.begins();
         match self.call_conclude(view, subject, list, verdicts) {
@@ -226,6 +230,8 @@ where
         ensures stays { OnErr result
             (VoterStays (⟦<S as NodeConfigs<D>>⟧.of self.old.node) self.old self.new) }
         ensures same { SameNode self.old.node self.new.node }
+        ensures contents { self.new.journal.contents ≡ self.old.journal.contents }
+        ensures open { self.new.journal.is_open ≡ self.old.journal.is_open }
     {
         match self.next_construction() {
             Some(view) => match self.make_room(view.0) {
@@ -269,6 +275,8 @@ where
             → is_some result ≡ true }
         ensures stale { result ≡ None → self.new ≡ self.old }
         ensures same { SameNode self.old.node self.new.node }
+        ensures contents { self.new.journal.contents ≡ self.old.journal.contents }
+        ensures open { self.new.journal.is_open ≡ self.old.journal.is_open }
     {
         self.begins();
         match self.call_conclude_with(view, subject, list, certificate) {

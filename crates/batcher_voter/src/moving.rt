@@ -7,6 +7,7 @@ ghost use Rattle.batcher_node.specs.Events.{view_finalized};
 ghost use Rattle.batcher_journal.specs.Ready.{Has, IsAsBefore, RaiseLeaves, raised};
 ghost use Rattle.batcher_codec.specs.Messages.{vote_format};
 ghost use Rattle.batcher_journal.specs.Floors.{is_below};
+ghost use Rattle.batcher_voter.specs.Journals.{IsRaised};
 ghost use Rattle.batcher_journal.specs.declared.journal.RaiseFault.TheVariants.{Closed as RaiseClosed, Full as RaiseFull, Lower, OutOfMemory as RaiseMemory};
 ghost use Rattle.batcher_node.specs.Nodes.{SameNode};
 ghost use Rattle.batcher_node.specs.Represents.{Meets};
@@ -62,6 +63,11 @@ where
             → ForEachLife (⟦<S as NodeConfigs<D>>⟧.of self.old.node) self.old (λ past earlier.
             LeavesWhatWasDone (vote_format S.Signature.format D.format) past earlier left) }
         ensures same { SameNode self.old.node self.new.node }
+        ensures raised { OnOk result (IsRaised (round_in (subject_certified finalization.now))
+            self.old.journal self.new.journal) }
+        ensures unraised { OnErr result (self.new.journal.is_open ≡ true
+            → (self.old.journal.is_open ≡ true)
+            × (self.new.journal.contents ≡ self.old.journal.contents)) }
     {
         self.begins();
         self.leaves_what_was_done();
@@ -115,6 +121,11 @@ where
             → ForEachLife (⟦<S as NodeConfigs<D>>⟧.of self.old.node) self.old (λ past earlier.
             LeavesWhatWasDone (vote_format S.Signature.format D.format) past earlier left) }
         ensures same { SameNode self.old.node self.new.node }
+        ensures raised { OnOk result (IsRaised (round_in (subject_certified finalization.now))
+            self.old.journal self.new.journal) }
+        ensures unraised { OnErr result (self.new.journal.is_open ≡ true
+            → (self.old.journal.is_open ≡ true)
+            × (self.new.journal.contents ≡ self.old.journal.contents)) }
     {
         self.begins();
         self.leaves_what_was_done();

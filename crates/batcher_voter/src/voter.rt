@@ -1,6 +1,7 @@
 //! A voter: a node and a journal, which vote by the policy.
 
-ghost use Rattle.std.specs.Prelude.{◌≡◌, ◌≤◌, List, length, ℕ, true};
+ghost use Rattle.std.specs.Prelude.{◌≡◌, ◌≤◌, [], List, length, ℕ, true};
+ghost use Rattle.batcher_journal.specs.Answers.{MayFollow};
 ghost use Rattle.batcher_journal.specs.Ready.{IsOnDisk};
 ghost use Rattle.batcher_codec.specs.Messages.{vote_format};
 ghost use Rattle.batcher_node.specs.Windows.{is_of};
@@ -74,19 +75,23 @@ where
         ensures open { result ≡ self.now.journal.is_open }
         ensures on_disk { self.now.journal.is_open ≡ true → IsOnDisk
             (vote_format S.Signature.format D.format) D.eq L.is_settled L.written self.now.journal }
+        ensures followed { self.now.journal.is_open ≡ true → MayFollow D.eq
+            self.now.journal.contents.floor [] self.now.journal.contents.votes }
     {
         self.journal.is_open()
     }
 
-    // Does nothing. It says what each voter keeps true.
-    pub(crate) fn begins(&self)
+    /// Does nothing. Its contract says what each voter keeps true: somebody takes part, and node,
+    /// journal and what is known begin with one view.
+    pub fn begins(&self)
         ensures begins { BeginWithOneView self.now }
         ensures some { 1 ≤ length (S.meaning self.now.node.scheme).participants }
     {
         let _ = &self.node;
     }
 
-    pub(crate) fn epoch(&self) -> Epoch
+    /// The epoch that it votes in.
+    pub fn epoch(&self) -> Epoch
         ensures { result ≡ self.now.node.epoch }
     {
         self.begins();

@@ -44,6 +44,15 @@ returns-in-Err-NotFree-clause-why g c =
     c.args.self.now.journal.contents.floor c.requires.says.1.1
     (c.begins.ensures.begins.floor_is c.requires.says.0))))
 
+pub returns-in-Err-NotFree-clause-gains : goal.returns-in-Err-NotFree-clause-gains
+returns-in-Err-NotFree-clause-gains g c =
+    absurd (c.put.ensures.not_free (c.in-Err-NotFree.is ∙ ap Err c.in-Err-NotFree.field-0-is)
+    (may_follow_one g.D.PartialEq.eq c.args.self.now.journal.contents.floor c.args.self.now.journal.contents.votes
+    c.args.vote c.requires.says.1.0
+    (above_floor c.args.self.now.node.epoch c.args.self.now.node.window (round_in (subject_of c.args.vote))
+    c.args.self.now.journal.contents.floor c.requires.says.1.1
+    (c.begins.ensures.begins.floor_is c.requires.says.0))))
+
 pub returns-in-Ok-clause-leaves : goal.returns-in-Ok-clause-leaves
 returns-in-Ok-clause-leaves g c = λ left honest may.
     leaves_vote (node_config g.S.Scheme.meaning g.S.PublicKey.Ord.cmp g.S.Signature.PartialEq.eq
