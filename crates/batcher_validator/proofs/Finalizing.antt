@@ -1,0 +1,180 @@
+-- A proposal is given as final, as its view is made the final one.
+use Rattle.std.proofs.Common.{◌≡◌, ◌≢◌, ◌⊎◌, ◌<◌, ◌≤◌, ◌∙◌, ℕ, true, false, [], ◌∷◌, ap, arith, inl, inr, max, refl, subst, sym, take}
+use Rattle.std.specs.Prelude.{Contains, unwrap_or}
+use Rattle.std.specs.List.{count_by, filter}
+use Rattle.batcher.specs.Verifiers.{certifies_itself}
+use Rattle.batcher.specs.Votes.{kind_certified, round_in, subject_certified}
+use Rattle.batcher.specs.messages.Certificate.{Certificate}
+use Rattle.batcher.specs.messages.Kind.TheVariants.{Finalization}
+use Rattle.batcher.specs.messages.Proposal.{Proposal}
+use Rattle.batcher.specs.messages.Subject.TheVariants.{Finalize}
+use Rattle.batcher_agreement.specs.Lives.{called, verified}
+use Rattle.batcher_agreement.specs.Policy.{Conduct}
+use Rattle.batcher_node.specs.Events.{view_finalized}
+use Rattle.batcher_node.specs.Nodes.{NodeConfig}
+use Rattle.batcher_validator.specs.Running.{ForEachRun, GivenView, Gives, IsRunning, RunStays, ValidatorView, WhyNotFinal, sent_from}
+use Rattle.batcher_validator.specs.Shelves.{IsFinalAt, is_from}
+use Rattle.batcher_validator.specs.Tasks.{HasHad, HasHanded, HasSent, ValidatorHistory, did, gave, voter_history, window_by}
+use Rattle.batcher_validator.specs.declared.task.Task.TheVariants.{Final}
+use Rattle.batcher_validator.proofs.Giving.{contained, kind_of}
+use Rattle.batcher_validator.proofs.Going.{goes_on, sent_raised, sent_still}
+use Rattle.batcher_validator.proofs.Keeping.{first_from, kept_from, kept_still}
+use Rattle.batcher_voter.specs.Journals.{IsRaised}
+use Rattle.batcher_voter.specs.declared.answers.FinalizeFault.TheVariants.{Forged, NotOfEpoch, Passed}
+use Rattle.batcher_voter.specs.Voting.{ForEachLife, IsVoting, VoterStays}
+
+module _ {S D K G C L : Type 0} (x : NodeConfig D K G C) (old new : ValidatorView S G D L C)
+    (c : Certificate C D) (there : Contains old.shelf.certificates c) where
+  module _ (p : Proposal D) (is_of : subject_certified c ≡ Finalize p)
+      (voting : ForEachLife x old.voter (λ past earlier. IsVoting x
+      (called (view_finalized p.round.view.0) ∷ verified c ∷ past) earlier new.voter))
+      (raised : IsRaised p.round old.voter.journal new.voter.journal)
+      (unannounced : old.given.announced < p.round.view.0)
+      (given : new.given ≡ record old.given {
+        sent = sent_from p.round old;
+        announced = p.round.view.0;
+      })
+      (certificates : new.shelf.certificates ≡ filter (is_from p.round.view.0) old.shelf.certificates)
+      (handed : new.shelf.handed
+      ≡ count_by (is_from p.round.view.0) (take old.shelf.handed old.shelf.certificates)) where
+    -- after the view was made the final one, and before its proposal was given
+    abbrev Moved : ValidatorView S G D L C
+    Moved = record {
+      voter = new.voter;
+      given = record old.given { sent = sent_from p.round old };
+      shelf = new.shelf;
+    }
+
+    module _ (past : ValidatorHistory D K G C) (earlier : Conduct D) (is : IsRunning x past earlier old) where
+      abbrev Before : ValidatorHistory D K G C
+      Before = did (called (view_finalized p.round.view.0)) ∷ did (verified c) ∷ past
+
+      round_is : round_in (subject_certified c) ≡ p.round
+      round_is = ap round_in is_of
+
+      up : (window_by past).finalized ≤ p.round.view.0
+      up = omega (arith, (is.kept.looked_at c there).from_first, ap (λ r. r.view.0) round_is)
+
+      had : (d : Certificate C D) → HasHad Before d → (c ≡ d) ⊎ HasHad past d
+      had d (inl held) = absurd cc
+      had d (inr (inl held)) = inl (ap (λ o. unwrap_or o c) held)
+      had d (inr (inr before)) = inr before
+
+      moved : IsRunning x Before earlier Moved
+      moved =
+          goes_on x old Moved (called (view_finalized p.round.view.0) ∷ verified c ∷ []) past earlier is
+          (voting (voter_history past) earlier is.voting)
+          (λ opened. sent_raised (λ s. HasSent past s) old.voter.journal new.voter.journal old.given.sent
+          p.round raised (is.votes raised.was_open))
+          refl
+          (rw (certificates) (kept_from x past Before p.round.view.0 refl up c had old.shelf.certificates there is.kept))
+          (rw (certificates, handed) (first_from x past Before p.round.view.0 refl up c had old.shelf.certificates
+          there (λ key. HasHanded past key) old.shelf.handed is.certificates))
+
+      gives : IsRunning x (gave (Final p) ∷ Before) earlier new
+      gives =
+          record {
+            voting = moved.voting;
+            in_turn = (
+              (
+                record {
+                  certificate = c;
+                  is_of = is_of;
+                  certifies = is.kept.certify c there;
+                },
+                (
+                  window,
+                  λ was. absurd (omega (arith, unannounced, moved.finals.no_others p.round.view.0 was)),
+                ),
+              ),
+              moved.in_turn,
+            );
+            blocks = rw (given) moved.blocks;
+            finals = rw (given) (record {
+              were_asked = λ v some within. inl within;
+              no_others = λ v has. elim has [
+                | inl within ↦ within
+                | inr before ↦ omega (arith, moved.finals.no_others v before, unannounced)
+              ];
+            });
+            votes = λ opened. rw (given) (moved.votes opened);
+            kept = kept_still x Before (gave (Final p) ∷ Before) refl new.shelf.certificates (λ d h. h) moved.kept;
+            certificates = moved.certificates;
+            asks = rw (given) moved.asks;
+            verifies = rw (given) moved.verifies;
+          }
+        where
+          window : max (window_by past).finalized p.round.view.0 ≡ p.round.view.0
+          window = omega (arith, up)
+
+    pub gives_final : Gives x old new (Final p)
+    gives_final = (c, (is_of, λ past earlier is. gives past earlier is))
+
+-- It isn't, where the voter refuses that,
+pub not_announced :
+    {S D K G C L : Type 0} (x : NodeConfig D K G C) (old new : ValidatorView S G D L C)
+    → new.given ≡ old.given → new.shelf ≡ old.shelf → VoterStays x old.voter new.voter
+    → (new.voter.journal.is_open ≡ true → (old.voter.journal.is_open ≡ true)
+    × (new.voter.journal.contents ≡ old.voter.journal.contents))
+    → RunStays x old new
+not_announced x old new given shelf stays still past earlier is =
+    goes_on x old new [] past earlier is (stays (voter_history past) earlier is.voting)
+    (λ opened. rw (given) (sent_still (λ s. HasSent past s) old.voter.journal new.voter.journal old.given.sent
+    (still opened).1 (is.votes (still opened).0)))
+    (rw (given) refl)
+    (rw (shelf) (kept_still x past past refl old.shelf.certificates (λ d h. h) is.kept))
+    (rw (shelf) is.certificates)
+
+-- and it refuses that for memory and the disk alone.
+module _ {S D K G C L : Type 0} (x : NodeConfig D K G C) (old : ValidatorView S G D L C)
+    (epoch : x.epoch ≡ old.voter.node.epoch) (view i : ℕ) (p : Proposal D)
+    (at : IsFinalAt view old.shelf.certificates i p) where
+  in_shelf : Contains old.shelf.certificates at.certificate
+  in_shelf = contained old.shelf.certificates i at.certificate at.there
+
+  pub not_forged : WhyNotFinal x old i Forged → ForEachRun x old (λ past earlier. ⊥)
+  not_forged why past earlier is =
+      let yes : certifies_itself x.meaning at.certificate ≡ true = is.kept.certify at.certificate in_shelf in
+      let forged : certifies_itself x.meaning at.certificate ≡ false = why at.certificate at.there in
+      absurd cc
+
+  pub of_this_epoch : WhyNotFinal x old i NotOfEpoch → ForEachRun x old (λ past earlier. ⊥)
+  of_this_epoch why past earlier is = of_cases (why at.certificate at.there)
+    where
+      of_cases : (kind_certified at.certificate ≢ Finalization)
+          ⊎ ((round_in (subject_certified at.certificate)).epoch ≢ old.voter.node.epoch) → ⊥
+      of_cases (inl other) = other (kind_of at.certificate p at.is_of)
+      of_cases (inr other) = other ((is.kept.looked_at at.certificate in_shelf).of_epoch ∙ epoch)
+
+  pub not_passed : WhyNotFinal x old i Passed → ForEachRun x old (λ past earlier. ⊥)
+  not_passed why past earlier is =
+      absurd (omega (
+        arith,
+        why at.certificate at.there,
+        (is.kept.looked_at at.certificate in_shelf).from_first,
+        ap (λ w. w.finalized) is.voting.represents.window_is,
+      ))
+
+pub moves :
+    {S D K G C L : Type 0} (x : NodeConfig D K G C) (old moved new : ValidatorView S G D L C)
+    (c : Certificate C D) → new.voter ≡ moved.voter → {view : ℕ}
+    → ForEachLife x old.voter (λ past earlier. IsVoting x
+    (called (view_finalized view) ∷ verified c ∷ past) earlier moved.voter)
+    → ForEachLife x old.voter (λ past earlier. IsVoting x
+    (called (view_finalized view) ∷ verified c ∷ past) earlier new.voter)
+moves x old moved new c voter {view = view} voting past earlier is =
+    subst (λ v. IsVoting x (called (view_finalized view) ∷ verified c ∷ past) earlier v) (sym voter)
+    (voting past earlier is)
+
+pub noted :
+    (moved old new : GivenView) (left sent view : ℕ)
+    → new ≡ record moved { sent = left; announced = view } → moved ≡ old → left ≡ sent
+    → new ≡ record old { sent = sent; announced = view }
+noted moved old new left sent view e same is =
+    e ∙ ap with_both same ∙ ap with_sent is
+  where
+    with_both : GivenView → GivenView
+    with_both it = record it { sent = left; announced = view }
+
+    with_sent : ℕ → GivenView
+    with_sent n = record old { sent = n; announced = view }

@@ -1,0 +1,460 @@
+-- A validator goes on with what it gives, and has nothing to give.
+use Rattle.std.proofs.Common.{◌≡◌, ◌⊎◌, ◌+◌, ◌<◌, ◌≤◌, ◌∙◌, ◌^◌, ℕ, zero, suc, true, false, List, [], ◌∷◌, Option, Some, None, ap, arith, inl, inr, length, refl, set, subst, sym, take}
+use Rattle.std.specs.Prelude.{Contains, IfSome, MatchBool, MatchOption}
+use Rattle.std.specs.List.{slice_get}
+use Rattle.std.proofs.lemmas.Bool.{le-ltb}
+use Rattle.std.proofs.lemmas.List.{take_all}
+use Rattle.std.proofs.lemmas.List.Elements.{All-contains}
+use Rattle.std.proofs.lemmas.Option.{get_or_from_slice_get, slice_get_within}
+use Rattle.batcher.specs.Votes.{kind_certified, round_in, same_subject, subject_certified, subject_of}
+use Rattle.batcher.specs.messages.Certificate.{Certificate}
+use Rattle.batcher.specs.messages.Certificate.TheVariants.{Finalization as FinalizationCertificate, Notarization as NotarizationCertificate, Nullification as NullificationCertificate}
+use Rattle.batcher.specs.messages.Proposal.{Proposal}
+use Rattle.batcher.specs.messages.Subject.TheVariants.{Finalize}
+use Rattle.batcher.specs.messages.Kind.{Kind}
+use Rattle.batcher.specs.messages.Kind.TheVariants.{Finalization}
+use Rattle.batcher.specs.positions.Round.{Round}
+use Rattle.batcher.specs.RoundState.{RoundView}
+use Rattle.batcher.specs.messages.Subject.{Subject}
+use Rattle.batcher.specs.messages.Vote.{Vote}
+use Rattle.batcher.specs.positions.Participant.{Participant}
+use Rattle.batcher.specs.positions.View.{View}
+use Rattle.batcher_agreement.specs.Lives.{conduct_of}
+use Rattle.batcher_agreement.specs.Policy.{Conduct, HasVoted}
+use Rattle.batcher_journal.specs.Answers.{MayFollow}
+use Rattle.batcher_journal.specs.Contradictions.{IsFree, LeavesFree}
+use Rattle.batcher_journal.specs.Floors.{is_below, is_over}
+use Rattle.batcher_node.specs.Events.{cause_in, view_history}
+use Rattle.batcher_node.specs.Nodes.{IsAtRest, NodeConfig, cause_at, slot_at}
+use Rattle.batcher_node.specs.Represents.{ViewRepresents, is_due}
+use Rattle.batcher_node.specs.Windows.{numbered}
+use Rattle.batcher_node.specs.declared.answers.Cause.{Cause}
+use Rattle.batcher_node.specs.declared.slot.Slot.{Slot}
+use Rattle.batcher_validator.specs.Running.{AreKept, GivenView, Gives, IsRunning, RunMeets, ValidatorView, is_before_view, is_over_for}
+use Rattle.batcher_validator.specs.Tasks.{Counts, HasAnnouncedFrom, HasAskedFrom, HasBlocked, HasHanded, HasSent, IsNextIn, IsVerifying, NothingIsDue, ValidatorHistory, again, answered, calls_in, conduct_in, gave, voter_history, window_by}
+use Rattle.batcher_validator.specs.declared.task.Task.TheVariants.{Block, Enter, SendCertificate, SendVote, Verify}
+use Rattle.batcher_validator.proofs.Blocking.{blocks_one, not_blocked}
+use Rattle.batcher_validator.proofs.Beginning.{first_none}
+use Rattle.batcher_validator.proofs.Keeping.{kept_still}
+use Rattle.batcher_validator.proofs.Queueing.{before_differ, give_one, not_given}
+use Rattle.batcher_validator.specs.Queues.{AreDistinct}
+use Rattle.batcher_validator.specs.Shelves.{HaveNoFinal, IsAt, key_of}
+use Rattle.batcher_voter.specs.Knowledge.{KnowsOf}
+use Rattle.batcher_voter.specs.Voting.{BeginWithOneView, IsNextView}
+
+-- no votes are being verified
+abbrev pub not_verifying : GivenView → GivenView
+not_verifying given = record given { verifying = false }
+
+pub contained : {X : Type 0} (xs : List X) (i : ℕ) (x : X) → slice_get xs i ≡ Some x → Contains xs x
+contained xs i x there =
+    (i, slice_get_within xs i x there, get_or_from_slice_get xs i x x there)
+
+-- A finalization is of the finalizing of a proposal.
+final_of : {C D : Type 0} (c : Certificate C D) → kind_certified c ≡ Finalization
+    → (p : Proposal D) × (subject_certified c ≡ Finalize p)
+final_of (NotarizationCertificate n) e = absurd cc
+final_of (NullificationCertificate n) e = absurd cc
+final_of (FinalizationCertificate f) e = (f.proposal, refl)
+
+pub kind_of : {C D : Type 0} (c : Certificate C D) (p : Proposal D)
+    → subject_certified c ≡ Finalize p
+    → kind_certified c ≡ Finalization
+kind_of (NotarizationCertificate n) p e = absurd cc
+kind_of (NullificationCertificate n) p e = absurd cc
+kind_of (FinalizationCertificate f) p e = refl
+
+past_end : {X : Type 0} (xs : List X) (i : ℕ) → slice_get xs i ≡ None → length xs ≤ i
+past_end [] i none = omega arith
+past_end (x ∷ xs) zero none = absurd cc
+past_end (x ∷ xs) (suc i) none = omega (arith, past_end xs i none)
+
+module _ {S D K G C L : Type 0} (x : NodeConfig D K G C) (old new : ValidatorView S G D L C)
+    (voter : new.voter ≡ old.voter) where
+  pub gives_vote :
+      (vote : Vote G D) → ((s : Subject D) → same_subject x.same_digest s s ≡ true)
+      → old.voter.journal.is_open ≡ true
+      → MayFollow x.same_digest old.voter.journal.contents.floor [] old.voter.journal.contents.votes
+      → slice_get old.voter.journal.contents.votes old.given.sent ≡ Some vote
+      → new.given ≡ record old.given { sent = old.given.sent + 1 } → new.shelf ≡ old.shelf
+      → Gives x old new (SendVote vote)
+  gives_vote vote reflexive opened followed there given shelf past earlier is =
+      record {
+        voting = rw (voter) is.voting;
+        in_turn = (
+          (
+            (is.voting.remembers opened).no_others vote (contained votes old.given.sent vote there),
+            not_given subject_of (is_over_for floor) (λ s. HasSent past s) votes old.given.sent
+                (is.votes opened) vote may.1 differs,
+          ),
+          is.in_turn,
+        );
+        blocks = rw (given) is.blocks;
+        finals = rw (given) is.finals;
+        votes = λ still. rw (voter, given) (give_one subject_of (is_over_for floor) (λ s. HasSent past s)
+            votes old.given.sent (is.votes opened) (λ s. HasSent (gave (SendVote vote) ∷ past) s) vote there
+            (inl refl) (λ s was. inr was) (λ s was. was));
+        kept = rw (shelf) is_kept;
+        certificates = rw (shelf) is.certificates;
+        asks = rw (given) is.asks;
+        verifies = rw (given) is.verifies;
+      }
+    where
+      votes : List (Vote G D)
+      votes = old.voter.journal.contents.votes
+
+      floor : Round
+      floor = old.voter.journal.contents.floor
+
+      may : IsFree x.same_digest (take old.given.sent votes) (subject_of vote) ×
+          (is_over floor vote ≡ false)
+      may = followed old.given.sent vote (slice_get_within votes old.given.sent vote there)
+          (sym (get_or_from_slice_get votes old.given.sent vote vote there))
+
+      differs : (w : Vote G D) → Contains (take old.given.sent votes) w
+          → subject_of w ≡ subject_of vote → ⊥
+      differs w first same =
+          let free : LeavesFree x.same_digest (subject_of vote) w =
+          All-contains (LeavesFree x.same_digest (subject_of vote)) (take old.given.sent votes) w may.0 first in
+          let yes : same_subject x.same_digest (subject_of w) (subject_of vote) ≡ true =
+          subst (λ s. same_subject x.same_digest s (subject_of vote) ≡ true) (sym same) (reflexive (subject_of vote)) in
+          let no : true ≡ false = sym yes ∙ free.0 in
+          absurd cc
+
+      is_kept : AreKept x (gave (SendVote vote) ∷ past) old.shelf.certificates
+      is_kept = kept_still x past (gave (SendVote vote) ∷ past) refl old.shelf.certificates (λ c had. had) is.kept
+
+  pub gives_certificate :
+      (kind : Kind) (number : Round) → AreDistinct key_of old.shelf.certificates
+      → IsAt old.shelf.certificates old.shelf.handed (kind, number)
+      → new.given ≡ old.given → new.shelf.certificates ≡ old.shelf.certificates
+      → new.shelf.handed ≡ old.shelf.handed + 1
+      → Gives x old new (SendCertificate kind number)
+  gives_certificate kind number distinct it given certificates handed past earlier is =
+      record {
+        voting = rw (voter) is.voting;
+        in_turn = (
+          (
+            record { certificate = c; is_of = it.is_of; certifies = is.kept.certify c in_shelf },
+            λ was. not_given key_of (is_before_view first) (λ key. HasHanded past key) old.shelf.certificates
+                old.shelf.handed is.certificates c
+                (le-ltb (round_in (subject_certified c)).view.0 first (is.kept.looked_at c in_shelf).from_first)
+                (before_differ key_of old.shelf.certificates old.shelf.handed c distinct it.there)
+                (subst (λ key. HasHanded past key) (sym it.is_of) was),
+          ),
+          is.in_turn,
+        );
+        blocks = rw (given) is.blocks;
+        finals = rw (given) is.finals;
+        votes = rw (voter, given) is.votes;
+        kept = rw (certificates) is_kept;
+        certificates = rw (certificates, handed) (give_one key_of (is_before_view first) (λ key. HasHanded past key)
+            old.shelf.certificates old.shelf.handed is.certificates
+            (λ key. HasHanded (gave (SendCertificate kind number) ∷ past) key) c it.there
+            (inl (sym it.is_of)) (λ key was. inr was) (λ key was. of_handed key was));
+        asks = rw (given) is.asks;
+        verifies = rw (given) is.verifies;
+      }
+    where
+      c : Certificate C D
+      c = it.certificate
+
+      of_handed : (key : Kind × Round) → HasHanded (gave (SendCertificate kind number) ∷ past) key
+          → (key_of c ≡ key) ⊎ HasHanded past key
+      of_handed key (inl same) = inl (it.is_of ∙ same)
+      of_handed key (inr before) = inr before
+
+      first : ℕ
+      first = (window_by past).finalized
+
+      in_shelf : Contains old.shelf.certificates c
+      in_shelf = contained old.shelf.certificates old.shelf.handed c it.there
+
+      is_kept : AreKept x (gave (SendCertificate kind number) ∷ past) old.shelf.certificates
+      is_kept = kept_still x past (gave (SendCertificate kind number) ∷ past) refl old.shelf.certificates (λ d had. had) is.kept
+
+  module _ (shelf : new.shelf ≡ old.shelf) where
+    pub gives_block :
+        (who : Participant) (cause : Cause)
+        → who.0 < length x.meaning.participants
+        → length old.given.blocked ≡ length x.meaning.participants
+        → cause_at old.voter.node.blocked who.0 ≡ Some cause
+        → slice_get old.given.blocked who.0 ≡ Some false
+        → new.given ≡ record old.given { blocked = set old.given.blocked who.0 true }
+        → Gives x old new (Block who cause)
+    gives_block who cause within same there not_yet given past earlier is =
+        record {
+          voting = rw (voter) is.voting;
+          in_turn = (
+            (
+              sym (is.voting.represents.blocked_are who.0 within) ∙ there,
+              not_blocked past old.given.blocked is.blocks who cause not_yet,
+            ),
+            is.in_turn,
+          );
+          blocks = rw (given) (blocks_one past old.given.blocked is.blocks who cause (omega (arith, within, same)));
+          finals = rw (given) is.finals;
+          votes = rw (voter, given) is.votes;
+          kept = rw (shelf) (kept_still x past (gave (Block who cause) ∷ past) refl old.shelf.certificates
+              (λ c had. had) is.kept);
+          certificates = rw (shelf) is.certificates;
+          asks = rw (given) is.asks;
+          verifies = rw (given) is.verifies;
+        }
+
+    pub gives_enter :
+        (view : View) → x.epoch ≡ old.voter.node.epoch
+        → ((past : ValidatorHistory D K G C) (earlier : Conduct D) → IsRunning x past earlier old
+        → IsNextView old.voter (voter_history past) view.0)
+        → old.voter.node.window.current < view.0 → old.given.asked < view.0
+        → new.given ≡ record old.given { asked = view.0 }
+        → Gives x old new (Enter view)
+    gives_enter view epoch next beyond unasked given past earlier is =
+        record {
+          voting = rw (voter) is.voting;
+          in_turn = (
+            (
+              is_next,
+              (
+                subst (λ w. w.current < view.0) is.voting.represents.window_is beyond,
+                λ has. absurd (omega (arith, is.asks.no_others view.0 has, unasked)),
+              ),
+            ),
+            is.in_turn,
+          );
+          blocks = rw (given) is.blocks;
+          finals = rw (given) is.finals;
+          votes = rw (voter, given) is.votes;
+          kept = rw (shelf) (kept_still x past (gave (Enter view) ∷ past) refl old.shelf.certificates
+              (λ c had. had) is.kept);
+          certificates = rw (shelf) is.certificates;
+          asks = rw (given) record {
+            were_asked = λ v some within. inl within;
+            no_others = λ v has. elim has [
+              | inl within ↦ within
+              | inr before ↦ omega (arith, is.asks.no_others v before, unasked)
+            ];
+          };
+          verifies = rw (given) is.verifies;
+        }
+      where
+        is_next : IsNextIn x past view.0
+        is_next =
+            let it = next past earlier is in
+            record {
+              behind_all = λ s knows same. it.behind_all s knows (same ∙ epoch);
+              behind_one = elim (it.behind_one) [
+                | inl first ↦ inl (first ∙ ap (λ w. w.finalized + 1) is.voting.represents.window_is)
+                | inr one ↦ inr (one.0, (one.1.0, subst (λ e. KnowsOf (conduct_of (voter_history past)) (numbered e one.0)) (sym epoch) one.1.1))
+              ];
+            }
+
+    pub gives_verify :
+        old.given.verifying ≡ false → new.given ≡ record old.given { verifying = true }
+        → Gives x old new Verify
+    gives_verify idle given past earlier is =
+        record {
+          voting = rw (voter) is.voting;
+          in_turn = (
+            subst (λ b. MatchBool b (IsVerifying past) (IsVerifying past → ⊥)) idle is.verifies,
+            is.in_turn,
+          );
+          blocks = rw (given) is.blocks;
+          finals = rw (given) is.finals;
+          votes = rw (voter, given) is.votes;
+          kept = rw (shelf) (kept_still x past (gave Verify ∷ past) refl old.shelf.certificates
+              (λ c had. had) is.kept);
+          certificates = rw (shelf) is.certificates;
+          asks = rw (given) is.asks;
+          verifies = rw (given) tt;
+        }
+
+    -- votes were verified, or all is to be sent again
+    pub answers :
+        new.given ≡ record old.given { verifying = false }
+        → (past : ValidatorHistory D K G C) (earlier : Conduct D)
+        → IsRunning x past earlier old → IsRunning x (answered ∷ past) earlier new
+    answers given past earlier is =
+        record {
+          voting = rw (voter) is.voting;
+          in_turn = is.in_turn;
+          blocks = rw (given) is.blocks;
+          finals = rw (given) is.finals;
+          votes = rw (voter, given) is.votes;
+          kept = rw (shelf) (kept_still x past (answered ∷ past) refl old.shelf.certificates (λ c had. had) is.kept);
+          certificates = rw (shelf) is.certificates;
+          asks = rw (given) is.asks;
+          verifies = rw (given) (λ no. no);
+        }
+
+  pub begins_again :
+      new.given ≡ record old.given { sent = 0 } → new.shelf.certificates ≡ old.shelf.certificates
+      → new.shelf.handed ≡ 0 → RunMeets x old new again
+  begins_again given certificates handed past earlier is =
+      record {
+        voting = rw (voter) is.voting;
+        in_turn = is.in_turn;
+        blocks = rw (given) is.blocks;
+        finals = rw (given) is.finals;
+        votes = λ opened. rw (voter, given) (first_none _ _ _ _ (λ s was. was));
+        kept = rw (certificates) (kept_still x past (again ∷ past) refl old.shelf.certificates (λ c had. had) is.kept);
+        certificates = rw (certificates, handed) (first_none _ _ _ _ (λ key was. was));
+        asks = rw (given) is.asks;
+        verifies = rw (given) is.verifies;
+      }
+
+module _ {S D K G C L : Type 0} (x : NodeConfig D K G C) (old : ValidatorView S G D L C)
+    (begins : BeginWithOneView old.voter) (epoch : x.epoch ≡ old.voter.node.epoch)
+    (past : ValidatorHistory D K G C) (earlier : Conduct D) (is : IsRunning x past earlier old) where
+  -- no vote of the journal is left
+  no_vote_due :
+      old.voter.journal.is_open ≡ true
+      → slice_get old.voter.journal.contents.votes old.given.sent ≡ None
+      → (s : Subject D) → HasVoted (conduct_in earlier past) s
+      → is_below (numbered x.epoch (window_by past).finalized) (round_in s) ≡ false
+      → HasSent past s
+  no_vote_due opened none s has above =
+      let votes = old.voter.journal.contents.votes in
+      let floor_is : old.voter.journal.contents.floor ≡ numbered x.epoch (window_by past).finalized =
+      begins.floor_is opened ∙ ap (λ e. numbered e old.voter.node.window.finalized) (sym epoch)
+      ∙ ap (λ w. numbered x.epoch w.finalized) is.voting.represents.window_is in
+      let it = (is.voting.remembers opened).are_there s has
+      (subst (λ f. is_below f (round_in s) ≡ false) (sym floor_is) above) in
+      subst (λ t. HasSent past t) it.is_for
+      ((is.votes opened).were_given it.vote
+      (subst (λ vs. Contains vs it.vote)
+      (sym (take_all old.given.sent votes (past_end votes old.given.sent none))) it.there))
+
+  -- nobody is blocked who wasn't given to be
+  no_block_due :
+      ((i : ℕ) → i < length x.meaning.participants
+      → (cause_at old.voter.node.blocked i ≡ None) ⊎ (slice_get old.given.blocked i ≡ Some true))
+      → (i : ℕ) → i < length x.meaning.participants
+      → (cause_in x (calls_in past) i ≡ None) ⊎ HasBlocked past i
+  no_block_due blocks i lt = elim (blocks i lt) [
+    | inl none ↦ inl (sym (is.voting.represents.blocked_are i lt) ∙ none)
+    | inr noted ↦ inr (is.blocks.were_blocked i noted)
+  ]
+
+  -- all votes that wait are being verified
+  no_verify_due :
+      (old.given.verifying ≡ true) ⊎ IsAtRest old.voter.node
+      → IsVerifying past
+      ⊎ ((view : ℕ) → (window_by past).finalized ≤ view
+      → is_due (view_history view (calls_in past)) ≡ false)
+  no_verify_due (inl noted) =
+      inl (subst (λ b. MatchBool b (IsVerifying past) (IsVerifying past → ⊥)) noted is.verifies)
+  no_verify_due (inr rests) = inr (λ view from. of_slot view (slot_at old.voter.node.rounds view)
+      (rests view) (is.voting.represents.views view
+      (subst (λ w. w.finalized ≤ view) (sym is.voting.represents.window_is) from)))
+    where
+      of_slot : (view : ℕ) (at : Option (Slot (RoundView S G D)))
+          → IfSome at (λ slot. slot.changed ≡ false)
+          → MatchOption at (view_history view (calls_in past)
+          ≡ []) (ViewRepresents x (calls_in past) view)
+          → is_due (view_history view (calls_in past)) ≡ false
+      of_slot view None rest none = ap is_due none
+      of_slot view (Some slot) rest there = sym there.changed_is ∙ rest
+
+  -- the next view was entered, or given to be
+  no_enter_due :
+      (2 ^ 64 ≤ old.voter.knowledge.highest + 1)
+      ⊎ ((old.voter.knowledge.highest + 1 ≤ old.voter.node.window.current)
+      ⊎ (old.voter.knowledge.highest + 1 ≤ old.given.asked))
+      → (next : ℕ) → IsNextIn x past next → (window_by past).finalized < next → next < 2 ^ 64
+      → (next ≤ (window_by past).current) ⊎ HasAskedFrom past next
+  no_enter_due some next is_next above small =
+      of_cases some
+    where
+      within : next ≤ old.voter.knowledge.highest + 1
+      within = elim (is_next.behind_one) [
+        | inl first ↦ omega (
+          arith,
+          first,
+          ap (λ w. w.finalized) is.voting.represents.window_is,
+          begins.from_final,
+          is.voting.is_highest.from_floor,
+        )
+        | inr one ↦ omega (
+          arith,
+          one.1.0,
+          ap (λ r. r.view.0) one.1.1.of_round,
+          is.voting.is_highest.none_above one.1.1.subject one.1.1.known
+              (ap (λ r. r.epoch) one.1.1.of_round ∙ epoch ∙ sym begins.of_epoch),
+        )
+      ]
+
+      -- the highest view is known, so the next one is behind it
+      beyond : old.voter.knowledge.highest < next
+      beyond = elim (is.voting.is_highest.is_known) [
+        | inl floor ↦ omega (
+          arith,
+          floor,
+          begins.from_final,
+          ap (λ w. w.finalized) is.voting.represents.window_is,
+          above,
+        )
+        | inr one ↦ omega (
+          arith,
+          ap (λ r. r.view.0) one.of_round,
+          is_next.behind_all one.subject one.known
+              (ap (λ r. r.epoch) one.of_round ∙ begins.of_epoch ∙ sym epoch),
+        )
+      ]
+
+      of_cases :
+          (2 ^ 64 ≤ old.voter.knowledge.highest + 1)
+          ⊎ ((old.voter.knowledge.highest + 1 ≤ old.voter.node.window.current)
+          ⊎ (old.voter.knowledge.highest + 1 ≤ old.given.asked))
+          → (next ≤ (window_by past).current) ⊎ HasAskedFrom past next
+      of_cases (inl end) = absurd (omega (arith, end, beyond, small))
+      of_cases (inr (inl entered)) =
+          inl (omega (arith, within, entered, ap (λ w. w.current) is.voting.represents.window_is))
+      of_cases (inr (inr asked)) =
+          inr (is.asks.were_asked next (omega (arith, above)) (omega (arith, within, asked)))
+
+  -- each certificate that counts was given to be sent
+  no_certificate_due :
+      length old.shelf.certificates ≤ old.shelf.handed
+      → (c : Certificate C D) → Counts x past c → HasHanded past (key_of c)
+  no_certificate_due all c counts =
+      let it = is.kept.are_there c counts in
+      subst (λ key. HasHanded past key) it.is_of
+      (is.certificates.were_given it.item
+      (subst (λ cs. Contains cs it.item) (sym (take_all old.shelf.handed old.shelf.certificates all)) it.there))
+
+  -- and each finalization as final
+  no_final_due :
+      HaveNoFinal old.given.announced old.shelf.certificates
+      → (c : Certificate C D) → Counts x past c → (p : Proposal D)
+      → subject_certified c ≡ Finalize p
+      → 0 < p.round.view.0 → HasAnnouncedFrom past p.round.view.0
+  no_final_due all c counts p is_of some =
+      let it = is.kept.are_there c counts in
+      let other = final_of it.item (ap (λ (k : Kind × Round). k.0) it.is_of ∙ kind_of c p is_of) in
+      let round : other.0.round ≡ p.round =
+      sym (ap round_in other.1) ∙ ap (λ (k : Kind × Round). k.1) it.is_of ∙ ap round_in is_of in
+      is.finals.were_asked p.round.view.0 some
+      (omega (arith, ap (λ (r : Round). r.view.0) round, all it.item it.there other.0 other.1))
+
+  pub nothing_due :
+      old.voter.journal.is_open ≡ true
+      → ((i : ℕ) → i < length x.meaning.participants
+      → (cause_at old.voter.node.blocked i ≡ None) ⊎ (slice_get old.given.blocked i ≡ Some true))
+      → HaveNoFinal old.given.announced old.shelf.certificates
+      → slice_get old.voter.journal.contents.votes old.given.sent ≡ None
+      → length old.shelf.certificates ≤ old.shelf.handed
+      → (2 ^ 64 ≤ old.voter.knowledge.highest + 1)
+      ⊎ ((old.voter.knowledge.highest + 1 ≤ old.voter.node.window.current)
+      ⊎ (old.voter.knowledge.highest + 1 ≤ old.given.asked))
+      → (old.given.verifying ≡ true) ⊎ IsAtRest old.voter.node
+      → NothingIsDue x earlier past
+  nothing_due opened blocks finals votes certificates enters verifies =
+      record {
+        blocks = no_block_due blocks;
+        finals = no_final_due finals;
+        votes = no_vote_due opened votes;
+        certificates = no_certificate_due certificates;
+        enters = no_enter_due enters;
+        verifies = no_verify_due verifies;
+      }

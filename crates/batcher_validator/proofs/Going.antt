@@ -1,0 +1,384 @@
+-- A validator goes on with what its voter did.
+use Rattle.std.proofs.Common.{◌≡◌, ◌⊎◌, ◌≤◌, ◌++◌, ◌∙◌, ℕ, Bool, true, false, not, List, [], ◌∷◌, Some, ap, inl, inr, refl, subst, sym, take}
+use Rattle.std.specs.Prelude.{MatchBool, unwrap_or}
+use Rattle.std.specs.List.{count_by, filter, slice_get}
+use Rattle.batcher.specs.Verifiers.{certifies_itself}
+use Rattle.batcher.specs.Votes.{round_in, subject_of}
+use Rattle.batcher.specs.messages.Certificate.{Certificate}
+use Rattle.batcher.specs.messages.Subject.{Subject}
+use Rattle.batcher.specs.messages.Vote.{Vote}
+use Rattle.batcher.specs.positions.Round.{Round}
+use Rattle.batcher_agreement.specs.Lives.{VoterEvent, VoterHistory, called, held_by}
+use Rattle.batcher_agreement.specs.Policy.{Conduct}
+use Rattle.batcher_journal.specs.Floors.{is_below, is_over}
+use Rattle.batcher_journal.specs.Ready.{JournalView}
+use Rattle.batcher_journal.proofs.Rounds.{still_over}
+use Rattle.batcher_node.specs.Events.{NodeEvent, constructed, window_after}
+use Rattle.batcher_node.specs.Nodes.{NodeConfig, NodeView}
+use Rattle.batcher_node.specs.declared.window.Window.{Window}
+use Rattle.batcher_validator.specs.Queues.{AreFirst}
+use Rattle.batcher_validator.specs.Running.{AreKept, Constructs, GivenView, IsRunning, RunMeets, RunStays, ValidatorView, is_before_view, is_over_for}
+use Rattle.batcher_validator.specs.Shelves.{Shelves, key_of}
+use Rattle.batcher_validator.specs.Tasks.{AreGivenInTurn, HasAnnouncedFrom, HasAskedFrom, HasBlocked, HasHad, HasHanded, HasSent, IsVerifying, ValidatorEvent, ValidatorHistory, answered, did, only_did, voter_history, window_by}
+use Rattle.batcher_validator.proofs.Keeping.{first_with, kept_beside, kept_still, kept_with}
+use Rattle.batcher_validator.proofs.Queueing.{leave, put_behind}
+use Rattle.batcher_voter.specs.Journals.{IsRaised, MayGain}
+use Rattle.batcher_voter.specs.Voting.{IsVoting, VoterMeets, VoterStays}
+
+-- What its voter did gave nothing.
+module _ {D K G C : Type 0} (Was Is : ValidatorHistory D K G C → Type 0)
+    (same : (event : VoterEvent D K G C) (past : ValidatorHistory D K G C)
+    → (Was past → Was (did event ∷ past)) × (Was (did event ∷ past) → Was past)) where
+  pub to_more : (more : VoterHistory D K G C) (past : ValidatorHistory D K G C)
+      → Was past → Was (only_did more ++ past)
+  to_more [] past was = was
+  to_more (event ∷ more) past was = (same event (only_did more ++ past)).0 (to_more more past was)
+
+  pub from_more : (more : VoterHistory D K G C) (past : ValidatorHistory D K G C)
+      → Was (only_did more ++ past) → Was past
+  from_more [] past was = was
+  from_more (event ∷ more) past was = from_more more past ((same event (only_did more ++ past)).1 was)
+
+module _ {D K G C : Type 0} where
+  pub voter_history_more :
+      (more : VoterHistory D K G C) (past : ValidatorHistory D K G C)
+      → voter_history (only_did more ++ past) ≡ more ++ voter_history past
+  voter_history_more [] past = refl
+  voter_history_more (event ∷ more) past = ap (λ rest. event ∷ rest) (voter_history_more more past)
+
+  verifies_more :
+      (more : VoterHistory D K G C) (past : ValidatorHistory D K G C) (verifying : Bool)
+      → MatchBool verifying (IsVerifying past) (IsVerifying past → ⊥)
+      → MatchBool verifying (IsVerifying (only_did more ++ past))
+      (IsVerifying (only_did more ++ past) → ⊥)
+  verifies_more [] past verifying is = is
+  verifies_more (event ∷ more) past verifying is = verifies_more more past verifying is
+
+  in_turn_more :
+      (x : NodeConfig D K G C) (earlier : Conduct D) (more : VoterHistory D K G C)
+      (past : ValidatorHistory D K G C)
+      → AreGivenInTurn x earlier past → AreGivenInTurn x earlier (only_did more ++ past)
+  in_turn_more x earlier [] past are = are
+  in_turn_more x earlier (event ∷ more) past are = in_turn_more x earlier more past are
+
+-- what is said of those that were given, of a history with more
+first_more :
+    {X Y : Type 0} (key : X → Y) (is_over : Y → Bool) (Was Now : Y
+    → Type 0) (items : List X) (count : ℕ)
+    → ((y : Y) → Was y → Now y) → ((y : Y) → Now y → Was y)
+    → AreFirst key is_over Was items count → AreFirst key is_over Now items count
+first_more key is_over Was Now items count to back are =
+    record {
+      within = are.within;
+      were_given = λ x there. to (key x) (are.were_given x there);
+      no_others = λ y now above. are.no_others y (back y now) above;
+    }
+
+module _ {S D K G C L : Type 0} (x : NodeConfig D K G C) (old new : ValidatorView S G D L C)
+    (more : VoterHistory D K G C) (past : ValidatorHistory D K G C) (earlier : Conduct D) where
+  abbrev After : ValidatorHistory D K G C
+  After = only_did more ++ past
+
+  -- Its voter did more, and it gave nothing.
+  pub goes_on :
+      IsRunning x past earlier old
+      → IsVoting x (more ++ voter_history past) earlier new.voter
+      → (new.voter.journal.is_open ≡ true
+      → AreFirst subject_of (is_over_for new.voter.journal.contents.floor) (λ s. HasSent past s)
+      new.voter.journal.contents.votes new.given.sent)
+      → new.given ≡ record old.given { sent = new.given.sent }
+      → AreKept x After new.shelf.certificates
+      → AreFirst key_of (is_before_view (window_by After).finalized) (λ key. HasHanded past key)
+      new.shelf.certificates new.shelf.handed
+      → IsRunning x After earlier new
+  goes_on is voting sent given kept handed =
+      record {
+        voting = subst (λ h. IsVoting x h earlier new.voter) (sym (voter_history_more more past)) voting;
+        in_turn = in_turn_more x earlier more past is.in_turn;
+        blocks = record {
+          were_blocked = λ i there. to_more (λ h. HasBlocked h i) (λ h. HasBlocked h i)
+              (λ event h. ((λ was. was), (λ was. was))) more past
+              (is.blocks.were_blocked i (subst (λ (it : GivenView). slice_get it.blocked i ≡ Some true) given there));
+          no_others = λ i was. subst (λ (it : GivenView). slice_get it.blocked i ≡ Some true) (sym given)
+              (is.blocks.no_others i (from_more (λ h. HasBlocked h i) (λ h. HasBlocked h i)
+              (λ event h. ((λ was. was), (λ was. was))) more past was));
+        };
+        finals = record {
+          were_asked = λ view some within. to_more (λ h. HasAnnouncedFrom h view) (λ h. HasAnnouncedFrom h view)
+              (λ event h. ((λ was. was), (λ was. was))) more past
+              (is.finals.were_asked view some (subst (λ (it : GivenView). view ≤ it.announced) given within));
+          no_others = λ view was. subst (λ (it : GivenView). view ≤ it.announced) (sym given)
+              (is.finals.no_others view (from_more (λ h. HasAnnouncedFrom h view) (λ h. HasAnnouncedFrom h view)
+              (λ event h. ((λ was. was), (λ was. was))) more past was));
+        };
+        votes = λ opened. first_more subject_of (is_over_for new.voter.journal.contents.floor)
+            (λ s. HasSent past s) (λ s. HasSent After s) new.voter.journal.contents.votes new.given.sent
+            (λ s. to_more (λ h. HasSent h s) (λ h. HasSent h s) (λ event h. ((λ was. was), (λ was. was))) more past)
+            (λ s. from_more (λ h. HasSent h s) (λ h. HasSent h s) (λ event h. ((λ was. was), (λ was. was))) more past)
+            (sent opened);
+        kept = kept;
+        certificates = first_more key_of (is_before_view (window_by After).finalized)
+            (λ key. HasHanded past key) (λ key. HasHanded After key) new.shelf.certificates new.shelf.handed
+            (λ key. to_more (λ h. HasHanded h key) (λ h. HasHanded h key) (λ event h. ((λ was. was), (λ was. was))) more past)
+            (λ key. from_more (λ h. HasHanded h key) (λ h. HasHanded h key) (λ event h. ((λ was. was), (λ was. was))) more past)
+            handed;
+        asks = record {
+          were_asked = λ view some within. to_more (λ h. HasAskedFrom h view) (λ h. HasAskedFrom h view)
+              (λ event h. ((λ was. was), (λ was. was))) more past
+              (is.asks.were_asked view some (subst (λ (it : GivenView). view ≤ it.asked) given within));
+          no_others = λ view was. subst (λ (it : GivenView). view ≤ it.asked) (sym given)
+              (is.asks.no_others view (from_more (λ h. HasAskedFrom h view) (λ h. HasAskedFrom h view)
+              (λ event h. ((λ was. was), (λ was. was))) more past was));
+        };
+        verifies = verifies_more more past new.given.verifying
+            (subst (λ (it : GivenView). MatchBool it.verifying (IsVerifying past) (IsVerifying past → ⊥)) (sym given)
+            is.verifies);
+      }
+
+-- Votes that were sent, as a journal has them that writes nothing, or one more vote, or raises its floor.
+module _ {G D L : Type 0} (WasSent : Subject D → Type 0) (old new : JournalView G D L) (sent : ℕ) where
+  abbrev OldSent : Type 0
+  OldSent = AreFirst subject_of (is_over_for old.contents.floor) WasSent old.contents.votes sent
+
+  pub sent_still :
+      new.contents ≡ old.contents → OldSent
+      → AreFirst subject_of (is_over_for new.contents.floor) WasSent new.contents.votes sent
+  sent_still contents are =
+      subst (λ it. AreFirst subject_of (is_over_for it.floor) WasSent it.votes sent) (sym contents) are
+
+  pub sent_gained :
+      (vote : Vote G D) → MayGain vote old new → new.is_open ≡ true → (old.is_open ≡ true → OldSent)
+      → AreFirst subject_of (is_over_for new.contents.floor) WasSent new.contents.votes sent
+  sent_gained vote gains opened are = of_cases (gains opened).1.1 (are (gains opened).0)
+    where
+      of_cases :
+          (new.contents.votes ≡ old.contents.votes)
+          ⊎ (new.contents.votes ≡ old.contents.votes ++ vote ∷ [])
+          → OldSent
+          → AreFirst subject_of (is_over_for new.contents.floor) WasSent new.contents.votes sent
+      of_cases (inl same) has =
+          subst (λ vs. AreFirst subject_of (is_over_for new.contents.floor) WasSent vs sent) (sym same)
+          (subst (λ f. AreFirst subject_of (is_over_for f) WasSent old.contents.votes sent)
+          (sym (gains opened).1.0) has)
+      of_cases (inr one) has =
+          subst (λ vs. AreFirst subject_of (is_over_for new.contents.floor) WasSent vs sent) (sym one)
+          (subst (λ f. AreFirst subject_of (is_over_for f) WasSent (old.contents.votes ++ vote ∷ []) sent)
+          (sym (gains opened).1.0)
+          (put_behind subject_of (is_over_for old.contents.floor) WasSent old.contents.votes sent has (vote ∷ [])))
+
+  pub sent_raised :
+      (floor : Round) → IsRaised floor old new → OldSent
+      → AreFirst subject_of (is_over_for new.contents.floor) WasSent new.contents.votes
+      (count_by (λ vote. not (is_over floor vote)) (take sent old.contents.votes))
+  sent_raised floor raised are =
+      subst (λ vs. AreFirst subject_of (is_over_for new.contents.floor) WasSent vs left) (sym raised.votes)
+      (subst (λ f. AreFirst subject_of (is_over_for f) WasSent
+      (filter (λ vote. not (is_over floor vote)) old.contents.votes) left) (sym raised.floor_is)
+      (leave subject_of (is_over_for old.contents.floor) WasSent old.contents.votes sent are
+      (is_over_for floor) (λ vote. not (is_over floor vote))
+      (λ s above. was_above s above (is_below old.contents.floor (round_in s)) refl)
+      (λ vote above. ap not above)))
+    where
+      left : ℕ
+      left = count_by (λ vote. not (is_over floor vote)) (take sent old.contents.votes)
+
+      wrong : true ≡ false → ⊥
+      wrong e = absurd cc
+
+      was_above : (s : Subject D) → is_below floor (round_in s) ≡ false → (b : Bool)
+          → is_below old.contents.floor (round_in s) ≡ b
+          → is_below old.contents.floor (round_in s) ≡ false
+      was_above s above false e = e
+      was_above s above true e =
+          absurd (wrong (sym (still_over old.contents.floor floor (round_in s) raised.up e) ∙ above))
+
+-- a call of the voter's node that writes nothing, or leaves all as it was
+module _ {S D K G C L : Type 0} (x : NodeConfig D K G C) (old new : ValidatorView S G D L C)
+    (contents : new.voter.journal.contents ≡ old.voter.journal.contents)
+    (is_open : new.voter.journal.is_open ≡ old.voter.journal.is_open)
+    (given : new.given ≡ old.given) where
+  still_sent :
+      (past : ValidatorHistory D K G C) (earlier : Conduct D) → IsRunning x past earlier old
+      → new.voter.journal.is_open ≡ true
+      → AreFirst subject_of (is_over_for new.voter.journal.contents.floor) (λ s. HasSent past s)
+      new.voter.journal.contents.votes new.given.sent
+  still_sent past earlier is still =
+      subst (λ (it : GivenView). AreFirst subject_of (is_over_for new.voter.journal.contents.floor)
+      (λ s. HasSent past s) new.voter.journal.contents.votes it.sent) (sym given)
+      (sent_still (λ s. HasSent past s) old.voter.journal new.voter.journal old.given.sent contents
+      (is.votes (sym is_open ∙ still)))
+
+  same_but_sent : new.given ≡ record old.given { sent = new.given.sent }
+  same_but_sent = given ∙ ap (λ n. record old.given { sent = n }) (ap (λ (it : GivenView). it.sent) (sym given))
+
+  module _ (shelf : new.shelf.certificates ≡ old.shelf.certificates)
+      (handed : new.shelf.handed ≡ old.shelf.handed) where
+    goes :
+        (more : VoterHistory D K G C) (past : ValidatorHistory D K G C) (earlier : Conduct D)
+        → (window_by (only_did more ++ past)).finalized ≡ (window_by past).finalized
+        → ((c : Certificate C D) → HasHad (only_did more ++ past) c → HasHad past c)
+        → IsRunning x past earlier old
+        → IsVoting x (more ++ voter_history past) earlier new.voter
+        → IsRunning x (only_did more ++ past) earlier new
+    goes more past earlier window had is voting =
+        goes_on x old new more past earlier is voting (still_sent past earlier is) same_but_sent
+        (subst (AreKept x (only_did more ++ past)) (sym shelf)
+        (kept_still x past (only_did more ++ past) window old.shelf.certificates had is.kept))
+        (rw (shelf, handed, window) is.certificates)
+
+    pub runs :
+        (event : NodeEvent D K G C)
+        → ((w : Window) → (window_after w event).finalized ≡ w.finalized)
+        → ((c : Certificate C D) → held_by (called event) ≡ Some c → ⊥)
+        → VoterMeets x old.voter new.voter event → RunMeets x old new (did (called event))
+    runs event quiet none meets past earlier is =
+        goes (called event ∷ []) past earlier (quiet (window_by past))
+        (λ c had. elim had [
+          | inl held ↦ absurd (none c held)
+          | inr before ↦ before
+        ]) is (meets (voter_history past) earlier is.voting)
+
+    pub run_stays : VoterStays x old.voter new.voter → RunStays x old new
+    run_stays stays past earlier is =
+        goes [] past earlier refl (λ c had. had) is (stays (voter_history past) earlier is.voting)
+
+-- a call of the voter's node by which a certificate comes, which is kept then
+module _ {S D K G C L : Type 0} (x : NodeConfig D K G C) (old mid new : ValidatorView S G D L C)
+    (contents : mid.voter.journal.contents ≡ old.voter.journal.contents)
+    (is_open : mid.voter.journal.is_open ≡ old.voter.journal.is_open)
+    (given : mid.given ≡ old.given) (shelf : mid.shelf ≡ old.shelf)
+    (voter : new.voter ≡ mid.voter) (given_still : new.given ≡ mid.given)
+    (handed : new.shelf.handed ≡ mid.shelf.handed) where
+  abbrev Kept : ValidatorView S G D L C
+  Kept = record { voter = mid.voter; given = mid.given; shelf = new.shelf }
+
+  pub runs_with :
+      (event : NodeEvent D K G C) (c : Certificate C D)
+      → ((w : Window) → (window_after w event).finalized ≡ w.finalized)
+      → held_by (called event) ≡ Some c
+      → ((past : ValidatorHistory D K G C) (earlier : Conduct D)
+      → IsVoting x (called event ∷ voter_history past) earlier mid.voter
+      → certifies_itself x.meaning c ≡ true)
+      → x.epoch ≡ mid.voter.node.epoch
+      → Shelves mid.voter.node.epoch mid.voter.node.window.finalized c mid.shelf.certificates
+      new.shelf.certificates
+      → VoterMeets x old.voter mid.voter event → RunMeets x old new (did (called event))
+  runs_with event c quiet held certifies epoch shelves meets past earlier is =
+      subst (λ v. IsRunning x (did (called event) ∷ past) earlier (record { voter = v; given = new.given; shelf = new.shelf }))
+      (sym voter)
+      (subst (λ it. IsRunning x (did (called event) ∷ past) earlier (record { voter = mid.voter; given = it; shelf = new.shelf }))
+      (sym given_still)
+      (goes_on x old Kept (called event ∷ []) past earlier is voting
+      (still_sent x old Kept contents is_open given past earlier is)
+      (same_but_sent x old Kept contents is_open given)
+      (kept_with x past (did (called event) ∷ past) (quiet (window_by past)) c (certifies past earlier voting)
+      old.shelf.certificates new.shelf.certificates had is.kept shelved)
+      (rw (handed, shelf, quiet (window_by past)) (first_with x.epoch (window_by past).finalized c
+      old.shelf.certificates new.shelf.certificates (is_before_view (window_by past).finalized)
+      (λ key. HasHanded past key) old.shelf.handed shelved is.certificates))))
+    where
+      voting : IsVoting x (called event ∷ voter_history past) earlier mid.voter
+      voting = meets (voter_history past) earlier is.voting
+
+      first_is : mid.voter.node.window.finalized ≡ (window_by past).finalized
+      first_is = ap (λ (w : Window). w.finalized) voting.represents.window_is ∙ quiet (window_by past)
+
+      shelved : Shelves x.epoch
+          (window_by past).finalized c old.shelf.certificates new.shelf.certificates
+      shelved =
+          subst (λ e. Shelves e (window_by past).finalized c old.shelf.certificates new.shelf.certificates)
+          (sym epoch)
+          (subst (λ n. Shelves mid.voter.node.epoch n c old.shelf.certificates new.shelf.certificates) first_is
+          (subst (λ cs. Shelves mid.voter.node.epoch mid.voter.node.window.finalized c cs new.shelf.certificates)
+          (ap (λ s. s.certificates) shelf) shelves))
+
+      had : (d : Certificate C D) → HasHad (did (called event) ∷ past) d → (c ≡ d) ⊎ HasHad past d
+      had d (inl other) = inl (ap (λ o. unwrap_or o c) (sym held ∙ other))
+      had d (inr before) = inr before
+
+-- there is more room for certificates
+module _ {S D K G C L : Type 0} (x : NodeConfig D K G C) (old roomy : ValidatorView S G D L C)
+    (voter : roomy.voter ≡ old.voter) (given : roomy.given ≡ old.given)
+    (certificates : roomy.shelf.certificates ≡ old.shelf.certificates)
+    (handed : roomy.shelf.handed ≡ old.shelf.handed) where
+  pub with_room :
+      (past : ValidatorHistory D K G C) (earlier : Conduct D) → IsRunning x past earlier old
+      → IsRunning x past earlier roomy
+  with_room past earlier is =
+      record {
+        voting = rw (voter) is.voting;
+        in_turn = is.in_turn;
+        blocks = rw (given) is.blocks;
+        finals = rw (given) is.finals;
+        votes = rw (voter, given) is.votes;
+        kept = rw (certificates) is.kept;
+        certificates = rw (certificates, handed) is.certificates;
+        asks = rw (given) is.asks;
+        verifies = rw (given) is.verifies;
+      }
+
+module _ {S D K G C L : Type 0} (config : NodeView S G D → NodeConfig D K G C)
+    (old roomy new : ValidatorView S G D L C)
+    (voter : roomy.voter ≡ old.voter) (given : roomy.given ≡ old.given)
+    (certificates : roomy.shelf.certificates ≡ old.shelf.certificates)
+    (handed : roomy.shelf.handed ≡ old.shelf.handed) where
+  began_with :
+      (past : ValidatorHistory D K G C) (earlier : Conduct D)
+      → IsRunning (config old.voter.node) past earlier old
+      → IsRunning (config roomy.voter.node) past earlier roomy
+  began_with past earlier is =
+      subst (λ v. IsRunning (config v.node) past earlier roomy) (sym voter)
+      (with_room (config old.voter.node) old roomy voter given certificates handed past earlier is)
+
+  pub runs_roomy :
+      (event : ValidatorEvent D K G C) → RunMeets (config roomy.voter.node) roomy new event
+      → RunMeets (config old.voter.node) old new event
+  runs_roomy event meets past earlier is =
+      subst (λ v. IsRunning (config v.node) (event ∷ past) earlier new) voter
+      (meets past earlier (began_with past earlier is))
+
+  pub stays_roomy : RunStays (config roomy.voter.node) roomy new
+      → RunStays (config old.voter.node) old new
+  stays_roomy stays past earlier is =
+      subst (λ v. IsRunning (config v.node) past earlier new) voter
+      (stays past earlier (began_with past earlier is))
+
+  pub constructs_roomy :
+      Constructs (config roomy.voter.node) roomy new → Constructs (config old.voter.node) old new
+  constructs_roomy made = (
+    made.0,
+    λ past earlier is. subst (λ v. IsRunning (config v.node)
+        (answered ∷ did (called (constructed made.0.view.0 made.0.batch)) ∷ past) earlier new) voter
+        (made.1 past earlier (began_with past earlier is)),
+  )
+
+-- A certificate that certifies is kept, though no call of the node took it in.
+pub keeps_beside :
+    {S D K G C L : Type 0} (x : NodeConfig D K G C) (old new : ValidatorView S G D L C)
+    (c : Certificate C D)
+    → x.epoch ≡ old.voter.node.epoch → certifies_itself x.meaning c ≡ true
+    → new.voter ≡ old.voter → new.given ≡ old.given → new.shelf.handed ≡ old.shelf.handed
+    → Shelves old.voter.node.epoch old.voter.node.window.finalized c old.shelf.certificates
+    new.shelf.certificates
+    → RunStays x old new
+keeps_beside {D = D} {C = C} x old new c epoch certifies voter given handed shelves past earlier is =
+    record {
+      voting = rw (voter) is.voting;
+      in_turn = is.in_turn;
+      blocks = rw (given) is.blocks;
+      finals = rw (given) is.finals;
+      votes = rw (voter, given) is.votes;
+      kept = kept_beside x past c old.shelf.certificates new.shelf.certificates certifies is.kept shelved;
+      certificates = rw (handed) (first_with x.epoch (window_by past).finalized c old.shelf.certificates
+          new.shelf.certificates (is_before_view (window_by past).finalized) (λ key. HasHanded past key)
+          old.shelf.handed shelved is.certificates);
+      asks = rw (given) is.asks;
+      verifies = rw (given) is.verifies;
+    }
+  where
+    shelved : Shelves x.epoch
+        (window_by past).finalized c old.shelf.certificates new.shelf.certificates
+    shelved =
+        subst (λ e. Shelves e (window_by past).finalized c old.shelf.certificates new.shelf.certificates) (sym epoch)
+        (subst (λ (v : Window). Shelves old.voter.node.epoch v.finalized c old.shelf.certificates
+        new.shelf.certificates) is.voting.represents.window_is shelves)

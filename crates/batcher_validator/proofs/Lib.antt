@@ -1,0 +1,10 @@
+pub mod Queueing
+pub mod Keeping
+pub mod Looking
+pub mod Going
+pub mod Signing
+pub mod Blocking
+pub mod Beginning
+pub mod Giving
+pub mod Finalizing
+pub mod Certifying

@@ -1,0 +1,93 @@
+-- What is found among certificates that are kept.
+use Rattle.std.proofs.Common.{◌≡◌, ◌⊎◌, ◌+◌, ◌<◌, ◌≤◌, ◌∙◌, ℕ, List, [], ◌∷◌, Option, Some, None, ap, arith, get_or, inl, inr, length, subst, sym, take}
+use Rattle.std.specs.Prelude.{Contains, IfSome, unwrap_or}
+use Rattle.std.specs.List.{slice_get}
+use Rattle.std.proofs.lemmas.List.{take_all}
+use Rattle.std.proofs.lemmas.List.Elements.{Contains-append_cases}
+use Rattle.std.proofs.lemmas.Option.{slice_get-get_or}
+use Rattle.batcher.specs.Votes.{subject_certified}
+use Rattle.batcher.specs.messages.Certificate.{Certificate}
+use Rattle.batcher.specs.messages.Proposal.{Proposal}
+use Rattle.batcher.specs.messages.Subject.{Subject}
+use Rattle.batcher.specs.messages.Subject.TheVariants.{Finalize, Notarize, Nullify}
+use Rattle.batcher.specs.positions.Round.{Round}
+use Rattle.batcher_validator.specs.Shelves.{HaveNoFinal, IsFinalAt}
+use Rattle.batcher_validator.proofs.Queueing.{contains_one, one_more}
+
+module _ {X : Type 0} where
+  pub read_at : (xs : List X) (i : ℕ) (x : X) → i < length xs → x ≡ get_or xs i x
+      → slice_get xs i ≡ Some x
+  read_at xs i x lt is = slice_get-get_or xs i x lt ∙ ap Some (sym is)
+
+  pub one_at : (xs : List X) (i : ℕ) (x y : X) → slice_get xs i ≡ Some x
+      → slice_get xs i ≡ Some y → x ≡ y
+  one_at xs i x y a b = ap (λ o. unwrap_or o x) (sym a ∙ b)
+
+module _ {D : Type 0} where
+  abbrev proposal_or : Subject D → Proposal D → Proposal D
+  proposal_or (Finalize p) default = p
+  proposal_or (Notarize p) default = default
+  proposal_or (Nullify number) default = default
+
+  pub not_after :
+      (view : ℕ) (p q : Proposal D) (s : Subject D) → s ≡ Finalize q → q.round.view.0 ≤ view
+      → s ≡ Finalize p → p.round.view.0 ≤ view
+  not_after view p q s is le other =
+      subst (λ (it : Proposal D). it.round.view.0 ≤ view) (ap (λ t. proposal_or t q) (sym is ∙ other)) le
+
+pub not_notarize : {D : Type 0} (q p : Proposal D) → Notarize q ≡ Finalize p → ⊥
+not_notarize q p e = absurd cc
+
+pub not_nullify : {D : Type 0} (number : Round) (p : Proposal D) → Nullify number ≡ Finalize p → ⊥
+not_nullify number p e = absurd cc
+
+module _ {C D : Type 0} (view : ℕ) (kept : List (Certificate C D)) (i : ℕ) (lt : i < length kept) where
+  -- none of the first is one, and nor is the next
+  pub none_after_more :
+      HaveNoFinal view (take i kept)
+      → ((c : Certificate C D) → slice_get kept i ≡ Some c → (p : Proposal D)
+      → subject_certified c ≡ Finalize p → p.round.view.0 ≤ view)
+      → HaveNoFinal view (take (i + 1) kept)
+  none_after_more none next c there p is_of =
+      let at : slice_get kept i ≡ Some (get_or kept i c) = slice_get-get_or kept i c lt in
+      of_cases (get_or kept i c) at (Contains-append_cases (take i kept) (get_or kept i c ∷ []) c
+      (subst (λ cs. Contains cs c) (one_more kept i (get_or kept i c) at) there))
+    where
+      of_cases : (d : Certificate C D) → slice_get kept i ≡ Some d
+          → Contains (take i kept) c ⊎ Contains (d ∷ []) c
+          → p.round.view.0 ≤ view
+      of_cases d at (inl before) = none c before p is_of
+      of_cases d at (inr last) = next d at p (ap subject_certified (contains_one d c last) ∙ is_of)
+
+pub none_after_all :
+    {C D : Type 0} (view : ℕ) (kept : List (Certificate C D)) (i : ℕ) → length kept ≤ i
+    → HaveNoFinal view (take i kept) → HaveNoFinal view kept
+none_after_all view kept i le none = subst (HaveNoFinal view) (take_all i kept le) none
+
+pub none_after_first :
+    {C D : Type 0} (view : ℕ) (kept : List (Certificate C D)) → HaveNoFinal view (take 0 kept)
+none_after_first view [] c there p is_of = absurd (nothing there)
+  where
+    nothing : Contains [] c → ⊥
+    nothing (i, lt, is) = absurd (omega arith)
+none_after_first view (d ∷ kept) c there p is_of = absurd (nothing there)
+  where
+    nothing : Contains [] c → ⊥
+    nothing (i, lt, is) = absurd (omega arith)
+
+-- what is found goes on
+pub found_more :
+    {C D : Type 0} (view : ℕ) (kept : List (Certificate C D)) (i : ℕ)
+    (found new : Option (ℕ × Proposal D)) (at : Option (Proposal D))
+    → IfSome found (λ it. IsFinalAt view kept it.0 it.1)
+    → IfSome at (λ p. IsFinalAt view kept i p)
+    → IfSome new (λ it. (found ≡ Some it) ⊎ ((it.0 ≡ i) × (at ≡ Some it.1)))
+    → IfSome new (λ it. IsFinalAt view kept it.0 it.1)
+found_more view kept i found None at before here from = tt
+found_more view kept i found (Some it) at before here from = of_cases from
+  where
+    of_cases : (found ≡ Some it) ⊎ ((it.0 ≡ i) × (at ≡ Some it.1)) → IsFinalAt view kept it.0 it.1
+    of_cases (inl same) = subst (λ o. IfSome o (λ w. IsFinalAt view kept w.0 w.1)) same before
+    of_cases (inr now) =
+        subst (λ n. IsFinalAt view kept n it.1) (sym now.0)
+        (subst (λ o. IfSome o (λ p. IsFinalAt view kept i p)) now.1 here)

@@ -1,0 +1,9 @@
+use Rattle.std.proofs.Common.{◌≡◌, None, take}
+use Rattle.std.specs.Prelude.{IfSome}
+use Rattle.batcher_validator.specs.Shelves.{HaveNoFinal, IsFinalAt}
+use Rattle.batcher_validator.proofs.shelf.final_after.Given as goal
+
+abbrev pub invariant-loop-i : goal.invariant-loop-i
+invariant-loop-i g l =
+    (l.found ≡ None → HaveNoFinal l.fn.view (take l.i l.fn.certificates))
+    × IfSome l.found (λ it. IsFinalAt l.fn.view l.fn.certificates it.0 it.1)

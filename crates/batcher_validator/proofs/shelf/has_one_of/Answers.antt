@@ -1,0 +1,18 @@
+use Rattle.std.proofs.Common.{◌∙◌, subst}
+use Rattle.batcher_validator.specs.Queues.{HasKey}
+use Rattle.batcher_validator.specs.Shelves.{key_of}
+use Rattle.batcher_validator.proofs.Queueing.{key_is}
+use Rattle.batcher_validator.proofs.shelf.has_one_of.Goals as goal
+
+pub returns-in-Some : goal.returns-in-Some
+returns-in-Some g c =
+    record {
+      item = c.in-Some.field-0.now;
+      there = c.in-Some.ensures.some.0;
+      is_of = c.in-Some.ensures.some.1 ∙ key_is _ _ _ _ c.kind.ensures c.round.ensures;
+    }
+
+pub returns-in-None : goal.returns-in-None
+returns-in-None g c =
+    subst (λ key. HasKey key_of c.args.certificates.now key → ⊥)
+    (key_is _ _ _ _ c.kind.ensures c.round.ensures) (c.find.ensures.none c.in-None.is)

@@ -1,0 +1,24 @@
+use Rattle.batcher_node.specs.Events.{certificate_came}
+use Rattle.batcher_agreement.specs.Lives.{called}
+use Rattle.batcher_node.specs.Nodes.{node_config}
+use Rattle.batcher_validator.proofs.Going.{runs_roomy, stays_roomy}
+use Rattle.batcher_validator.specs.Tasks.{did}
+use Rattle.batcher_validator.proofs.validator.Validator.receive_certificate.Goals as goal
+
+pub returns-in-Ok-receive_with_room-clause-meets : goal.returns-in-Ok-receive_with_room-clause-meets
+returns-in-Ok-receive_with_room-clause-meets g c =
+    runs_roomy (node_config g.S.Scheme.meaning g.S.PublicKey.Ord.cmp g.S.Signature.PartialEq.eq g.D.PartialEq.eq)
+    c.args.self.now c.make_room.new.self c.receive_with_room.new.self
+    c.make_room.ensures.voter c.make_room.ensures.given c.make_room.ensures.certificates
+    c.make_room.ensures.handed
+    (did (called (certificate_came c.args.peer c.args.certificate c.in-Ok-receive_with_room.receipt)))
+    c.in-Ok-receive_with_room.ensures.meets
+
+pub returns-in-Err-receive_with_room-clause-stays :
+    goal.returns-in-Err-receive_with_room-clause-stays
+returns-in-Err-receive_with_room-clause-stays g c =
+    stays_roomy (node_config g.S.Scheme.meaning g.S.PublicKey.Ord.cmp g.S.Signature.PartialEq.eq g.D.PartialEq.eq)
+    c.args.self.now c.make_room.new.self c.receive_with_room.new.self
+    c.make_room.ensures.voter c.make_room.ensures.given c.make_room.ensures.certificates
+    c.make_room.ensures.handed
+    c.in-Err-receive_with_room.ensures.stays

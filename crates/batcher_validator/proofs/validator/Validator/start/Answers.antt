@@ -1,0 +1,32 @@
+use Rattle.std.proofs.Common.{◌≡◌, ◌∙◌, ◌⊎◌, All, subst, sym}
+use Rattle.batcher_codec.specs.Messages.{certificate_format}
+use Rattle.batcher_node.specs.Nodes.{node_config}
+use Rattle.batcher_validator.proofs.Beginning.{begun, none_resized, still_begun}
+use Rattle.batcher_voter.specs.Reopening.{IsFinalView, IsTakenIn}
+use Rattle.batcher_voter.specs.Voting.{HasStarted}
+use Rattle.batcher_validator.proofs.validator.Validator.start.Goals as goal
+
+pub returns-in-Ok-recall-clause-running : goal.returns-in-Ok-recall-clause-running
+returns-in-Ok-recall-clause-running g c = λ earlier keeps has.
+    let config = node_config g.S.Scheme.meaning g.S.PublicKey.Ord.cmp g.S.Signature.PartialEq.eq
+    g.D.PartialEq.eq in
+    let first = c.of-validator.result in
+    still_begun config first c.recall.new.self earlier c.recall.ensures.stays c.recall.ensures.voter
+    (begun (config first.voter.node) first earlier c.resize.new.self.items
+    (none_resized _ _ c.new-blocked.result.items c.resize.new.self.items c.new-blocked.ensures.items
+    c.in-Ok.ensures.items)
+    c.of-validator.ensures.given c.of-validator.ensures.empty c.of-validator.ensures.handed
+    (subst (λ v. HasStarted (config v.node) earlier v) (sym c.of-validator.ensures.voter)
+    (c.in-Ok-start.ensures.voting earlier keeps has)))
+
+pub returns-in-Ok-recall-clause-knows_floor : goal.returns-in-Ok-recall-clause-knows_floor
+returns-in-Ok-recall-clause-knows_floor g c =
+    let view = c.args.journal.contents.floor.view.0 in
+    subst (λ v. (view ≡ 0) ⊎ IsFinalView v.knowledge view)
+    (sym (c.recall.ensures.voter ∙ c.of-validator.ensures.voter)) c.in-Ok-start.ensures.knows_floor
+
+pub returns-in-Ok-recall-clause-knows_kept : goal.returns-in-Ok-recall-clause-knows_kept
+returns-in-Ok-recall-clause-knows_kept g c =
+    subst (λ v. All (IsTakenIn (certificate_format g.S.Certificate.OwnedCodec.format g.D.Codec.format)
+    v.node.epoch v.knowledge) c.args.journal.contents.certificates)
+    (sym (c.recall.ensures.voter ∙ c.of-validator.ensures.voter)) c.in-Ok-start.ensures.knows_kept

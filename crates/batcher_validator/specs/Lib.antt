@@ -1,0 +1,4 @@
+pub mod Tasks
+pub mod Queues
+pub mod Shelves
+pub mod Running

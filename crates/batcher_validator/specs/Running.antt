@@ -1,0 +1,191 @@
+-- A validator: a voter, with what it gave to be done.
+use Rattle.std.specs.Prelude.{◌≡◌, ◌≢◌, ◌<◌, ◌≤◌, ◌⊎◌, ⊤, ℕ, Bool, true, false, List, [], ◌∷◌, ◌++◌, Contains, MatchBool, Some, None, nat_lt, not, take}
+use Rattle.std.specs.List.{count_by, slice_get}
+use Rattle.batcher.specs.Verifiers.{certifies_itself}
+use Rattle.batcher.specs.Votes.{kind_certified, round_in, subject_certified, subject_of}
+use Rattle.batcher.specs.messages.Certificate.{Certificate}
+use Rattle.batcher.specs.messages.Kind.{Kind}
+use Rattle.batcher.specs.messages.Kind.TheVariants.{Finalization}
+use Rattle.batcher.specs.messages.Subject.{Subject}
+use Rattle.batcher.specs.messages.Subject.TheVariants.{Finalize}
+use Rattle.batcher.specs.messages.Vote.{Vote}
+use Rattle.batcher.specs.positions.Round.{Round}
+use Rattle.batcher.specs.votes.Outcome.{Outcome}
+use Rattle.batcher_agreement.specs.Lives.{VoterHistory, called, node_history, verified, written}
+use Rattle.batcher_agreement.specs.Policy.{Conduct, HasVoted}
+use Rattle.batcher_journal.specs.Floors.{is_below, is_over}
+use Rattle.batcher_node.specs.Events.{NodeEvent, constructed, started, view_finalized, vote_cast}
+use Rattle.batcher_node.specs.Nodes.{NodeConfig}
+use Rattle.batcher_node.specs.declared.node.Construction.{Construction}
+use Rattle.batcher_node.specs.Windows.{is_of}
+use Rattle.batcher_node.specs.declared.answers.Cast.{Cast}
+use Rattle.batcher_node.specs.declared.answers.Cast.TheVariants.{ToSend, Known as KnownVote, Outside as OutsideVote}
+use Rattle.batcher_validator.specs.Queues.{AreFirst, HasKey}
+use Rattle.batcher_validator.specs.Shelves.{IsLookedAt, ShelfView, key_of}
+use Rattle.batcher_validator.specs.Tasks.{AreGivenInTurn, Counts, HasAnnouncedFrom, HasAskedFrom, HasBlocked, HasHanded, HasSent, IsVerifying, ValidatorEvent}
+use Rattle.batcher_validator.specs.Tasks.{ValidatorHistory, answered, began, conduct_in, did, gave, only_did, voter_history, window_by}
+use Rattle.batcher_validator.specs.declared.task.Task.{Task}
+use Rattle.batcher_validator.specs.declared.task.Task.TheVariants.{Final, SendCertificate, SendVote}
+use Rattle.batcher_voter.specs.Voting.{IsVoting, VoterView}
+use Rattle.batcher_voter.specs.declared.answers.FinalizeFault.{FinalizeFault}
+use Rattle.batcher_voter.specs.declared.answers.FinalizeFault.TheVariants.{Forged as NotFinalForged, NotOfEpoch, Passed}
+
+-- What a validator has noted of what it gave.
+pub record GivenView : Type 0 where
+  -- whether each participant was given to be blocked
+  pub blocked : List Bool
+  -- the last view of which a proposal was given as final, or 0
+  pub announced : ℕ
+  -- how many of the journal's votes were given to be sent
+  pub sent : ℕ
+  -- the last view that was given to be entered, or 0
+  pub asked : ℕ
+  -- whether votes were given to be verified, and there is no answer yet
+  pub verifying : Bool
+
+-- With scheme S, signatures G, digests D, log L and certificates C.
+pub record ValidatorView (S G D L C : Type 0) : Type 0 where
+  pub voter : VoterView S G D L
+  pub given : GivenView
+  -- the certificates that it keeps
+  pub shelf : ShelfView C D
+
+-- how many of the votes that were sent are of rounds from this one on
+abbrev pub sent_from : {S G D L C : Type 0} → Round → ValidatorView S G D L C → ℕ
+sent_from floor validator =
+    count_by (λ vote. not (is_over floor vote))
+    (take validator.given.sent validator.voter.journal.contents.votes)
+
+-- The participants that are noted were given to be blocked, and no others.
+pub record AreBlocked (WasBlocked : ℕ → Type 0) (blocked : List Bool) : Type 0 where
+  pub were_blocked : (i : ℕ) → slice_get blocked i ≡ Some true → WasBlocked i
+  pub no_others : (i : ℕ) → WasBlocked i → slice_get blocked i ≡ Some true
+
+-- Views up to the one that is noted were given, or later ones, and no others.
+pub record AreAsked (WasAskedFrom : ℕ → Type 0) (asked : ℕ) : Type 0 where
+  pub were_asked : (view : ℕ) → 0 < view → view ≤ asked → WasAskedFrom view
+  pub no_others : (view : ℕ) → WasAskedFrom view → view ≤ asked
+
+-- The certificates that are kept: they certify what they name, are of the epoch and of views from
+-- the final one on, and of each that counts there is one of its kind and round.
+pub record AreKept {D K G C : Type 0} (x : NodeConfig D K G C) (past : ValidatorHistory D K G C)
+    (kept : List (Certificate C D)) : Type 0 where
+  pub certify : (c : Certificate C D) → Contains kept c → certifies_itself x.meaning c ≡ true
+  pub looked_at :
+      (c : Certificate C D) → Contains kept c → IsLookedAt x.epoch (window_by past).finalized c
+  pub are_there : (c : Certificate C D) → Counts x past c → HasKey key_of kept (key_of c)
+
+-- whether a subject is of a round before the floor, and a kind and round of a view before that one
+abbrev pub is_over_for : {D : Type 0} → Round → Subject D → Bool
+is_over_for floor s = is_below floor (round_in s)
+
+abbrev pub is_before_view : ℕ → (Kind × Round) → Bool
+is_before_view first key = nat_lt key.1.view.0 first
+
+-- A vote that is given to be sent is on the disk, and a certificate is kept.
+abbrev pub IsReady : {S G D L C : Type 0} → ValidatorView S G D L C → Task G D → Type 0
+IsReady validator (SendVote vote) =
+    (validator.voter.journal.is_open ≡ true)
+    × Contains validator.voter.journal.contents.votes vote
+IsReady validator (SendCertificate kind number) =
+    HasKey key_of validator.shelf.certificates (kind, number)
+IsReady validator task = ⊤
+
+-- Why the view of the finalization at a place isn't made the final one.
+abbrev pub WhyNotFinal : {S D K G C L : Type 0} → NodeConfig D K G C → ValidatorView S G D L C → ℕ
+    → FinalizeFault → Type 0
+WhyNotFinal x validator i NotFinalForged =
+    (c : Certificate _ _) → slice_get validator.shelf.certificates i ≡ Some c
+    → certifies_itself x.meaning c ≡ false
+WhyNotFinal x validator i NotOfEpoch =
+    (c : Certificate _ _) → slice_get validator.shelf.certificates i ≡ Some c
+    → (kind_certified c ≢ Finalization)
+    ⊎ ((round_in (subject_certified c)).epoch ≢ validator.voter.node.epoch)
+WhyNotFinal x validator i Passed =
+    (c : Certificate _ _) → slice_get validator.shelf.certificates i ≡ Some c
+    → (round_in (subject_certified c)).view.0 < validator.voter.node.window.finalized
+WhyNotFinal x validator i fault = ⊤
+
+module _ {S D K G C L : Type 0} (x : NodeConfig D K G C) where
+  -- What a validator is after a life so far, and what its participant did in earlier ones.
+  pub record IsRunning (past : ValidatorHistory D K G C) (earlier : Conduct D)
+      (validator : ValidatorView S G D L C) : Type 0 where
+    pub voting : IsVoting x (voter_history past) earlier validator.voter
+    pub in_turn : AreGivenInTurn x earlier past
+    pub blocks : AreBlocked (λ i. HasBlocked past i) validator.given.blocked
+    pub finals : AreAsked (λ view. HasAnnouncedFrom past view) validator.given.announced
+    pub votes :
+        validator.voter.journal.is_open ≡ true
+        → AreFirst subject_of (is_over_for validator.voter.journal.contents.floor)
+        (λ s. HasSent past s) validator.voter.journal.contents.votes validator.given.sent
+    pub kept : AreKept x past validator.shelf.certificates
+    pub certificates :
+        AreFirst key_of (is_before_view (window_by past).finalized) (λ key. HasHanded past key)
+        validator.shelf.certificates validator.shelf.handed
+    pub asks : AreAsked (λ view. HasAskedFrom past view) validator.given.asked
+    pub verifies : MatchBool validator.given.verifying (IsVerifying past) (IsVerifying past → ⊥)
+
+  -- A validator that was made from its journal gave nothing, and asked its node nothing.
+  pub record HasBegun (earlier : Conduct D) (validator : ValidatorView S G D L C) : Type 0 where
+    pub past : VoterHistory D K G C
+    pub running : IsRunning (began past ∷ []) earlier validator
+    pub asked_nothing : node_history past ≡ started validator.voter.node.window ∷ []
+
+  -- what is said of a validator whatever happened to it
+  abbrev pub ForEachRun : ValidatorView S G D L C
+      → (ValidatorHistory D K G C → Conduct D → Type 0) → Type 0
+  ForEachRun validator holds =
+      (past : ValidatorHistory D K G C) (earlier : Conduct D) → IsRunning past earlier validator
+      → holds past earlier
+
+  -- it goes on with one more event
+  abbrev pub RunMeets : ValidatorView S G D L C → ValidatorView S G D L C → ValidatorEvent D K G C
+      → Type 0
+  RunMeets old new event =
+      ForEachRun old (λ past earlier. IsRunning (event ∷ past) earlier new)
+
+  -- nothing happened that counts
+  abbrev pub RunStays : ValidatorView S G D L C → ValidatorView S G D L C → Type 0
+  RunStays old new = ForEachRun old (λ past earlier. IsRunning past earlier new)
+
+  -- a construction was made, by which votes were verified
+  abbrev pub Constructs : ValidatorView S G D L C → ValidatorView S G D L C → Type 0
+  Constructs old new =
+      (one : Construction C D) × ForEachRun old (λ past earlier. IsRunning
+      (answered ∷ did (called (constructed one.view.0 one.batch)) ∷ past) earlier new)
+
+  -- The vote was written, now or before, and then the node was called.
+  pub record RunWrites (vote : Vote G D) (event : NodeEvent D K G C)
+      (past : ValidatorHistory D K G C) (earlier : Conduct D) (new : ValidatorView S G D L C)
+      : Type 0 where
+    pub more : VoterHistory D K G C
+    pub is_written :
+        ((more ≡ []) × HasVoted (conduct_in earlier past) (subject_of vote))
+        ⊎ (more ≡ written vote ∷ [])
+    pub running : IsRunning (did (called event) ∷ only_did more ++ past) earlier new
+
+  -- What comes of a vote that is cast, as of a voter's.
+  abbrev pub RunCasts : ValidatorView S G D L C → Vote G D → Cast G D → ValidatorView S G D L C
+      → Type 0
+  RunCasts old vote (ToSend report) new = (outcome : Outcome) × ForEachRun old
+      (λ past earlier. RunWrites vote (vote_cast vote outcome (Some report)) past earlier new)
+  RunCasts old vote KnownVote new = (outcome : Outcome) × ForEachRun old
+      (λ past earlier. RunWrites vote (vote_cast vote outcome None) past earlier new)
+  RunCasts old vote OutsideVote new =
+      (is_of x.epoch old.voter.node.window (round_in (subject_of vote)) ≡ false) × (new ≡ old)
+
+  -- where it was refused: it may be written
+  pub record RunMayWrite (vote : Vote G D) (past : ValidatorHistory D K G C)
+      (earlier : Conduct D) (new : ValidatorView S G D L C) : Type 0 where
+    pub more : VoterHistory D K G C
+    pub is_written : (more ≡ []) ⊎ (more ≡ written vote ∷ [])
+    pub running : IsRunning (only_did more ++ past) earlier new
+
+  -- It gives a task, and does nothing else; but before a proposal is given as final, its view is
+  -- made the final one, by a finalization.
+  abbrev pub Gives : ValidatorView S G D L C → ValidatorView S G D L C → Task G D → Type 0
+  Gives old new (Final p) =
+      (c : Certificate C D) × ((subject_certified c ≡ Finalize p) × ForEachRun old
+      (λ past earlier. IsRunning (gave (Final p) ∷ did (called (view_finalized p.round.view.0))
+      ∷ did (verified c) ∷ past) earlier new))
+  Gives old new task = RunMeets old new (gave task)

@@ -1,0 +1,70 @@
+-- Certificates that are kept: of each kind and round one.
+use Rattle.std.specs.Prelude.{◌≡◌, ◌<◌, ◌≤◌, ◌⊎◌, ◌++◌, ℕ, Bool, List, [], ◌∷◌, Contains, Some, nat_le}
+use Rattle.std.specs.List.{slice_get}
+use Rattle.batcher.specs.Votes.{kind_certified, round_in, subject_certified}
+use Rattle.batcher.specs.messages.Certificate.{Certificate}
+use Rattle.batcher.specs.messages.Kind.{Kind}
+use Rattle.batcher.specs.messages.Proposal.{Proposal}
+use Rattle.batcher.specs.messages.Subject.TheVariants.{Finalize}
+use Rattle.batcher.specs.positions.Epoch.{Epoch}
+use Rattle.batcher.specs.positions.Round.{Round}
+use Rattle.batcher_validator.specs.Queues.{HasKey}
+
+-- The certificates, how many of them were given to be sent, and for how many more there is room.
+pub record ShelfView (C D : Type 0) : Type 0 where
+  pub certificates : List (Certificate C D)
+  pub handed : ℕ
+  pub room : ℕ
+
+module _ {C D : Type 0} where
+  -- the kind and the round of a certificate
+  abbrev pub key_of : Certificate C D → Kind × Round
+  key_of c = (kind_certified c, round_in (subject_certified c))
+
+  -- whether its view is this one or a later one
+  abbrev pub is_from : ℕ → Certificate C D → Bool
+  is_from first c = nat_le first (round_in (subject_certified c)).view.0
+
+  -- the one at this place is of the kind and the round
+  pub record IsAt (kept : List (Certificate C D)) (i : ℕ) (key : Kind × Round) : Type 0 where
+    pub certificate : Certificate C D
+    pub there : slice_get kept i ≡ Some certificate
+    pub is_of : key_of certificate ≡ key
+
+  -- with this one behind them, unless there is one of its kind and round
+  abbrev pub TakesIn : Certificate C D → List (Certificate C D) → List (Certificate C D) → Type 0
+  TakesIn c old new =
+      (HasKey key_of old (key_of c) × (new ≡ old))
+      ⊎ ((HasKey key_of old (key_of c) → ⊥) × (new ≡ old ++ c ∷ []))
+
+  -- Whether it is of the epoch, and of this view or a later one.
+  pub record IsLookedAt (epoch : Epoch) (first : ℕ) (c : Certificate C D) : Type 0 where
+    pub of_epoch : (round_in (subject_certified c)).epoch ≡ epoch
+    pub from_first : first ≤ (round_in (subject_certified c)).view.0
+
+  -- It is taken in where it is looked at.
+  abbrev pub Shelves : Epoch → ℕ → Certificate C D → List (Certificate C D)
+      → List (Certificate C D) → Type 0
+  Shelves epoch first c old new =
+      (IsLookedAt epoch first c × TakesIn c old new)
+      ⊎ ((IsLookedAt epoch first c → ⊥) × (new ≡ old))
+
+  -- at this place is a finalization of the proposal, of a view after this one
+  pub record IsFinalAt (view : ℕ) (kept : List (Certificate C D)) (i : ℕ) (p : Proposal D) : Type 0
+    where
+      pub certificate : Certificate C D
+      pub there : slice_get kept i ≡ Some certificate
+      pub is_of : subject_certified certificate ≡ Finalize p
+      pub after : view < p.round.view.0
+
+  -- there is one
+  pub record IsToAnnounce (view : ℕ) (kept : List (Certificate C D)) : Type 0 where
+    pub place : ℕ
+    pub proposal : Proposal D
+    pub final : IsFinalAt view kept place proposal
+
+  -- no finalization is of a view after this one
+  abbrev pub HaveNoFinal : ℕ → List (Certificate C D) → Type 0
+  HaveNoFinal view kept =
+      (c : Certificate C D) → Contains kept c → (p : Proposal D)
+      → subject_certified c ≡ Finalize p → p.round.view.0 ≤ view

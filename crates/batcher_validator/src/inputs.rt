@@ -1,0 +1,415 @@
+//! What comes to a validator: messages of its peers, and its own votes.
+
+ghost use Rattle.std.specs.Prelude.{◌≡◌, ◌<◌, ◌≤◌, ◌⊎◌, Err, IfOk, IfSome, length, None, Ok, MatchBool, OnErr, OnOk, false, option_and_then, true};
+ghost use Rattle.batcher.specs.Verifiers.{certifies_itself};
+ghost use Rattle.batcher.specs.Votes.{round_in, subject_of};
+ghost use Rattle.batcher.specs.calls.Call.TheVariants.{Network as NetworkCall};
+ghost use Rattle.batcher_agreement.specs.Lives.{called};
+ghost use Rattle.batcher_node.specs.Events.{certificate_came, constructed, view_entered, vote_came};
+ghost use Rattle.batcher_node.specs.Nodes.{IsAtRest, IsLedByAnother, IsNext, SameNode, slot_at};
+ghost use Rattle.batcher_node.specs.declared.answers.EnterFault.{EnterFault};
+ghost use Rattle.batcher_node.specs.Represents.{IsHeard, MayNeedIn};
+ghost use Rattle.batcher_validator.specs.Running.{Constructs, RunMeets, RunStays};
+ghost use Rattle.batcher_validator.specs.Shelves.{Shelves};
+ghost use Rattle.batcher_validator.specs.Tasks.{answered, did};
+ghost use Rattle.batcher_voter.specs.Needing.{CertificateNeeds, ConstructionNeeds};
+ghost use Rattle.batcher_voter.specs.Voting.{VoterMeets, VoterStays, is_recorded};
+
+use crate::validator::Validator;
+use batcher::messages::{Certificate, Digest, Identical, Vote};
+use batcher::positions::{Participant, Round, View};
+use batcher::round::Admission;
+use batcher::scheme::Scheme;
+use batcher::verifier::Batch;
+use batcher_codec::{Codec, OwnedCodec};
+use batcher_log::Log;
+use batcher_node::{
+    Construction, EnterFault, NodeConfigs, Receipt, Verdict,
+    senders_of_votes_to_send_are_never_blocked,
+};
+use rand_core::CryptoRng;
+use std::alloc::AllocError;
+
+impl<S: Scheme<D>, D: Digest + Codec, L: Log> Validator<S, D, L>
+where
+    S::Signature: Codec + Identical,
+    S::Certificate: OwnedCodec,
+{
+    /// Takes in a vote that a peer sent, as the voter does. Then poll.
+    pub fn receive_vote(
+        &mut self,
+        peer: S::PublicKey,
+        vote: Vote<S::Signature, D>,
+    ) -> Result<Receipt<Admission<S::Signature, D>>, AllocError>
+        ensures meets { IfOk result (λ receipt. RunMeets
+            (⟦<S as NodeConfigs<D>>⟧.of self.old.voter.node) self.old self.new
+            (did (called (vote_came peer vote receipt)))) }
+        ensures heard { OnErr result (IsHeard (⟦<S as NodeConfigs<D>>⟧.of self.old.voter.node)
+            self.old.voter.node peer (round_in (subject_of vote))) }
+        ensures needed { OnErr result (MayNeedIn (⟦<S as NodeConfigs<D>>⟧.of self.old.voter.node)
+            self.old.voter.node (round_in (subject_of vote)).view.0 (NetworkCall peer vote)) }
+        ensures refused { OnErr result (self.new ≡ self.old) }
+        ensures same { SameNode self.old.voter.node self.new.voter.node }
+    {
+        match self.call_vote(peer, vote) {
+            Ok(receipt) => Ok(receipt),
+            Err(fault) => Err(fault),
+        }
+    }
+
+    // The voter takes in a vote.
+    fn call_vote(
+        &mut self,
+        peer: S::PublicKey,
+        vote: Vote<S::Signature, D>,
+    ) -> Result<Receipt<Admission<S::Signature, D>>, AllocError>
+        ensures meets { IfOk result (λ receipt. VoterMeets
+            (⟦<S as NodeConfigs<D>>⟧.of self.old.voter.node) self.old.voter self.new.voter
+            (vote_came peer vote receipt)) }
+        ensures heard { OnErr result (IsHeard (⟦<S as NodeConfigs<D>>⟧.of self.old.voter.node)
+            self.old.voter.node peer (round_in (subject_of vote))) }
+        ensures needed { OnErr result (MayNeedIn (⟦<S as NodeConfigs<D>>⟧.of self.old.voter.node)
+            self.old.voter.node (round_in (subject_of vote)).view.0 (NetworkCall peer vote)) }
+        ensures refused { OnErr result (self.new ≡ self.old) }
+        ensures same { SameNode self.old.voter.node self.new.voter.node }
+        ensures contents { self.new.voter.journal.contents ≡ self.old.voter.journal.contents }
+        ensures open { self.new.voter.journal.is_open ≡ self.old.voter.journal.is_open }
+        ensures given { self.new.given ≡ self.old.given }
+        ensures shelf { self.new.shelf ≡ self.old.shelf }
+    {
+        self.voter.receive_vote(peer, vote)
+    }
+
+    /// Takes in a certificate that a peer sent, as the voter does, and keeps it. Then poll.
+    pub fn receive_certificate(
+        &mut self,
+        peer: S::PublicKey,
+        certificate: Certificate<S::Certificate, D>,
+    ) -> Result<Receipt<Verdict>, AllocError>
+        ensures meets { IfOk result (λ receipt. RunMeets
+            (⟦<S as NodeConfigs<D>>⟧.of self.old.voter.node) self.old self.new
+            (did (called (certificate_came peer certificate receipt)))) }
+        ensures needed { OnErr result ((self.old.shelf.room ≡ 0) ⊎ CertificateNeeds
+            (⟦<S as NodeConfigs<D>>⟧.of self.old.voter.node) self.old.voter peer certificate) }
+        ensures refused { OnErr result (self.new.voter.node ≡ self.old.voter.node) }
+        ensures stays { OnErr result
+            (RunStays (⟦<S as NodeConfigs<D>>⟧.of self.old.voter.node) self.old self.new) }
+        ensures same { SameNode self.old.voter.node self.new.voter.node }
+    {
+        match self.make_room() {
+            Ok(()) => match self.receive_with_room(peer, certificate) {
+                Ok(receipt) => Ok(receipt),
+                Err(fault) => Err(fault),
+            },
+            Err(fault) => {
+                drop(certificate);
+                Err(fault)
+            }
+        }
+    }
+
+    // The same where there is room for it.
+    fn receive_with_room(
+        &mut self,
+        peer: S::PublicKey,
+        certificate: Certificate<S::Certificate, D>,
+    ) -> Result<Receipt<Verdict>, AllocError>
+        requires { 1 ≤ self.old.shelf.room }
+        ensures meets { IfOk result (λ receipt. RunMeets
+            (⟦<S as NodeConfigs<D>>⟧.of self.old.voter.node) self.old self.new
+            (did (called (certificate_came peer certificate receipt)))) }
+        ensures needed { OnErr result (CertificateNeeds
+            (⟦<S as NodeConfigs<D>>⟧.of self.old.voter.node) self.old.voter peer certificate) }
+        ensures refused { OnErr result (self.new.voter.node ≡ self.old.voter.node) }
+        ensures stays { OnErr result
+            (RunStays (⟦<S as NodeConfigs<D>>⟧.of self.old.voter.node) self.old self.new) }
+        ensures same { SameNode self.old.voter.node self.new.voter.node }
+    {
+        senders_of_votes_to_send_are_never_blocked::<S, D>();
+        self.begins();
+        match self.call_certificate(peer, &certificate) {
+            Ok(receipt) => {
+                if is_recorded(&receipt) {
+                    self.shelve(certificate);
+                    return Ok(receipt);
+                }
+                drop(certificate);
+                Ok(receipt)
+            }
+            Err(fault) => {
+                drop(certificate);
+                Err(fault)
+            }
+        }
+    }
+
+    // Does nothing. Somebody takes part.
+    fn begins(&self)
+        ensures { 1 ≤ length (S.meaning self.now.voter.node.scheme).participants }
+    {
+        self.voter.begins();
+    }
+
+    // Keeps a certificate that is looked at, for which there is room.
+    pub(crate) fn shelve(&mut self, certificate: Certificate<S::Certificate, D>)
+        requires { 1 ≤ self.old.shelf.room }
+        ensures shelves { Shelves self.old.voter.node.epoch self.old.voter.node.window.finalized
+            certificate self.old.shelf.certificates self.new.shelf.certificates }
+        ensures handed { self.new.shelf.handed ≡ self.old.shelf.handed }
+        ensures voter { self.new.voter ≡ self.old.voter }
+        ensures given { self.new.given ≡ self.old.given }
+    {
+        if self.is_looked_at(certificate.round()) {
+            self.shelf.put(certificate);
+            return;
+        }
+        drop(certificate);
+    }
+
+    // Whether a round is of the epoch, and not before the final view.
+    fn is_looked_at(&self, round: Round) -> bool
+        ensures { MatchBool result ((round.epoch ≡ self.now.voter.node.epoch)
+            × (self.now.voter.node.window.finalized ≤ round.view.0))
+            ((round.epoch ≡ self.now.voter.node.epoch)
+            × (self.now.voter.node.window.finalized ≤ round.view.0) → ⊥) }
+    {
+        round.epoch == self.voter.epoch() && self.voter.node().window().finalized <= round.view.0
+    }
+
+    // The voter takes in a certificate.
+    fn call_certificate(
+        &mut self,
+        peer: S::PublicKey,
+        certificate: &Certificate<S::Certificate, D>,
+    ) -> Result<Receipt<Verdict>, AllocError>
+        ensures meets { IfOk result (λ receipt. VoterMeets
+            (⟦<S as NodeConfigs<D>>⟧.of self.old.voter.node) self.old.voter self.new.voter
+            (certificate_came peer certificate.now receipt)) }
+        ensures needed { OnErr result (CertificateNeeds
+            (⟦<S as NodeConfigs<D>>⟧.of self.old.voter.node) self.old.voter peer
+            certificate.now) }
+        ensures refused { OnErr result (self.new.voter.node ≡ self.old.voter.node) }
+        ensures stays { OnErr result (VoterStays
+            (⟦<S as NodeConfigs<D>>⟧.of self.old.voter.node) self.old.voter self.new.voter) }
+        ensures same { SameNode self.old.voter.node self.new.voter.node }
+        ensures contents { self.new.voter.journal.contents ≡ self.old.voter.journal.contents }
+        ensures open { self.new.voter.journal.is_open ≡ self.old.voter.journal.is_open }
+        ensures given { self.new.given ≡ self.old.given }
+        ensures shelf { self.new.shelf ≡ self.old.shelf }
+    {
+        self.voter.receive_certificate(peer, certificate)
+    }
+
+    /// Takes in a certificate from beyond the window, by which who fell behind goes on. It is
+    /// verified and kept; then poll. It answers false where it doesn't certify what it names: then
+    /// drop who sent it.
+    pub fn catch_up(
+        &mut self,
+        certificate: Certificate<S::Certificate, D>,
+    ) -> Result<bool, AllocError>
+        ensures stays { RunStays (⟦<S as NodeConfigs<D>>⟧.of self.old.voter.node) self.old
+            self.new }
+        ensures forged { result ≡ Ok false
+            → certifies_itself (S.meaning self.old.voter.node.scheme) certificate ≡ false }
+        ensures taken { result ≡ Ok true → Shelves self.old.voter.node.epoch
+            self.old.voter.node.window.finalized certificate self.old.shelf.certificates
+            self.new.shelf.certificates }
+        ensures needed { OnErr result (self.old.shelf.room ≡ 0) }
+        ensures voter { self.new.voter ≡ self.old.voter }
+    {
+        if !self.verifies(&certificate) {
+            drop(certificate);
+            return Ok(false);
+        }
+        match self.make_room() {
+            Ok(()) => {
+                self.shelve(certificate);
+                Ok(true)
+            }
+            Err(fault) => {
+                drop(certificate);
+                Err(fault)
+            }
+        }
+    }
+
+    fn verifies(&self, certificate: &Certificate<S::Certificate, D>) -> bool
+        ensures { result
+            ≡ certifies_itself (S.meaning self.now.voter.node.scheme) certificate.now }
+    {
+        self.voter.node().verifies(certificate)
+    }
+
+    /// Makes one construction, as the voter does, by which votes are verified, and keeps its
+    /// certificate. It answers whether one was made. Then poll.
+    pub fn try_construct<R: CryptoRng>(&mut self, rng: &mut R) -> Result<bool, AllocError>
+        ensures needed { OnErr result ((self.old.shelf.room ≡ 0) ⊎ ConstructionNeeds
+            (⟦<S as NodeConfigs<D>>⟧.of self.old.voter.node) self.old.voter) }
+        ensures made { result ≡ Ok true → Constructs
+            (⟦<S as NodeConfigs<D>>⟧.of self.old.voter.node) self.old self.new }
+        ensures rests { result ≡ Ok false → IsAtRest self.old.voter.node }
+        ensures answered { result ≡ Ok false
+            → RunMeets (⟦<S as NodeConfigs<D>>⟧.of self.old.voter.node) self.old self.new
+            answered }
+        ensures refused { OnErr result (self.new.voter.node ≡ self.old.voter.node) }
+        ensures stays { OnErr result
+            (RunStays (⟦<S as NodeConfigs<D>>⟧.of self.old.voter.node) self.old self.new) }
+        ensures same { SameNode self.old.voter.node self.new.voter.node }
+    {
+        match self.make_room() {
+            Ok(()) => match self.construct_with_room(rng) {
+                Ok(made) => Ok(made),
+                Err(fault) => Err(fault),
+            },
+            Err(fault) => Err(fault),
+        }
+    }
+
+    // The same where there is room for its certificate.
+    fn construct_with_room<R: CryptoRng>(&mut self, rng: &mut R) -> Result<bool, AllocError>
+        requires { 1 ≤ self.old.shelf.room }
+        ensures needed { OnErr result (ConstructionNeeds
+            (⟦<S as NodeConfigs<D>>⟧.of self.old.voter.node) self.old.voter) }
+        ensures made { result ≡ Ok true → Constructs
+            (⟦<S as NodeConfigs<D>>⟧.of self.old.voter.node) self.old self.new }
+        ensures rests { result ≡ Ok false → IsAtRest self.old.voter.node }
+        ensures answered { result ≡ Ok false
+            → RunMeets (⟦<S as NodeConfigs<D>>⟧.of self.old.voter.node) self.old self.new
+            answered }
+        ensures refused { OnErr result (self.new.voter.node ≡ self.old.voter.node) }
+        ensures stays { OnErr result
+            (RunStays (⟦<S as NodeConfigs<D>>⟧.of self.old.voter.node) self.old self.new) }
+        ensures same { SameNode self.old.voter.node self.new.voter.node }
+    {
+        senders_of_votes_to_send_are_never_blocked::<S, D>();
+        self.begins();
+        match self.call_construct(rng) {
+            Ok(Some(made)) => match certificate_of(made) {
+                Some(certificate) => {
+                    self.shelve(certificate);
+                    self.note_answer();
+                    Ok(true)
+                }
+                None => {
+                    self.note_answer();
+                    Ok(true)
+                }
+            },
+            Ok(None) => {
+                self.note_answer();
+                Ok(false)
+            }
+            Err(fault) => Err(fault),
+        }
+    }
+
+    // Makes room for one more certificate.
+    fn make_room(&mut self) -> Result<(), AllocError>
+        ensures room { OnOk result (1 ≤ self.new.shelf.room) }
+        ensures needed { OnErr result (self.old.shelf.room ≡ 0) }
+        ensures certificates { self.new.shelf.certificates ≡ self.old.shelf.certificates }
+        ensures handed { self.new.shelf.handed ≡ self.old.shelf.handed }
+        ensures voter { self.new.voter ≡ self.old.voter }
+        ensures given { self.new.given ≡ self.old.given }
+    {
+        self.shelf.make_room()
+    }
+
+    fn note_answer(&mut self)
+        ensures given { self.new.given ≡ record self.old.given { verifying = false } }
+        ensures voter { self.new.voter ≡ self.old.voter }
+        ensures shelf { self.new.shelf ≡ self.old.shelf }
+    {
+        self.given.verifying = false;
+    }
+
+    // The voter makes a construction.
+    fn call_construct<R: CryptoRng>(
+        &mut self,
+        rng: &mut R,
+    ) -> Result<Option<Construction<S::Certificate, D>>, AllocError>
+        ensures meets { IfOk result (λ made. IfSome made (λ one. VoterMeets
+            (⟦<S as NodeConfigs<D>>⟧.of self.old.voter.node) self.old.voter self.new.voter
+            (constructed one.view.0 one.batch))) }
+        ensures next { IfOk result (λ made. IfSome made (λ one.
+            IsNext self.old.voter.node.rounds one.view.0)) }
+        ensures rests { result ≡ Ok None
+            → (self.new ≡ self.old) × IsAtRest self.old.voter.node }
+        ensures needed { OnErr result (ConstructionNeeds
+            (⟦<S as NodeConfigs<D>>⟧.of self.old.voter.node) self.old.voter) }
+        ensures refused { OnErr result (self.new.voter.node ≡ self.old.voter.node) }
+        ensures stays { OnErr result (VoterStays
+            (⟦<S as NodeConfigs<D>>⟧.of self.old.voter.node) self.old.voter self.new.voter) }
+        ensures same { SameNode self.old.voter.node self.new.voter.node }
+        ensures contents { self.new.voter.journal.contents ≡ self.old.voter.journal.contents }
+        ensures open { self.new.voter.journal.is_open ≡ self.old.voter.journal.is_open }
+        ensures given { self.new.given ≡ self.old.given }
+        ensures shelf { self.new.shelf ≡ self.old.shelf }
+    {
+        self.voter.try_construct(rng)
+    }
+
+    /// Enters a view with its leader, as the voter does.
+    pub fn enter(&mut self, view: View, leader: Participant) -> Result<(), EnterFault>
+        ensures meets { OnOk result (RunMeets (⟦<S as NodeConfigs<D>>⟧.of self.old.voter.node)
+            self.old self.new (did (called (view_entered view.0 leader)))) }
+        ensures passed { view.0 < self.old.voter.node.window.finalized
+            → result ≡ Err EnterFault.Passed }
+        ensures not_passed { result ≡ Err EnterFault.Passed
+            → view.0 < self.old.voter.node.window.finalized }
+        ensures led { result ≡ Err EnterFault.LeaderChanged
+            → IsLedByAnother (slot_at self.old.voter.node.rounds view.0) leader }
+        ensures needed { result ≡ Err EnterFault.OutOfMemory
+            → slot_at self.old.voter.node.rounds view.0 ≡ None }
+        ensures refused { OnErr result (self.new ≡ self.old) }
+        ensures same { SameNode self.old.voter.node self.new.voter.node }
+    {
+        match self.call_enter(view, leader) {
+            Ok(()) => Ok(()),
+            Err(fault) => Err(fault),
+        }
+    }
+
+    // The voter enters a view.
+    fn call_enter(&mut self, view: View, leader: Participant) -> Result<(), EnterFault>
+        ensures meets { OnOk result (VoterMeets (⟦<S as NodeConfigs<D>>⟧.of self.old.voter.node)
+            self.old.voter self.new.voter (view_entered view.0 leader)) }
+        ensures passed { view.0 < self.old.voter.node.window.finalized
+            → result ≡ Err EnterFault.Passed }
+        ensures not_passed { result ≡ Err EnterFault.Passed
+            → view.0 < self.old.voter.node.window.finalized }
+        ensures led { result ≡ Err EnterFault.LeaderChanged
+            → IsLedByAnother (slot_at self.old.voter.node.rounds view.0) leader }
+        ensures needed { result ≡ Err EnterFault.OutOfMemory
+            → slot_at self.old.voter.node.rounds view.0 ≡ None }
+        ensures refused { OnErr result (self.new ≡ self.old) }
+        ensures same { SameNode self.old.voter.node self.new.voter.node }
+        ensures contents { self.new.voter.journal.contents ≡ self.old.voter.journal.contents }
+        ensures open { self.new.voter.journal.is_open ≡ self.old.voter.journal.is_open }
+        ensures given { self.new.given ≡ self.old.given }
+        ensures shelf { self.new.shelf ≡ self.old.shelf }
+    {
+        self.voter.enter(view, leader)
+    }
+}
+
+// Whether a certificate was recorded.
+fn is_recorded(receipt: &Receipt<Verdict>) -> bool
+    ensures { result ≡ is_recorded receipt.now }
+{
+    match receipt {
+        Receipt::Answered(Verdict::Recorded(_)) => true,
+        _ => false,
+    }
+}
+
+// The certificate of a construction.
+fn certificate_of<C: Drop, D>(made: Construction<C, D>) -> Option<Certificate<C, D>>
+    ensures { result ≡ option_and_then (λ batch. batch.certificate) made.batch }
+{
+    let Construction { batch, .. } = made;
+    match batch {
+        Some(Batch { certificate, .. }) => certificate,
+        None => None,
+    }
+}

@@ -1,0 +1,16 @@
+//! A validator: a voter that says what is to be done next, until nothing is.
+#![tactic(auto)]
+
+mod announcing;
+mod casting;
+mod inputs;
+mod polling;
+mod recalling;
+mod shelf;
+mod task;
+#[cfg(test)]
+mod tests;
+mod validator;
+
+pub use task::{PollFault, Task};
+pub use validator::Validator;

@@ -1,0 +1,284 @@
+//! The certificates that a validator keeps, to send them, and to send them again.
+
+ghost use Rattle.std.specs.Prelude.{◌≡◌, ◌≤◌, ◌<◌, ◌+◌, ◌⊎◌, ◌++◌, [], ◌∷◌, Contains, IfOk, IfSome, IsTrue, MatchBool, None, OnErr, OnOk, Some, length, nat_le, take, true, false, ℕ};
+ghost use Rattle.std.specs.List.{count_by, filter, slice_get};
+ghost use Rattle.batcher.specs.Votes.{kind_certified, round_in, subject_certified};
+ghost use Rattle.batcher.specs.messages.Certificate.{Certificate as TheCertificate};
+ghost use Rattle.batcher.specs.messages.Proposal.{Proposal as TheProposal};
+ghost use Rattle.batcher.specs.messages.Subject.TheVariants.{Finalize};
+ghost use Rattle.batcher_validator.specs.Queues.{AreDistinct, HasKey};
+ghost use Rattle.batcher_validator.specs.Shelves.{HaveNoFinal, IsAt, IsFinalAt, ShelfView, TakesIn, is_from, key_of};
+
+use batcher::messages::{Certificate, Digest, Kind, Proposal, Subject};
+use batcher::positions::Round;
+use std::alloc::{AllocError, Global};
+use std::marker::Model;
+
+/// Certificates, of each kind and round one.
+#[derive(Drop)]
+pub(crate) struct Shelf<C: Drop, D: Digest> {
+    certificates: Vec<Certificate<C, D>>,
+    // How many of them were given to be sent.
+    handed: usize,
+}
+
+impl<C: Drop, D: Digest> Model for Shelf<C, D> {
+    ghost use Rattle.std.specs.Prelude.{◌-◌, length};
+    ghost use Rattle.std.specs.Vec.{vec_capacity};
+    ghost use Rattle.batcher_validator.specs.Queues.{AreDistinct};
+    ghost use Rattle.batcher_validator.specs.Shelves.{ShelfView, key_of};
+
+    ghost Value = { ShelfView C D };
+
+    ghost view = { λ s. record {
+      certificates = s.certificates.items;
+      handed = s.handed;
+      room = vec_capacity s.certificates - length s.certificates.items;
+    } };
+
+    ghost invariant = { λ s. AreDistinct key_of s.certificates.items };
+}
+
+impl<C: Drop, D: Digest> Shelf<C, D> {
+    pub(crate) fn new(alloc: Global) -> Self
+        ensures certificates { result.certificates ≡ [] }
+        ensures handed { result.handed ≡ 0 }
+    {
+        Shelf {
+            certificates: Vec::new(alloc),
+            handed: 0,
+        }
+    }
+
+    /// The certificates, in the order in which they came.
+    pub(crate) fn as_slice(&self) -> &[Certificate<C, D>]
+        ensures all { result.now ≡ self.now.certificates }
+        ensures distinct { AreDistinct key_of self.now.certificates }
+    {
+        &self.certificates
+    }
+
+    /// Makes room for one more.
+    pub(crate) fn make_room(&mut self) -> Result<(), AllocError>
+        ensures room { OnOk result (1 ≤ self.new.room) }
+        ensures needed { OnErr result (self.old.room ≡ 0) }
+        ensures certificates { self.new.certificates ≡ self.old.certificates }
+        ensures handed { self.new.handed ≡ self.old.handed }
+    {
+        self.certificates.reserve(1)
+    }
+
+    /// Takes one in, for which there is room, unless there is one of its kind and round.
+    pub(crate) fn put(&mut self, certificate: Certificate<C, D>)
+        requires { 1 ≤ self.old.room }
+        ensures certificates { TakesIn certificate self.old.certificates self.new.certificates }
+        ensures handed { self.new.handed ≡ self.old.handed }
+    {
+        if has_one_of(&self.certificates, &certificate) {
+            drop(certificate);
+            return;
+        }
+        self.certificates.push_reserved(certificate);
+    }
+
+    /// The kind and the round of the first that wasn't given to be sent.
+    pub(crate) fn next(&self) -> Option<(Kind, Round)>
+        ensures none { result ≡ None → length self.now.certificates ≤ self.now.handed }
+        ensures some { IfSome result (λ key. IsAt self.now.certificates self.now.handed
+            (key.0, key.1)) }
+    {
+        key_at(&self.certificates, self.handed)
+    }
+
+    /// The proposal of the lowest finalization of a view above this one, with its place.
+    pub(crate) fn final_after(&self, view: u64) -> Option<(usize, Proposal<D>)>
+        ensures none { result ≡ None → HaveNoFinal view self.now.certificates }
+        ensures some { IfSome result (λ it. IsFinalAt view self.now.certificates it.0 it.1) }
+    {
+        final_after(&self.certificates, view)
+    }
+
+    /// The one at this place.
+    pub(crate) fn at(&self, i: usize) -> &Certificate<C, D>
+        requires { i < length self.now.certificates }
+        ensures { slice_get self.now.certificates i ≡ Some result.now }
+    {
+        &self.certificates[i]
+    }
+
+    /// The one of this kind and round.
+    pub(crate) fn get(&self, kind: Kind, round: Round) -> Option<&Certificate<C, D>>
+        ensures some { IfSome result (λ c. Contains self.now.certificates c.now
+            × (key_of c.now ≡ (kind, round))) }
+        ensures none { result ≡ None → HasKey key_of self.now.certificates (kind, round) → ⊥ }
+    {
+        find(&self.certificates, kind, round)
+    }
+
+    /// The next one was given.
+    pub(crate) fn note_handed(&mut self)
+        requires { self.old.handed < length self.old.certificates }
+        ensures certificates { self.new.certificates ≡ self.old.certificates }
+        ensures handed { self.new.handed ≡ self.old.handed + 1 }
+    {
+        self.handed += 1;
+    }
+
+    /// All are to be given again.
+    pub(crate) fn begin_again(&mut self)
+        ensures certificates { self.new.certificates ≡ self.old.certificates }
+        ensures handed { self.new.handed ≡ 0 }
+    {
+        self.handed = 0;
+    }
+
+    /// Drops those of views before this one.
+    pub(crate) fn drop_before(&mut self, first: u64)
+        ensures certificates { self.new.certificates
+            ≡ filter (is_from first) self.old.certificates }
+        ensures handed { self.new.handed
+            ≡ count_by (is_from first) (take self.old.handed self.old.certificates) }
+    {
+        self.handed = self.handed_from(first);
+        self.certificates
+            .retain(move |certificate| first <= certificate.round().view.0);
+    }
+
+    // How many of those that were given are of views from this one on.
+    fn handed_from(&self, first: u64) -> usize
+        ensures { result ≡ count_by (is_from first) (take self.now.handed self.now.certificates) }
+    {
+        if self.handed < self.certificates.len() {
+            return count_from(&self.certificates[..self.handed], first);
+        }
+        count_from(&self.certificates, first)
+    }
+}
+
+// Whether one of the certificate's kind and round is among them.
+fn has_one_of<C, D: Digest>(
+    certificates: &[Certificate<C, D>],
+    certificate: &Certificate<C, D>,
+) -> bool
+    ensures { MatchBool result (HasKey key_of certificates.now (key_of certificate.now))
+        (HasKey key_of certificates.now (key_of certificate.now) → ⊥) }
+{
+    match find(certificates, certificate.kind(), certificate.round()) {
+        Some(_) => true,
+        None => false,
+    }
+}
+
+fn count_from<C, D: Digest>(certificates: &[Certificate<C, D>], first: u64) -> usize
+    ensures { result ≡ count_by (is_from first) certificates.now }
+{
+    certificates
+        .iter()
+        .filter(|certificate| first <= certificate.round().view.0)
+        .count()
+}
+
+// The same among these.
+fn final_after<C, D: Digest>(
+    certificates: &[Certificate<C, D>],
+    view: u64,
+) -> Option<(usize, Proposal<D>)>
+    ensures none { result ≡ None → HaveNoFinal view certificates.now }
+    ensures some { IfSome result (λ it. IsFinalAt view certificates.now it.0 it.1) }
+{
+    let mut found: Option<(usize, Proposal<D>)> = None;
+    for i in 0..certificates.len() {
+        found = lower_of(found, i, final_at(certificates, i, view));
+    }
+    found
+}
+
+// The lower of what was found and of what is at a place.
+fn lower_of<D: Copy>(
+    found: Option<(usize, Proposal<D>)>,
+    i: usize,
+    here: Option<Proposal<D>>,
+) -> Option<(usize, Proposal<D>)>
+    ensures none { result ≡ None → (found ≡ None) × (here ≡ None) }
+    ensures some { IfSome result (λ it. (found ≡ Some it)
+        ⊎ ((it.0 ≡ i) × (here ≡ Some it.1))) }
+{
+    match (found, here) {
+        (Some((at, lowest)), Some(proposal)) => {
+            if proposal.round.view.0 < lowest.round.view.0 {
+                return Some((i, proposal));
+            }
+            Some((at, lowest))
+        }
+        (None, Some(proposal)) => Some((i, proposal)),
+        (found, None) => found,
+    }
+}
+
+// The proposal of the finalization at this place, if it is one of a later view.
+fn final_at<C, D: Digest>(
+    certificates: &[Certificate<C, D>],
+    i: usize,
+    view: u64,
+) -> Option<Proposal<D>>
+    requires { i < length certificates.now }
+    ensures some { IfSome result (λ p. IsFinalAt view certificates.now i p) }
+    ensures none { result ≡ None → (c : TheCertificate C D)
+        → slice_get certificates.now i ≡ Some c → (p : TheProposal D)
+        → subject_certified c ≡ Finalize p → p.round.view.0 ≤ view }
+{
+    match certificates[i].subject() {
+        Subject::Finalize { proposal } => {
+            if view < proposal.round.view.0 {
+                return Some(proposal);
+            }
+            None
+        }
+        Subject::Notarize { .. } => None,
+        Subject::Nullify { .. } => None,
+    }
+}
+
+// The one of this kind and round among these.
+fn find<C, D: Digest>(
+    certificates: &[Certificate<C, D>],
+    kind: Kind,
+    round: Round,
+) -> Option<&Certificate<C, D>>
+    ensures some { IfSome result (λ c. Contains certificates.now c.now
+        × (key_of c.now ≡ (kind, round))) }
+    ensures none { result ≡ None → HasKey key_of certificates.now (kind, round) → ⊥ }
+{
+    for i in 0..certificates.len() {
+        if is_key_at(certificates, i, kind, round) {
+            return Some(&certificates[i]);
+        }
+    }
+    None
+}
+
+fn is_key_at<C, D: Digest>(
+    certificates: &[Certificate<C, D>],
+    i: usize,
+    kind: Kind,
+    round: Round,
+) -> bool
+    requires { i < length certificates.now }
+    ensures yes { IsTrue result → (c : TheCertificate C D)
+        → slice_get certificates.now i ≡ Some c → key_of c ≡ (kind, round) }
+    ensures no { result ≡ false → (c : TheCertificate C D)
+        → slice_get certificates.now i ≡ Some c → key_of c ≡ (kind, round) → ⊥ }
+{
+    certificates[i].kind() == kind && certificates[i].round() == round
+}
+
+// The kind and the round of the one at this place.
+fn key_at<C, D: Digest>(certificates: &[Certificate<C, D>], i: usize) -> Option<(Kind, Round)>
+    ensures none { result ≡ None → length certificates.now ≤ i }
+    ensures some { IfSome result (λ key. IsAt certificates.now i (key.0, key.1)) }
+{
+    match certificates.get(i) {
+        Some(certificate) => Some((certificate.kind(), certificate.round())),
+        None => None,
+    }
+}

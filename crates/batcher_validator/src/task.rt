@@ -1,0 +1,33 @@
+//! What a validator gives to be done.
+
+use batcher::messages::{Kind, Proposal, Vote};
+use batcher::positions::{Participant, Round, View};
+use batcher_node::Cause;
+
+/// What is to be done next.
+#[derive(Clone, Copy, Debug, PartialEq, Eq)]
+pub enum Task<G, D> {
+    /// Block this participant, for this cause: drop what it sends, and close its connection.
+    Block(Participant, Cause),
+    /// This proposal is final, and so are those below it. No lower view is looked at any more.
+    Final(Proposal<D>),
+    /// Send this vote of the validator's own to all others. It is on the disk.
+    SendVote(Vote<G, D>),
+    /// Send the certificate of this kind and round to all others: `certificate` lends it.
+    SendCertificate(Kind, Round),
+    /// Enter this view, with its leader, and start its timer.
+    Enter(View),
+    /// Have votes verified that wait for it: construct.
+    Verify,
+}
+
+/// Why a validator doesn't say what is to be done.
+#[derive(Clone, Copy, Debug, PartialEq, Eq)]
+pub enum PollFault {
+    /// Nothing has changed.
+    OutOfMemory,
+    /// The finalization of the view that is to be the final one has too many bytes for the journal.
+    Full,
+    /// The disk failed, now or before. Start the validator again by what is on it.
+    Closed,
+}

@@ -1,0 +1,576 @@
+//! Tests of what no clause says: that what is to be done comes, and in which order. By hand.
+
+ghost use Rattle.std.specs.Prelude.{◌≡◌, ◌<◌, ℕ, length};
+
+use crate::{PollFault, Task, Validator};
+use batcher::messages::{Attestation, Certificate, Kind, Proposal, Sha256Digest, Subject, Vote};
+use batcher::positions::{Epoch, Participant, Round, View};
+use batcher::round::BlockReason;
+use batcher::scheme::{AttestationList, Counter, Keyed, Name, names};
+use batcher_journal::{Journal, Owner, Unopened};
+use batcher_log::MemoryLog;
+use batcher_node::{Cast, Cause, Receipt, Verdict};
+use batcher_voter::{NotStarted, Permission};
+use std::alloc::Global;
+use std::marker::Model;
+use std::process::Abort;
+use std::rc::Rc;
+use std::test::Fail;
+
+type Digest = Sha256Digest;
+
+type TestValidator = Validator<Keyed<true>, Digest, MemoryLog>;
+
+type TestTask = Task<[u8; 32], Digest>;
+
+const EPOCH: Epoch = Epoch(5);
+
+// The participant that votes alone. Three of four are a quorum.
+const ME: u32 = 3;
+
+fn owner(me: u32) -> Owner<'static> {
+    Owner {
+        namespace: b"test",
+        keys: b"keys",
+        participant: Participant(me),
+        digest_len: 32,
+        signature_len: 32,
+    }
+}
+
+fn at(view: u64) -> Round {
+    Round::new(EPOCH, View(view))
+}
+
+fn proposal(view: u64, parent: u64) -> Proposal<Digest> {
+    Proposal::new(at(view), View(parent), Sha256Digest([1; 32]))
+}
+
+fn notarize(view: u64, parent: u64) -> Subject<Digest> {
+    let proposal = proposal(view, parent);
+    Subject::Notarize { proposal }
+}
+
+fn nullify(view: u64) -> Subject<Digest> {
+    let round = at(view);
+    Subject::Nullify { round }
+}
+
+fn finalize(view: u64, parent: u64) -> Subject<Digest> {
+    let proposal = proposal(view, parent);
+    Subject::Finalize { proposal }
+}
+
+// A validator of four participants, with the scheme by which they sign.
+#[derive(Drop)]
+struct Station {
+    validator: TestValidator,
+    scheme: Rc<Keyed<true>>,
+    rng: Counter,
+    me: u32,
+}
+
+impl Model for Station {
+    ghost use Rattle.std.specs.Prelude.{◌≡◌, ◌<◌, ℕ, length};
+
+    ghost Value = { ℕ };
+
+    ghost view = { λ s. length s.scheme.value.participants };
+
+    ghost invariant = { λ s. (s.validator.voter.node.scheme ≡ s.scheme.value)
+        × ((length s.scheme.value.participants ≡ 4) × (s.me < 4)) };
+}
+
+impl Station {
+    // The validator of a journal that is begun.
+    fn new(rt: &impl Abort, alloc: Global, me: u32) -> Result<Self, Fail>
+        requires { me < 4 }
+    {
+        let mut log = MemoryLog::new(alloc);
+        assert!(rt;
+            Journal::<[u8; 32], Digest, MemoryLog>::begin(
+                alloc,
+                &mut log,
+                &owner(me),
+                at(0),
+                b""
+            ).is_ok()
+        );
+        Station::of(rt, alloc, log, me)
+    }
+
+    // The validator of a log.
+    fn of(rt: &impl Abort, alloc: Global, log: MemoryLog, me: u32) -> Result<Self, Fail>
+        requires { me < 4 }
+    {
+        let participants = names(alloc, 4)?;
+        let scheme = Rc::new(alloc, Keyed::new(participants, [7; 32]))?;
+        let again = Rc::clone(&scheme)?;
+        let journal = match Journal::open(alloc, log, &owner(me)) {
+            Ok(journal) => journal,
+            Err(Unopened { .. }) => return Err(Fail::new("no journal is there")),
+        };
+        match Validator::start(alloc, again, 5, true, journal) {
+            Ok(validator) => Ok(Station {
+                validator,
+                scheme,
+                rng: Counter::new(0),
+                me,
+            }),
+            Err(NotStarted { fault, .. }) => {
+                assert_eq!(rt; fault, batcher_voter::StartFault::OutOfMemory);
+                Err(Fail::new("no validator is made"))
+            }
+        }
+    }
+
+    // It ends, and is started by its disk alone.
+    fn restarted(self, rt: &impl Abort, alloc: Global) -> Result<Self, Fail> {
+        let Station {
+            validator,
+            scheme,
+            me,
+            ..
+        } = self;
+        drop(scheme);
+        Station::of(
+            rt,
+            alloc,
+            validator.into_voter().into_journal().into_log(),
+            me,
+        )
+    }
+
+    fn poll(&mut self) -> Result<Option<TestTask>, PollFault> {
+        self.validator.poll()
+    }
+
+    // This is to be done next.
+    fn gives(&mut self, rt: &impl Abort, task: TestTask) {
+        assert_eq!(rt; self.poll(), Ok(Some(task)));
+    }
+
+    fn rests(&mut self, rt: &impl Abort) {
+        assert_eq!(rt; self.poll(), Ok(None));
+    }
+
+    fn enter(&mut self, rt: &impl Abort, view: u64) {
+        self.gives(rt, Task::Enter(View(view)));
+        assert!(rt; self.validator.enter(View(view), Participant(0)).is_ok());
+    }
+
+    // Votes wait, and are verified. It says whether a construction was made.
+    fn verify(&mut self, rt: &impl Abort) -> Result<bool, Fail> {
+        self.gives(rt, Task::Verify);
+        Ok(self.validator.try_construct(&mut self.rng)?)
+    }
+
+    // All votes that wait are verified, and nothing else is to be done.
+    fn verify_all(&mut self, rt: &impl Abort) -> Result<(), Fail> {
+        for _ in 0..4 {
+            match self.poll() {
+                Ok(Some(Task::Verify)) => {
+                    let _ = self.validator.try_construct(&mut self.rng)?;
+                }
+                Ok(None) => return Ok(()),
+                _ => panic!(rt; "something else is to be done"),
+            }
+        }
+        Err(Fail::new("votes wait for ever"))
+    }
+
+    // Casts a vote, which is given to be sent.
+    fn cast(&mut self, rt: &impl Abort, subject: Subject<Digest>) {
+        let vote = Vote::new(subject, self.scheme.sign(Participant(self.me), subject));
+        match self.validator.cast(vote) {
+            Ok(Cast::ToSend(_)) => {}
+            _ => panic!(rt; "the vote isn't to be sent"),
+        }
+        self.gives(rt, Task::SendVote(vote));
+    }
+
+    fn written(&self, subject: Subject<Digest>) -> TestTask {
+        Task::SendVote(Vote::new(subject, self.scheme.sign(Participant(self.me), subject)))
+    }
+
+    // A participant's vote comes from it.
+    fn hear(&mut self, signer: u32, subject: Subject<Digest>) -> Result<(), Fail> {
+        let vote = Vote::new(subject, self.scheme.sign(Participant(signer), subject));
+        let _ = self.validator.receive_vote(Name(u64::from(signer)), vote)?;
+        Ok(())
+    }
+
+    fn certificate(
+        &self,
+        alloc: Global,
+        subject: Subject<Digest>,
+    ) -> Result<Certificate<AttestationList, Digest>, Fail> {
+        let mut attestations = Vec::new(alloc);
+        for signer in 0..3u32 {
+            let attestation: Attestation<[u8; 32]> = self.scheme.sign(Participant(signer), subject);
+            attestations.push(attestation)?;
+        }
+        Ok(Certificate::new(subject, AttestationList::new(attestations)))
+    }
+}
+
+#[test]
+fn what_is_to_be_done_comes(rt: HostRuntime) -> Result<(), Fail> {
+    let mut station = Station::new(&rt, rt.alloc(), ME)?;
+    let played = play(&mut station, &rt);
+    match played {
+        Ok(()) => {}
+        Err(fail) => {
+            drop(station);
+            return Err(fail);
+        }
+    }
+    let mut again = station.restarted(&rt, rt.alloc())?;
+    let went = go_on(&mut again, &rt);
+    drop(again);
+    went
+}
+
+fn play(station: &mut Station, rt: &impl Abort) -> Result<(), Fail> {
+    station.enter(rt, 1);
+    // Votes are given to be verified once, until they are.
+    station.gives(rt, Task::Verify);
+    station.rests(rt);
+    assert!(rt; station.validator.try_construct(&mut station.rng)?);
+    station.rests(rt);
+    station.cast(rt, notarize(1, 0));
+    station.hear(0, notarize(1, 0))?;
+    station.hear(1, notarize(1, 0))?;
+    assert!(rt; station.verify(rt)?);
+    station.gives(rt, Task::SendCertificate(Kind::Notarization, at(1)));
+    assert!(rt;
+        station
+            .validator
+            .certificate(Kind::Notarization, at(1))
+            .is_some()
+    );
+    station.enter(rt, 2);
+    station.cast(rt, finalize(1, 0));
+    station.hear(0, finalize(1, 0))?;
+    station.hear(1, finalize(1, 0))?;
+    assert!(rt; station.verify(rt)?);
+    // What is final comes before what is to be sent.
+    station.gives(rt, Task::Final(proposal(1, 0)));
+    station.gives(rt, Task::SendCertificate(Kind::Finalization, at(1)));
+    assert_eq!(rt; station.validator.certificates().len(), 2);
+    station.verify_all(rt)?;
+    // A peer that contradicts itself is to be blocked, and once.
+    station.hear(2, notarize(2, 1))?;
+    station.hear(2, nullify(2))?;
+    station.hear(2, finalize(2, 1))?;
+    let reason = BlockReason::FinalizeAfterNullify;
+    station.gives(rt, Task::Block(Participant(2), Cause::Vote(reason)));
+    // What was sent is given again, when that is asked for.
+    station.validator.send_again();
+    let first = station.written(notarize(1, 0));
+    station.gives(rt, first);
+    let second = station.written(finalize(1, 0));
+    station.gives(rt, second);
+    station.gives(rt, Task::SendCertificate(Kind::Notarization, at(1)));
+    station.gives(rt, Task::SendCertificate(Kind::Finalization, at(1)));
+    station.gives(rt, Task::Verify);
+    station.rests(rt);
+    Ok(())
+}
+
+// By its disk it knows what is final, and has votes and certificates from there on.
+fn go_on(station: &mut Station, rt: &impl Abort) -> Result<(), Fail> {
+    station.gives(rt, Task::Final(proposal(1, 0)));
+    let first = station.written(notarize(1, 0));
+    station.gives(rt, first);
+    let second = station.written(finalize(1, 0));
+    station.gives(rt, second);
+    station.gives(rt, Task::SendCertificate(Kind::Finalization, at(1)));
+    station.gives(rt, Task::SendCertificate(Kind::Notarization, at(1)));
+    station.enter(rt, 2);
+    Ok(())
+}
+
+#[test]
+fn who_fell_behind_catches_up(rt: HostRuntime) -> Result<(), Fail> {
+    let mut station = Station::new(&rt, rt.alloc(), ME)?;
+    let caught = catch_up(&mut station, &rt, rt.alloc());
+    drop(station);
+    caught
+}
+
+fn catch_up(station: &mut Station, rt: &impl Abort, alloc: Global) -> Result<(), Fail> {
+    let far = station.certificate(alloc, finalize(90, 1))?;
+    assert!(rt; station.validator.catch_up(far)?);
+    station.gives(rt, Task::Final(proposal(90, 1)));
+    station.gives(rt, Task::SendCertificate(Kind::Finalization, at(90)));
+    station.enter(rt, 91);
+    // One that is before the final view isn't kept, and one that nobody signed is forged.
+    let passed = station.certificate(alloc, finalize(89, 1))?;
+    assert!(rt; station.validator.catch_up(passed)?);
+    assert_eq!(rt; station.validator.certificates().len(), 1);
+    let forged = Certificate::new(finalize(95, 0), AttestationList::new(Vec::new(alloc)));
+    assert!(rt; !station.validator.catch_up(forged)?);
+    // A certificate of the window is handed in with its sender.
+    let known = station.certificate(alloc, notarize(91, 90))?;
+    match station.validator.receive_certificate(Name(0), known)? {
+        Receipt::Answered(Verdict::Recorded(_)) => {}
+        _ => panic!(rt; "the certificate isn't recorded"),
+    }
+    station.gives(rt, Task::SendCertificate(Kind::Notarization, at(91)));
+    station.gives(rt, Task::Enter(View(92)));
+    Ok(())
+}
+
+// What a validator sends to all others.
+#[derive(Drop)]
+enum Message {
+    Vote(Vote<[u8; 32], Digest>),
+    Certificate(Certificate<AttestationList, Digest>),
+}
+
+// A validator in a network, which votes wherever its voter says that it may.
+#[derive(Drop)]
+struct Member {
+    station: Station,
+    outbox: Vec<Message>,
+    // The view of the last proposal that was given as final.
+    last: u64,
+    // Whether proposals were given as final by ascending views.
+    ascends: bool,
+}
+
+impl Member {
+    fn new(rt: &impl Abort, alloc: Global, me: u32) -> Result<Self, Fail>
+        requires { me < 4 }
+    {
+        Ok(Member {
+            station: Station::new(rt, alloc, me)?,
+            outbox: Vec::new(alloc),
+            last: 0,
+            ascends: true,
+        })
+    }
+
+    // It ends, and is started by its disk alone. What it was about to send is lost.
+    fn restarted(self, rt: &impl Abort, alloc: Global) -> Result<Self, Fail> {
+        let Member { station, last, .. } = self;
+        let mut member = Member {
+            station: station.restarted(rt, alloc)?,
+            outbox: Vec::new(alloc),
+            last: 0,
+            ascends: true,
+        };
+        member.cast_again();
+        match member.settle(rt) {
+            Ok(()) => {}
+            Err(fail) => {
+                drop(member);
+                return Err(fail);
+            }
+        }
+        // What was final is known from the disk.
+        assert_eq!(rt; member.last, last);
+        Ok(member)
+    }
+
+    // The node is shown the votes that are on the disk.
+    fn cast_again(&mut self) {
+        for place in 0..self.station.validator.voter().journal().votes().len() {
+            if let Some(vote) = self.station.validator.voter().journal().votes().get(place) {
+                let subject = vote.subject();
+                self.station.try_cast(subject);
+            }
+        }
+    }
+
+    // Does what is to be done, until nothing is.
+    fn settle(&mut self, rt: &impl Abort) -> Result<(), Fail> {
+        for _ in 0..200 {
+            match self.station.poll() {
+                Ok(Some(task)) => self.perform(rt, task)?,
+                Ok(None) => {
+                    if !self.vote() {
+                        return Ok(());
+                    }
+                }
+                Err(_) => return Err(Fail::new("the disk or memory failed")),
+            }
+        }
+        Err(Fail::new("it never rests"))
+    }
+
+    fn perform(&mut self, rt: &impl Abort, task: TestTask) -> Result<(), Fail> {
+        match task {
+            Task::Block(_, _) => panic!(rt; "somebody honest is blocked"),
+            Task::Final(proposal) => {
+                if proposal.round.view.0 <= self.last {
+                    self.ascends = false;
+                }
+                self.last = proposal.round.view.0;
+            }
+            Task::SendVote(vote) => self.outbox.push(Message::Vote(vote))?,
+            Task::SendCertificate(kind, round) => {
+                if let Some(it) = self.station.validator.certificate(kind, round) {
+                    self.outbox.push(Message::Certificate(it.clone()?))?;
+                }
+            }
+            Task::Enter(view) => {
+                let leader = Participant((view.0 % 4) as u32);
+                assert!(rt; self.station.validator.enter(view, leader).is_ok());
+            }
+            Task::Verify => {
+                let _ = self.station.validator.try_construct(&mut self.station.rng)?;
+            }
+        }
+        Ok(())
+    }
+
+    // Casts a vote that may be cast, if there is one.
+    fn vote(&mut self) -> bool {
+        for place in 0..self.station.validator.certificates().len() {
+            if let Some(proposal) = self.notarized_at(place) {
+                if self.station.may_cast(Subject::Finalize { proposal }) {
+                    return true;
+                }
+            }
+        }
+        match self.proposal() {
+            Some(proposal) => self.station.may_cast(Subject::Notarize { proposal }),
+            None => false,
+        }
+    }
+
+    fn notarized_at(&self, place: usize) -> Option<Proposal<Digest>> {
+        match self.station.validator.certificates().get(place)?.subject() {
+            Subject::Notarize { proposal } => Some(proposal),
+            Subject::Nullify { .. } | Subject::Finalize { .. } => None,
+        }
+    }
+
+    // What is proposed in its view, by itself as the leader, or by another.
+    fn proposal(&self) -> Option<Proposal<Digest>> {
+        let voter = self.station.validator.voter();
+        let view = voter.node().window().current;
+        if (view % 4) as u32 == self.station.me {
+            return match voter.parent_for(View(view)) {
+                Some(parent) => Some(Proposal::new(at(view), parent, Sha256Digest([1; 32]))),
+                None => None,
+            };
+        }
+        match voter.node().round(View(view)) {
+            Some(round) => round.proposal(),
+            None => None,
+        }
+    }
+
+    fn hear(&mut self, peer: u32, message: &Message) -> Result<(), Fail> {
+        let key = Name(u64::from(peer));
+        match message {
+            Message::Vote(vote) => {
+                let _ = self.station.validator.receive_vote(key, *vote)?;
+            }
+            Message::Certificate(certificate) => {
+                let copy = certificate.clone()?;
+                let view = copy.round().view.0;
+                if self
+                    .station
+                    .validator
+                    .voter()
+                    .node()
+                    .window()
+                    .contains(view)
+                {
+                    let _ = self.station.validator.receive_certificate(key, copy)?;
+                } else {
+                    let _ = self.station.validator.catch_up(copy)?;
+                }
+            }
+        }
+        Ok(())
+    }
+}
+
+impl Station {
+    // Casts a vote for a subject, where it may be signed. It says whether it was.
+    fn may_cast(&mut self, subject: Subject<Digest>) -> bool {
+        if self.validator.voter().ask(&subject) == Permission::Sign {
+            return self.try_cast(subject);
+        }
+        false
+    }
+
+    fn try_cast(&mut self, subject: Subject<Digest>) -> bool {
+        let vote = Vote::new(subject, self.scheme.sign(Participant(self.me), subject));
+        self.validator.cast(vote).is_ok()
+    }
+}
+
+#[test]
+fn a_network_goes_on(rt: HostRuntime) -> Result<(), Fail> {
+    let alloc = rt.alloc();
+    let mut members = Vec::new(alloc);
+    for me in 0..4u32 {
+        members.push(Member::new(&rt, alloc, me)?)?;
+    }
+    run(&rt, alloc, &mut members, 12)?;
+    // One is stopped, and started by its disk alone. The others go on meanwhile.
+    let stopped = match members.pop() {
+        Some(member) => member,
+        None => return Err(Fail::new("nobody is there")),
+    };
+    match run(&rt, alloc, &mut members, 24) {
+        Ok(()) => {}
+        Err(fail) => {
+            drop(stopped);
+            return Err(fail);
+        }
+    }
+    members.push(stopped.restarted(&rt, alloc)?)?;
+    run(&rt, alloc, &mut members, 12)?;
+    let mut lowest = u64::MAX;
+    for member in members.as_slice() {
+        assert!(rt; member.ascends);
+        lowest = lowest.min(member.last);
+    }
+    assert!(rt; lowest >= 8);
+    Ok(())
+}
+
+// So many times what was sent comes to all others, and now and then all of it is sent again.
+fn run(
+    rt: &impl Abort,
+    alloc: Global,
+    members: &mut Vec<Member>,
+    times: usize,
+) -> Result<(), Fail> {
+    for time in 0..times {
+        for from in 0..members.len() {
+            let sent = match members.get_mut(from) {
+                Some(member) => {
+                    if time % 4 == 3 {
+                        member.station.validator.send_again();
+                    }
+                    member.settle(rt)?;
+                    std::mem::replace(&mut member.outbox, Vec::new(alloc))
+                }
+                None => Vec::new(alloc),
+            };
+            let peer = match members.get(from) {
+                Some(member) => member.station.me,
+                None => 0,
+            };
+            for to in 0..members.len() {
+                if let Some(member) = members.get_mut(to) {
+                    if member.station.me != peer {
+                        for message in sent.as_slice() {
+                            member.hear(peer, message)?;
+                        }
+                        member.settle(rt)?;
+                    }
+                }
+            }
+        }
+    }
+    Ok(())
+}

@@ -1,0 +1,207 @@
+//! A validator: a voter, with what it gave to be done.
+
+ghost use Rattle.std.specs.Prelude.{◌≡◌, ◌≤◌, ◌<◌, ◌⊎◌, ◌^◌, [], All, false, Contains, IfErr, IfOk, IfSome, None, length};
+ghost use Rattle.batcher_agreement.specs.Policy.{Conduct, KeepsPolicy};
+ghost use Rattle.batcher_codec.specs.Messages.{certificate_format};
+ghost use Rattle.batcher_validator.specs.Queues.{HasKey};
+ghost use Rattle.batcher_validator.specs.Running.{HasBegun};
+ghost use Rattle.batcher_validator.specs.Shelves.{key_of};
+ghost use Rattle.batcher_voter.specs.Remembering.{Remembers};
+ghost use Rattle.batcher_voter.specs.Reopening.{IsFinalView, IsTakenIn};
+
+use crate::shelf::Shelf;
+use batcher::messages::{Certificate, Digest, Identical, Kind};
+use batcher::positions::Round;
+use batcher::scheme::Scheme;
+use batcher_codec::{Codec, OwnedCodec};
+use batcher_journal::Journal;
+use batcher_log::Log;
+use batcher_node::NodeConfigs;
+use batcher_voter::{NotStarted, StartFault, Voter};
+use std::alloc::Global;
+use std::marker::Model;
+use std::rc::Rc;
+
+/// What a validator has noted of what it gave.
+#[derive(Drop)]
+pub(crate) struct Given {
+    // Whether each participant was given to be blocked.
+    pub(crate) blocked: Vec<bool>,
+    // The last view of which a proposal was given as final, or 0.
+    pub(crate) announced: u64,
+    // How many of the journal's votes were given to be sent.
+    pub(crate) sent: usize,
+    // The last view that was given to be entered, or 0.
+    pub(crate) asked: u64,
+    // Whether votes were given to be verified, and there is no answer yet.
+    pub(crate) verifying: bool,
+}
+
+impl Model for Given {
+    ghost use Rattle.batcher_validator.specs.Running.{GivenView};
+
+    ghost Value = { GivenView };
+
+    ghost view = { λ g. record {
+      blocked = g.blocked.items;
+      announced = g.announced;
+      sent = g.sent;
+      asked = g.asked;
+      verifying = g.verifying;
+    } };
+}
+
+/// A voter that says what is to be done next.
+#[derive(Drop)]
+pub struct Validator<S: Scheme<D>, D: Digest + Codec, L: Log>
+where
+    S::Signature: Codec,
+{
+    pub(crate) voter: Voter<S, D, L>,
+    pub(crate) given: Given,
+    pub(crate) shelf: Shelf<S::Certificate, D>,
+}
+
+impl<S: Scheme<D>, D: Digest + Codec, L: Log> Model for Validator<S, D, L>
+where
+    S::Signature: Codec,
+{
+    ghost use Rattle.std.specs.Prelude.{◌≡◌, ◌<◌, ◌^◌, length};
+    ghost use Rattle.batcher_validator.specs.Running.{ValidatorView};
+
+    ghost Value = { ValidatorView S S.Signature D L S.Certificate };
+
+    ghost view = { λ v. record { voter = v.voter; given = v.given; shelf = v.shelf } };
+
+    ghost invariant = { λ v. (length v.given.blocked
+        ≡ length (S.meaning v.voter.node.scheme).participants)
+        × (length v.given.blocked < 2 ^ 32) };
+}
+
+impl<S: Scheme<D>, D: Digest + Codec, L: Log> Validator<S, D, L>
+where
+    S::Signature: Codec + Identical,
+    S::Certificate: OwnedCodec,
+{
+    /// The validator whose votes are in a journal, as `Voter::start` makes its voter. It gave
+    /// nothing so far in this life.
+    pub fn start(
+        alloc: Global,
+        scheme: Rc<S>,
+        ahead: u64,
+        track_historical_votes: bool,
+        journal: Journal<S::Signature, D, L>,
+    ) -> Result<Self, NotStarted<S::Signature, D, L>>
+        requires { 1 ≤ length (S.meaning scheme.value).participants }
+        ensures running { IfOk result (λ validator. (earlier : Conduct D) → KeepsPolicy earlier
+            → Remembers earlier journal.contents
+            → HasBegun (⟦<S as NodeConfigs<D>>⟧.of validator.voter.node) earlier validator) }
+        ensures knows_floor { IfOk result (λ validator. (journal.contents.floor.view.0 ≡ 0)
+            ⊎ IsFinalView validator.voter.knowledge journal.contents.floor.view.0) }
+        ensures knows_kept { IfOk result (λ validator. All (IsTakenIn
+            (certificate_format S.Certificate.format D.format) validator.voter.node.epoch
+            validator.voter.knowledge) journal.contents.certificates) }
+        ensures scheme { IfOk result (λ it. it.voter.node.scheme ≡ scheme.value) }
+        ensures epoch { IfOk result (λ it.
+            it.voter.node.epoch ≡ journal.contents.floor.epoch) }
+        ensures retains { IfOk result (λ it. it.voter.node.retains ≡ track_historical_votes) }
+        ensures window { IfOk result (λ it. it.voter.node.window ≡ record {
+          finalized = journal.contents.floor.view.0;
+          current = journal.contents.floor.view.0;
+          ahead = ahead;
+        }) }
+        ensures journal { IfOk result (λ it. it.voter.journal ≡ journal) }
+        ensures refused { IfErr result (λ it. it.journal ≡ journal) }
+    {
+        let mut blocked = Vec::new(alloc);
+        match blocked.resize(scheme.participants().len(), false) {
+            Ok(()) => {}
+            Err(_) => {
+                return Err(NotStarted {
+                    fault: StartFault::OutOfMemory,
+                    journal,
+                });
+            }
+        }
+        let mut validator = match Voter::start(
+            alloc,
+            scheme,
+            ahead,
+            track_historical_votes,
+            journal,
+        ) {
+            Ok(voter) => Validator::of(alloc, voter, blocked),
+            Err(it) => return Err(it),
+        };
+        match validator.recall(alloc) {
+            Ok(()) => Ok(validator),
+            Err(fault) => {
+                let journal = validator.into_voter().into_journal();
+                Err(NotStarted { fault, journal })
+            }
+        }
+    }
+
+    // The validator of a voter, which gave nothing.
+    fn of(alloc: Global, voter: Voter<S, D, L>, blocked: Vec<bool>) -> Self
+        requires each { length blocked.items
+            ≡ length (S.meaning voter.node.scheme).participants }
+        requires few { length blocked.items < 2 ^ 32 }
+        ensures voter { result.voter ≡ voter }
+        ensures given { result.given ≡ record {
+          blocked = blocked.items;
+          announced = 0;
+          sent = 0;
+          asked = 0;
+          verifying = false;
+        } }
+        ensures empty { result.shelf.certificates ≡ [] }
+        ensures handed { result.shelf.handed ≡ 0 }
+    {
+        Validator {
+            voter,
+            given: Given {
+                blocked,
+                announced: 0,
+                sent: 0,
+                asked: 0,
+                verifying: false,
+            },
+            shelf: Shelf::new(alloc),
+        }
+    }
+
+    /// The voter, to look at.
+    pub fn voter(&self) -> &Voter<S, D, L>
+        ensures { result.now ≡ self.now.voter }
+    {
+        &self.voter
+    }
+
+    /// The voter, without what was given.
+    pub fn into_voter(self) -> Voter<S, D, L>
+        ensures { result ≡ self.voter }
+    {
+        let Validator { voter, shelf, .. } = self;
+        drop(shelf);
+        voter
+    }
+
+    /// The certificates that it keeps, in the order in which they came: of views from the final one
+    /// on, of each kind and view one. Send them to who fell behind.
+    pub fn certificates(&self) -> &[Certificate<S::Certificate, D>]
+        ensures { result.now ≡ self.now.shelf.certificates }
+    {
+        self.shelf.as_slice()
+    }
+
+    /// The certificate of this kind and round, if it keeps one.
+    pub fn certificate(&self, kind: Kind, round: Round) -> Option<&Certificate<S::Certificate, D>>
+        ensures some { IfSome result (λ c. Contains self.now.shelf.certificates c.now
+            × (key_of c.now ≡ (kind, round))) }
+        ensures none { result ≡ None
+            → HasKey key_of self.now.shelf.certificates (kind, round) → ⊥ }
+    {
+        self.shelf.get(kind, round)
+    }
+}
