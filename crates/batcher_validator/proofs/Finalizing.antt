@@ -156,21 +156,21 @@ module _ {S D K G C L : Type 0} (x : NodeConfig D K G C) (old : ValidatorView S 
       ))
 
 pub moves :
-    {S D K G C L : Type 0} (x : NodeConfig D K G C) (old moved new : ValidatorView S G D L C)
-    (c : Certificate C D) → new.voter ≡ moved.voter → {view : ℕ}
+    {S D K G C L : Type 0} (x : NodeConfig D K G C) (old after new : ValidatorView S G D L C)
+    (c : Certificate C D) → new.voter ≡ after.voter → {view : ℕ}
     → ForEachLife x old.voter (λ past earlier. IsVoting x
-    (called (view_finalized view) ∷ verified c ∷ past) earlier moved.voter)
+    (called (view_finalized view) ∷ verified c ∷ past) earlier after.voter)
     → ForEachLife x old.voter (λ past earlier. IsVoting x
     (called (view_finalized view) ∷ verified c ∷ past) earlier new.voter)
-moves x old moved new c voter {view = view} voting past earlier is =
+moves x old after new c voter {view = view} voting past earlier is =
     subst (λ v. IsVoting x (called (view_finalized view) ∷ verified c ∷ past) earlier v) (sym voter)
     (voting past earlier is)
 
 pub noted :
-    (moved old new : GivenView) (left sent view : ℕ)
-    → new ≡ record moved { sent = left; announced = view } → moved ≡ old → left ≡ sent
+    (after old new : GivenView) (left sent view : ℕ)
+    → new ≡ record after { sent = left; announced = view } → after ≡ old → left ≡ sent
     → new ≡ record old { sent = sent; announced = view }
-noted moved old new left sent view e same is =
+noted after old new left sent view e same is =
     e ∙ ap with_both same ∙ ap with_sent is
   where
     with_both : GivenView → GivenView
