@@ -1,5 +1,5 @@
 -- What is found among certificates that are kept.
-use Rattle.std.proofs.Common.{◌≡◌, ◌⊎◌, ◌+◌, ◌<◌, ◌≤◌, ◌∙◌, ℕ, List, [], ◌∷◌, Option, Some, None, ap, arith, get_or, inl, inr, length, subst, sym, take}
+use Rattle.std.proofs.Common.{◌≡◌, ◌⊎◌, ◌+◌, ◌<◌, ◌≤◌, ◌∙◌, ℕ, true, false, List, [], ◌∷◌, Option, Some, None, ap, arith, get_or, inl, inr, length, subst, sym, take}
 use Rattle.std.specs.Prelude.{Contains, IfSome, unwrap_or}
 use Rattle.std.specs.List.{slice_get}
 use Rattle.std.proofs.lemmas.List.{take_all}
@@ -11,6 +11,7 @@ use Rattle.batcher.specs.messages.Proposal.{Proposal}
 use Rattle.batcher.specs.messages.Subject.{Subject}
 use Rattle.batcher.specs.messages.Subject.TheVariants.{Finalize, Notarize, Nullify}
 use Rattle.batcher.specs.positions.Round.{Round}
+use Rattle.batcher_node.specs.Nodes.{IsAtRest, IsNext, NodeView}
 use Rattle.batcher_validator.specs.Shelves.{HaveNoFinal, IsFinalAt}
 use Rattle.batcher_validator.proofs.Queueing.{contains_one, one_more}
 
@@ -91,3 +92,13 @@ found_more view kept i found (Some it) at before here from = of_cases from
     of_cases (inr now) =
         subst (λ n. IsFinalAt view kept n it.1) (sym now.0)
         (subst (λ o. IfSome o (λ p. IsFinalAt view kept i p)) now.1 here)
+
+-- Where a view is the next one, not all rest.
+pub not_at_rest :
+    {S G D : Type 0} (node : NodeView S G D) (view : ℕ) → IsNext node.rounds view
+    → IsAtRest node → ⊥
+not_at_rest node view next rests =
+    let still : next.changed.slot.changed ≡ false =
+    subst (λ at. IfSome at (λ slot. slot.changed ≡ false)) next.changed.there (rests view) in
+    let changed : next.changed.slot.changed ≡ true = next.changed.changed in
+    absurd cc

@@ -15,7 +15,7 @@ use Rattle.batcher_agreement.specs.Lives.{VoterHistory, called, node_history, ve
 use Rattle.batcher_agreement.specs.Policy.{Conduct, HasVoted}
 use Rattle.batcher_journal.specs.Floors.{is_below, is_over}
 use Rattle.batcher_node.specs.Events.{NodeEvent, constructed, started, view_finalized, vote_cast}
-use Rattle.batcher_node.specs.Nodes.{NodeConfig}
+use Rattle.batcher_node.specs.Nodes.{IsAtRest, NodeConfig}
 use Rattle.batcher_node.specs.declared.node.Construction.{Construction}
 use Rattle.batcher_node.specs.Windows.{is_of}
 use Rattle.batcher_node.specs.declared.answers.Cast.{Cast}
@@ -25,7 +25,7 @@ use Rattle.batcher_validator.specs.Shelves.{IsLookedAt, ShelfView, key_of}
 use Rattle.batcher_validator.specs.Tasks.{AreGivenInTurn, Counts, HasAnnouncedFrom, HasAskedFrom, HasBlocked, HasHanded, HasSent, IsVerifying, ValidatorEvent}
 use Rattle.batcher_validator.specs.Tasks.{ValidatorHistory, answered, began, conduct_in, did, gave, only_did, voter_history, window_by}
 use Rattle.batcher_validator.specs.declared.task.Task.{Task}
-use Rattle.batcher_validator.specs.declared.task.Task.TheVariants.{Final, SendCertificate, SendVote}
+use Rattle.batcher_validator.specs.declared.task.Task.TheVariants.{Final, SendCertificate, SendVote, Verify}
 use Rattle.batcher_voter.specs.Voting.{IsVoting, VoterView}
 use Rattle.batcher_voter.specs.declared.answers.FinalizeFault.{FinalizeFault}
 use Rattle.batcher_voter.specs.declared.answers.FinalizeFault.TheVariants.{Forged as NotFinalForged, NotOfEpoch, Passed}
@@ -82,13 +82,15 @@ is_over_for floor s = is_below floor (round_in s)
 abbrev pub is_before_view : ℕ → (Kind × Round) → Bool
 is_before_view first key = nat_lt key.1.view.0 first
 
--- A vote that is given to be sent is on the disk, and a certificate is kept.
+-- A vote that is given to be sent is on the disk, a certificate is kept, and votes that are given
+-- to be verified wait.
 abbrev pub IsReady : {S G D L C : Type 0} → ValidatorView S G D L C → Task G D → Type 0
 IsReady validator (SendVote vote) =
     (validator.voter.journal.is_open ≡ true)
     × Contains validator.voter.journal.contents.votes vote
 IsReady validator (SendCertificate kind number) =
     HasKey key_of validator.shelf.certificates (kind, number)
+IsReady validator Verify = IsAtRest validator.voter.node → ⊥
 IsReady validator task = ⊤
 
 -- Why the view of the finalization at a place isn't made the final one.

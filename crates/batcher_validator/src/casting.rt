@@ -1,30 +1,20 @@
-//! A validator's own votes are cast, and a view is made the final one.
+//! A validator's own votes are cast.
 
-ghost use Rattle.std.specs.Prelude.{◌≡◌, ◌≢◌, ◌<◌, ◌⊎◌, ◌∷◌, Err, IfErr, IfOk, List, OnErr, OnOk, not, ℕ, true, false};
-ghost use Rattle.std.specs.List.{count_by};
-ghost use Rattle.batcher.specs.Verifiers.{certifies_itself};
-ghost use Rattle.batcher.specs.Votes.{attestation_of, kind_certified, round_in, subject_certified, subject_of};
-ghost use Rattle.batcher.specs.messages.Kind.TheVariants.{Finalization};
-ghost use Rattle.batcher_agreement.specs.Lives.{called, verified};
+ghost use Rattle.std.specs.Prelude.{◌≡◌, IfErr, IfOk, List, OnErr, ℕ, true};
+ghost use Rattle.batcher.specs.Votes.{attestation_of, subject_of};
 ghost use Rattle.batcher_codec.specs.Messages.{vote_format};
-ghost use Rattle.batcher_journal.specs.Floors.{is_over};
-ghost use Rattle.batcher_node.specs.Events.{view_finalized};
 ghost use Rattle.batcher_node.specs.Nodes.{SameNode};
-ghost use Rattle.batcher_validator.specs.Running.{ForEachRun, IsRunning, RunCasts, RunMayWrite, RunStays, sent_from};
-ghost use Rattle.batcher_validator.specs.Tasks.{did};
-ghost use Rattle.batcher_voter.specs.Journals.{IsRaised, MayGain};
-ghost use Rattle.batcher_voter.specs.Voting.{Casts, ForEachLife, IsInJournal, IsVoting, LeavesVote, LeavesWhatWasDone, MayWrite, VoterStays, WhyNotCast};
-ghost use Rattle.batcher_voter.specs.declared.answers.FinalizeFault.{FinalizeFault};
+ghost use Rattle.batcher_validator.specs.Running.{ForEachRun, RunCasts, RunMayWrite};
+ghost use Rattle.batcher_voter.specs.Journals.{MayGain};
+ghost use Rattle.batcher_voter.specs.Voting.{Casts, ForEachLife, IsInJournal, LeavesVote, MayWrite, WhyNotCast};
 
 use crate::validator::Validator;
-use batcher::messages::{Certificate, Digest, Identical, Vote};
-use batcher::positions::Round;
+use batcher::messages::{Digest, Identical, Vote};
 use batcher::scheme::Scheme;
 use batcher_codec::{Codec, OwnedCodec};
-use batcher_journal::is_before;
 use batcher_log::Log;
 use batcher_node::{Cast, NodeConfigs};
-use batcher_voter::{CastFault, FinalizeFault};
+use batcher_voter::CastFault;
 
 impl<S: Scheme<D>, D: Digest + Codec, L: Log> Validator<S, D, L>
 where

@@ -1,9 +1,9 @@
 //! What a validator gives to be done.
 
-ghost use Rattle.std.specs.Prelude.{◌≡◌, ◌≤◌, ◌<◌, ◌+◌, ◌⊎◌, ◌^◌, [], Err, IfOk, IfSome, MatchBool, None, Ok, OnErr, Some, length, set, true, false, ℕ};
+ghost use Rattle.std.specs.Prelude.{◌≡◌, ◌≤◌, ◌<◌, ◌+◌, ◌⊎◌, ◌^◌, [], Err, IfOk, IfNone, IfSome, MatchBool, None, Ok, OnErr, Some, length, set, true, false, ℕ};
 ghost use Rattle.std.specs.List.{slice_get};
 ghost use Rattle.batcher_journal.specs.Answers.{MayFollow};
-ghost use Rattle.batcher_node.specs.Nodes.{IsAtRest, SameNode, cause_at};
+ghost use Rattle.batcher_node.specs.Nodes.{IsAtRest, IsNext, SameNode, cause_at};
 ghost use Rattle.batcher_validator.specs.Queues.{AreDistinct};
 ghost use Rattle.batcher_validator.specs.Running.{ForEachRun, Gives, IsReady, RunMeets, RunStays};
 ghost use Rattle.batcher_validator.specs.Shelves.{HaveNoFinal, IsAt, IsFinalAt, IsToAnnounce, key_of};
@@ -238,16 +238,31 @@ where
 
     // Whether votes wait to be verified, and weren't given to be.
     fn has_votes_waiting(&self) -> bool
-        ensures { MatchBool result (self.now.given.verifying ≡ false)
+        ensures { MatchBool result ((self.now.given.verifying ≡ false)
+            × (IsAtRest self.now.voter.node → ⊥))
             ((self.now.given.verifying ≡ true) ⊎ IsAtRest self.now.voter.node) }
     {
-        if self.given.verifying {
+        if self.is_verifying() {
             return false;
         }
-        match self.voter.node().next_view() {
+        match self.next_construction() {
             Some(_) => true,
             None => false,
         }
+    }
+
+    fn is_verifying(&self) -> bool
+        ensures { result ≡ self.now.given.verifying }
+    {
+        self.given.verifying
+    }
+
+    // The view of the next construction.
+    fn next_construction(&self) -> Option<View>
+        ensures next { IfSome result (λ view. IsNext self.now.voter.node.rounds view.0) }
+        ensures none { IfNone result (IsAtRest self.now.voter.node) }
+    {
+        self.voter.node().next_view()
     }
 
     fn note_verifying(&mut self)

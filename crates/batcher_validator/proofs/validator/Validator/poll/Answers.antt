@@ -66,7 +66,7 @@ returns-then-has_votes_waiting-clause-gives g c =
     gives_verify (node_config g.S.Scheme.meaning g.S.PublicKey.Ord.cmp g.S.Signature.PartialEq.eq
     g.D.PartialEq.eq old.voter.node) old c.note_verifying.new.self c.note_verifying.ensures.voter
     c.note_verifying.ensures.shelf
-    c.if-has_votes_waiting.ensures c.note_verifying.ensures.given
+    c.if-has_votes_waiting.ensures.0 c.note_verifying.ensures.given
 
 pub returns-else-has_votes_waiting-clause-nothing :
     goal.returns-else-has_votes_waiting-clause-nothing
