@@ -1,9 +1,9 @@
 mod Knowing
-mod Appending
+pub mod Appending
 mod Grounding
 mod Clearing
 mod Writing
-mod Windowed
+pub mod Windowed
 mod Voting
 mod Noding
 mod Calling

@@ -1,11 +1,11 @@
 -- Why a vote isn't cast.
-use Rattle.std.specs.Prelude.{◌≡◌, ◌≢◌, ◌<◌, ◌≤◌, ◌⊎◌, ℕ, Bool, true}
+use Rattle.std.specs.Prelude.{◌≡◌, ◌≢◌, ◌<◌, ◌≤◌, ◌⊎◌, ⊤, ℕ, Bool, true}
 use Rattle.batcher.specs.Reports.{subjects_contradict}
 use Rattle.batcher.specs.Votes.{subject_of}
 use Rattle.batcher.specs.messages.Proposal.{Proposal}
 use Rattle.batcher.specs.messages.Subject.{Subject}
 use Rattle.batcher.specs.messages.Subject.TheVariants.{Notarize, Nullify, Finalize}
-use Rattle.batcher_agreement.specs.Policy.{Conduct, HasVoted, Knows, KnowsProposal}
+use Rattle.batcher_agreement.specs.Policy.{Conduct, HasVoted, IsGrounded, Knows, KnowsProposal}
 use Rattle.batcher_node.specs.Windows.{numbered}
 use Rattle.batcher_voter.specs.declared.answers.Rule.{Rule}
 use Rattle.batcher_voter.specs.declared.answers.Rule.TheVariants.{Contradicts, Nullified, NotNotarized, ParentBeforeFinal, ParentNotEarlier, ParentUnknown, ViewNotNullified}
@@ -18,12 +18,21 @@ module _ {D : Type 0} where
     pub differs : other ≢ p
     pub known : Knows past (Notarize other)
 
+  -- What a vote rests on was learned in this life. Of what is before the final view nothing is
+  -- known any more.
+  abbrev pub HasGround : Conduct D → ℕ → Proposal D → Type 0
+  HasGround past final p = (final ≤ p.parent.0) × IsGrounded past p
+
+  abbrev pub RestsOnLearned : Conduct D → ℕ → Subject D → Type 0
+  RestsOnLearned past final (Notarize p) = HasGround past final p
+  RestsOnLearned past final (Nullify number) = ⊤
+  RestsOnLearned past final (Finalize p) = Knows past (Notarize p)
+
   abbrev pub IsNotNotarized : Conduct D → Proposal D → Type 0
   IsNotNotarized past p = (Knows past (Notarize p) → ⊥) ⊎ IsAnotherNotarized past p
 
 module _ {G D : Type 0} where
-  -- Why a proposal has no ground, by what was learned. Of what is before the final view nothing is
-  -- known any more.
+  -- Why a proposal has no ground, by what was learned.
   abbrev pub HasNoGround : Conduct D → ℕ → Rule G D → Proposal D → Type 0
   HasNoGround past final ParentNotEarlier p = p.round.view.0 ≤ p.parent.0
   HasNoGround past final ParentBeforeFinal p = p.parent.0 < final

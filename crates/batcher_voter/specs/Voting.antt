@@ -26,7 +26,7 @@ use Rattle.batcher_node.specs.declared.answers.Verdict.TheVariants.{Recorded}
 use Rattle.batcher_node.specs.declared.answers.Cast.{Cast}
 use Rattle.batcher_node.specs.declared.answers.Cast.TheVariants.{ToSend, Known as KnownVote, Outside as OutsideVote}
 use Rattle.batcher_voter.specs.Knowledge.{HasLearned, IsHighest, KnowledgeView, KnowsOf}
-use Rattle.batcher_voter.specs.Refusals.{IsRefused}
+use Rattle.batcher_voter.specs.Refusals.{IsRefused, RestsOnLearned}
 use Rattle.batcher_voter.specs.Remembering.{IsLeft, Remembers}
 use Rattle.batcher_voter.specs.declared.answers.CastFault.{CastFault}
 use Rattle.batcher_voter.specs.declared.answers.CastFault.TheVariants.{Closed as NotOpen, Excluded, NotOwn, OutOfMemory as NoMemory, Refused as RefusedBy, Signed}
@@ -163,7 +163,8 @@ module _ {S D K G C L : Type 0} (x : NodeConfig D K G C) where
       → VoterHistory D K G C → Conduct D → Type 0
   Permits same voter subject Sign past earlier =
       IsCleared (conduct_of past ++ earlier) subject
-      × (HasVoted (conduct_of past ++ earlier) subject → ⊥)
+      × ((HasVoted (conduct_of past ++ earlier) subject → ⊥)
+      × RestsOnLearned (conduct_of past) voter.knowledge.floor subject)
   Permits same voter subject (Known vote) past earlier =
       HasVoted (conduct_of past ++ earlier) subject
   Permits same voter subject (Refused rule) past earlier =

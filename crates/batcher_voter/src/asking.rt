@@ -10,8 +10,8 @@ ghost use Rattle.batcher_journal.specs.Answers.{Answers};
 ghost use Rattle.batcher_journal.specs.Contradictions.{IsFree};
 ghost use Rattle.batcher_node.specs.Windows.{is_of, numbered};
 ghost use Rattle.batcher_voter.specs.declared.answers.Permission.TheVariants.{Known, Sign};
-ghost use Rattle.batcher_voter.specs.Knowledge.{AreNullified, HasLearned, HaveNoParent, IsParent};
-ghost use Rattle.batcher_voter.specs.Refusals.{HasNoGround, IsNotNotarized};
+ghost use Rattle.batcher_voter.specs.Knowledge.{AreNullified, HasLearned, HaveNoParent, IsParent, learned_at};
+ghost use Rattle.batcher_voter.specs.Refusals.{HasGround, HasNoGround, IsNotNotarized};
 ghost use Rattle.batcher_voter.specs.Voting.{ForEachLife, IsNextView};
 ghost use Rattle.batcher_voter.specs.Voting.{Permits, Says};
 
@@ -90,6 +90,28 @@ where
         }
     }
 
+    /// The proposal of a view that is known to be notarized, or the last such where there is more
+    /// than one.
+    pub fn notarized(&self, view: View) -> Option<Proposal<D>>
+        ensures held { result ≡ (learned_at self.now.knowledge view.0).notarized }
+        ensures some { IfSome result (λ p. ForEachLife
+            (⟦<S as NodeConfigs<D>>⟧.of self.now.node) self.now
+            (λ past earlier. self.now.node.window.finalized ≤ view.0
+            → (p.round ≡ numbered self.now.node.epoch view.0)
+            × Knows (conduct_of past) (Notarize p))) }
+        ensures none { result ≡ None → ForEachLife
+            (⟦<S as NodeConfigs<D>>⟧.of self.now.node) self.now
+            (λ past earlier. self.now.node.window.finalized ≤ view.0 → (p : TheProposal D)
+            → p.round ≡ numbered self.now.node.epoch view.0
+            → Knows (conduct_of past) (Notarize p) → ⊥) }
+    {
+        self.begins();
+        match self.notarized_at(view.0) {
+            Some(proposal) => Some(proposal),
+            None => None,
+        }
+    }
+
     // What is to be done about a subject that no vote is for, or contradicts.
     fn permission(&self, subject: &Subject<D>) -> Permission<S::Signature, D>
         requires open { self.now.journal.is_open ≡ true }
@@ -162,7 +184,7 @@ where
     fn why_no_ground(&self, proposal: &Proposal<D>) -> Option<Rule<S::Signature, D>>
         requires within { is_of self.now.node.epoch self.now.node.window proposal.now.round ≡ true }
         ensures { (past : Conduct D) → HasLearned self.now.knowledge past → MatchOption result
-            (IsGrounded past proposal.now)
+            (HasGround past self.now.knowledge.floor proposal.now)
             (λ rule. HasNoGround past self.now.knowledge.floor rule proposal.now) }
     {
         self.begins();
@@ -206,6 +228,12 @@ where
         self.journal.ask(subject)
     }
 
+    fn notarized_at(&self, view: u64) -> Option<Proposal<D>>
+        ensures { result ≡ (learned_at self.now.knowledge view).notarized }
+    {
+        self.knowledge.at(view).notarized
+    }
+
     fn parent_below(&self, view: u64) -> Option<u64>
         ensures some { IfSome result (λ parent. (parent < view)
             × ((self.now.knowledge.floor ≤ parent) × (IsParent self.now.knowledge parent
@@ -218,7 +246,8 @@ where
         self.knowledge.parent_below(view)
     }
 
-    fn highest(&self) -> u64
+    /// The highest view of which a certificate is known, or the final one.
+    pub fn highest(&self) -> u64
         ensures { result ≡ self.now.knowledge.highest }
     {
         self.knowledge.highest()

@@ -5,9 +5,9 @@ ghost use Rattle.std.specs.BTreeMap.{get};
 ghost use Rattle.std.specs.Ordering.{nat_cmp};
 ghost use Rattle.batcher.specs.Votes.{round_in, same_proposal};
 ghost use Rattle.batcher.specs.messages.Subject.TheVariants.{Notarize};
-ghost use Rattle.batcher_agreement.specs.Policy.{Conduct, IsGrounded, Knows};
+ghost use Rattle.batcher_agreement.specs.Policy.{Conduct, Knows};
 ghost use Rattle.batcher_voter.specs.Knowledge.{AreNullified, Forgets, HasLearned, HaveNoParent, HasRoom, IsHighest, IsParent, IsSame, Learns, learned_at, with_learned};
-ghost use Rattle.batcher_voter.specs.Refusals.{HasNoGround, IsNotNotarized};
+ghost use Rattle.batcher_voter.specs.Refusals.{HasGround, HasNoGround, IsNotNotarized};
 
 use crate::answers::Rule;
 use batcher::messages::{Digest, Proposal, Subject};
@@ -174,7 +174,7 @@ impl<D: Digest> Knowledge<D> {
     pub(crate) fn why_no_ground<G>(&self, proposal: &Proposal<D>) -> Option<Rule<G, D>>
         requires epoch { proposal.now.round.epoch ≡ self.now.epoch }
         ensures { (past : Conduct D) → HasLearned self.now past → MatchOption result
-            (IsGrounded past proposal.now)
+            (HasGround past self.now.floor proposal.now)
             (λ rule. HasNoGround past self.now.floor rule proposal.now) }
     {
         let parent = proposal.parent;

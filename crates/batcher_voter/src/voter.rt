@@ -112,8 +112,8 @@ where
         round.epoch.0 == self.knowledge.epoch().0 && self.node.window().contains(round.view.0)
     }
 
-    // Does nothing. A crash leaves what was done, where nothing is under way.
-    pub(crate) fn leaves_what_was_done(&self)
+    /// Does nothing. A crash leaves what was done, where nothing is under way.
+    pub fn leaves_what_was_done(&self)
         ensures { (left : List ℕ) → self.now.journal.is_open ≡ true
             → L.is_honest self.now.journal.log → L.may_leave self.now.journal.log left
             → ForEachLife (⟦<S as NodeConfigs<D>>⟧.of self.now.node) self.now (λ past earlier.

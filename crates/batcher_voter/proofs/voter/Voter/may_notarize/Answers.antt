@@ -23,11 +23,14 @@ returns-in-None-clause-permits g c = λ past earlier is.
     let above = above_floor c.args.self.now.node.epoch c.args.self.now.node.window p.round floor c.requires.within
     (c.begins.ensures.begins.floor_is c.requires.open) in (
       record {
-        grounded = grounded_before (conduct_of past) earlier p (c.in-None.ensures (conduct_of past) is.has_learned);
+        grounded = grounded_before (conduct_of past) earlier p (c.in-None.ensures (conduct_of past) is.has_learned).1;
         no_other = λ q same voted. no_other_notarize g.D.PartialEq.eq g.met.D.Digest.identical
             g.met.D.Eq.laws.refl all votes floor it.are_there it.no_others p q above c.requires.free same voted;
         not_nullified = c.if-has_nullified.ensures past earlier is;
       },
-      free_is_new g.D.PartialEq.eq g.met.D.Digest.identical g.met.D.Eq.laws.refl all votes floor
-          it.are_there it.no_others (Notarize p) above c.requires.free,
+      (
+        free_is_new g.D.PartialEq.eq g.met.D.Digest.identical g.met.D.Eq.laws.refl all votes floor
+            it.are_there it.no_others (Notarize p) above c.requires.free,
+        c.in-None.ensures (conduct_of past) is.has_learned,
+      ),
     )
