@@ -1,14 +1,19 @@
 -- A validator that gave nothing.
-use Rattle.std.proofs.Common.{◌≡◌, ◌++◌, ◌∙◌, ℕ, zero, suc, Bool, true, false, List, [], ◌∷◌, Some, ap, arith, refl, replicate, subst, sym, take}
+use Rattle.std.proofs.Common.{◌≡◌, ◌++◌, ◌∙◌, ℕ, zero, suc, Bool, true, false, List, [], ◌∷◌, Some, None, ap, arith, length, refl, replicate, subst, sym, take}
 use Rattle.std.specs.Prelude.{Contains, unwrap_or}
 use Rattle.std.specs.List.{slice_get}
-use Rattle.batcher_agreement.specs.Policy.{Conduct}
+use Rattle.batcher.specs.positions.Participant.{Participant}
+use Rattle.batcher.specs.Votes.{subject_of}
+use Rattle.batcher_agreement.specs.Policy.{Conduct, HasVoted}
+use Rattle.batcher_journal.specs.Text.{Contents}
+use Rattle.std.proofs.lemmas.List.{take_all}
+use Rattle.batcher_voter.specs.Remembering.{Remembers}
 use Rattle.batcher_agreement.specs.Lives.{node_history}
 use Rattle.batcher_node.specs.Events.{started}
 use Rattle.batcher_node.specs.Nodes.{NodeConfig, NodeView}
 use Rattle.batcher_validator.specs.Queues.{AreFirst}
-use Rattle.batcher_validator.specs.Running.{HasBegun, IsRunning, RunStays, ValidatorView}
-use Rattle.batcher_validator.specs.Tasks.{began}
+use Rattle.batcher_validator.specs.Running.{HasBegun, IsRunning, RunStays, ValidatorView, is_over_for}
+use Rattle.batcher_validator.specs.Histories.{began}
 use Rattle.batcher_voter.specs.Voting.{HasStarted}
 
 contains_none : {X : Type 0} (xs : List X) (x : X) → Contains (take 0 xs) x → ⊥
@@ -53,21 +58,47 @@ none_resized n m old new none made i e =
     take_none zero = refl
     take_none (suc k) = refl
 
+-- all votes that a journal has are of earlier lives
+first_all :
+    {G D : Type 0} {past : Conduct D} {contents : Contents G D} → Remembers past contents
+    → AreFirst subject_of (is_over_for contents.floor) (λ s. HasVoted past s) contents.votes
+    (length contents.votes)
+first_all {past = past} {contents = contents} has =
+    record {
+      within = omega arith;
+      were_given = λ vote there. has.no_others vote
+          (subst (λ vs. Contains vs vote) (take_all (length contents.votes) contents.votes (omega arith)) there);
+      no_others = λ s voted above.
+          let it = has.are_there s voted above in
+          record {
+            item = it.vote;
+            there = subst (λ vs. Contains vs it.vote)
+                (sym (take_all (length contents.votes) contents.votes (omega arith))) it.there;
+            is_of = it.is_for;
+          };
+    }
+
 module _ {S D K G C L : Type 0} (x : NodeConfig D K G C) (validator : ValidatorView S G D L C)
     (earlier : Conduct D) where
   pub begun :
-      (blocked : List Bool) → ((i : ℕ) → slice_get blocked i ≡ Some true → ⊥)
+      (blocked : List Bool) (me : Participant) (count : ℕ)
+      → count ≡ length validator.voter.journal.contents.votes
+      → me.0 ≡ validator.voter.journal.contents.owner.1.1.0
+      → ((i : ℕ) → slice_get blocked i ≡ Some true → ⊥)
       → validator.given ≡ record {
         blocked = blocked;
         announced = 0;
-        sent = 0;
+        tally = record { begun = count; recast = 0; sent = 0 };
         asked = 0;
         verifying = false;
+        intent = record { me = me; signing = None; expired = 0; chosen = None; posed = 0 };
       }
       → validator.shelf.certificates ≡ [] → validator.shelf.handed ≡ 0
       → HasStarted x earlier validator.voter → HasBegun x earlier validator
-  begun blocked none given empty handed has =
+  begun blocked me count all owns none given empty handed has =
       record {
+        me = me;
+        owns = owns;
         past = has.past;
         running = record {
           voting = has.voting;
@@ -81,6 +112,8 @@ module _ {S D K G C L : Type 0} (x : NodeConfig D K G C) (validator : ValidatorV
             no_others = λ view was. absurd was;
           };
           votes = λ opened. rw (given) (first_none _ _ _ _ (λ s was. was));
+          begins = λ opened. rw (given, all) (first_all (has.voting.remembers opened));
+          casts = λ opened. rw (given) (first_none _ _ _ _ (λ s was. was));
           kept = record {
             certify = λ c there. absurd (none_contained validator.shelf.certificates empty c there);
             looked_at = λ c there. absurd (none_contained validator.shelf.certificates empty c there);
@@ -92,6 +125,13 @@ module _ {S D K G C L : Type 0} (x : NodeConfig D K G C) (validator : ValidatorV
             no_others = λ view was. absurd was;
           };
           verifies = rw (given) (λ is. is);
+          intends = rw (given) record {
+            votes_as = refl;
+            signs = refl;
+            expires = refl;
+            chooses = refl;
+            poses = refl;
+          };
         };
         asked_nothing = has.asked_nothing;
       }
@@ -104,9 +144,11 @@ pub still_begun :
     → HasBegun (config old.voter.node) earlier old → HasBegun (config new.voter.node) earlier new
 still_begun config old new earlier stays voter has =
     record {
+      me = has.me;
+      owns = subst (λ v. has.me.0 ≡ v.journal.contents.owner.1.1.0) (sym voter) has.owns;
       past = has.past;
-      running = subst (λ v. IsRunning (config v.node) (began has.past ∷ []) earlier new) (sym voter)
-          (stays (began has.past ∷ []) earlier has.running);
+      running = subst (λ v. IsRunning (config v.node) (began has.me has.past ∷ []) earlier new) (sym voter)
+          (stays (began has.me has.past ∷ []) earlier has.running);
       asked_nothing = subst (λ v. node_history has.past ≡ started v.node.window ∷ []) (sym voter)
           has.asked_nothing;
     }

@@ -4,7 +4,7 @@ use Rattle.std.specs.List.{slice_get}
 use Rattle.batcher.specs.positions.Participant.{Participant}
 use Rattle.batcher_node.specs.declared.answers.Cause.{Cause}
 use Rattle.batcher_validator.specs.Running.{AreBlocked}
-use Rattle.batcher_validator.specs.Tasks.{HasBlocked, ValidatorHistory, gave}
+use Rattle.batcher_validator.specs.Histories.{HasBlocked, ValidatorHistory, gave}
 use Rattle.batcher_validator.specs.declared.task.Task.TheVariants.{Block}
 
 module _ {X : Type 0} where

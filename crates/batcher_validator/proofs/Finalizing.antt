@@ -12,10 +12,12 @@ use Rattle.batcher_agreement.specs.Lives.{called, verified}
 use Rattle.batcher_agreement.specs.Policy.{Conduct}
 use Rattle.batcher_node.specs.Events.{view_finalized}
 use Rattle.batcher_node.specs.Nodes.{NodeConfig}
-use Rattle.batcher_validator.specs.Running.{ForEachRun, GivenView, Gives, IsRunning, RunStays, ValidatorView, WhyNotFinal, sent_from}
+use Rattle.batcher_validator.specs.declared.tally.Tally.{Tally}
+use Rattle.batcher_validator.specs.Running.{ForEachRun, GivenView, Gives, IsRunning, RunStays, ValidatorView, WhyNotFinal, tally_from, left_of}
 use Rattle.batcher_validator.specs.Shelves.{IsFinalAt, is_from}
-use Rattle.batcher_validator.specs.Tasks.{HasHad, HasHanded, HasSent, ValidatorHistory, did, gave, voter_history, window_by}
+use Rattle.batcher_validator.specs.Histories.{HasHad, HasHanded, ValidatorHistory, did, gave, voter_history, window_by}
 use Rattle.batcher_validator.specs.declared.task.Task.TheVariants.{Final}
+use Rattle.batcher_validator.proofs.Intending.{still_intent}
 use Rattle.batcher_validator.proofs.Giving.{contained, kind_of}
 use Rattle.batcher_validator.proofs.Going.{goes_on, sent_raised, sent_still}
 use Rattle.batcher_validator.proofs.Keeping.{first_from, kept_from, kept_still}
@@ -31,7 +33,7 @@ module _ {S D K G C L : Type 0} (x : NodeConfig D K G C) (old new : ValidatorVie
       (raised : IsRaised p.round old.voter.journal new.voter.journal)
       (unannounced : old.given.announced < p.round.view.0)
       (given : new.given ≡ record old.given {
-        sent = sent_from p.round old;
+        tally = tally_from p.round old;
         announced = p.round.view.0;
       })
       (certificates : new.shelf.certificates ≡ filter (is_from p.round.view.0) old.shelf.certificates)
@@ -41,7 +43,7 @@ module _ {S D K G C L : Type 0} (x : NodeConfig D K G C) (old new : ValidatorVie
     abbrev Moved : ValidatorView S G D L C
     Moved = record {
       voter = new.voter;
-      given = record old.given { sent = sent_from p.round old };
+      given = record old.given { tally = tally_from p.round old };
       shelf = new.shelf;
     }
 
@@ -62,10 +64,13 @@ module _ {S D K G C L : Type 0} (x : NodeConfig D K G C) (old new : ValidatorVie
 
       moved : IsRunning x Before earlier Moved
       moved =
-          goes_on x old Moved (called (view_finalized p.round.view.0) ∷ verified c ∷ []) past earlier is
+          goes_on x old Moved (called (view_finalized p.round.view.0) ∷ verified c ∷ []) past earlier
+          (left_of p.round old.voter.journal.contents.votes) is
           (voting (voter_history past) earlier is.voting)
-          (λ opened. sent_raised (λ s. HasSent past s) old.voter.journal new.voter.journal old.given.sent
-          p.round raised (is.votes raised.was_open))
+          (λ opened. (
+            raised.was_open,
+            λ Was count are. sent_raised Was old.voter.journal new.voter.journal count p.round raised are,
+          ))
           refl
           (rw (certificates) (kept_from x past Before p.round.view.0 refl up c had old.shelf.certificates there is.kept))
           (rw (certificates, handed) (first_from x past Before p.round.view.0 refl up c had old.shelf.certificates
@@ -98,10 +103,14 @@ module _ {S D K G C L : Type 0} (x : NodeConfig D K G C) (old new : ValidatorVie
               ];
             });
             votes = λ opened. rw (given) (moved.votes opened);
+            begins = λ opened. rw (given) (moved.begins opened);
+            casts = λ opened. rw (given) (moved.casts opened);
             kept = kept_still x Before (gave (Final p) ∷ Before) refl new.shelf.certificates (λ d h. h) moved.kept;
             certificates = moved.certificates;
             asks = rw (given) moved.asks;
             verifies = rw (given) moved.verifies;
+            intends = rw (given) (still_intent Before (gave (Final p) ∷ Before) old.given.intent refl refl refl refl refl
+                moved.intends);
           }
         where
           window : max (window_by past).finalized p.round.view.0 ≡ p.round.view.0
@@ -118,10 +127,12 @@ pub not_announced :
     × (new.voter.journal.contents ≡ old.voter.journal.contents))
     → RunStays x old new
 not_announced x old new given shelf stays still past earlier is =
-    goes_on x old new [] past earlier is (stays (voter_history past) earlier is.voting)
-    (λ opened. rw (given) (sent_still (λ s. HasSent past s) old.voter.journal new.voter.journal old.given.sent
-    (still opened).1 (is.votes (still opened).0)))
-    (rw (given) refl)
+    goes_on x old new [] past earlier (λ n. n) is (stays (voter_history past) earlier is.voting)
+    (λ opened. (
+      (still opened).0,
+      λ Was count are. sent_still Was old.voter.journal new.voter.journal count (still opened).1 are,
+    ))
+    given
     (rw (shelf) (kept_still x past past refl old.shelf.certificates (λ d h. h) is.kept))
     (rw (shelf) is.certificates)
 
@@ -167,14 +178,14 @@ moves x old after new c voter {view = view} voting past earlier is =
     (voting past earlier is)
 
 pub noted :
-    (after old new : GivenView) (left sent view : ℕ)
-    → new ≡ record after { sent = left; announced = view } → after ≡ old → left ≡ sent
-    → new ≡ record old { sent = sent; announced = view }
-noted after old new left sent view e same is =
-    e ∙ ap with_both same ∙ ap with_sent is
+    {D : Type 0} (after old new : GivenView D) (left tally : Tally) (view : ℕ)
+    → new ≡ record after { tally = left; announced = view } → after ≡ old → left ≡ tally
+    → new ≡ record old { tally = tally; announced = view }
+noted {D = D} after old new left tally view e same is =
+    e ∙ ap with_both same ∙ ap with_tally is
   where
-    with_both : GivenView → GivenView
-    with_both it = record it { sent = left; announced = view }
+    with_both : GivenView D → GivenView D
+    with_both it = record it { tally = left; announced = view }
 
-    with_sent : ℕ → GivenView
-    with_sent n = record old { sent = n; announced = view }
+    with_tally : Tally → GivenView D
+    with_tally it = record old { tally = it; announced = view }

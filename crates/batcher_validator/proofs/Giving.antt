@@ -1,6 +1,6 @@
 -- A validator goes on with what it gives, and has nothing to give.
 use Rattle.std.proofs.Common.{◌≡◌, ◌⊎◌, ◌+◌, ◌<◌, ◌≤◌, ◌∙◌, ◌^◌, ℕ, zero, suc, true, false, List, [], ◌∷◌, Option, Some, None, ap, arith, inl, inr, length, refl, set, subst, sym, take}
-use Rattle.std.specs.Prelude.{Contains, IfSome, MatchBool, MatchOption}
+use Rattle.std.specs.Prelude.{Contains, IfSome, MatchBool, MatchOption, unwrap_or}
 use Rattle.std.specs.List.{slice_get}
 use Rattle.std.proofs.lemmas.Bool.{le-ltb}
 use Rattle.std.proofs.lemmas.List.{take_all}
@@ -31,19 +31,21 @@ use Rattle.batcher_node.specs.Windows.{numbered}
 use Rattle.batcher_node.specs.declared.answers.Cause.{Cause}
 use Rattle.batcher_node.specs.declared.slot.Slot.{Slot}
 use Rattle.batcher_validator.specs.Running.{AreKept, GivenView, Gives, IsRunning, RunMeets, ValidatorView, is_before_view, is_over_for}
-use Rattle.batcher_validator.specs.Tasks.{Counts, HasAnnouncedFrom, HasAskedFrom, HasBlocked, HasHanded, HasSent, IsNextIn, IsVerifying, NothingIsDue, ValidatorHistory, again, answered, calls_in, conduct_in, gave, voter_history, window_by}
-use Rattle.batcher_validator.specs.declared.task.Task.TheVariants.{Block, Enter, SendCertificate, SendVote, Verify}
+use Rattle.batcher_validator.specs.Histories.{HadVoted, HasAnnouncedFrom, HasAskedFrom, HasBlocked, HasHanded, HasRecast, HasSent, IsVerifying, ValidatorHistory, again, answered, calls_in, conduct_in, gave, voter_history, window_by}
+use Rattle.batcher_validator.specs.Tasks.{Counts, IsNextIn, NothingIsDue, NothingIsPosed}
+use Rattle.batcher_validator.specs.declared.task.Task.TheVariants.{Block, Cast, Enter, SendCertificate, SendVote, Verify}
 use Rattle.batcher_validator.proofs.Blocking.{blocks_one, not_blocked}
 use Rattle.batcher_validator.proofs.Beginning.{first_none}
+use Rattle.batcher_validator.proofs.Intending.{still_intent}
 use Rattle.batcher_validator.proofs.Keeping.{kept_still}
 use Rattle.batcher_validator.proofs.Queueing.{before_differ, give_one, not_given}
-use Rattle.batcher_validator.specs.Queues.{AreDistinct}
+use Rattle.batcher_validator.specs.Queues.{AreDistinct, AreFirst}
 use Rattle.batcher_validator.specs.Shelves.{HaveNoFinal, IsAt, key_of}
 use Rattle.batcher_voter.specs.Knowledge.{KnowsOf}
 use Rattle.batcher_voter.specs.Voting.{BeginWithOneView, IsNextView}
 
 -- no votes are being verified
-abbrev pub not_verifying : GivenView → GivenView
+abbrev pub not_verifying : {D : Type 0} → GivenView D → GivenView D
 not_verifying given = record given { verifying = false }
 
 pub contained : {X : Type 0} (xs : List X) (i : ℕ) (x : X) → slice_get xs i ≡ Some x → Contains xs x
@@ -64,6 +66,32 @@ kind_of (NotarizationCertificate n) p e = absurd cc
 kind_of (NullificationCertificate n) p e = absurd cc
 kind_of (FinalizationCertificate f) p e = refl
 
+-- the one at a place is among the first, of which there are more
+contained_first :
+    {X : Type 0} (xs : List X) (i n : ℕ) (x : X) → slice_get xs i ≡ Some x → i < n
+    → Contains (take n xs) x
+contained_first [] i n x there lt = absurd cc
+contained_first (y ∷ ys) zero zero x there lt = absurd (omega (arith, lt))
+contained_first (y ∷ ys) zero (suc n) x there lt =
+    (0, omega arith, ap (λ o. unwrap_or o x) there)
+contained_first (y ∷ ys) (suc i) zero x there lt = absurd (omega (arith, lt))
+contained_first (y ∷ ys) (suc i) (suc n) x there lt =
+    let it = contained_first ys i n x there (omega (arith, lt)) in
+    (suc it.0, omega (arith, it.1), it.2)
+
+-- the first ones are among the first, of which there are no fewer
+contained_more :
+    {X : Type 0} (xs : List X) (n m : ℕ) (x : X) → n ≤ m → Contains (take n xs) x
+    → Contains (take m xs) x
+contained_more [] zero m x le there = absurd (omega (arith, there.1))
+contained_more [] (suc n) m x le there = absurd (omega (arith, there.1))
+contained_more (y ∷ ys) zero m x le there = absurd (omega (arith, there.1))
+contained_more (y ∷ ys) (suc n) zero x le there = absurd (omega (arith, le))
+contained_more (y ∷ ys) (suc n) (suc m) x le (zero, lt, is) = (0, omega arith, is)
+contained_more (y ∷ ys) (suc n) (suc m) x le (suc k, lt, is) =
+    let it = contained_more ys n m x (omega (arith, le)) (k, omega (arith, lt), is) in
+    (suc it.0, omega (arith, it.1), it.2)
+
 past_end : {X : Type 0} (xs : List X) (i : ℕ) → slice_get xs i ≡ None → length xs ≤ i
 past_end [] i none = omega arith
 past_end (x ∷ xs) zero none = absurd cc
@@ -71,58 +99,97 @@ past_end (x ∷ xs) (suc i) none = omega (arith, past_end xs i none)
 
 module _ {S D K G C L : Type 0} (x : NodeConfig D K G C) (old new : ValidatorView S G D L C)
     (voter : new.voter ≡ old.voter) where
-  pub gives_vote :
-      (vote : Vote G D) → ((s : Subject D) → same_subject x.same_digest s s ≡ true)
-      → old.voter.journal.is_open ≡ true
-      → MayFollow x.same_digest old.voter.journal.contents.floor [] old.voter.journal.contents.votes
-      → slice_get old.voter.journal.contents.votes old.given.sent ≡ Some vote
-      → new.given ≡ record old.given { sent = old.given.sent + 1 } → new.shelf ≡ old.shelf
-      → Gives x old new (SendVote vote)
-  gives_vote vote reflexive opened followed there given shelf past earlier is =
-      record {
-        voting = rw (voter) is.voting;
-        in_turn = (
-          (
-            (is.voting.remembers opened).no_others vote (contained votes old.given.sent vote there),
-            not_given subject_of (is_over_for floor) (λ s. HasSent past s) votes old.given.sent
-                (is.votes opened) vote may.1 differs,
-          ),
-          is.in_turn,
-        );
-        blocks = rw (given) is.blocks;
-        finals = rw (given) is.finals;
-        votes = λ still. rw (voter, given) (give_one subject_of (is_over_for floor) (λ s. HasSent past s)
-            votes old.given.sent (is.votes opened) (λ s. HasSent (gave (SendVote vote) ∷ past) s) vote there
-            (inl refl) (λ s was. inr was) (λ s was. was));
-        kept = rw (shelf) is_kept;
-        certificates = rw (shelf) is.certificates;
-        asks = rw (given) is.asks;
-        verifies = rw (given) is.verifies;
-      }
-    where
-      votes : List (Vote G D)
-      votes = old.voter.journal.contents.votes
+  module _ (vote : Vote G D) (reflexive : (s : Subject D) → same_subject x.same_digest s s ≡ true)
+      (opened : old.voter.journal.is_open ≡ true)
+      (followed : MayFollow x.same_digest old.voter.journal.contents.floor [] old.voter.journal.contents.votes)
+      (count : ℕ) (there : slice_get old.voter.journal.contents.votes count ≡ Some vote)
+      (shelf : new.shelf ≡ old.shelf) where
+    abbrev votes : List (Vote G D)
+    votes = old.voter.journal.contents.votes
 
-      floor : Round
-      floor = old.voter.journal.contents.floor
+    abbrev floor : Round
+    floor = old.voter.journal.contents.floor
 
-      may : IsFree x.same_digest (take old.given.sent votes) (subject_of vote) ×
-          (is_over floor vote ≡ false)
-      may = followed old.given.sent vote (slice_get_within votes old.given.sent vote there)
-          (sym (get_or_from_slice_get votes old.given.sent vote vote there))
+    may : IsFree x.same_digest (take count votes) (subject_of vote) × (is_over floor vote ≡ false)
+    may = followed count vote (slice_get_within votes count vote there)
+        (sym (get_or_from_slice_get votes count vote vote there))
 
-      differs : (w : Vote G D) → Contains (take old.given.sent votes) w
-          → subject_of w ≡ subject_of vote → ⊥
-      differs w first same =
-          let free : LeavesFree x.same_digest (subject_of vote) w =
-          All-contains (LeavesFree x.same_digest (subject_of vote)) (take old.given.sent votes) w may.0 first in
-          let yes : same_subject x.same_digest (subject_of w) (subject_of vote) ≡ true =
-          subst (λ s. same_subject x.same_digest s (subject_of vote) ≡ true) (sym same) (reflexive (subject_of vote)) in
-          let no : true ≡ false = sym yes ∙ free.0 in
-          absurd cc
+    differs : (w : Vote G D) → Contains (take count votes) w → subject_of w ≡ subject_of vote → ⊥
+    differs w first same =
+        let free : LeavesFree x.same_digest (subject_of vote) w =
+        All-contains (LeavesFree x.same_digest (subject_of vote)) (take count votes) w may.0 first in
+        let yes : same_subject x.same_digest (subject_of w) (subject_of vote) ≡ true =
+        subst (λ s. same_subject x.same_digest s (subject_of vote) ≡ true) (sym same) (reflexive (subject_of vote)) in
+        let no : true ≡ false = sym yes ∙ free.0 in
+        absurd cc
 
-      is_kept : AreKept x (gave (SendVote vote) ∷ past) old.shelf.certificates
-      is_kept = kept_still x past (gave (SendVote vote) ∷ past) refl old.shelf.certificates (λ c had. had) is.kept
+    pub gives_vote :
+        count ≡ old.given.tally.sent
+        → new.given ≡ record old.given { tally = record old.given.tally { sent = count + 1 } }
+        → Gives x old new (SendVote vote)
+    gives_vote here given past earlier is =
+        record {
+          voting = rw (voter) is.voting;
+          in_turn = (
+            (
+              (is.voting.remembers opened).no_others vote (contained votes count vote there),
+              not_given subject_of (is_over_for floor) (λ s. HasSent past s) votes count first vote may.1 differs,
+            ),
+            is.in_turn,
+          );
+          blocks = rw (given) is.blocks;
+          finals = rw (given) is.finals;
+          votes = λ still. rw (voter, given) (give_one subject_of (is_over_for floor) (λ s. HasSent past s)
+              votes count first (λ s. HasSent (gave (SendVote vote) ∷ past) s) vote there
+              (inl refl) (λ s was. inr was) (λ s was. was));
+          begins = rw (voter, given) is.begins;
+          casts = rw (voter, given) is.casts;
+          kept = rw (shelf) (kept_still x past (gave (SendVote vote) ∷ past) refl old.shelf.certificates
+              (λ c had. had) is.kept);
+          certificates = rw (shelf) is.certificates;
+          asks = rw (given) is.asks;
+          verifies = rw (given) is.verifies;
+          intends = rw (given) (still_intent past (gave (SendVote vote) ∷ past) old.given.intent refl refl refl refl refl
+              is.intends);
+        }
+      where
+        first : AreFirst subject_of (is_over_for floor) (λ s. HasSent past s) votes count
+        first = subst (λ n. AreFirst subject_of (is_over_for floor) (λ s. HasSent past s) votes n) (sym here)
+            (is.votes opened)
+
+    pub gives_cast :
+        count ≡ old.given.tally.recast → count < old.given.tally.begun
+        → new.given ≡ record old.given { tally = record old.given.tally { recast = count + 1 } }
+        → Gives x old new (Cast vote)
+    gives_cast here before given past earlier is =
+        record {
+          voting = rw (voter) is.voting;
+          in_turn = (
+            (
+              (is.begins opened).were_given vote (contained_first votes count old.given.tally.begun vote there before),
+              not_given subject_of (is_over_for floor) (λ s. HasRecast past s) votes count first vote may.1 differs,
+            ),
+            is.in_turn,
+          );
+          blocks = rw (given) is.blocks;
+          finals = rw (given) is.finals;
+          votes = rw (voter, given) is.votes;
+          begins = rw (voter, given) is.begins;
+          casts = λ still. rw (voter, given) (give_one subject_of (is_over_for floor) (λ s. HasRecast past s)
+              votes count first (λ s. HasRecast (gave (Cast vote) ∷ past) s) vote there
+              (inl refl) (λ s was. inr was) (λ s was. was));
+          kept = rw (shelf) (kept_still x past (gave (Cast vote) ∷ past) refl old.shelf.certificates
+              (λ c had. had) is.kept);
+          certificates = rw (shelf) is.certificates;
+          asks = rw (given) is.asks;
+          verifies = rw (given) is.verifies;
+          intends = rw (given) (still_intent past (gave (Cast vote) ∷ past) old.given.intent refl refl refl refl refl
+              is.intends);
+        }
+      where
+        first : AreFirst subject_of (is_over_for floor) (λ s. HasRecast past s) votes count
+        first = subst (λ n. AreFirst subject_of (is_over_for floor) (λ s. HasRecast past s) votes n) (sym here)
+            (is.casts opened)
 
   pub gives_certificate :
       (kind : Kind) (number : Round) → AreDistinct key_of old.shelf.certificates
@@ -147,6 +214,8 @@ module _ {S D K G C L : Type 0} (x : NodeConfig D K G C) (old new : ValidatorVie
         blocks = rw (given) is.blocks;
         finals = rw (given) is.finals;
         votes = rw (voter, given) is.votes;
+        begins = rw (voter, given) is.begins;
+        casts = rw (voter, given) is.casts;
         kept = rw (certificates) is_kept;
         certificates = rw (certificates, handed) (give_one key_of (is_before_view first) (λ key. HasHanded past key)
             old.shelf.certificates old.shelf.handed is.certificates
@@ -154,6 +223,8 @@ module _ {S D K G C L : Type 0} (x : NodeConfig D K G C) (old new : ValidatorVie
             (inl (sym it.is_of)) (λ key was. inr was) (λ key was. of_handed key was));
         asks = rw (given) is.asks;
         verifies = rw (given) is.verifies;
+        intends = rw (given) (still_intent past (gave (SendCertificate kind number) ∷ past) old.given.intent refl refl refl refl refl
+            is.intends);
       }
     where
       c : Certificate C D
@@ -195,11 +266,15 @@ module _ {S D K G C L : Type 0} (x : NodeConfig D K G C) (old new : ValidatorVie
           blocks = rw (given) (blocks_one past old.given.blocked is.blocks who cause (omega (arith, within, same)));
           finals = rw (given) is.finals;
           votes = rw (voter, given) is.votes;
+          begins = rw (voter, given) is.begins;
+          casts = rw (voter, given) is.casts;
           kept = rw (shelf) (kept_still x past (gave (Block who cause) ∷ past) refl old.shelf.certificates
               (λ c had. had) is.kept);
           certificates = rw (shelf) is.certificates;
           asks = rw (given) is.asks;
           verifies = rw (given) is.verifies;
+          intends = rw (given) (still_intent past (gave (Block who cause) ∷ past) old.given.intent refl refl refl refl refl
+              is.intends);
         }
 
     pub gives_enter :
@@ -225,6 +300,8 @@ module _ {S D K G C L : Type 0} (x : NodeConfig D K G C) (old new : ValidatorVie
           blocks = rw (given) is.blocks;
           finals = rw (given) is.finals;
           votes = rw (voter, given) is.votes;
+          begins = rw (voter, given) is.begins;
+          casts = rw (voter, given) is.casts;
           kept = rw (shelf) (kept_still x past (gave (Enter view) ∷ past) refl old.shelf.certificates
               (λ c had. had) is.kept);
           certificates = rw (shelf) is.certificates;
@@ -236,6 +313,8 @@ module _ {S D K G C L : Type 0} (x : NodeConfig D K G C) (old new : ValidatorVie
             ];
           };
           verifies = rw (given) is.verifies;
+          intends = rw (given) (still_intent past (gave (Enter view) ∷ past) old.given.intent refl refl refl refl refl
+              is.intends);
         }
       where
         is_next : IsNextIn x past view.0
@@ -262,11 +341,15 @@ module _ {S D K G C L : Type 0} (x : NodeConfig D K G C) (old new : ValidatorVie
           blocks = rw (given) is.blocks;
           finals = rw (given) is.finals;
           votes = rw (voter, given) is.votes;
+          begins = rw (voter, given) is.begins;
+          casts = rw (voter, given) is.casts;
           kept = rw (shelf) (kept_still x past (gave Verify ∷ past) refl old.shelf.certificates
               (λ c had. had) is.kept);
           certificates = rw (shelf) is.certificates;
           asks = rw (given) is.asks;
           verifies = rw (given) tt;
+          intends = rw (given) (still_intent past (gave Verify ∷ past) old.given.intent refl refl refl refl refl
+              is.intends);
         }
 
     -- votes were verified, or all is to be sent again
@@ -281,14 +364,19 @@ module _ {S D K G C L : Type 0} (x : NodeConfig D K G C) (old new : ValidatorVie
           blocks = rw (given) is.blocks;
           finals = rw (given) is.finals;
           votes = rw (voter, given) is.votes;
+          begins = rw (voter, given) is.begins;
+          casts = rw (voter, given) is.casts;
           kept = rw (shelf) (kept_still x past (answered ∷ past) refl old.shelf.certificates (λ c had. had) is.kept);
           certificates = rw (shelf) is.certificates;
           asks = rw (given) is.asks;
           verifies = rw (given) (λ no. no);
+          intends = rw (given) (still_intent past (answered ∷ past) old.given.intent refl refl refl refl refl
+              is.intends);
         }
 
   pub begins_again :
-      new.given ≡ record old.given { sent = 0 } → new.shelf.certificates ≡ old.shelf.certificates
+      new.given ≡ record old.given { tally = record old.given.tally { sent = 0 } }
+      → new.shelf.certificates ≡ old.shelf.certificates
       → new.shelf.handed ≡ 0 → RunMeets x old new again
   begins_again given certificates handed past earlier is =
       record {
@@ -297,33 +385,68 @@ module _ {S D K G C L : Type 0} (x : NodeConfig D K G C) (old new : ValidatorVie
         blocks = rw (given) is.blocks;
         finals = rw (given) is.finals;
         votes = λ opened. rw (voter, given) (first_none _ _ _ _ (λ s was. was));
+        begins = rw (voter, given) is.begins;
+        casts = rw (voter, given) is.casts;
         kept = rw (certificates) (kept_still x past (again ∷ past) refl old.shelf.certificates (λ c had. had) is.kept);
         certificates = rw (certificates, handed) (first_none _ _ _ _ (λ key was. was));
         asks = rw (given) is.asks;
         verifies = rw (given) is.verifies;
+        intends = rw (given) (still_intent past (again ∷ past) old.given.intent refl refl refl refl refl
+            is.intends);
       }
 
 module _ {S D K G C L : Type 0} (x : NodeConfig D K G C) (old : ValidatorView S G D L C)
     (begins : BeginWithOneView old.voter) (epoch : x.epoch ≡ old.voter.node.epoch)
     (past : ValidatorHistory D K G C) (earlier : Conduct D) (is : IsRunning x past earlier old) where
+  floor_is :
+      old.voter.journal.is_open ≡ true
+      → old.voter.journal.contents.floor ≡ numbered x.epoch (window_by past).finalized
+  floor_is opened =
+      begins.floor_is opened ∙ ap (λ e. numbered e old.voter.node.window.finalized) (sym epoch)
+      ∙ ap (λ w. numbered x.epoch w.finalized) is.voting.represents.window_is
+
   -- no vote of the journal is left
   no_vote_due :
       old.voter.journal.is_open ≡ true
-      → slice_get old.voter.journal.contents.votes old.given.sent ≡ None
+      → slice_get old.voter.journal.contents.votes old.given.tally.sent ≡ None
       → (s : Subject D) → HasVoted (conduct_in earlier past) s
       → is_below (numbered x.epoch (window_by past).finalized) (round_in s) ≡ false
       → HasSent past s
   no_vote_due opened none s has above =
       let votes = old.voter.journal.contents.votes in
-      let floor_is : old.voter.journal.contents.floor ≡ numbered x.epoch (window_by past).finalized =
-      begins.floor_is opened ∙ ap (λ e. numbered e old.voter.node.window.finalized) (sym epoch)
-      ∙ ap (λ w. numbered x.epoch w.finalized) is.voting.represents.window_is in
       let it = (is.voting.remembers opened).are_there s has
-      (subst (λ f. is_below f (round_in s) ≡ false) (sym floor_is) above) in
+      (subst (λ f. is_below f (round_in s) ≡ false) (sym (floor_is opened)) above) in
       subst (λ t. HasSent past t) it.is_for
       ((is.votes opened).were_given it.vote
       (subst (λ vs. Contains vs it.vote)
-      (sym (take_all old.given.sent votes (past_end votes old.given.sent none))) it.there))
+      (sym (take_all old.given.tally.sent votes (past_end votes old.given.tally.sent none))) it.there))
+
+  -- and none of an earlier life is left to be cast again
+  no_cast_due :
+      old.voter.journal.is_open ≡ true
+      → (old.given.tally.begun ≤ old.given.tally.recast)
+      ⊎ (slice_get old.voter.journal.contents.votes old.given.tally.recast ≡ None)
+      → (s : Subject D) → HadVoted earlier past s
+      → is_below (numbered x.epoch (window_by past).finalized) (round_in s) ≡ false
+      → HasRecast past s
+  no_cast_due opened none s had above =
+      let it = (is.begins opened).no_others s had
+      (subst (λ f. is_below f (round_in s) ≡ false) (sym (floor_is opened)) above) in
+      subst (λ t. HasRecast past t) it.is_of ((is.casts opened).were_given it.item (among it.item it.there none))
+    where
+      votes : List (Vote G D)
+      votes = old.voter.journal.contents.votes
+
+      among :
+          (vote : Vote G D) → Contains (take old.given.tally.begun votes) vote
+          → (old.given.tally.begun ≤ old.given.tally.recast)
+          ⊎ (slice_get votes old.given.tally.recast ≡ None)
+          → Contains (take old.given.tally.recast votes) vote
+      among vote there (inl le) =
+          contained_more votes old.given.tally.begun old.given.tally.recast vote le there
+      among vote there (inr end) =
+          contained_more votes old.given.tally.begun old.given.tally.recast vote
+          (omega (arith, (is.begins opened).within, past_end votes old.given.tally.recast end)) there
 
   -- nobody is blocked who wasn't given to be
   no_block_due :
@@ -442,19 +565,23 @@ module _ {S D K G C L : Type 0} (x : NodeConfig D K G C) (old : ValidatorView S 
       → ((i : ℕ) → i < length x.meaning.participants
       → (cause_at old.voter.node.blocked i ≡ None) ⊎ (slice_get old.given.blocked i ≡ Some true))
       → HaveNoFinal old.given.announced old.shelf.certificates
-      → slice_get old.voter.journal.contents.votes old.given.sent ≡ None
+      → (old.given.tally.begun ≤ old.given.tally.recast)
+      ⊎ (slice_get old.voter.journal.contents.votes old.given.tally.recast ≡ None)
+      → slice_get old.voter.journal.contents.votes old.given.tally.sent ≡ None
       → length old.shelf.certificates ≤ old.shelf.handed
       → (2 ^ 64 ≤ old.voter.knowledge.highest + 1)
       ⊎ ((old.voter.knowledge.highest + 1 ≤ old.voter.node.window.current)
       ⊎ (old.voter.knowledge.highest + 1 ≤ old.given.asked))
       → (old.given.verifying ≡ true) ⊎ IsAtRest old.voter.node
-      → NothingIsDue x earlier past
-  nothing_due opened blocks finals votes certificates enters verifies =
+      → NothingIsPosed x earlier past → NothingIsDue x earlier past
+  nothing_due opened blocks finals casts votes certificates enters verifies poses =
       record {
         blocks = no_block_due blocks;
         finals = no_final_due finals;
         votes = no_vote_due opened votes;
+        casts = no_cast_due opened casts;
         certificates = no_certificate_due certificates;
         enters = no_enter_due enters;
         verifies = no_verify_due verifies;
+        poses = poses;
       }

@@ -1,7 +1,7 @@
 -- A validator goes on with what its voter did.
-use Rattle.std.proofs.Common.{◌≡◌, ◌⊎◌, ◌≤◌, ◌++◌, ◌∙◌, ℕ, Bool, true, false, not, List, [], ◌∷◌, Some, ap, inl, inr, refl, subst, sym, take}
+use Rattle.std.proofs.Common.{◌≡◌, ◌⊎◌, ◌++◌, ◌∙◌, ℕ, Bool, true, false, not, List, [], ◌∷◌, Some, ap, inl, inr, refl, subst, sym, take}
 use Rattle.std.specs.Prelude.{MatchBool, unwrap_or}
-use Rattle.std.specs.List.{count_by, filter, slice_get}
+use Rattle.std.specs.List.{count_by, filter}
 use Rattle.batcher.specs.Verifiers.{certifies_itself}
 use Rattle.batcher.specs.Votes.{round_in, subject_of}
 use Rattle.batcher.specs.messages.Certificate.{Certificate}
@@ -17,9 +17,11 @@ use Rattle.batcher_node.specs.Events.{NodeEvent, constructed, window_after}
 use Rattle.batcher_node.specs.Nodes.{NodeConfig, NodeView}
 use Rattle.batcher_node.specs.declared.window.Window.{Window}
 use Rattle.batcher_validator.specs.Queues.{AreFirst}
-use Rattle.batcher_validator.specs.Running.{AreKept, Constructs, GivenView, IsRunning, RunMeets, RunStays, ValidatorView, is_before_view, is_over_for}
+use Rattle.batcher_validator.specs.Running.{AreFirstVotes, AreKept, Constructs, IsRunning, RunMeets, RunStays, ValidatorView, tallied, is_before_view, is_over_for}
 use Rattle.batcher_validator.specs.Shelves.{Shelves, key_of}
-use Rattle.batcher_validator.specs.Tasks.{AreGivenInTurn, HasAnnouncedFrom, HasAskedFrom, HasBlocked, HasHad, HasHanded, HasSent, IsVerifying, ValidatorEvent, ValidatorHistory, answered, did, only_did, voter_history, window_by}
+use Rattle.batcher_validator.specs.Histories.{HasAnnouncedFrom, HasAskedFrom, HasBlocked, HasHad, HasHanded, HasRecast, HadVoted, HasSent, IsVerifying, ValidatorEvent, ValidatorHistory, answered, did, only_did, voter_history, window_by}
+use Rattle.batcher_validator.specs.Tasks.{AreGivenInTurn}
+use Rattle.batcher_validator.proofs.Intending.{intent_more}
 use Rattle.batcher_validator.proofs.Keeping.{first_with, kept_beside, kept_still, kept_with}
 use Rattle.batcher_validator.proofs.Queueing.{leave, put_behind}
 use Rattle.batcher_voter.specs.Journals.{IsRaised, MayGain}
@@ -74,6 +76,14 @@ first_more key is_over Was Now items count to back are =
       no_others = λ y now above. are.no_others y (back y now) above;
     }
 
+-- The first votes are as they were, of what is left of each count.
+abbrev pub Recounts : {S G D L C : Type 0} → ValidatorView S G D L C → ValidatorView S G D L C
+    → (ℕ → ℕ) → Type 1
+Recounts {D = D} old new f =
+    new.voter.journal.is_open ≡ true → (old.voter.journal.is_open ≡ true)
+    × ((Was : Subject D → Type 0) (count : ℕ) → AreFirstVotes old Was count
+    → AreFirstVotes new Was (f count))
+
 module _ {S D K G C L : Type 0} (x : NodeConfig D K G C) (old new : ValidatorView S G D L C)
     (more : VoterHistory D K G C) (past : ValidatorHistory D K G C) (earlier : Conduct D) where
   abbrev After : ValidatorHistory D K G C
@@ -81,59 +91,69 @@ module _ {S D K G C L : Type 0} (x : NodeConfig D K G C) (old new : ValidatorVie
 
   -- Its voter did more, and it gave nothing.
   pub goes_on :
-      IsRunning x past earlier old
+      (f : ℕ → ℕ) → IsRunning x past earlier old
       → IsVoting x (more ++ voter_history past) earlier new.voter
-      → (new.voter.journal.is_open ≡ true
-      → AreFirst subject_of (is_over_for new.voter.journal.contents.floor) (λ s. HasSent past s)
-      new.voter.journal.contents.votes new.given.sent)
-      → new.given ≡ record old.given { sent = new.given.sent }
+      → Recounts old new f
+      → new.given ≡ record old.given { tally = tallied f old.given.tally }
       → AreKept x After new.shelf.certificates
       → AreFirst key_of (is_before_view (window_by After).finalized) (λ key. HasHanded past key)
       new.shelf.certificates new.shelf.handed
       → IsRunning x After earlier new
-  goes_on is voting sent given kept handed =
+  goes_on f is voting recounts given kept handed =
       record {
         voting = subst (λ h. IsVoting x h earlier new.voter) (sym (voter_history_more more past)) voting;
         in_turn = in_turn_more x earlier more past is.in_turn;
-        blocks = record {
+        blocks = rw (given) record {
           were_blocked = λ i there. to_more (λ h. HasBlocked h i) (λ h. HasBlocked h i)
-              (λ event h. ((λ was. was), (λ was. was))) more past
-              (is.blocks.were_blocked i (subst (λ (it : GivenView). slice_get it.blocked i ≡ Some true) given there));
-          no_others = λ i was. subst (λ (it : GivenView). slice_get it.blocked i ≡ Some true) (sym given)
-              (is.blocks.no_others i (from_more (λ h. HasBlocked h i) (λ h. HasBlocked h i)
-              (λ event h. ((λ was. was), (λ was. was))) more past was));
+              (λ event h. ((λ was. was), (λ was. was))) more past (is.blocks.were_blocked i there);
+          no_others = λ i was. is.blocks.no_others i
+              (from_more (λ h. HasBlocked h i) (λ h. HasBlocked h i)
+              (λ event h. ((λ was. was), (λ was. was))) more past was);
         };
-        finals = record {
+        finals = rw (given) record {
           were_asked = λ view some within. to_more (λ h. HasAnnouncedFrom h view) (λ h. HasAnnouncedFrom h view)
-              (λ event h. ((λ was. was), (λ was. was))) more past
-              (is.finals.were_asked view some (subst (λ (it : GivenView). view ≤ it.announced) given within));
-          no_others = λ view was. subst (λ (it : GivenView). view ≤ it.announced) (sym given)
-              (is.finals.no_others view (from_more (λ h. HasAnnouncedFrom h view) (λ h. HasAnnouncedFrom h view)
-              (λ event h. ((λ was. was), (λ was. was))) more past was));
+              (λ event h. ((λ was. was), (λ was. was))) more past (is.finals.were_asked view some within);
+          no_others = λ view was. is.finals.no_others view
+              (from_more (λ h. HasAnnouncedFrom h view) (λ h. HasAnnouncedFrom h view)
+              (λ event h. ((λ was. was), (λ was. was))) more past was);
         };
-        votes = λ opened. first_more subject_of (is_over_for new.voter.journal.contents.floor)
-            (λ s. HasSent past s) (λ s. HasSent After s) new.voter.journal.contents.votes new.given.sent
-            (λ s. to_more (λ h. HasSent h s) (λ h. HasSent h s) (λ event h. ((λ was. was), (λ was. was))) more past)
-            (λ s. from_more (λ h. HasSent h s) (λ h. HasSent h s) (λ event h. ((λ was. was), (λ was. was))) more past)
-            (sent opened);
+        votes = λ opened. rw (given) (still (λ h s. HasSent h s) (λ event h s. ((λ was. was), (λ was. was)))
+            f old.given.tally.sent opened recounts (is.votes (recounts opened).0));
+        begins = λ opened. rw (given) (still (λ h s. HadVoted earlier h s) (λ event h s. ((λ was. was), (λ was. was)))
+            f old.given.tally.begun opened recounts (is.begins (recounts opened).0));
+        casts = λ opened. rw (given) (still (λ h s. HasRecast h s) (λ event h s. ((λ was. was), (λ was. was)))
+            f old.given.tally.recast opened recounts (is.casts (recounts opened).0));
         kept = kept;
         certificates = first_more key_of (is_before_view (window_by After).finalized)
             (λ key. HasHanded past key) (λ key. HasHanded After key) new.shelf.certificates new.shelf.handed
             (λ key. to_more (λ h. HasHanded h key) (λ h. HasHanded h key) (λ event h. ((λ was. was), (λ was. was))) more past)
             (λ key. from_more (λ h. HasHanded h key) (λ h. HasHanded h key) (λ event h. ((λ was. was), (λ was. was))) more past)
             handed;
-        asks = record {
+        asks = rw (given) record {
           were_asked = λ view some within. to_more (λ h. HasAskedFrom h view) (λ h. HasAskedFrom h view)
-              (λ event h. ((λ was. was), (λ was. was))) more past
-              (is.asks.were_asked view some (subst (λ (it : GivenView). view ≤ it.asked) given within));
-          no_others = λ view was. subst (λ (it : GivenView). view ≤ it.asked) (sym given)
-              (is.asks.no_others view (from_more (λ h. HasAskedFrom h view) (λ h. HasAskedFrom h view)
-              (λ event h. ((λ was. was), (λ was. was))) more past was));
+              (λ event h. ((λ was. was), (λ was. was))) more past (is.asks.were_asked view some within);
+          no_others = λ view was. is.asks.no_others view
+              (from_more (λ h. HasAskedFrom h view) (λ h. HasAskedFrom h view)
+              (λ event h. ((λ was. was), (λ was. was))) more past was);
         };
-        verifies = verifies_more more past new.given.verifying
-            (subst (λ (it : GivenView). MatchBool it.verifying (IsVerifying past) (IsVerifying past → ⊥)) (sym given)
-            is.verifies);
+        verifies = rw (given) (verifies_more more past old.given.verifying is.verifies);
+        intends = rw (given) (intent_more more past old.given.intent is.intends);
       }
+    where
+      -- of a history with more
+      still :
+          (Was : ValidatorHistory D K G C → Subject D → Type 0)
+          → ((event : VoterEvent D K G C) (h : ValidatorHistory D K G C) (s : Subject D)
+          → (Was h s → Was (did event ∷ h) s) × (Was (did event ∷ h) s → Was h s))
+          → (g : ℕ → ℕ) (count : ℕ) → new.voter.journal.is_open ≡ true → Recounts old new g
+          → AreFirstVotes old (λ s. Was past s) count
+          → AreFirstVotes new (λ s. Was After s) (g count)
+      still Was same g count opened recounts are =
+          first_more subject_of (is_over_for new.voter.journal.contents.floor)
+          (λ s. Was past s) (λ s. Was After s) new.voter.journal.contents.votes (g count)
+          (λ s. to_more (λ h. Was h s) (λ h. Was h s) (λ event h. same event h s) more past)
+          (λ s. from_more (λ h. Was h s) (λ h. Was h s) (λ event h. same event h s) more past)
+          ((recounts opened).1 (λ s. Was past s) count are)
 
 -- Votes that were sent, as a journal has them that writes nothing, or one more vote, or raises its floor.
 module _ {G D L : Type 0} (WasSent : Subject D → Type 0) (old new : JournalView G D L) (sent : ℕ) where
@@ -197,19 +217,11 @@ module _ {S D K G C L : Type 0} (x : NodeConfig D K G C) (old new : ValidatorVie
     (contents : new.voter.journal.contents ≡ old.voter.journal.contents)
     (is_open : new.voter.journal.is_open ≡ old.voter.journal.is_open)
     (given : new.given ≡ old.given) where
-  still_sent :
-      (past : ValidatorHistory D K G C) (earlier : Conduct D) → IsRunning x past earlier old
-      → new.voter.journal.is_open ≡ true
-      → AreFirst subject_of (is_over_for new.voter.journal.contents.floor) (λ s. HasSent past s)
-      new.voter.journal.contents.votes new.given.sent
-  still_sent past earlier is still =
-      subst (λ (it : GivenView). AreFirst subject_of (is_over_for new.voter.journal.contents.floor)
-      (λ s. HasSent past s) new.voter.journal.contents.votes it.sent) (sym given)
-      (sent_still (λ s. HasSent past s) old.voter.journal new.voter.journal old.given.sent contents
-      (is.votes (sym is_open ∙ still)))
-
-  same_but_sent : new.given ≡ record old.given { sent = new.given.sent }
-  same_but_sent = given ∙ ap (λ n. record old.given { sent = n }) (ap (λ (it : GivenView). it.sent) (sym given))
+  pub recounts_still : Recounts old new (λ n. n)
+  recounts_still still = (
+    sym is_open ∙ still,
+    λ Was count are. sent_still Was old.voter.journal new.voter.journal count contents are,
+  )
 
   module _ (shelf : new.shelf.certificates ≡ old.shelf.certificates)
       (handed : new.shelf.handed ≡ old.shelf.handed) where
@@ -221,7 +233,7 @@ module _ {S D K G C L : Type 0} (x : NodeConfig D K G C) (old new : ValidatorVie
         → IsVoting x (more ++ voter_history past) earlier new.voter
         → IsRunning x (only_did more ++ past) earlier new
     goes more past earlier window had is voting =
-        goes_on x old new more past earlier is voting (still_sent past earlier is) same_but_sent
+        goes_on x old new more past earlier (λ n. n) is voting recounts_still given
         (subst (AreKept x (only_did more ++ past)) (sym shelf)
         (kept_still x past (only_did more ++ past) window old.shelf.certificates had is.kept))
         (rw (shelf, handed, window) is.certificates)
@@ -268,9 +280,9 @@ module _ {S D K G C L : Type 0} (x : NodeConfig D K G C) (old mid new : Validato
       (sym voter)
       (subst (λ it. IsRunning x (did (called event) ∷ past) earlier (record { voter = mid.voter; given = it; shelf = new.shelf }))
       (sym given_still)
-      (goes_on x old Kept (called event ∷ []) past earlier is voting
-      (still_sent x old Kept contents is_open given past earlier is)
-      (same_but_sent x old Kept contents is_open given)
+      (goes_on x old Kept (called event ∷ []) past earlier (λ n. n) is voting
+      (recounts_still x old Kept contents is_open given)
+      given
       (kept_with x past (did (called event) ∷ past) (quiet (window_by past)) c (certifies past earlier voting)
       old.shelf.certificates new.shelf.certificates had is.kept shelved)
       (rw (handed, shelf, quiet (window_by past)) (first_with x.epoch (window_by past).finalized c
@@ -311,10 +323,13 @@ module _ {S D K G C L : Type 0} (x : NodeConfig D K G C) (old roomy : ValidatorV
         blocks = rw (given) is.blocks;
         finals = rw (given) is.finals;
         votes = rw (voter, given) is.votes;
+        begins = rw (voter, given) is.begins;
+        casts = rw (voter, given) is.casts;
         kept = rw (certificates) is.kept;
         certificates = rw (certificates, handed) is.certificates;
         asks = rw (given) is.asks;
         verifies = rw (given) is.verifies;
+        intends = rw (given) is.intends;
       }
 
 module _ {S D K G C L : Type 0} (config : NodeView S G D → NodeConfig D K G C)
@@ -368,12 +383,15 @@ keeps_beside {D = D} {C = C} x old new c epoch certifies voter given handed shel
       blocks = rw (given) is.blocks;
       finals = rw (given) is.finals;
       votes = rw (voter, given) is.votes;
+      begins = rw (voter, given) is.begins;
+      casts = rw (voter, given) is.casts;
       kept = kept_beside x past c old.shelf.certificates new.shelf.certificates certifies is.kept shelved;
       certificates = rw (handed) (first_with x.epoch (window_by past).finalized c old.shelf.certificates
           new.shelf.certificates (is_before_view (window_by past).finalized) (λ key. HasHanded past key)
           old.shelf.handed shelved is.certificates);
       asks = rw (given) is.asks;
       verifies = rw (given) is.verifies;
+      intends = rw (given) is.intends;
     }
   where
     shelved : Shelves x.epoch

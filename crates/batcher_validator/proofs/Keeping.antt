@@ -15,7 +15,8 @@ use Rattle.batcher_node.specs.Nodes.{NodeConfig}
 use Rattle.batcher_validator.specs.Queues.{AreFirst, HasKey}
 use Rattle.batcher_validator.specs.Running.{AreKept, is_before_view}
 use Rattle.batcher_validator.specs.Shelves.{IsLookedAt, Shelves, TakesIn, is_from, key_of}
-use Rattle.batcher_validator.specs.Tasks.{Counts, HasHad, ValidatorHistory, window_by}
+use Rattle.batcher_validator.specs.Histories.{HasHad, ValidatorHistory, window_by}
+use Rattle.batcher_validator.specs.Tasks.{Counts}
 use Rattle.batcher_validator.proofs.Queueing.{contains_one, leave, left_are, put_behind}
 
 module _ {C D : Type 0} (c : Certificate C D) (old new : List (Certificate C D)) where

@@ -1,5 +1,6 @@
 pub mod Queueing
 pub mod Keeping
+pub mod Intending
 pub mod Looking
 pub mod Going
 pub mod Signing
@@ -8,3 +9,7 @@ pub mod Beginning
 pub mod Giving
 pub mod Finalizing
 pub mod Certifying
+pub mod Refusing
+pub mod Choosing
+pub mod Deciding
+pub mod Leading

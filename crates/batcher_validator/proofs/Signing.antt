@@ -1,6 +1,5 @@
 -- A validator's own vote is cast.
-use Rattle.std.proofs.Common.{◌≡◌, ◌++◌, ◌∙◌, [], ◌∷◌, Some, None, ap, inl, inr, refl, subst, sym}
-use Rattle.batcher.specs.Votes.{subject_of}
+use Rattle.std.proofs.Common.{◌≡◌, ◌++◌, [], ◌∷◌, Some, None, inl, inr, refl, subst, sym}
 use Rattle.batcher.specs.messages.Certificate.{Certificate}
 use Rattle.batcher.specs.messages.Vote.{Vote}
 use Rattle.batcher_agreement.specs.Lives.{VoterHistory, called, written}
@@ -12,9 +11,8 @@ use Rattle.batcher_node.specs.declared.answers.Cast.TheVariants.{ToSend, Known a
 use Rattle.batcher.specs.messages.Activity.{Activity}
 use Rattle.batcher.specs.votes.Outcome.{Outcome}
 use Rattle.std.specs.Prelude.{Option}
-use Rattle.batcher_validator.specs.Queues.{AreFirst}
-use Rattle.batcher_validator.specs.Running.{AreKept, ForEachRun, GivenView, IsRunning, RunCasts, RunMayWrite, RunWrites, ValidatorView, is_over_for}
-use Rattle.batcher_validator.specs.Tasks.{HasHad, HasSent, ValidatorHistory, only_did, voter_history, window_by}
+use Rattle.batcher_validator.specs.Running.{AreKept, ForEachRun, IsRunning, RunCasts, RunMayWrite, RunWrites, ValidatorView}
+use Rattle.batcher_validator.specs.Histories.{HasHad, ValidatorHistory, only_did, voter_history, window_by}
 use Rattle.batcher_validator.proofs.Going.{goes_on, sent_gained}
 use Rattle.batcher_validator.proofs.Keeping.{kept_still}
 use Rattle.batcher_voter.specs.Journals.{MayGain}
@@ -31,13 +29,12 @@ module _ {S D K G C L : Type 0} (x : NodeConfig D K G C) (old new : ValidatorVie
       → IsVoting x (more ++ voter_history past) earlier new.voter
       → IsRunning x (only_did more ++ past) earlier new
   goes more past earlier window had is voting =
-      goes_on x old new more past earlier is voting
-      (λ still. subst (λ (it : GivenView). AreFirst subject_of
-      (is_over_for new.voter.journal.contents.floor) (λ s. HasSent past s)
-      new.voter.journal.contents.votes it.sent) (sym given)
-      (sent_gained (λ s. HasSent past s) old.voter.journal new.voter.journal old.given.sent vote gains
-      still is.votes))
-      (given ∙ ap (λ n. record old.given { sent = n }) (ap (λ (it : GivenView). it.sent) (sym given)))
+      goes_on x old new more past earlier (λ n. n) is voting
+      (λ still. (
+        (gains still).0,
+        λ Was count are. sent_gained Was old.voter.journal new.voter.journal count vote gains still (λ opened. are),
+      ))
+      given
       (subst (λ s. AreKept x (only_did more ++ past) s.certificates) (sym shelf)
       (kept_still x past (only_did more ++ past) window old.shelf.certificates had is.kept))
       (rw (shelf, window) is.certificates)

@@ -1,4 +1,6 @@
+pub mod Histories
 pub mod Tasks
 pub mod Queues
 pub mod Shelves
 pub mod Running
+pub mod Posing

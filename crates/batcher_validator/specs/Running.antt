@@ -1,18 +1,21 @@
 -- A validator: a voter, with what it gave to be done.
-use Rattle.std.specs.Prelude.{◌≡◌, ◌≢◌, ◌<◌, ◌≤◌, ◌⊎◌, ⊤, ℕ, Bool, true, false, List, [], ◌∷◌, ◌++◌, Contains, MatchBool, Some, None, nat_lt, not, take}
+use Rattle.std.specs.Prelude.{◌≡◌, ◌≢◌, ◌<◌, ◌≤◌, ◌⊎◌, ⊤, ℕ, Bool, true, false, List, [], ◌∷◌, ◌++◌, Contains, MatchBool, Option, Some, None, nat_lt, not, take}
 use Rattle.std.specs.List.{count_by, slice_get}
 use Rattle.batcher.specs.Verifiers.{certifies_itself}
 use Rattle.batcher.specs.Votes.{kind_certified, round_in, subject_certified, subject_of}
 use Rattle.batcher.specs.messages.Certificate.{Certificate}
 use Rattle.batcher.specs.messages.Kind.{Kind}
 use Rattle.batcher.specs.messages.Kind.TheVariants.{Finalization}
+use Rattle.batcher.specs.messages.Proposal.{Proposal}
 use Rattle.batcher.specs.messages.Subject.{Subject}
 use Rattle.batcher.specs.messages.Subject.TheVariants.{Finalize}
 use Rattle.batcher.specs.messages.Vote.{Vote}
+use Rattle.batcher.specs.positions.Participant.{Participant}
 use Rattle.batcher.specs.positions.Round.{Round}
 use Rattle.batcher.specs.votes.Outcome.{Outcome}
 use Rattle.batcher_agreement.specs.Lives.{VoterHistory, called, node_history, verified, written}
 use Rattle.batcher_agreement.specs.Policy.{Conduct, HasVoted}
+use Rattle.batcher_codec.specs.Format.{Format}
 use Rattle.batcher_journal.specs.Floors.{is_below, is_over}
 use Rattle.batcher_node.specs.Events.{NodeEvent, constructed, started, view_finalized, vote_cast}
 use Rattle.batcher_node.specs.Nodes.{IsAtRest, NodeConfig}
@@ -22,39 +25,63 @@ use Rattle.batcher_node.specs.declared.answers.Cast.{Cast}
 use Rattle.batcher_node.specs.declared.answers.Cast.TheVariants.{ToSend, Known as KnownVote, Outside as OutsideVote}
 use Rattle.batcher_validator.specs.Queues.{AreFirst, HasKey}
 use Rattle.batcher_validator.specs.Shelves.{IsLookedAt, ShelfView, key_of}
-use Rattle.batcher_validator.specs.Tasks.{AreGivenInTurn, Counts, HasAnnouncedFrom, HasAskedFrom, HasBlocked, HasHanded, HasSent, IsVerifying, ValidatorEvent}
-use Rattle.batcher_validator.specs.Tasks.{ValidatorHistory, answered, began, conduct_in, did, gave, only_did, voter_history, window_by}
+use Rattle.batcher_validator.specs.Histories.{HadVoted, HasAnnouncedFrom, HasAskedFrom, HasBlocked, HasHanded, HasRecast, HasSent, IsVerifying, ValidatorEvent}
+use Rattle.batcher_validator.specs.Tasks.{AreGivenInTurn, Counts}
+use Rattle.batcher_validator.specs.Histories.{ValidatorHistory, answered, began, chosen_in, conduct_in, did, expired_in, gave, last_to_sign, me_in, only_did, posed_in, voter_history, window_by}
+use Rattle.batcher_validator.specs.declared.tally.Tally.{Tally}
 use Rattle.batcher_validator.specs.declared.task.Task.{Task}
-use Rattle.batcher_validator.specs.declared.task.Task.TheVariants.{Final, SendCertificate, SendVote, Verify}
-use Rattle.batcher_voter.specs.Voting.{IsVoting, VoterView}
+use Rattle.batcher_validator.specs.declared.task.Task.TheVariants.{Cast as CastAgain, Final, SendCertificate, SendVote, Verify}
+use Rattle.batcher_voter.specs.Voting.{IsVoting, LeavesWhatWasDone, VoterView}
 use Rattle.batcher_voter.specs.declared.answers.FinalizeFault.{FinalizeFault}
 use Rattle.batcher_voter.specs.declared.answers.FinalizeFault.TheVariants.{Forged as NotFinalForged, NotOfEpoch, Passed}
 
+-- What a validator means to vote for, with digests D.
+pub record IntentView (D : Type 0) : Type 0 where
+  -- as whom it votes
+  pub me : Participant
+  -- what was given to be signed, last of all
+  pub signing : Option (Subject D)
+  -- the highest view whose time is over, or 0
+  pub expired : ℕ
+  -- the proposal of the highest view that is its own, or valid
+  pub chosen : Option (Proposal D)
+  -- the last view of which a proposal was given to be made, or to be judged, or 0
+  pub posed : ℕ
+
 -- What a validator has noted of what it gave.
-pub record GivenView : Type 0 where
+pub record GivenView (D : Type 0) : Type 0 where
   -- whether each participant was given to be blocked
   pub blocked : List Bool
   -- the last view of which a proposal was given as final, or 0
   pub announced : ℕ
-  -- how many of the journal's votes were given to be sent
-  pub sent : ℕ
+  -- how many of the journal's votes were given
+  pub tally : Tally
   -- the last view that was given to be entered, or 0
   pub asked : ℕ
   -- whether votes were given to be verified, and there is no answer yet
   pub verifying : Bool
+  pub intent : IntentView D
 
 -- With scheme S, signatures G, digests D, log L and certificates C.
 pub record ValidatorView (S G D L C : Type 0) : Type 0 where
   pub voter : VoterView S G D L
-  pub given : GivenView
+  pub given : GivenView D
   -- the certificates that it keeps
   pub shelf : ShelfView C D
 
--- how many of the votes that were sent are of rounds from this one on
-abbrev pub sent_from : {S G D L C : Type 0} → Round → ValidatorView S G D L C → ℕ
-sent_from floor validator =
-    count_by (λ vote. not (is_over floor vote))
-    (take validator.given.sent validator.voter.journal.contents.votes)
+-- each number of a tally, changed so
+abbrev pub tallied : (ℕ → ℕ) → Tally → Tally
+tallied f tally =
+    record { begun = f tally.begun; recast = f tally.recast; sent = f tally.sent }
+
+-- how many of the first votes are of rounds from this one on
+abbrev pub left_of : {G D : Type 0} → Round → List (Vote G D) → ℕ → ℕ
+left_of floor votes count = count_by (λ vote. not (is_over floor vote)) (take count votes)
+
+-- the tally where the votes of earlier rounds are gone
+abbrev pub tally_from : {S G D L C : Type 0} → Round → ValidatorView S G D L C → Tally
+tally_from floor validator =
+    tallied (left_of floor validator.voter.journal.contents.votes) validator.given.tally
 
 -- The participants that are noted were given to be blocked, and no others.
 pub record AreBlocked (WasBlocked : ℕ → Type 0) (blocked : List Bool) : Type 0 where
@@ -66,6 +93,29 @@ pub record AreAsked (WasAskedFrom : ℕ → Type 0) (asked : ℕ) : Type 0 where
   pub were_asked : (view : ℕ) → 0 < view → view ≤ asked → WasAskedFrom view
   pub no_others : (view : ℕ) → WasAskedFrom view → view ≤ asked
 
+-- It means to vote for what it was answered.
+pub record IsIntent {D K G C : Type 0} (past : ValidatorHistory D K G C) (intent : IntentView D)
+    : Type 0 where
+  pub votes_as : me_in past ≡ Some intent.me
+  pub signs : last_to_sign past ≡ intent.signing
+  pub expires : expired_in past ≡ intent.expired
+  pub chooses : chosen_in past ≡ intent.chosen
+  pub poses : posed_in past ≡ intent.posed
+
+-- whether a subject is of a round before the floor, and a kind and round of a view before that one
+abbrev pub is_over_for : {D : Type 0} → Round → Subject D → Bool
+is_over_for floor s = is_below floor (round_in s)
+
+abbrev pub is_before_view : ℕ → (Kind × Round) → Bool
+is_before_view first key = nat_lt key.1.view.0 first
+
+-- The first votes of the journal are those for which something happened.
+abbrev pub AreFirstVotes : {S G D L C : Type 0} → ValidatorView S G D L C → (Subject D → Type 0)
+    → ℕ → Type 0
+AreFirstVotes validator WasGiven count =
+    AreFirst subject_of (is_over_for validator.voter.journal.contents.floor) WasGiven
+    validator.voter.journal.contents.votes count
+
 -- The certificates that are kept: they certify what they name, are of the epoch and of views from
 -- the final one on, and of each that counts there is one of its kind and round.
 pub record AreKept {D K G C : Type 0} (x : NodeConfig D K G C) (past : ValidatorHistory D K G C)
@@ -75,17 +125,13 @@ pub record AreKept {D K G C : Type 0} (x : NodeConfig D K G C) (past : Validator
       (c : Certificate C D) → Contains kept c → IsLookedAt x.epoch (window_by past).finalized c
   pub are_there : (c : Certificate C D) → Counts x past c → HasKey key_of kept (key_of c)
 
--- whether a subject is of a round before the floor, and a kind and round of a view before that one
-abbrev pub is_over_for : {D : Type 0} → Round → Subject D → Bool
-is_over_for floor s = is_below floor (round_in s)
-
-abbrev pub is_before_view : ℕ → (Kind × Round) → Bool
-is_before_view first key = nat_lt key.1.view.0 first
-
--- A vote that is given to be sent is on the disk, a certificate is kept, and votes that are given
--- to be verified wait.
+-- A vote that is given to be sent or cast is on the disk, a certificate is kept, and votes that are
+-- given to be verified wait.
 abbrev pub IsReady : {S G D L C : Type 0} → ValidatorView S G D L C → Task G D → Type 0
 IsReady validator (SendVote vote) =
+    (validator.voter.journal.is_open ≡ true)
+    × Contains validator.voter.journal.contents.votes vote
+IsReady validator (CastAgain vote) =
     (validator.voter.journal.is_open ≡ true)
     × Contains validator.voter.journal.contents.votes vote
 IsReady validator (SendCertificate kind number) =
@@ -117,20 +163,29 @@ module _ {S D K G C L : Type 0} (x : NodeConfig D K G C) where
     pub blocks : AreBlocked (λ i. HasBlocked past i) validator.given.blocked
     pub finals : AreAsked (λ view. HasAnnouncedFrom past view) validator.given.announced
     pub votes :
-        validator.voter.journal.is_open ≡ true
-        → AreFirst subject_of (is_over_for validator.voter.journal.contents.floor)
-        (λ s. HasSent past s) validator.voter.journal.contents.votes validator.given.sent
+        validator.voter.journal.is_open ≡ true → AreFirstVotes validator
+        (λ s. HasSent past s) validator.given.tally.sent
+    pub begins :
+        validator.voter.journal.is_open ≡ true → AreFirstVotes validator
+        (λ s. HadVoted earlier past s) validator.given.tally.begun
+    pub casts :
+        validator.voter.journal.is_open ≡ true → AreFirstVotes validator
+        (λ s. HasRecast past s) validator.given.tally.recast
     pub kept : AreKept x past validator.shelf.certificates
     pub certificates :
         AreFirst key_of (is_before_view (window_by past).finalized) (λ key. HasHanded past key)
         validator.shelf.certificates validator.shelf.handed
     pub asks : AreAsked (λ view. HasAskedFrom past view) validator.given.asked
     pub verifies : MatchBool validator.given.verifying (IsVerifying past) (IsVerifying past → ⊥)
+    pub intends : IsIntent past validator.given.intent
 
-  -- A validator that was made from its journal gave nothing, and asked its node nothing.
+  -- A validator that was made from its journal gave nothing, and asked its node nothing. It votes
+  -- as whom the journal says.
   pub record HasBegun (earlier : Conduct D) (validator : ValidatorView S G D L C) : Type 0 where
+    pub me : Participant
+    pub owns : me.0 ≡ validator.voter.journal.contents.owner.1.1.0
     pub past : VoterHistory D K G C
-    pub running : IsRunning (began past ∷ []) earlier validator
+    pub running : IsRunning (began me past ∷ []) earlier validator
     pub asked_nothing : node_history past ≡ started validator.voter.node.window ∷ []
 
   -- what is said of a validator whatever happened to it
@@ -149,6 +204,14 @@ module _ {S D K G C L : Type 0} (x : NodeConfig D K G C) where
   -- nothing happened that counts
   abbrev pub RunStays : ValidatorView S G D L C → ValidatorView S G D L C → Type 0
   RunStays old new = ForEachRun old (λ past earlier. IsRunning past earlier new)
+
+  -- What a crash leaves after a call is what was done before it.
+  abbrev pub RunLeaves : Format (Vote G D) → (L → Type 0) → (L → List ℕ → Type 0)
+      → ValidatorView S G D L C → ValidatorView S G D L C → Type 0
+  RunLeaves format is_honest may_leave old new =
+      (left : List ℕ) → old.voter.journal.is_open ≡ true → is_honest new.voter.journal.log
+      → may_leave new.voter.journal.log left → ForEachRun old (λ past earlier.
+      LeavesWhatWasDone format (voter_history past) earlier left)
 
   -- a construction was made, by which votes were verified
   abbrev pub Constructs : ValidatorView S G D L C → ValidatorView S G D L C → Type 0

@@ -1,112 +1,32 @@
--- What happens to a validator: what its voter does, and what it gives to be done.
-use Rattle.std.specs.Prelude.{◌≡◌, ◌+◌, ◌<◌, ◌≤◌, ◌⊎◌, ◌^◌, ⊤, ℕ, false, true, length, List, [], ◌∷◌, ◌++◌, Some, None}
+-- When a task may be given, and when nothing is left to be given.
+use Rattle.std.specs.Prelude.{◌≡◌, ◌+◌, ◌<◌, ◌≤◌, ◌⊎◌, ◌^◌, ⊤, ℕ, false, true, length, [], ◌∷◌, Some, None}
 use Rattle.batcher.specs.Verifiers.{certifies_itself}
 use Rattle.batcher.specs.Votes.{round_in, subject_certified, subject_of}
 use Rattle.batcher.specs.messages.Certificate.{Certificate}
 use Rattle.batcher.specs.messages.Kind.{Kind}
 use Rattle.batcher.specs.messages.Proposal.{Proposal}
 use Rattle.batcher.specs.messages.Subject.{Subject}
-use Rattle.batcher.specs.messages.Subject.TheVariants.{Finalize}
+use Rattle.batcher.specs.messages.Subject.TheVariants.{Finalize, Notarize, Nullify}
 use Rattle.batcher.specs.positions.Round.{Round}
-use Rattle.batcher_agreement.specs.Lives.{VoterEvent, VoterHistory, conduct_of, held_by, node_history}
-use Rattle.batcher_agreement.specs.Policy.{Conduct, HasVoted, Knows}
+use Rattle.batcher_agreement.specs.Lives.{conduct_of}
+use Rattle.batcher_agreement.specs.Policy.{Conduct, HasVoted, IsCleared, IsGrounded, Knows}
 use Rattle.batcher_journal.specs.Floors.{is_below}
-use Rattle.batcher_node.specs.Events.{NodeHistory, cause_in, view_history, window_in}
+use Rattle.batcher_node.specs.Events.{cause_in, view_history}
 use Rattle.batcher_node.specs.Nodes.{NodeConfig}
 use Rattle.batcher_node.specs.Represents.{is_due}
-use Rattle.batcher_node.specs.Windows.{numbered}
-use Rattle.batcher_node.specs.declared.window.Window.{Window}
+use Rattle.batcher_node.specs.Windows.{is_of, numbered}
 use Rattle.batcher_voter.specs.Knowledge.{KnowsOf}
+use Rattle.batcher_voter.specs.Refusals.{IsAnotherNotarized, RestsOnLearned}
+use Rattle.batcher_validator.specs.Histories.{HadVoted, HasAnnouncedFrom, HasAskedFrom, HasBlocked, HasHad, HasHanded, HasRecast, HasSent, IsVerifying, Leads, ValidatorHistory}
+use Rattle.batcher_validator.specs.Histories.{calls_in, chosen_in, conduct_in, expired_in, gave, last_to_sign, posed_in, proposal_by, voter_history, window_by}
 use Rattle.batcher_validator.specs.Shelves.{IsLookedAt, key_of}
 use Rattle.batcher_validator.specs.declared.task.Task.{Task}
-use Rattle.batcher_validator.specs.declared.task.Task.TheVariants.{Block, Enter, Final, SendCertificate, SendVote, Verify}
+use Rattle.batcher_validator.specs.declared.task.Task.TheVariants.{Block, Cast, Enter, Final, Judge, Propose, SendCertificate, SendVote, Sign, Verify}
 
-pub data ValidatorEvent (D K G C : Type 0) : Type 0 where
-  -- it was made of a voter, which did this before
-  began : VoterHistory D K G C → ValidatorEvent D K G C
-  -- its voter did this
-  did : VoterEvent D K G C → ValidatorEvent D K G C
-  -- it gave this to be done
-  gave : Task G D → ValidatorEvent D K G C
-  -- votes were verified, as far as there were any
-  answered : ValidatorEvent D K G C
-  -- what was sent may be lost, so it is to be sent again
-  again : ValidatorEvent D K G C
-
--- all that happened in a life, the newest first
-abbrev pub ValidatorHistory : Type 0 → Type 0 → Type 0 → Type 0 → Type 0
-ValidatorHistory D K G C = List (ValidatorEvent D K G C)
-
-module _ {D K G C : Type 0} where
-  -- what its voter did, and what the voter's node was called for
-  abbrev pub voter_history : ValidatorHistory D K G C → VoterHistory D K G C
-  voter_history [] = []
-  voter_history (began before ∷ past) = before
-  voter_history (did event ∷ past) = event ∷ voter_history past
-  voter_history (event ∷ past) = voter_history past
-
-  abbrev pub calls_in : ValidatorHistory D K G C → NodeHistory D K G C
-  calls_in past = node_history (voter_history past)
-
-  -- the window by then
-  abbrev pub window_by : ValidatorHistory D K G C → Window
-  window_by past = window_in (calls_in past)
-
-  -- what its participant did, in this life and in earlier ones
-  abbrev pub conduct_in : Conduct D → ValidatorHistory D K G C → Conduct D
-  conduct_in earlier past = conduct_of (voter_history past) ++ earlier
-
-  -- what its voter did by these events
-  abbrev pub only_did : VoterHistory D K G C → ValidatorHistory D K G C
-  only_did [] = []
-  only_did (event ∷ past) = did event ∷ only_did past
-
-  -- it has had a certificate since it began
-  abbrev pub HasHad : ValidatorHistory D K G C → Certificate C D → Type 0
-  HasHad [] c = ⊥
-  HasHad (did event ∷ past) c = (held_by event ≡ Some c) ⊎ HasHad past c
-  HasHad (event ∷ past) c = HasHad past c
-
-  -- it gave the participant of an index to be blocked
-  abbrev pub HasBlocked : ValidatorHistory D K G C → ℕ → Type 0
-  HasBlocked [] i = ⊥
-  HasBlocked (gave (Block who cause) ∷ past) i = (who.0 ≡ i) ⊎ HasBlocked past i
-  HasBlocked (event ∷ past) i = HasBlocked past i
-
-  -- it gave a proposal of this view as final, or one of a later view
-  abbrev pub HasAnnouncedFrom : ValidatorHistory D K G C → ℕ → Type 0
-  HasAnnouncedFrom [] view = ⊥
-  HasAnnouncedFrom (gave (Final p) ∷ past) view =
-      (view ≤ p.round.view.0) ⊎ HasAnnouncedFrom past view
-  HasAnnouncedFrom (event ∷ past) view = HasAnnouncedFrom past view
-
-  -- it gave a vote for the subject to be sent, since all was to be sent again
-  abbrev pub HasSent : ValidatorHistory D K G C → Subject D → Type 0
-  HasSent [] s = ⊥
-  HasSent (again ∷ past) s = ⊥
-  HasSent (gave (SendVote vote) ∷ past) s = (subject_of vote ≡ s) ⊎ HasSent past s
-  HasSent (event ∷ past) s = HasSent past s
-
-  -- and it gave a certificate of the kind and the round
-  abbrev pub HasHanded : ValidatorHistory D K G C → (Kind × Round) → Type 0
-  HasHanded [] key = ⊥
-  HasHanded (again ∷ past) key = ⊥
-  HasHanded (gave (SendCertificate kind number) ∷ past) key =
-      ((kind, number) ≡ key) ⊎ HasHanded past key
-  HasHanded (event ∷ past) key = HasHanded past key
-
-  -- it gave this view to be entered, or a later one
-  abbrev pub HasAskedFrom : ValidatorHistory D K G C → ℕ → Type 0
-  HasAskedFrom [] view = ⊥
-  HasAskedFrom (gave (Enter later) ∷ past) view = (view ≤ later.0) ⊎ HasAskedFrom past view
-  HasAskedFrom (event ∷ past) view = HasAskedFrom past view
-
-  -- it gave votes to be verified, and there is no answer yet
-  abbrev pub IsVerifying : ValidatorHistory D K G C → Type 0
-  IsVerifying [] = ⊥
-  IsVerifying (gave Verify ∷ past) = ⊤
-  IsVerifying (answered ∷ past) = ⊥
-  IsVerifying (event ∷ past) = IsVerifying past
+-- Two proposals of a view are notarized, so more are faulty than may be. One of them is finalized.
+abbrev pub IsContested : {D : Type 0} → Conduct D → Subject D → Type 0
+IsContested past (Finalize p) = IsAnotherNotarized past p
+IsContested past s = ⊥
 
 module _ {D K G C : Type 0} (x : NodeConfig D K G C) where
   -- A view is the next one: it is behind each of which a certificate is known, and behind one of
@@ -138,7 +58,50 @@ module _ {D K G C : Type 0} (x : NodeConfig D K G C) where
     pub is_of : key_of certificate ≡ (kind, number)
     pub certifies : certifies_itself x.meaning certificate ≡ true
 
+  -- A proposal of a view is to be made, or to be judged: it would be the first of the current view,
+  -- which is above the final one and whose time isn't over, and no later view is to be entered.
+  pub record IsOpen (past : ValidatorHistory D K G C) (view : ℕ) : Type 0 where
+    pub is_current : view ≡ (window_by past).current
+    pub above : (window_by past).finalized < view
+    pub is_last : HasAskedFrom past (view + 1) → ⊥
+    pub in_time : expired_in past < view
+    pub is_first : posed_in past < view
+
   module _ (earlier : Conduct D) where
+    -- It may vote for a subject: that is cleared, by what it has learned in this life, it is looked
+    -- at, and the validator hasn't voted for it.
+    pub record MayVote (past : ValidatorHistory D K G C) (s : Subject D) : Type 0 where
+      pub cleared : IsCleared (conduct_in earlier past) s
+      pub not_yet : HasVoted (conduct_in earlier past) s → ⊥
+      pub rests : RestsOnLearned (conduct_of (voter_history past)) (window_by past).finalized s
+      pub within : is_of x.epoch (window_by past) (round_in s) ≡ true
+
+    -- What it votes for, where it may: a proposal that is its own, or valid, the end of a view
+    -- whose time is over, and the finalization of whatever is notarized.
+    abbrev pub IsWanted : ValidatorHistory D K G C → Subject D → Type 0
+    IsWanted past (Notarize p) = chosen_in past ≡ Some p
+    IsWanted past (Nullify number) =
+        (0 < expired_in past) × (number ≡ numbered x.epoch (expired_in past))
+    IsWanted past (Finalize p) = ⊤
+
+    -- What it gave to be signed, last of all, may still be voted for.
+    pub record IsSigning (past : ValidatorHistory D K G C) : Type 0 where
+      pub subject : Subject D
+      pub was_last : last_to_sign past ≡ Some subject
+      pub may_vote : MayVote past subject
+
+    -- It may not, or it is contested.
+    abbrev pub HasSigned : ValidatorHistory D K G C → Type 0
+    HasSigned past =
+        (s : Subject D) → last_to_sign past ≡ Some s → MayVote past s
+        → IsContested (conduct_in earlier past) s
+
+    -- it has voted in a round
+    pub record HasVotedIn (past : ValidatorHistory D K G C) (number : Round) : Type 0 where
+      pub subject : Subject D
+      pub of_round : round_in subject ≡ number
+      pub voted : HasVoted (conduct_in earlier past) subject
+
     -- When a task may be given: it is to be done, and wasn't given before.
     abbrev pub MayGive : ValidatorHistory D K G C → Task G D → Type 0
     -- A participant gave cause to be blocked,
@@ -152,6 +115,9 @@ module _ {D K G C : Type 0} (x : NodeConfig D K G C) where
     MayGive past (SendVote vote) =
         HasVoted (conduct_in earlier past) (subject_of vote)
         × (HasSent past (subject_of vote) → ⊥)
+    -- a vote was written in an earlier life,
+    MayGive past (Cast vote) =
+        HadVoted earlier past (subject_of vote) × (HasRecast past (subject_of vote) → ⊥)
     -- there is a certificate of the kind and the round,
     MayGive past (SendCertificate kind number) =
         IsThere kind number × (HasHanded past (kind, number) → ⊥)
@@ -159,14 +125,43 @@ module _ {D K G C : Type 0} (x : NodeConfig D K G C) where
     MayGive past (Enter view) =
         IsNextIn past view.0 × (((window_by past).current < view.0)
         × (HasAskedFrom past view.0 → ⊥))
-    -- and no votes are being verified.
+    -- no votes are being verified,
     MayGive past Verify = IsVerifying past → ⊥
+    -- a vote is wanted and may be cast, and no other is being signed,
+    MayGive past (Sign s) = IsWanted past s × (MayVote past s × HasSigned past)
+    -- each proposal on the parent is grounded, in a view that the validator leads,
+    MayGive past (Propose view parent) =
+        IsOpen past view.0 × (Leads past view.0
+        × ((HasVotedIn past (numbered x.epoch view.0) → ⊥)
+        × ((p : Proposal D) → p.round ≡ numbered x.epoch view.0 → p.parent ≡ parent
+        → IsGrounded (conduct_in earlier past) p)))
+    -- and a vote to notarize a view's proposal may be cast.
+    MayGive past (Judge p) =
+        IsOpen past p.round.view.0 × ((proposal_by x past p.round.view.0 ≡ Some p)
+        × MayVote past (Notarize p))
 
     -- Each task might be given when it was.
     abbrev pub AreGivenInTurn : ValidatorHistory D K G C → Type 0
     AreGivenInTurn [] = ⊤
     AreGivenInTurn (gave task ∷ past) = MayGive past task × AreGivenInTurn past
     AreGivenInTurn (event ∷ past) = AreGivenInTurn past
+
+    -- Of votes and proposals nothing is left.
+    pub record NothingIsPosed (past : ValidatorHistory D K G C) : Type 0 where
+      -- A vote that is wanted and may be cast waits for another that is being signed,
+      pub signs :
+          (s : Subject D) → IsWanted past s → MayVote past s
+          → IsSigning past ⊎ IsContested (conduct_in earlier past) s
+      -- no proposal is to be made,
+      pub proposes :
+          (p : Proposal D) → IsOpen past p.round.view.0 → Leads past p.round.view.0
+          → p.round.epoch ≡ x.epoch → (HasVotedIn past p.round → ⊥)
+          → (window_by past).finalized ≤ p.parent.0
+          → IsGrounded (conduct_of (voter_history past)) p → ⊥
+      -- and none to be judged.
+      pub judges :
+          (p : Proposal D) → IsOpen past p.round.view.0 → (Leads past p.round.view.0 → ⊥)
+          → proposal_by x past p.round.view.0 ≡ Some p → MayVote past (Notarize p) → ⊥
 
     -- Nothing is left to be given.
     pub record NothingIsDue (past : ValidatorHistory D K G C) : Type 0 where
@@ -184,14 +179,21 @@ module _ {D K G C : Type 0} (x : NodeConfig D K G C) where
           (s : Subject D) → HasVoted (conduct_in earlier past) s
           → is_below (numbered x.epoch (window_by past).finalized) (round_in s) ≡ false
           → HasSent past s
-      -- and so was one of the kind and the round of each certificate that counts,
+      -- and those of earlier lives were given to be cast again,
+      pub casts :
+          (s : Subject D) → HadVoted earlier past s
+          → is_below (numbered x.epoch (window_by past).finalized) (round_in s) ≡ false
+          → HasRecast past s
+      -- one of the kind and the round of each certificate that counts was given to be sent,
       pub certificates : (c : Certificate C D) → Counts past c → HasHanded past (key_of c)
       -- the next view above the final one was entered, or given to be,
       pub enters :
           (next : ℕ) → IsNextIn past next → (window_by past).finalized < next → next < 2 ^ 64
           → (next ≤ (window_by past).current) ⊎ HasAskedFrom past next
-      -- and votes that wait are being verified.
+      -- votes that wait are being verified,
       pub verifies :
           IsVerifying past
           ⊎ ((view : ℕ) → (window_by past).finalized ≤ view
           → is_due (view_history view (calls_in past)) ≡ false)
+      -- and of votes and proposals nothing is left.
+      pub poses : NothingIsPosed past

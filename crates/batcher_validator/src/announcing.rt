@@ -4,16 +4,18 @@ ghost use Rattle.std.specs.Prelude.{◌≡◌, ◌∷◌, Err, IfErr, IfOk, IfSo
 ghost use Rattle.std.specs.List.{count_by, filter, slice_get};
 ghost use Rattle.batcher.specs.messages.Certificate.{Certificate as TheCertificate};
 ghost use Rattle.batcher_agreement.specs.Lives.{called, verified};
+ghost use Rattle.batcher_codec.specs.Messages.{vote_format};
 ghost use Rattle.batcher_journal.specs.Floors.{is_over};
 ghost use Rattle.batcher_node.specs.Events.{view_finalized};
 ghost use Rattle.batcher_node.specs.Nodes.{SameNode};
-ghost use Rattle.batcher_validator.specs.Running.{ForEachRun, Gives, IsReady, RunStays, WhyNotFinal, sent_from};
+ghost use Rattle.batcher_validator.specs.Running.{ForEachRun, Gives, IsReady, RunLeaves, RunStays, WhyNotFinal, tally_from, left_of};
 ghost use Rattle.batcher_validator.specs.Shelves.{IsFinalAt, IsToAnnounce, is_from};
 ghost use Rattle.batcher_validator.specs.declared.task.PollFault.{PollFault};
 ghost use Rattle.batcher_voter.specs.Journals.{IsRaised};
 ghost use Rattle.batcher_voter.specs.Voting.{ForEachLife, IsVoting, VoterStays};
 ghost use Rattle.batcher_voter.specs.declared.answers.FinalizeFault.{FinalizeFault};
 
+use crate::tally::Tally;
 use crate::task::{PollFault, Task};
 use crate::validator::Validator;
 use batcher::messages::{Digest, Identical, Proposal, Vote};
@@ -47,9 +49,11 @@ where
             (RunStays (⟦<S as NodeConfigs<D>>⟧.of self.old.voter.node) self.old self.new) }
         ensures closed { result ≡ Err PollFault.Closed
             → self.new.voter.journal.is_open ≡ false }
+        ensures leaves { RunLeaves (⟦<S as NodeConfigs<D>>⟧.of self.old.voter.node)
+            (vote_format S.Signature.format D.format) L.is_honest L.may_leave self.old self.new }
         ensures same { SameNode self.old.voter.node self.new.voter.node }
     {
-        let left = self.sent_from(proposal.round);
+        let left = self.tally_from(proposal.round);
         match self.finalize_at(i, &proposal) {
             Ok(()) => {
                 self.note_final(left, proposal.round.view.0);
@@ -85,6 +89,8 @@ where
             (⟦<S as NodeConfigs<D>>⟧.of self.old.voter.node) self.old i) }
         ensures closed { result ≡ Err FinalizeFault.Closed
             → self.new.voter.journal.is_open ≡ false }
+        ensures leaves { RunLeaves (⟦<S as NodeConfigs<D>>⟧.of self.old.voter.node)
+            (vote_format S.Signature.format D.format) L.is_honest L.may_leave self.old self.new }
         ensures same { SameNode self.old.voter.node self.new.voter.node }
         ensures given { self.new.given ≡ self.old.given }
         ensures shelf { self.new.shelf ≡ self.old.shelf }
@@ -92,21 +98,33 @@ where
         self.voter.finalize(self.shelf.at(i))
     }
 
-    // How many of the votes that were sent are of rounds from this one on.
-    fn sent_from(&self, floor: Round) -> usize
-        ensures { result ≡ sent_from floor self.now }
+    // The tally where the votes of rounds before this one are gone.
+    fn tally_from(&self, floor: Round) -> Tally
+        ensures { result ≡ tally_from floor self.now }
+    {
+        let tally = self.tally();
+        Tally {
+            begun: self.left_of(tally.begun, floor),
+            recast: self.left_of(tally.recast, floor),
+            sent: self.left_of(tally.sent, floor),
+        }
+    }
+
+    // How many of the first votes are of rounds from this one on.
+    fn left_of(&self, count: usize, floor: Round) -> usize
+        ensures { result ≡ left_of floor self.now.voter.journal.contents.votes count }
     {
         let votes = self.voter.journal().votes();
-        if self.given.sent < votes.len() {
-            return count_from(&votes[..self.given.sent], floor);
+        if count < votes.len() {
+            return count_from(&votes[..count], floor);
         }
         count_from(votes, floor)
     }
 
     // A view is the final one.
-    fn note_final(&mut self, sent: usize, view: u64)
+    fn note_final(&mut self, tally: Tally, view: u64)
         ensures given { self.new.given ≡ record self.old.given {
-          sent = sent;
+          tally = tally;
           announced = view;
         } }
         ensures voter { self.new.voter ≡ self.old.voter }
@@ -115,7 +133,7 @@ where
         ensures handed { self.new.shelf.handed ≡ count_by (is_from view)
             (take self.old.shelf.handed self.old.shelf.certificates) }
     {
-        self.given.sent = sent;
+        self.given.tally = tally;
         self.given.announced = view;
         self.shelf.drop_before(view);
     }

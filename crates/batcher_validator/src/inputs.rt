@@ -11,9 +11,9 @@ ghost use Rattle.batcher_node.specs.declared.answers.EnterFault.{EnterFault};
 ghost use Rattle.batcher_node.specs.Represents.{IsHeard, MayNeedIn};
 ghost use Rattle.batcher_validator.specs.Running.{Constructs, RunMeets, RunStays};
 ghost use Rattle.batcher_validator.specs.Shelves.{Shelves};
-ghost use Rattle.batcher_validator.specs.Tasks.{answered, did};
+ghost use Rattle.batcher_validator.specs.Histories.{answered, did};
 ghost use Rattle.batcher_voter.specs.Needing.{CertificateNeeds, ConstructionNeeds};
-ghost use Rattle.batcher_voter.specs.Voting.{VoterMeets, VoterStays, is_recorded};
+ghost use Rattle.batcher_voter.specs.Voting.{BeginWithOneView, VoterMeets, VoterStays, is_recorded};
 
 use crate::validator::Validator;
 use batcher::messages::{Certificate, Digest, Identical, Vote};
@@ -143,9 +143,10 @@ where
         }
     }
 
-    // Does nothing. Somebody takes part.
-    fn begins(&self)
-        ensures { 1 ≤ length (S.meaning self.now.voter.node.scheme).participants }
+    // Does nothing. Somebody takes part, and the voter begins with one view.
+    pub(crate) fn begins(&self)
+        ensures some { 1 ≤ length (S.meaning self.now.voter.node.scheme).participants }
+        ensures view { BeginWithOneView self.now.voter }
     {
         self.voter.begins();
     }

@@ -2,11 +2,14 @@
 #![tactic(auto)]
 
 mod announcing;
+mod answering;
 mod casting;
 mod inputs;
 mod polling;
+mod posing;
 mod recalling;
 mod shelf;
+mod tally;
 mod task;
 #[cfg(test)]
 mod tests;

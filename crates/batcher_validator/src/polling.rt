@@ -2,15 +2,18 @@
 
 ghost use Rattle.std.specs.Prelude.{◌≡◌, ◌≤◌, ◌<◌, ◌+◌, ◌⊎◌, ◌^◌, [], Err, IfOk, IfNone, IfSome, MatchBool, None, Ok, OnErr, Some, length, set, true, false, ℕ};
 ghost use Rattle.std.specs.List.{slice_get};
+ghost use Rattle.batcher_codec.specs.Messages.{vote_format};
 ghost use Rattle.batcher_journal.specs.Answers.{MayFollow};
 ghost use Rattle.batcher_node.specs.Nodes.{IsAtRest, IsNext, SameNode, cause_at};
 ghost use Rattle.batcher_validator.specs.Queues.{AreDistinct};
-ghost use Rattle.batcher_validator.specs.Running.{ForEachRun, Gives, IsReady, RunMeets, RunStays};
+ghost use Rattle.batcher_validator.specs.Running.{ForEachRun, Gives, IsReady, RunLeaves, RunMeets, RunStays};
 ghost use Rattle.batcher_validator.specs.Shelves.{HaveNoFinal, IsAt, IsFinalAt, IsToAnnounce, key_of};
 ghost use Rattle.batcher_validator.specs.declared.task.PollFault.{PollFault};
-ghost use Rattle.batcher_validator.specs.Tasks.{NothingIsDue, again};
+ghost use Rattle.batcher_validator.specs.Histories.{again};
+ghost use Rattle.batcher_validator.specs.Tasks.{NothingIsDue};
 ghost use Rattle.batcher_voter.specs.Voting.{BeginWithOneView, ForEachLife, IsNextView};
 
+use crate::tally::Tally;
 use crate::task::{PollFault, Task};
 use crate::validator::Validator;
 use batcher::messages::{Digest, Identical, Kind, Proposal, Vote};
@@ -43,8 +46,11 @@ where
             (RunStays (⟦<S as NodeConfigs<D>>⟧.of self.old.voter.node) self.old self.new) }
         ensures closed { result ≡ Err PollFault.Closed
             → self.new.voter.journal.is_open ≡ false }
+        ensures leaves { RunLeaves (⟦<S as NodeConfigs<D>>⟧.of self.old.voter.node)
+            (vote_format S.Signature.format D.format) L.is_honest L.may_leave self.old self.new }
         ensures same { SameNode self.old.voter.node self.new.voter.node }
     {
+        self.leaves_what_was_done();
         if !self.is_open() {
             return Err(PollFault::Closed);
         }
@@ -55,33 +61,50 @@ where
             }
             None => match self.next_final() {
                 Some((i, proposal)) => self.announce(i, proposal),
-                None => match self.next_vote() {
-                    Some(vote) => {
-                        self.note_vote();
-                        Ok(Some(Task::SendVote(vote)))
+                None => match self.next_view() {
+                    Some(view) => {
+                        self.note_view(view);
+                        Ok(Some(Task::Enter(view)))
                     }
-                    None => match self.next_certificate() {
-                        Some((kind, round)) => {
-                            self.note_handed();
-                            Ok(Some(Task::SendCertificate(kind, round)))
+                    None => match self.next_cast() {
+                        Some(vote) => {
+                            self.note_cast();
+                            Ok(Some(Task::Cast(vote)))
                         }
-                        None => match self.next_view() {
-                            Some(view) => {
-                                self.note_view(view);
-                                Ok(Some(Task::Enter(view)))
+                        None => match self.next_vote() {
+                            Some(vote) => {
+                                self.note_vote();
+                                Ok(Some(Task::SendVote(vote)))
                             }
-                            None => {
-                                if self.has_votes_waiting() {
-                                    self.note_verifying();
-                                    return Ok(Some(Task::Verify));
+                            None => match self.next_certificate() {
+                                Some((kind, round)) => {
+                                    self.note_handed();
+                                    Ok(Some(Task::SendCertificate(kind, round)))
                                 }
-                                Ok(None)
-                            }
+                                None => match self.pose() {
+                                    Some(task) => Ok(Some(task)),
+                                    None => {
+                                        if self.has_votes_waiting() {
+                                            self.note_verifying();
+                                            return Ok(Some(Task::Verify));
+                                        }
+                                        Ok(None)
+                                    }
+                                },
+                            },
                         },
                     },
                 },
             },
         }
+    }
+
+    // Does nothing. A crash leaves what was done.
+    pub(crate) fn leaves_what_was_done(&self)
+        ensures { RunLeaves (⟦<S as NodeConfigs<D>>⟧.of self.now.voter.node)
+            (vote_format S.Signature.format D.format) L.is_honest L.may_leave self.now self.now }
+    {
+        self.voter.leaves_what_was_done();
     }
 
     /// All that is to be sent is given again: what was sent may be lost.
@@ -94,12 +117,14 @@ where
     }
 
     fn note_again(&mut self)
-        ensures given { self.new.given ≡ record self.old.given { sent = 0 } }
+        ensures given { self.new.given ≡ record self.old.given {
+          tally = record self.old.given.tally { sent = 0 };
+        } }
         ensures voter { self.new.voter ≡ self.old.voter }
         ensures certificates { self.new.shelf.certificates ≡ self.old.shelf.certificates }
         ensures handed { self.new.shelf.handed ≡ 0 }
     {
-        self.given.sent = 0;
+        self.given.tally.sent = 0;
         self.shelf.begin_again();
     }
 
@@ -156,21 +181,71 @@ where
 
     // The first vote of the journal that wasn't given to be sent.
     fn next_vote(&self) -> Option<Vote<S::Signature, D>>
-        ensures { result ≡ slice_get self.now.voter.journal.contents.votes self.now.given.sent }
+        ensures { result ≡ slice_get self.now.voter.journal.contents.votes
+            self.now.given.tally.sent }
     {
-        self.voter.journal().votes().get(self.given.sent).copied()
+        self.voter
+            .journal()
+            .votes()
+            .get(self.given.tally.sent)
+            .copied()
     }
 
     fn note_vote(&mut self)
-        requires { self.old.given.sent < length self.old.voter.journal.contents.votes }
+        requires { self.old.given.tally.sent < length self.old.voter.journal.contents.votes }
         ensures given { self.new.given ≡ record self.old.given {
-          sent = self.old.given.sent + 1;
+          tally = record self.old.given.tally { sent = self.old.given.tally.sent + 1 };
         } }
         ensures voter { self.new.voter ≡ self.old.voter }
         ensures shelf { self.new.shelf ≡ self.old.shelf }
     {
         let _ = self.voter.journal().votes().len();
-        self.given.sent += 1;
+        self.given.tally.sent += 1;
+    }
+
+    // The first vote of an earlier life that wasn't given to be cast again.
+    fn next_cast(&self) -> Option<Vote<S::Signature, D>>
+        ensures some { IfSome result (λ vote. (slice_get self.now.voter.journal.contents.votes
+            self.now.given.tally.recast ≡ Some vote)
+            × (self.now.given.tally.recast < self.now.given.tally.begun)) }
+        ensures none { result ≡ None
+            → (self.now.given.tally.begun ≤ self.now.given.tally.recast)
+            ⊎ (slice_get self.now.voter.journal.contents.votes self.now.given.tally.recast
+            ≡ None) }
+    {
+        let tally = self.tally();
+        if tally.recast < tally.begun {
+            match self.vote_at(tally.recast) {
+                Some(vote) => return Some(vote),
+                None => return None,
+            }
+        }
+        None
+    }
+
+    pub(crate) fn tally(&self) -> Tally
+        ensures { result ≡ self.now.given.tally }
+    {
+        self.given.tally
+    }
+
+    // The vote of the journal at this place.
+    fn vote_at(&self, i: usize) -> Option<Vote<S::Signature, D>>
+        ensures { result ≡ slice_get self.now.voter.journal.contents.votes i }
+    {
+        self.voter.journal().votes().get(i).copied()
+    }
+
+    fn note_cast(&mut self)
+        requires { self.old.given.tally.recast < length self.old.voter.journal.contents.votes }
+        ensures given { self.new.given ≡ record self.old.given {
+          tally = record self.old.given.tally { recast = self.old.given.tally.recast + 1 };
+        } }
+        ensures voter { self.new.voter ≡ self.old.voter }
+        ensures shelf { self.new.shelf ≡ self.old.shelf }
+    {
+        let _ = self.voter.journal().votes().len();
+        self.given.tally.recast += 1;
     }
 
     // The proposal that is to be given as final, with the place of its finalization.
@@ -180,7 +255,22 @@ where
         ensures some { IfSome result (λ it. IsFinalAt self.now.given.announced
             self.now.shelf.certificates it.0 it.1) }
     {
-        self.shelf.final_after(self.given.announced)
+        self.final_after(self.announced())
+    }
+
+    // The proposal of the lowest finalization of a view above this one, with its place.
+    fn final_after(&self, view: u64) -> Option<(usize, Proposal<D>)>
+        ensures none { result ≡ None → HaveNoFinal view self.now.shelf.certificates }
+        ensures some { IfSome result (λ it. IsFinalAt view self.now.shelf.certificates it.0
+            it.1) }
+    {
+        self.shelf.final_after(view)
+    }
+
+    fn announced(&self) -> u64
+        ensures { result ≡ self.now.given.announced }
+    {
+        self.given.announced
     }
 
     // The kind and the round of the first certificate that wasn't given to be sent.

@@ -1,6 +1,6 @@
 //! What a validator gives to be done.
 
-use batcher::messages::{Kind, Proposal, Vote};
+use batcher::messages::{Kind, Proposal, Subject, Vote};
 use batcher::positions::{Participant, Round, View};
 use batcher_node::Cause;
 
@@ -11,6 +11,8 @@ pub enum Task<G, D> {
     Block(Participant, Cause),
     /// This proposal is final, and so are those below it. No lower view is looked at any more.
     Final(Proposal<D>),
+    /// Cast this vote of an earlier life again, once it is seen to attest. It is on the disk.
+    Cast(Vote<G, D>),
     /// Send this vote of the validator's own to all others. It is on the disk.
     SendVote(Vote<G, D>),
     /// Send the certificate of this kind and round to all others: `certificate` lends it.
@@ -19,6 +21,12 @@ pub enum Task<G, D> {
     Enter(View),
     /// Have votes verified that wait for it: construct.
     Verify,
+    /// Sign this with the key of the validator, and cast the vote.
+    Sign(Subject<D>),
+    /// Make a proposal of this view, whose parent is of that view, and say so by `propose`.
+    Propose(View, View),
+    /// Judge whether this proposal is valid, and say so by `judge`.
+    Judge(Proposal<D>),
 }
 
 /// Why a validator doesn't say what is to be done.

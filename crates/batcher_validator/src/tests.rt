@@ -10,7 +10,7 @@ use batcher::scheme::{AttestationList, Counter, Keyed, Name, names};
 use batcher_journal::{Journal, Owner, Unopened};
 use batcher_log::MemoryLog;
 use batcher_node::{Cast, Cause, Receipt, Verdict};
-use batcher_voter::{NotStarted, Permission};
+use batcher_voter::NotStarted;
 use std::alloc::Global;
 use std::marker::Model;
 use std::process::Abort;
@@ -179,8 +179,9 @@ impl Station {
         Err(Fail::new("votes wait for ever"))
     }
 
-    // Casts a vote, which is given to be sent.
-    fn cast(&mut self, rt: &impl Abort, subject: Subject<Digest>) {
+    // It is to sign this, and the vote is given to be sent once it is written.
+    fn sign(&mut self, rt: &impl Abort, subject: Subject<Digest>) {
+        self.gives(rt, Task::Sign(subject));
         let vote = Vote::new(subject, self.scheme.sign(Participant(self.me), subject));
         match self.validator.cast(vote) {
             Ok(Cast::ToSend(_)) => {}
@@ -189,8 +190,17 @@ impl Station {
         self.gives(rt, Task::SendVote(vote));
     }
 
-    fn written(&self, subject: Subject<Digest>) -> TestTask {
-        Task::SendVote(Vote::new(subject, self.scheme.sign(Participant(self.me), subject)))
+    // A vote of its own that is on the disk is given to be cast again, and is.
+    fn casts_again(&mut self, rt: &impl Abort, subject: Subject<Digest>) {
+        let written = Vote::new(subject, self.scheme.sign(Participant(self.me), subject));
+        self.gives(rt, Task::Cast(written));
+        assert!(rt; self.try_cast(subject));
+    }
+
+    // It is given to be sent.
+    fn sends_again(&mut self, rt: &impl Abort, subject: Subject<Digest>) {
+        let vote = Vote::new(subject, self.scheme.sign(Participant(self.me), subject));
+        self.gives(rt, Task::SendVote(vote));
     }
 
     // A participant's vote comes from it.
@@ -238,10 +248,17 @@ fn play(station: &mut Station, rt: &impl Abort) -> Result<(), Fail> {
     station.rests(rt);
     assert!(rt; station.validator.try_construct(&mut station.rng)?);
     station.rests(rt);
-    station.cast(rt, notarize(1, 0));
+    // What the leader proposes is given to be judged once, and notarized where it is valid.
     station.hear(0, notarize(1, 0))?;
+    station.gives(rt, Task::Judge(proposal(1, 0)));
+    station.gives(rt, Task::Verify);
+    station.rests(rt);
+    station.validator.judge(&proposal(1, 0), true);
+    station.sign(rt, notarize(1, 0));
+    station.rests(rt);
     station.hear(1, notarize(1, 0))?;
-    assert!(rt; station.verify(rt)?);
+    assert!(rt; station.validator.try_construct(&mut station.rng)?);
+    station.enter(rt, 2);
     station.gives(rt, Task::SendCertificate(Kind::Notarization, at(1)));
     assert!(rt;
         station
@@ -249,8 +266,8 @@ fn play(station: &mut Station, rt: &impl Abort) -> Result<(), Fail> {
             .certificate(Kind::Notarization, at(1))
             .is_some()
     );
-    station.enter(rt, 2);
-    station.cast(rt, finalize(1, 0));
+    // What is notarized is finalized.
+    station.sign(rt, finalize(1, 0));
     station.hear(0, finalize(1, 0))?;
     station.hear(1, finalize(1, 0))?;
     assert!(rt; station.verify(rt)?);
@@ -265,15 +282,21 @@ fn play(station: &mut Station, rt: &impl Abort) -> Result<(), Fail> {
     station.hear(2, finalize(2, 1))?;
     let reason = BlockReason::FinalizeAfterNullify;
     station.gives(rt, Task::Block(Participant(2), Cause::Vote(reason)));
+    // A view whose time is over is given up, and nothing more is judged there.
+    station.validator.expire(View(3));
+    station.gives(rt, Task::Verify);
+    station.rests(rt);
+    station.validator.expire(View(2));
+    station.sign(rt, nullify(2));
+    station.hear(0, notarize(2, 1))?;
+    station.rests(rt);
     // What was sent is given again, when that is asked for.
     station.validator.send_again();
-    let first = station.written(notarize(1, 0));
-    station.gives(rt, first);
-    let second = station.written(finalize(1, 0));
-    station.gives(rt, second);
+    station.sends_again(rt, notarize(1, 0));
+    station.sends_again(rt, finalize(1, 0));
+    station.sends_again(rt, nullify(2));
     station.gives(rt, Task::SendCertificate(Kind::Notarization, at(1)));
     station.gives(rt, Task::SendCertificate(Kind::Finalization, at(1)));
-    station.gives(rt, Task::Verify);
     station.rests(rt);
     Ok(())
 }
@@ -281,13 +304,46 @@ fn play(station: &mut Station, rt: &impl Abort) -> Result<(), Fail> {
 // By its disk it knows what is final, and has votes and certificates from there on.
 fn go_on(station: &mut Station, rt: &impl Abort) -> Result<(), Fail> {
     station.gives(rt, Task::Final(proposal(1, 0)));
-    let first = station.written(notarize(1, 0));
-    station.gives(rt, first);
-    let second = station.written(finalize(1, 0));
-    station.gives(rt, second);
+    station.enter(rt, 2);
+    station.casts_again(rt, notarize(1, 0));
+    station.casts_again(rt, finalize(1, 0));
+    station.casts_again(rt, nullify(2));
+    station.sends_again(rt, notarize(1, 0));
+    station.sends_again(rt, finalize(1, 0));
+    station.sends_again(rt, nullify(2));
     station.gives(rt, Task::SendCertificate(Kind::Finalization, at(1)));
     station.gives(rt, Task::SendCertificate(Kind::Notarization, at(1)));
-    station.enter(rt, 2);
+    // The view stays given up.
+    station.hear(0, notarize(2, 1))?;
+    station.gives(rt, Task::Verify);
+    station.rests(rt);
+    Ok(())
+}
+
+#[test]
+fn who_leads_proposes(rt: HostRuntime) -> Result<(), Fail> {
+    let mut station = Station::new(&rt, rt.alloc(), 0)?;
+    let led = lead(&mut station, &rt);
+    drop(station);
+    led
+}
+
+// It leads each view.
+fn lead(station: &mut Station, rt: &impl Abort) -> Result<(), Fail> {
+    station.enter(rt, 1);
+    station.gives(rt, Task::Propose(View(1), View(0)));
+    station.gives(rt, Task::Verify);
+    station.rests(rt);
+    // It is asked once. A payload for a view that it isn't in yet is dropped.
+    station
+        .validator
+        .propose(View(2), View(1), Sha256Digest([1; 32]));
+    station.rests(rt);
+    station
+        .validator
+        .propose(View(1), View(0), Sha256Digest([1; 32]));
+    station.sign(rt, notarize(1, 0));
+    station.rests(rt);
     Ok(())
 }
 
@@ -303,8 +359,8 @@ fn catch_up(station: &mut Station, rt: &impl Abort, alloc: Global) -> Result<(),
     let far = station.certificate(alloc, finalize(90, 1))?;
     assert!(rt; station.validator.catch_up(far)?);
     station.gives(rt, Task::Final(proposal(90, 1)));
-    station.gives(rt, Task::SendCertificate(Kind::Finalization, at(90)));
     station.enter(rt, 91);
+    station.gives(rt, Task::SendCertificate(Kind::Finalization, at(90)));
     // One that is before the final view isn't kept, and one that nobody signed is forged.
     let passed = station.certificate(alloc, finalize(89, 1))?;
     assert!(rt; station.validator.catch_up(passed)?);
@@ -317,8 +373,8 @@ fn catch_up(station: &mut Station, rt: &impl Abort, alloc: Global) -> Result<(),
         Receipt::Answered(Verdict::Recorded(_)) => {}
         _ => panic!(rt; "the certificate isn't recorded"),
     }
-    station.gives(rt, Task::SendCertificate(Kind::Notarization, at(91)));
     station.gives(rt, Task::Enter(View(92)));
+    station.gives(rt, Task::SendCertificate(Kind::Notarization, at(91)));
     Ok(())
 }
 
@@ -329,7 +385,7 @@ enum Message {
     Certificate(Certificate<AttestationList, Digest>),
 }
 
-// A validator in a network, which votes wherever its voter says that it may.
+// A validator in a network, which does what is to be done.
 #[derive(Drop)]
 struct Member {
     station: Station,
@@ -338,6 +394,9 @@ struct Member {
     last: u64,
     // Whether proposals were given as final by ascending views.
     ascends: bool,
+    // The view that it is in, and for how many turns it was.
+    view: u64,
+    waits: usize,
 }
 
 impl Member {
@@ -349,6 +408,8 @@ impl Member {
             outbox: Vec::new(alloc),
             last: 0,
             ascends: true,
+            view: 0,
+            waits: 0,
         })
     }
 
@@ -360,8 +421,9 @@ impl Member {
             outbox: Vec::new(alloc),
             last: 0,
             ascends: true,
+            view: 0,
+            waits: 0,
         };
-        member.cast_again();
         match member.settle(rt) {
             Ok(()) => {}
             Err(fail) => {
@@ -374,26 +436,12 @@ impl Member {
         Ok(member)
     }
 
-    // The node is shown the votes that are on the disk.
-    fn cast_again(&mut self) {
-        for place in 0..self.station.validator.voter().journal().votes().len() {
-            if let Some(vote) = self.station.validator.voter().journal().votes().get(place) {
-                let subject = vote.subject();
-                self.station.try_cast(subject);
-            }
-        }
-    }
-
     // Does what is to be done, until nothing is.
     fn settle(&mut self, rt: &impl Abort) -> Result<(), Fail> {
         for _ in 0..200 {
             match self.station.poll() {
                 Ok(Some(task)) => self.perform(rt, task)?,
-                Ok(None) => {
-                    if !self.vote() {
-                        return Ok(());
-                    }
-                }
+                Ok(None) => return Ok(()),
                 Err(_) => return Err(Fail::new("the disk or memory failed")),
             }
         }
@@ -418,49 +466,30 @@ impl Member {
             Task::Enter(view) => {
                 let leader = Participant((view.0 % 4) as u32);
                 assert!(rt; self.station.validator.enter(view, leader).is_ok());
+                self.view = view.0;
+                self.waits = 0;
             }
             Task::Verify => {
                 let _ = self.station.validator.try_construct(&mut self.station.rng)?;
             }
+            Task::Cast(vote) => assert!(rt; self.station.try_cast(vote.subject())),
+            Task::Sign(subject) => assert!(rt; self.station.try_cast(subject)),
+            Task::Propose(view, parent) => {
+                self.station
+                    .validator
+                    .propose(view, parent, Sha256Digest([1; 32]));
+            }
+            Task::Judge(proposal) => self.station.validator.judge(&proposal, true),
         }
         Ok(())
     }
 
-    // Casts a vote that may be cast, if there is one.
-    fn vote(&mut self) -> bool {
-        for place in 0..self.station.validator.certificates().len() {
-            if let Some(proposal) = self.notarized_at(place) {
-                if self.station.may_cast(Subject::Finalize { proposal }) {
-                    return true;
-                }
-            }
-        }
-        match self.proposal() {
-            Some(proposal) => self.station.may_cast(Subject::Notarize { proposal }),
-            None => false,
-        }
-    }
-
-    fn notarized_at(&self, place: usize) -> Option<Proposal<Digest>> {
-        match self.station.validator.certificates().get(place)?.subject() {
-            Subject::Notarize { proposal } => Some(proposal),
-            Subject::Nullify { .. } | Subject::Finalize { .. } => None,
-        }
-    }
-
-    // What is proposed in its view, by itself as the leader, or by another.
-    fn proposal(&self) -> Option<Proposal<Digest>> {
-        let voter = self.station.validator.voter();
-        let view = voter.node().window().current;
-        if (view % 4) as u32 == self.station.me {
-            return match voter.parent_for(View(view)) {
-                Some(parent) => Some(Proposal::new(at(view), parent, Sha256Digest([1; 32]))),
-                None => None,
-            };
-        }
-        match voter.node().round(View(view)) {
-            Some(round) => round.proposal(),
-            None => None,
+    // A turn has passed. A view that takes too long is given up, and what was sent is sent again.
+    fn wait(&mut self) {
+        self.waits = self.waits.saturating_add(1);
+        if self.waits % 4 == 0 {
+            self.station.validator.expire(View(self.view));
+            self.station.validator.send_again();
         }
     }
 
@@ -492,14 +521,6 @@ impl Member {
 }
 
 impl Station {
-    // Casts a vote for a subject, where it may be signed. It says whether it was.
-    fn may_cast(&mut self, subject: Subject<Digest>) -> bool {
-        if self.validator.voter().ask(&subject) == Permission::Sign {
-            return self.try_cast(subject);
-        }
-        false
-    }
-
     fn try_cast(&mut self, subject: Subject<Digest>) -> bool {
         let vote = Vote::new(subject, self.scheme.sign(Participant(self.me), subject));
         self.validator.cast(vote).is_ok()
@@ -533,24 +554,22 @@ fn a_network_goes_on(rt: HostRuntime) -> Result<(), Fail> {
         assert!(rt; member.ascends);
         lowest = lowest.min(member.last);
     }
-    assert!(rt; lowest >= 8);
+    assert!(rt; lowest >= 24);
     Ok(())
 }
 
-// So many times what was sent comes to all others, and now and then all of it is sent again.
+// So many times what was sent comes to all others.
 fn run(
     rt: &impl Abort,
     alloc: Global,
     members: &mut Vec<Member>,
     times: usize,
 ) -> Result<(), Fail> {
-    for time in 0..times {
+    for _ in 0..times {
         for from in 0..members.len() {
             let sent = match members.get_mut(from) {
                 Some(member) => {
-                    if time % 4 == 3 {
-                        member.station.validator.send_again();
-                    }
+                    member.wait();
                     member.settle(rt)?;
                     std::mem::replace(&mut member.outbox, Vec::new(alloc))
                 }

@@ -10,8 +10,9 @@ ghost use Rattle.batcher_voter.specs.Remembering.{Remembers};
 ghost use Rattle.batcher_voter.specs.Reopening.{IsFinalView, IsTakenIn};
 
 use crate::shelf::Shelf;
-use batcher::messages::{Certificate, Digest, Identical, Kind};
-use batcher::positions::Round;
+use crate::tally::Tally;
+use batcher::messages::{Certificate, Digest, Identical, Kind, Proposal, Subject};
+use batcher::positions::{Participant, Round};
 use batcher::scheme::Scheme;
 use batcher_codec::{Codec, OwnedCodec};
 use batcher_journal::Journal;
@@ -22,32 +23,62 @@ use std::alloc::Global;
 use std::marker::Model;
 use std::rc::Rc;
 
+/// What a validator means to vote for.
+#[derive(Drop)]
+pub(crate) struct Intent<D: Digest> {
+    // As whom it votes.
+    pub(crate) me: Participant,
+    // What was given to be signed, last of all.
+    pub(crate) signing: Option<Subject<D>>,
+    // The highest view whose time is over, or 0.
+    pub(crate) expired: u64,
+    // The proposal of the highest view that is its own, or valid.
+    pub(crate) chosen: Option<Proposal<D>>,
+    // The last view of which a proposal was given to be made, or to be judged, or 0.
+    pub(crate) posed: u64,
+}
+
+impl<D: Digest> Model for Intent<D> {
+    ghost use Rattle.batcher_validator.specs.Running.{IntentView};
+
+    ghost Value = { IntentView D };
+
+    ghost view = { λ i. record {
+      me = i.me;
+      signing = i.signing;
+      expired = i.expired;
+      chosen = i.chosen;
+      posed = i.posed;
+    } };
+}
+
 /// What a validator has noted of what it gave.
 #[derive(Drop)]
-pub(crate) struct Given {
+pub(crate) struct Given<D: Digest> {
     // Whether each participant was given to be blocked.
     pub(crate) blocked: Vec<bool>,
     // The last view of which a proposal was given as final, or 0.
     pub(crate) announced: u64,
-    // How many of the journal's votes were given to be sent.
-    pub(crate) sent: usize,
+    pub(crate) tally: Tally,
     // The last view that was given to be entered, or 0.
     pub(crate) asked: u64,
     // Whether votes were given to be verified, and there is no answer yet.
     pub(crate) verifying: bool,
+    pub(crate) intent: Intent<D>,
 }
 
-impl Model for Given {
+impl<D: Digest> Model for Given<D> {
     ghost use Rattle.batcher_validator.specs.Running.{GivenView};
 
-    ghost Value = { GivenView };
+    ghost Value = { GivenView D };
 
     ghost view = { λ g. record {
       blocked = g.blocked.items;
       announced = g.announced;
-      sent = g.sent;
+      tally = g.tally;
       asked = g.asked;
       verifying = g.verifying;
+      intent = g.intent;
     } };
 }
 
@@ -58,7 +89,7 @@ where
     S::Signature: Codec,
 {
     pub(crate) voter: Voter<S, D, L>,
-    pub(crate) given: Given,
+    pub(crate) given: Given<D>,
     pub(crate) shelf: Shelf<S::Certificate, D>,
 }
 
@@ -113,6 +144,8 @@ where
         ensures journal { IfOk result (λ it. it.voter.journal ≡ journal) }
         ensures refused { IfErr result (λ it. it.journal ≡ journal) }
     {
+        let me = journal.participant();
+        let begun = journal.votes().len();
         let mut blocked = Vec::new(alloc);
         match blocked.resize(scheme.participants().len(), false) {
             Ok(()) => {}
@@ -130,7 +163,7 @@ where
             track_historical_votes,
             journal,
         ) {
-            Ok(voter) => Validator::of(alloc, voter, blocked),
+            Ok(voter) => Validator::of(alloc, voter, blocked, me, begun),
             Err(it) => return Err(it),
         };
         match validator.recall(alloc) {
@@ -143,7 +176,13 @@ where
     }
 
     // The validator of a voter, which gave nothing.
-    fn of(alloc: Global, voter: Voter<S, D, L>, blocked: Vec<bool>) -> Self
+    fn of(
+        alloc: Global,
+        voter: Voter<S, D, L>,
+        blocked: Vec<bool>,
+        me: Participant,
+        begun: usize,
+    ) -> Self
         requires each { length blocked.items
             ≡ length (S.meaning voter.node.scheme).participants }
         requires few { length blocked.items < 2 ^ 32 }
@@ -151,9 +190,10 @@ where
         ensures given { result.given ≡ record {
           blocked = blocked.items;
           announced = 0;
-          sent = 0;
+          tally = record { begun = begun; recast = 0; sent = 0 };
           asked = 0;
           verifying = false;
+          intent = record { me = me; signing = None; expired = 0; chosen = None; posed = 0 };
         } }
         ensures empty { result.shelf.certificates ≡ [] }
         ensures handed { result.shelf.handed ≡ 0 }
@@ -163,9 +203,20 @@ where
             given: Given {
                 blocked,
                 announced: 0,
-                sent: 0,
+                tally: Tally {
+                    begun,
+                    recast: 0,
+                    sent: 0,
+                },
                 asked: 0,
                 verifying: false,
+                intent: Intent {
+                    me,
+                    signing: None,
+                    expired: 0,
+                    chosen: None,
+                    posed: 0,
+                },
             },
             shelf: Shelf::new(alloc),
         }

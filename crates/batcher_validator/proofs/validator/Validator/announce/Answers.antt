@@ -22,8 +22,8 @@ returns-in-Ok-clause-gives g c =
     (subst (λ v. IsRaised c.args.proposal.round old.voter.journal v.journal)
     (sym c.note_final.ensures.voter) c.in-Ok.ensures.raised)
     at.after
-    (noted moved.given old.given c.note_final.new.self.given c.sent_from-left.result _ c.args.proposal.round.view.0
-    c.note_final.ensures.given c.finalize_at.ensures.given c.sent_from-left.ensures)
+    (noted moved.given old.given c.note_final.new.self.given c.tally_from-left.result _ c.args.proposal.round.view.0
+    c.note_final.ensures.given c.finalize_at.ensures.given c.tally_from-left.ensures)
     (c.note_final.ensures.certificates ∙ ap (λ s. filter (is_from c.args.proposal.round.view.0) s.certificates)
     c.finalize_at.ensures.shelf)
     (c.note_final.ensures.handed ∙ ap (λ s. count_by (is_from c.args.proposal.round.view.0)

@@ -6,7 +6,7 @@ use Rattle.batcher_node.specs.Nodes.{node_config}
 use Rattle.batcher_validator.proofs.Certifying.{certified, given_is_held, none_is_given}
 use Rattle.batcher_validator.proofs.Giving.{answers, not_verifying}
 use Rattle.batcher_validator.proofs.Going.{run_stays, runs, runs_with}
-use Rattle.batcher_validator.specs.Tasks.{voter_history}
+use Rattle.batcher_validator.specs.Histories.{voter_history}
 use Rattle.batcher_voter.specs.Voting.{VoterMeets}
 use Rattle.batcher_validator.proofs.validator.Validator.construct_with_room.Goals as goal
 
@@ -31,7 +31,7 @@ returns-in-Some-clause-made g c = λ yes.
           (λ past earlier voting. certified g.S.Scheme.meaning g.S.PublicKey.Ord.cmp
           g.S.Signature.PartialEq.eq g.D.PartialEq.eq
           c.senders_of_votes_to_send_are_never_blocked.ensures.held_certify old.voter.node
-          call.new.self.voter.node call.ensures.same c.begins.ensures event
+          call.new.self.voter.node call.ensures.same c.begins.ensures.some event
           (node_history (voter_history past)) voting.represents c.in-Some.certificate held)
           (sym call.ensures.same.1) c.shelve.ensures.shelves
           (subst (λ o. IfSome o (λ one. VoterMeets config old.voter call.new.self.voter

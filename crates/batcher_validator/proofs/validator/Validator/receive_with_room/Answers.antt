@@ -4,7 +4,7 @@ use Rattle.batcher_node.specs.Events.{certificate_came}
 use Rattle.batcher_node.specs.Nodes.{node_config}
 use Rattle.batcher_validator.proofs.Certifying.{certified, none_is_held, recorded_is_held}
 use Rattle.batcher_validator.proofs.Going.{run_stays, runs, runs_with}
-use Rattle.batcher_validator.specs.Tasks.{voter_history}
+use Rattle.batcher_validator.specs.Histories.{voter_history}
 use Rattle.batcher_validator.proofs.validator.Validator.receive_with_room.Goals as goal
 
 pub returns-then-is_recorded-clause-meets : goal.returns-then-is_recorded-clause-meets
@@ -22,7 +22,7 @@ returns-then-is_recorded-clause-meets g c =
     (λ past earlier voting. certified g.S.Scheme.meaning g.S.PublicKey.Ord.cmp
     g.S.Signature.PartialEq.eq g.D.PartialEq.eq
     c.senders_of_votes_to_send_are_never_blocked.ensures.held_certify old.voter.node
-    call.new.self.voter.node call.ensures.same c.begins.ensures event
+    call.new.self.voter.node call.ensures.same c.begins.ensures.some event
     (node_history (voter_history past)) voting.represents c.args.certificate held)
     (sym call.ensures.same.1) c.shelve.ensures.shelves c.in-Ok.ensures.meets
 

@@ -1,5 +1,6 @@
-use Rattle.std.proofs.Common.{◌≡◌, ◌∙◌, ◌⊎◌, All, subst, sym}
+use Rattle.std.proofs.Common.{◌≡◌, ◌∙◌, ◌⊎◌, All, ap, length, subst, sym}
 use Rattle.batcher_codec.specs.Messages.{certificate_format}
+use Rattle.batcher_journal.specs.Ready.{JournalView}
 use Rattle.batcher_node.specs.Nodes.{node_config}
 use Rattle.batcher_validator.proofs.Beginning.{begun, none_resized, still_begun}
 use Rattle.batcher_voter.specs.Reopening.{IsFinalView, IsTakenIn}
@@ -11,8 +12,14 @@ returns-in-Ok-recall-clause-running g c = λ earlier keeps has.
     let config = node_config g.S.Scheme.meaning g.S.PublicKey.Ord.cmp g.S.Signature.PartialEq.eq
     g.D.PartialEq.eq in
     let first = c.of-validator.result in
+    let journal = ap (λ v. v.journal) c.of-validator.ensures.voter ∙ c.in-Ok-start.ensures.journal in
     still_begun config first c.recall.new.self earlier c.recall.ensures.stays c.recall.ensures.voter
-    (begun (config first.voter.node) first earlier c.resize.new.self.items
+    (begun (config first.voter.node) first earlier c.resize.new.self.items c.participant-me.result
+    (length c.votes-begun.result.now)
+    (ap length (c.votes-begun.ensures
+    ∙ ap (λ (j : JournalView g.row.S-Signature.Denot g.row.D.Denot g.row.L.Denot). j.contents.votes) (sym journal)))
+    (c.participant-me.ensures
+    ∙ ap (λ (j : JournalView g.row.S-Signature.Denot g.row.D.Denot g.row.L.Denot). j.contents.owner.1.1.0) (sym journal))
     (none_resized _ _ c.new-blocked.result.items c.resize.new.self.items c.new-blocked.ensures.items
     c.in-Ok.ensures.items)
     c.of-validator.ensures.given c.of-validator.ensures.empty c.of-validator.ensures.handed

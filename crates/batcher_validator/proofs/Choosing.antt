@@ -1,0 +1,148 @@
+-- A validator goes on with what it is answered, and with what it gives to be signed, made and judged.
+use Rattle.std.proofs.Common.{◌≡◌, ℕ, ◌∷◌, Some, ap, refl}
+use Rattle.std.specs.Prelude.{max}
+use Rattle.batcher.specs.messages.Proposal.{Proposal}
+use Rattle.batcher.specs.messages.Subject.{Subject}
+use Rattle.batcher.specs.positions.View.{View}
+use Rattle.batcher_agreement.specs.Policy.{Conduct}
+use Rattle.batcher_node.specs.Nodes.{NodeConfig}
+use Rattle.batcher_validator.specs.Histories.{ValidatorHistory, chose, expired, gave, later_of}
+use Rattle.batcher_validator.specs.Running.{IntentView, IsRunning, ValidatorView}
+use Rattle.batcher_validator.specs.Tasks.{MayGive}
+use Rattle.batcher_validator.specs.declared.task.Task.TheVariants.{Judge, Propose, Sign}
+use Rattle.batcher_validator.proofs.Keeping.{kept_still}
+
+module _ {S D K G C L : Type 0} (x : NodeConfig D K G C) (old new : ValidatorView S G D L C)
+    (intent : IntentView D) (given : new.given ≡ record old.given { intent = intent })
+    (voter : new.voter ≡ old.voter) (shelf : new.shelf ≡ old.shelf) where
+  -- it means to vote for something else
+  module _ (past : ValidatorHistory D K G C) (earlier : Conduct D) (is : IsRunning x past earlier old) where
+    pub chooses :
+        (p : Proposal D) → intent ≡ record old.given.intent {
+          chosen = later_of old.given.intent.chosen p;
+        }
+        → IsRunning x (chose p ∷ past) earlier new
+    chooses p to =
+        record {
+          voting = rw (voter) is.voting;
+          in_turn = is.in_turn;
+          blocks = rw (given) is.blocks;
+          finals = rw (given) is.finals;
+          votes = rw (voter, given) is.votes;
+          begins = rw (voter, given) is.begins;
+          casts = rw (voter, given) is.casts;
+          kept = rw (shelf) (kept_still x past (chose p ∷ past) refl old.shelf.certificates (λ c had. had) is.kept);
+          certificates = rw (shelf) is.certificates;
+          asks = rw (given) is.asks;
+          verifies = rw (given) is.verifies;
+          intends = rw (given, to) record {
+            votes_as = is.intends.votes_as;
+            signs = is.intends.signs;
+            expires = is.intends.expires;
+            chooses = ap (λ before. later_of before p) is.intends.chooses;
+            poses = is.intends.poses;
+          };
+        }
+
+    pub expires :
+        (view : ℕ) → intent ≡ record old.given.intent {
+          expired = max old.given.intent.expired view;
+        }
+        → IsRunning x (expired view ∷ past) earlier new
+    expires view to =
+        record {
+          voting = rw (voter) is.voting;
+          in_turn = is.in_turn;
+          blocks = rw (given) is.blocks;
+          finals = rw (given) is.finals;
+          votes = rw (voter, given) is.votes;
+          begins = rw (voter, given) is.begins;
+          casts = rw (voter, given) is.casts;
+          kept = rw (shelf) (kept_still x past (expired view ∷ past) refl old.shelf.certificates (λ c had. had) is.kept);
+          certificates = rw (shelf) is.certificates;
+          asks = rw (given) is.asks;
+          verifies = rw (given) is.verifies;
+          intends = rw (given, to) record {
+            votes_as = is.intends.votes_as;
+            signs = is.intends.signs;
+            expires = ap (λ before. max before view) is.intends.expires;
+            chooses = is.intends.chooses;
+            poses = is.intends.poses;
+          };
+        }
+
+    pub signs :
+        (s : Subject D) → intent ≡ record old.given.intent { signing = Some s }
+        → MayGive x earlier past (Sign s) → IsRunning x (gave (Sign s) ∷ past) earlier new
+    signs s to may =
+        record {
+          voting = rw (voter) is.voting;
+          in_turn = (may, is.in_turn);
+          blocks = rw (given) is.blocks;
+          finals = rw (given) is.finals;
+          votes = rw (voter, given) is.votes;
+          begins = rw (voter, given) is.begins;
+          casts = rw (voter, given) is.casts;
+          kept = rw (shelf) (kept_still x past (gave (Sign s) ∷ past) refl old.shelf.certificates (λ c had. had) is.kept);
+          certificates = rw (shelf) is.certificates;
+          asks = rw (given) is.asks;
+          verifies = rw (given) is.verifies;
+          intends = rw (given, to) record {
+            votes_as = is.intends.votes_as;
+            signs = refl;
+            expires = is.intends.expires;
+            chooses = is.intends.chooses;
+            poses = is.intends.poses;
+          };
+        }
+
+    pub proposes :
+        (view parent : View) → intent ≡ record old.given.intent { posed = view.0 }
+        → MayGive x earlier past (Propose view parent)
+        → IsRunning x (gave (Propose view parent) ∷ past) earlier new
+    proposes view parent to may =
+        record {
+          voting = rw (voter) is.voting;
+          in_turn = (may, is.in_turn);
+          blocks = rw (given) is.blocks;
+          finals = rw (given) is.finals;
+          votes = rw (voter, given) is.votes;
+          begins = rw (voter, given) is.begins;
+          casts = rw (voter, given) is.casts;
+          kept = rw (shelf) (kept_still x past (gave (Propose view parent) ∷ past) refl old.shelf.certificates (λ c had. had) is.kept);
+          certificates = rw (shelf) is.certificates;
+          asks = rw (given) is.asks;
+          verifies = rw (given) is.verifies;
+          intends = rw (given, to) record {
+            votes_as = is.intends.votes_as;
+            signs = is.intends.signs;
+            expires = is.intends.expires;
+            chooses = is.intends.chooses;
+            poses = refl;
+          };
+        }
+
+    pub judges :
+        (p : Proposal D) → intent ≡ record old.given.intent { posed = p.round.view.0 }
+        → MayGive x earlier past (Judge p) → IsRunning x (gave (Judge p) ∷ past) earlier new
+    judges p to may =
+        record {
+          voting = rw (voter) is.voting;
+          in_turn = (may, is.in_turn);
+          blocks = rw (given) is.blocks;
+          finals = rw (given) is.finals;
+          votes = rw (voter, given) is.votes;
+          begins = rw (voter, given) is.begins;
+          casts = rw (voter, given) is.casts;
+          kept = rw (shelf) (kept_still x past (gave (Judge p) ∷ past) refl old.shelf.certificates (λ c had. had) is.kept);
+          certificates = rw (shelf) is.certificates;
+          asks = rw (given) is.asks;
+          verifies = rw (given) is.verifies;
+          intends = rw (given, to) record {
+            votes_as = is.intends.votes_as;
+            signs = is.intends.signs;
+            expires = is.intends.expires;
+            chooses = is.intends.chooses;
+            poses = refl;
+          };
+        }

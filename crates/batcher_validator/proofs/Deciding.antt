@@ -1,0 +1,139 @@
+-- What a validator votes for, by what its voter permits.
+use Rattle.std.proofs.Common.{◌≡◌, ◌≤◌, ◌<◌, ◌+◌, ◌∙◌, ℕ, Bool, true, false, ap, arith, eq-eqb, inl, inr, refl, subst, sym}
+use Rattle.std.proofs.lemmas.Bool.{cases_lt}
+use Rattle.batcher.specs.Votes.{same_proposal}
+use Rattle.batcher.specs.messages.Proposal.{Proposal}
+use Rattle.batcher.specs.messages.Subject.{Subject}
+use Rattle.batcher.specs.messages.Subject.TheVariants.{Notarize, Finalize}
+use Rattle.batcher_agreement.specs.Lives.{conduct_of}
+use Rattle.batcher_agreement.specs.Policy.{Conduct, Knows}
+use Rattle.batcher_node.specs.Nodes.{NodeConfig, NodeView}
+use Rattle.batcher_node.specs.Windows.{numbered}
+use Rattle.batcher_types.proofs.VoteLemmas.{same_proposal-true, same_round-refl}
+use Rattle.batcher_validator.specs.Histories.{ValidatorHistory, conduct_in, voter_history, window_by}
+use Rattle.batcher_validator.specs.Posing.{CannotVote, IsNotToSign}
+use Rattle.batcher_validator.specs.Running.{IsRunning, ValidatorView}
+use Rattle.batcher_validator.specs.Tasks.{IsContested, MayVote}
+use Rattle.batcher_validator.proofs.Refusing.{refused_is_contested}
+use Rattle.batcher_voter.proofs.Appending.{knows_before}
+use Rattle.batcher_voter.proofs.Windowed.{from_first, same_epoch}
+use Rattle.batcher_voter.specs.Refusals.{RestsOnLearned}
+use Rattle.batcher_voter.specs.Voting.{BeginWithOneView, ForEachLife, Permits}
+use Rattle.batcher_voter.specs.declared.answers.Permission.TheVariants.{Refused}
+use Rattle.batcher_voter.specs.declared.answers.Rule.{Rule}
+
+wrong : true ≡ false → ⊥
+wrong e = absurd cc
+
+-- what holds below a number, and of it
+pub one_more :
+    (Q : ℕ → Type 0) (n : ℕ) → ((k : ℕ) → k < n → Q k) → Q n → (k : ℕ) → k < n + 1 → Q k
+one_more Q n before at k lt = elim (cases_lt k n) [
+  | inl below ↦ before k below
+  | inr from ↦ subst Q (same from) at
+]
+  where
+    same : n ≤ k → n ≡ k
+    same from = omega (arith, from, lt)
+
+-- A proposal is the same as itself.
+pub proposal_itself :
+    {D : Type 0} (same : D → D → Bool) → ((a : D) → same a a ≡ true) → (p : Proposal D)
+    → same_proposal same p p ≡ true
+proposal_itself same same_itself p =
+    rw (same_round-refl p.round, eq-eqb p.parent.0 p.parent.0 refl, same_itself p.payload) refl
+
+module _ {S D K G C L : Type 0} (config : NodeView S G D → NodeConfig D K G C)
+    (old : ValidatorView S G D L C) where
+  abbrev x : NodeConfig D K G C
+  x = config old.voter.node
+
+  -- what a vote rests on, as the voter's knowledge begins with the final view
+  module _ (begins : BeginWithOneView old.voter) (past : ValidatorHistory D K G C) (earlier : Conduct D)
+      (is : IsRunning x past earlier old) where
+    first : old.voter.knowledge.floor ≡ (window_by past).finalized
+    first = begins.from_final ∙ ap (λ w. w.finalized) is.voting.represents.window_is
+
+    pub rests_then :
+        (s : Subject D)
+        → RestsOnLearned (conduct_of (voter_history past)) (window_by past).finalized s
+        → RestsOnLearned (conduct_of (voter_history past)) old.voter.knowledge.floor s
+    rests_then s rests = subst (λ n. RestsOnLearned (conduct_of (voter_history past)) n s) (sym first) rests
+
+  module _ (same : D → D → Bool) (itself : (p : Proposal D) → same_proposal same p p ≡ true)
+      (begins : BeginWithOneView old.voter) (s : Subject D) where
+    pub refused_by :
+        (rule : Rule G D) → ForEachLife x old.voter (Permits x same old.voter s (Refused rule))
+        → CannotVote config old s
+    refused_by rule permits past earlier is may =
+        refused_is_contested same itself (conduct_of (voter_history past)) earlier is.voting.keeps_policy
+        old.voter.knowledge.floor s rule (permits (voter_history past) earlier is.voting) may.cleared
+        (rests_then begins past earlier is s may.rests)
+
+  -- of a view: what is known to be notarized there may not be finalized
+  module _ (same : D → D → Bool) (identical : (a b : D) → same a b ≡ true → a ≡ b)
+      (itself : (p : Proposal D) → same_proposal same p p ≡ true)
+      (epoch : x.epoch ≡ old.voter.node.epoch) (view : ℕ)
+      (from : old.voter.node.window.finalized ≤ view) where
+    -- a proposal that may be finalized is of the epoch
+    of_view :
+        (past : ValidatorHistory D K G C) (earlier : Conduct D) (p : Proposal D)
+        → p.round.view.0 ≡ view → MayVote x earlier past (Finalize p)
+        → p.round ≡ numbered old.voter.node.epoch view
+    of_view past earlier p here may =
+        let epoch_is = same_epoch x.epoch (window_by past) p.round may.within in
+        ap (λ e. numbered e p.round.view.0) (epoch_is ∙ epoch) ∙ ap (λ n. numbered old.voter.node.epoch n) here
+
+    pub not_finalized :
+        (q : Proposal D)
+        → ForEachLife x old.voter (λ past earlier. old.voter.node.window.finalized ≤ view
+        → (q.round ≡ numbered old.voter.node.epoch view) × Knows (conduct_of past) (Notarize q))
+        → CannotVote config old (Finalize q)
+        → (p : Proposal D) → p.round.view.0 ≡ view → IsNotToSign config old (Finalize p)
+    not_finalized q known cannot p here past earlier is wanted may = of_same_or (same_proposal same q p) refl
+      where
+        it : (q.round ≡ numbered old.voter.node.epoch view)
+            × Knows (conduct_of (voter_history past)) (Notarize q)
+        it = known (voter_history past) earlier is.voting from
+
+        of_same_or : (b : Bool) → same_proposal same q p ≡ b
+            → IsContested (conduct_in earlier past) (Finalize p)
+        of_same_or true e =
+            let equal = same_proposal-true same identical q p e in
+            subst (λ r. IsContested (conduct_in earlier past) (Finalize r)) equal
+            (cannot past earlier is (subst (λ r. MayVote x earlier past (Finalize r)) (sym equal) may))
+        of_same_or false e =
+            record {
+              other = q;
+              of_round = it.0 ∙ sym (of_view past earlier p here may);
+              differs = λ equal. wrong (sym (subst (λ r. same_proposal same r p ≡ true) (sym equal) (itself p)) ∙ e);
+              known = knows_before (conduct_of (voter_history past)) earlier (Notarize q) it.1;
+            }
+
+  -- Nothing is finalized of a view before the final one,
+  pub before_final :
+      (view : ℕ) → view < old.voter.node.window.finalized
+      → (p : Proposal D) → p.round.view.0 ≡ view → IsNotToSign config old (Finalize p)
+  before_final view lt p here past earlier is wanted may =
+      absurd (omega (
+        arith,
+        lt,
+        here,
+        from_first x.epoch (window_by past) p.round may.within,
+        ap (λ w. w.finalized) is.voting.represents.window_is,
+      ))
+
+  -- nor of one of which nothing is known.
+  pub all_views :
+      BeginWithOneView old.voter → x.epoch ≡ old.voter.node.epoch
+      → ((view : ℕ) → view < old.voter.knowledge.highest + 1 → (p : Proposal D)
+      → p.round.view.0 ≡ view → IsNotToSign config old (Finalize p))
+      → (p : Proposal D) → IsNotToSign config old (Finalize p)
+  all_views begins epoch each p past earlier is wanted may =
+      each p.round.view.0
+      (omega (
+        arith,
+        is.voting.is_highest.none_above (Notarize p) may.rests
+            (same_epoch x.epoch (window_by past) p.round may.within ∙ epoch ∙ sym begins.of_epoch),
+      ))
+      p refl past earlier is wanted may

@@ -1,0 +1,33 @@
+use Rattle.std.proofs.Common.{◌≡◌, arith, refl}
+use Rattle.batcher.specs.messages.Proposal.{Proposal}
+use Rattle.batcher.specs.messages.Subject.TheVariants.{Finalize}
+use Rattle.batcher_node.specs.Nodes.{node_config}
+use Rattle.batcher_validator.proofs.Deciding.{all_views, before_final, one_more}
+use Rattle.batcher_validator.specs.Posing.{IsNotToSign}
+use Rattle.batcher_validator.proofs.validator.Validator.next_to_finalize.Goals.{else-loop-view-test, then-loop-view-test+in-None+else-view-view-end}
+use Rattle.batcher_validator.proofs.validator.Validator.next_to_finalize.Goals as goal
+
+pub loop-view-init : goal.loop-view-init
+loop-view-init g c = λ k lt.
+    before_final (node_config g.S.Scheme.meaning g.S.PublicKey.Ord.cmp g.S.Signature.PartialEq.eq g.D.PartialEq.eq)
+    c.args.self.now k (omega (arith, lt, c.final_view-view.ensures))
+
+pub loop-view-preserved : goal.loop-view-preserved
+loop-view-preserved g c =
+    one_more (λ k. (p : Proposal g.row.D.Denot) → p.round.view.0 ≡ k
+    → IsNotToSign (node_config g.S.Scheme.meaning g.S.PublicKey.Ord.cmp g.S.Signature.PartialEq.eq
+    g.D.PartialEq.eq) c.args.self.now (Finalize p)) c.loop-view.view c.loop-view.invariant
+    (c.to_finalize_in.ensures.none c.in-None.is)
+
+pub returns-clause-none : goal.returns-clause-none
+returns-clause-none g c = λ none.
+    let config = node_config g.S.Scheme.meaning g.S.PublicKey.Ord.cmp g.S.Signature.PartialEq.eq g.D.PartialEq.eq in
+    let old = c.args.self.now in
+    all_views config old c.begins.ensures.view refl
+    (elim c.loop-view-test.branch [
+      | else-loop-view-test w ↦ λ k lt. c.loop-view.invariant k (omega (arith, lt, c.highest-view-end.ensures, w.loop-view-test.false))
+      | then-loop-view-test+in-None+else-view-view-end w ↦ λ k lt. one_more
+          (λ n. (p : Proposal g.row.D.Denot) → p.round.view.0 ≡ n → IsNotToSign config old (Finalize p))
+          c.loop-view.view c.loop-view.invariant (w.to_finalize_in.ensures.none w.in-None.is) k
+          (omega (arith, lt, c.highest-view-end.ensures))
+    ])

@@ -1,0 +1,12 @@
+use Rattle.std.proofs.Common.{◌≡◌, ◌<◌, ℕ}
+use Rattle.batcher.specs.messages.Proposal.{Proposal}
+use Rattle.batcher.specs.messages.Subject.TheVariants.{Finalize}
+use Rattle.batcher_node.specs.Nodes.{node_config}
+use Rattle.batcher_validator.specs.Posing.{IsNotToSign}
+use Rattle.batcher_validator.proofs.validator.Validator.next_to_finalize.Given as goal
+
+abbrev pub invariant-loop-view : goal.invariant-loop-view
+invariant-loop-view g l =
+    (k : ℕ) → k < l.view → (p : Proposal g.row.D.Denot) → p.round.view.0 ≡ k
+    → IsNotToSign (node_config g.S.Scheme.meaning g.S.PublicKey.Ord.cmp g.S.Signature.PartialEq.eq
+    g.D.PartialEq.eq) l.fn.self (Finalize p)

@@ -1,0 +1,481 @@
+//! What a validator votes for, proposes and judges.
+
+ghost use Rattle.std.specs.Prelude.{◌≡◌, ◌≤◌, ◌<◌, ◌⊎◌, ◌++◌, IfSome, IsTrue, MatchBool, None, Some, ℕ, true, false};
+ghost use Rattle.std.specs.List.{list_any};
+ghost use Rattle.batcher.specs.Votes.{round_in, same_round, subject_of};
+ghost use Rattle.batcher.specs.messages.Proposal.{Proposal as TheProposal};
+ghost use Rattle.batcher.specs.positions.Round.{Round as TheRound};
+ghost use Rattle.batcher.specs.messages.Subject.{Subject as TheSubject};
+ghost use Rattle.batcher.specs.messages.Subject.TheVariants.{Finalize, Notarize, Nullify};
+ghost use Rattle.batcher_agreement.specs.Lives.{conduct_of};
+ghost use Rattle.batcher_agreement.specs.Policy.{IsGrounded, Knows};
+ghost use Rattle.batcher_node.specs.Windows.{numbered};
+ghost use Rattle.batcher_validator.specs.Posing.{CanLead, CanPose, CanVote, CannotLead, CannotPose, CannotVote, Grounds};
+ghost use Rattle.batcher_validator.specs.Posing.{HasCast, HasNotCast, IsLeader, IsNotToJudge, IsNotToPropose, IsNotToSign, IsProposalNow, IsProposed, IsToSign, Signs, SignsNothing};
+ghost use Rattle.batcher_validator.specs.Running.{ForEachRun, Gives, IsReady};
+ghost use Rattle.batcher_validator.specs.Tasks.{NothingIsPosed};
+ghost use Rattle.batcher_voter.specs.Voting.{ForEachLife, Permits, Says};
+
+use crate::task::Task;
+use crate::validator::Validator;
+use batcher::messages::{Digest, Identical, Proposal, Subject, Vote};
+use batcher::positions::{Participant, Round, View};
+use batcher::scheme::Scheme;
+use batcher_codec::{Codec, OwnedCodec};
+use batcher_log::Log;
+use batcher_node::NodeConfigs;
+use batcher_voter::Permission;
+
+impl<S: Scheme<D>, D: Digest + Codec, L: Log> Validator<S, D, L>
+where
+    S::Signature: Codec + Identical,
+    S::Certificate: OwnedCodec,
+{
+    // What is to be signed, or proposed, or judged.
+    pub(crate) fn pose(&mut self) -> Option<Task<S::Signature, D>>
+        requires { self.old.voter.journal.is_open ≡ true }
+        ensures gives { IfSome result
+            (Gives (⟦<S as NodeConfigs<D>>⟧.of self.old.voter.node) self.old self.new) }
+        ensures ready { IfSome result (IsReady self.old) }
+        ensures nothing { result ≡ None → ForEachRun
+            (⟦<S as NodeConfigs<D>>⟧.of self.old.voter.node) self.old (λ past earlier.
+            NothingIsPosed (⟦<S as NodeConfigs<D>>⟧.of self.old.voter.node) earlier past) }
+        ensures same { result ≡ None → self.new ≡ self.old }
+        ensures voter { self.new.voter ≡ self.old.voter }
+    {
+        match self.next_to_sign() {
+            Some(subject) => {
+                self.note_signing(subject);
+                Some(Task::Sign(subject))
+            }
+            None => match self.next_to_propose() {
+                Some((view, parent)) => {
+                    self.note_posed(view);
+                    Some(Task::Propose(view, parent))
+                }
+                None => match self.next_to_judge() {
+                    Some(proposal) => {
+                        self.note_posed(proposal.round.view);
+                        Some(Task::Judge(proposal))
+                    }
+                    None => None,
+                },
+            },
+        }
+    }
+
+    fn note_signing(&mut self, subject: Subject<D>)
+        ensures given { self.new.given ≡ record self.old.given {
+          intent = record self.old.given.intent { signing = Some subject };
+        } }
+        ensures voter { self.new.voter ≡ self.old.voter }
+        ensures shelf { self.new.shelf ≡ self.old.shelf }
+    {
+        self.given.intent.signing = Some(subject);
+    }
+
+    fn note_posed(&mut self, view: View)
+        ensures given { self.new.given ≡ record self.old.given {
+          intent = record self.old.given.intent { posed = view.0 };
+        } }
+        ensures voter { self.new.voter ≡ self.old.voter }
+        ensures shelf { self.new.shelf ≡ self.old.shelf }
+    {
+        self.given.intent.posed = view.0;
+    }
+
+    // A vote that is wanted and may be cast, where no other is being signed.
+    fn next_to_sign(&self) -> Option<Subject<D>>
+        requires { self.now.voter.journal.is_open ≡ true }
+        ensures some { IfSome result (λ s. IsToSign ⟦<S as NodeConfigs<D>>⟧.of self.now s) }
+        ensures alone { IfSome result (λ s. SignsNothing ⟦<S as NodeConfigs<D>>⟧.of self.now) }
+        ensures none { result ≡ None → Signs ⟦<S as NodeConfigs<D>>⟧.of self.now
+            ⊎ ((s : TheSubject D) → IsNotToSign ⟦<S as NodeConfigs<D>>⟧.of self.now s) }
+    {
+        if self.is_signing() {
+            return None;
+        }
+        match self.next_to_finalize() {
+            Some(proposal) => Some(Subject::Finalize { proposal }),
+            None => match self.next_to_nullify() {
+                Some(round) => Some(Subject::Nullify { round }),
+                None => match self.next_to_notarize() {
+                    Some(proposal) => Some(Subject::Notarize { proposal }),
+                    None => None,
+                },
+            },
+        }
+    }
+
+    // Whether what was given to be signed may still be voted for.
+    fn is_signing(&self) -> bool
+        requires { self.now.voter.journal.is_open ≡ true }
+        ensures { MatchBool result (Signs ⟦<S as NodeConfigs<D>>⟧.of self.now)
+            (SignsNothing ⟦<S as NodeConfigs<D>>⟧.of self.now) }
+    {
+        match self.signing() {
+            Some(subject) => self.may_vote(&subject),
+            None => false,
+        }
+    }
+
+    fn signing(&self) -> Option<Subject<D>>
+        ensures { result ≡ self.now.given.intent.signing }
+    {
+        self.given.intent.signing
+    }
+
+    // Whether a subject may be voted for.
+    fn may_vote(&self, subject: &Subject<D>) -> bool
+        requires { self.now.voter.journal.is_open ≡ true }
+        ensures { MatchBool result (CanVote ⟦<S as NodeConfigs<D>>⟧.of self.now subject.now)
+            (CannotVote ⟦<S as NodeConfigs<D>>⟧.of self.now subject.now) }
+    {
+        self.begins();
+        match self.ask(subject) {
+            Permission::Sign => true,
+            Permission::Known(_) => false,
+            Permission::Refused(_) => false,
+            Permission::Outside => false,
+            Permission::Closed => false,
+        }
+    }
+
+    // What the voter says of a subject.
+    fn ask(&self, subject: &Subject<D>) -> Permission<S::Signature, D>
+        ensures permits { ForEachLife (⟦<S as NodeConfigs<D>>⟧.of self.now.voter.node)
+            self.now.voter (Permits (⟦<S as NodeConfigs<D>>⟧.of self.now.voter.node) D.eq
+            self.now.voter subject.now result) }
+        ensures says { Says (⟦<S as NodeConfigs<D>>⟧.of self.now.voter.node) D.eq self.now.voter
+            subject.now result }
+    {
+        self.voter.ask(subject)
+    }
+
+    // A proposal that is notarized, and may be finalized.
+    fn next_to_finalize(&self) -> Option<Proposal<D>>
+        requires { self.now.voter.journal.is_open ≡ true }
+        ensures some { IfSome result (λ p.
+            IsToSign ⟦<S as NodeConfigs<D>>⟧.of self.now (Finalize p)) }
+        ensures none { result ≡ None → (p : TheProposal D)
+            → IsNotToSign ⟦<S as NodeConfigs<D>>⟧.of self.now (Finalize p) }
+    {
+        self.begins();
+        for view in self.final_view()..=self.highest() {
+            match self.to_finalize_in(View(view)) {
+                Some(proposal) => return Some(proposal),
+                None => {}
+            }
+        }
+        None
+    }
+
+    // The same of a view.
+    fn to_finalize_in(&self, view: View) -> Option<Proposal<D>>
+        requires open { self.now.voter.journal.is_open ≡ true }
+        requires from { self.now.voter.node.window.finalized ≤ view.0 }
+        ensures some { IfSome result (λ p.
+            IsToSign ⟦<S as NodeConfigs<D>>⟧.of self.now (Finalize p)) }
+        ensures none { result ≡ None → (p : TheProposal D) → p.round.view.0 ≡ view.0
+            → IsNotToSign ⟦<S as NodeConfigs<D>>⟧.of self.now (Finalize p) }
+    {
+        self.begins();
+        match self.notarized(view) {
+            Some(proposal) => {
+                if self.may_vote(&Subject::Finalize { proposal }) {
+                    return Some(proposal);
+                }
+                None
+            }
+            None => None,
+        }
+    }
+
+    // The proposal of a view that the voter knows to be notarized.
+    fn notarized(&self, view: View) -> Option<Proposal<D>>
+        ensures some { IfSome result (λ p. ForEachLife
+            (⟦<S as NodeConfigs<D>>⟧.of self.now.voter.node) self.now.voter
+            (λ past earlier. self.now.voter.node.window.finalized ≤ view.0
+            → (p.round ≡ numbered self.now.voter.node.epoch view.0)
+            × Knows (conduct_of past) (Notarize p))) }
+        ensures none { result ≡ None → ForEachLife
+            (⟦<S as NodeConfigs<D>>⟧.of self.now.voter.node) self.now.voter
+            (λ past earlier. self.now.voter.node.window.finalized ≤ view.0 → (p : TheProposal D)
+            → p.round ≡ numbered self.now.voter.node.epoch view.0
+            → Knows (conduct_of past) (Notarize p) → ⊥) }
+    {
+        self.voter.notarized(view)
+    }
+
+    // The highest view of which a certificate is known.
+    fn highest(&self) -> u64
+        ensures { result ≡ self.now.voter.knowledge.highest }
+    {
+        self.voter.highest()
+    }
+
+    // The final view.
+    fn final_view(&self) -> u64
+        ensures { result ≡ self.now.voter.node.window.finalized }
+    {
+        self.voter.node().window().finalized
+    }
+
+    // The round whose time is over, if it may be given up.
+    fn next_to_nullify(&self) -> Option<Round>
+        requires { self.now.voter.journal.is_open ≡ true }
+        ensures some { IfSome result (λ number.
+            IsToSign ⟦<S as NodeConfigs<D>>⟧.of self.now (Nullify number)) }
+        ensures none { result ≡ None → (number : TheRound)
+            → IsNotToSign ⟦<S as NodeConfigs<D>>⟧.of self.now (Nullify number) }
+    {
+        let view = self.expired_view();
+        if view.0 == 0 {
+            return None;
+        }
+        let round = self.round_of(view);
+        if self.may_vote(&Subject::Nullify { round }) {
+            return Some(round);
+        }
+        None
+    }
+
+    // The number of a view's round.
+    fn round_of(&self, view: View) -> Round
+        ensures { result ≡ numbered self.now.voter.node.epoch view.0 }
+    {
+        Round {
+            epoch: self.voter.epoch(),
+            view,
+        }
+    }
+
+    fn expired_view(&self) -> View
+        ensures { result.0 ≡ self.now.given.intent.expired }
+    {
+        View(self.given.intent.expired)
+    }
+
+    // The proposal that is its own, or valid, if it may be notarized.
+    fn next_to_notarize(&self) -> Option<Proposal<D>>
+        requires { self.now.voter.journal.is_open ≡ true }
+        ensures some { IfSome result (λ p.
+            IsToSign ⟦<S as NodeConfigs<D>>⟧.of self.now (Notarize p)) }
+        ensures none { result ≡ None → (p : TheProposal D)
+            → IsNotToSign ⟦<S as NodeConfigs<D>>⟧.of self.now (Notarize p) }
+    {
+        match self.chosen() {
+            Some(proposal) => {
+                if self.may_vote(&Subject::Notarize { proposal }) {
+                    return Some(proposal);
+                }
+                None
+            }
+            None => None,
+        }
+    }
+
+    fn chosen(&self) -> Option<Proposal<D>>
+        ensures { result ≡ self.now.given.intent.chosen }
+    {
+        self.given.intent.chosen
+    }
+
+    // The view in which it is to propose, with the view of the parent.
+    fn next_to_propose(&self) -> Option<(View, View)>
+        requires { self.now.voter.journal.is_open ≡ true }
+        ensures open { IfSome result (λ it. CanPose ⟦<S as NodeConfigs<D>>⟧.of self.now it.0.0) }
+        ensures leads { IfSome result (λ it. CanLead ⟦<S as NodeConfigs<D>>⟧.of self.now it.0.0) }
+        ensures first { IfSome result (λ it.
+            HasNotCast ⟦<S as NodeConfigs<D>>⟧.of self.now it.0.0) }
+        ensures grounds { IfSome result (λ it.
+            Grounds ⟦<S as NodeConfigs<D>>⟧.of self.now it.0.0 it.1) }
+        ensures none { result ≡ None → IsNotToPropose ⟦<S as NodeConfigs<D>>⟧.of self.now }
+    {
+        if !self.may_pose() {
+            return None;
+        }
+        if !self.leads() {
+            return None;
+        }
+        if self.has_voted() {
+            return None;
+        }
+        match self.parent() {
+            Some(parent) => Some((View(self.current()), parent)),
+            None => None,
+        }
+    }
+
+    // The view on which to propose in the current one.
+    fn parent(&self) -> Option<View>
+        ensures grounds { IfSome result (λ parent.
+            Grounds ⟦<S as NodeConfigs<D>>⟧.of self.now self.now.voter.node.window.current
+            parent) }
+        ensures none { result ≡ None → IsNotToPropose ⟦<S as NodeConfigs<D>>⟧.of self.now }
+    {
+        let view = View(self.current());
+        match self.parent_for(view) {
+            Some(parent) => Some(parent),
+            None => None,
+        }
+    }
+
+    fn parent_for(&self, view: View) -> Option<View>
+        ensures grounds { IfSome result (λ parent. ForEachLife
+            (⟦<S as NodeConfigs<D>>⟧.of self.now.voter.node) self.now.voter
+            (λ past earlier. (p : TheProposal D)
+            → p.round ≡ numbered self.now.voter.node.epoch view.0 → p.parent ≡ parent
+            → IsGrounded (conduct_of past ++ earlier) p)) }
+        ensures none { result ≡ None → ForEachLife
+            (⟦<S as NodeConfigs<D>>⟧.of self.now.voter.node) self.now.voter
+            (λ past earlier. (p : TheProposal D)
+            → p.round ≡ numbered self.now.voter.node.epoch view.0
+            → self.now.voter.node.window.finalized ≤ p.parent.0
+            → IsGrounded (conduct_of past) p → ⊥) }
+    {
+        self.voter.parent_for(view)
+    }
+
+    // The proposal that it is to judge.
+    fn next_to_judge(&self) -> Option<Proposal<D>>
+        requires { self.now.voter.journal.is_open ≡ true }
+        ensures open { IfSome result (λ p.
+            CanPose ⟦<S as NodeConfigs<D>>⟧.of self.now p.round.view.0) }
+        ensures proposed { IfSome result (λ p. IsProposed ⟦<S as NodeConfigs<D>>⟧.of self.now p) }
+        ensures may_vote { IfSome result (λ p.
+            CanVote ⟦<S as NodeConfigs<D>>⟧.of self.now (Notarize p)) }
+        ensures none { result ≡ None → IsNotToJudge ⟦<S as NodeConfigs<D>>⟧.of self.now }
+    {
+        if !self.may_pose() {
+            return None;
+        }
+        if self.leads() {
+            return None;
+        }
+        match self.proposal() {
+            Some(proposal) => {
+                if proposal.round.view.0 != self.current() {
+                    return None;
+                }
+                if self.may_vote(&Subject::Notarize { proposal }) {
+                    return Some(proposal);
+                }
+                None
+            }
+            None => None,
+        }
+    }
+
+    // Whether a proposal of the current view is to be made, or judged.
+    fn may_pose(&self) -> bool
+        ensures above { IsTrue result
+            → self.now.voter.node.window.finalized < self.now.voter.node.window.current }
+        ensures open { MatchBool result
+            (CanPose ⟦<S as NodeConfigs<D>>⟧.of self.now self.now.voter.node.window.current)
+            (CannotPose ⟦<S as NodeConfigs<D>>⟧.of self.now
+            self.now.voter.node.window.current) }
+    {
+        let current = self.current();
+        if current <= self.final_view() {
+            return false;
+        }
+        if current < self.asked() {
+            return false;
+        }
+        if current <= self.expired_view().0 {
+            return false;
+        }
+        if current <= self.posed() {
+            return false;
+        }
+        true
+    }
+
+    fn asked(&self) -> u64
+        ensures { result ≡ self.now.given.asked }
+    {
+        self.given.asked
+    }
+
+    fn posed(&self) -> u64
+        ensures { result ≡ self.now.given.intent.posed }
+    {
+        self.given.intent.posed
+    }
+
+    // Whether it leads the current view.
+    fn leads(&self) -> bool
+        requires { self.now.voter.node.window.finalized
+            < self.now.voter.node.window.current }
+        ensures { MatchBool result
+            (CanLead ⟦<S as NodeConfigs<D>>⟧.of self.now self.now.voter.node.window.current)
+            (CannotLead ⟦<S as NodeConfigs<D>>⟧.of self.now
+            self.now.voter.node.window.current) }
+    {
+        match self.leader() {
+            Some(leader) => leader == self.me(),
+            None => false,
+        }
+    }
+
+    fn me(&self) -> Participant
+        ensures { result ≡ self.now.given.intent.me }
+    {
+        self.given.intent.me
+    }
+
+    // Who leads the current view.
+    fn leader(&self) -> Option<Participant>
+        requires { self.now.voter.node.window.finalized
+            < self.now.voter.node.window.current }
+        ensures { IsLeader ⟦<S as NodeConfigs<D>>⟧.of self.now result }
+    {
+        match self.voter.node().round(View(self.current())) {
+            Some(round) => round.leader(),
+            None => None,
+        }
+    }
+
+    // What is proposed in the current view.
+    fn proposal(&self) -> Option<Proposal<D>>
+        requires { self.now.voter.node.window.finalized
+            < self.now.voter.node.window.current }
+        ensures { IsProposalNow ⟦<S as NodeConfigs<D>>⟧.of self.now result }
+    {
+        match self.voter.node().round(View(self.current())) {
+            Some(round) => round.proposal(),
+            None => None,
+        }
+    }
+
+    // Whether it has voted in the current view.
+    fn has_voted(&self) -> bool
+        requires open { self.now.voter.journal.is_open ≡ true }
+        requires above { self.now.voter.node.window.finalized
+            < self.now.voter.node.window.current }
+        ensures { MatchBool result
+            (HasCast ⟦<S as NodeConfigs<D>>⟧.of self.now self.now.voter.node.window.current)
+            (HasNotCast ⟦<S as NodeConfigs<D>>⟧.of self.now
+            self.now.voter.node.window.current) }
+    {
+        self.begins();
+        self.has_vote_of(self.round_of(View(self.current())))
+    }
+
+    // Whether the journal has a vote of the round.
+    fn has_vote_of(&self, round: Round) -> bool
+        ensures { result ≡ list_any (λ vote. same_round (round_in (subject_of vote)) round)
+            self.now.voter.journal.contents.votes }
+    {
+        has_one_in(self.voter.journal().votes(), round)
+    }
+}
+
+// Whether one of the votes is of the round.
+fn has_one_in<G: Copy, D: Digest>(votes: &[Vote<G, D>], round: Round) -> bool
+    ensures { result
+        ≡ list_any (λ vote. same_round (round_in (subject_of vote)) round) votes.now }
+{
+    votes.iter().any(|vote| vote.round() == round)
+}
