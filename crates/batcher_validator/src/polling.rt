@@ -40,6 +40,8 @@ where
             (⟦<S as NodeConfigs<D>>⟧.of self.old.voter.node) self.old
             (λ past earlier. NothingIsDue (⟦<S as NodeConfigs<D>>⟧.of self.old.voter.node)
             earlier past) }
+        ensures rests { result ≡ Ok None
+            → RunStays (⟦<S as NodeConfigs<D>>⟧.of self.old.voter.node) self.old self.new }
         ensures why { OnErr result ((self.old.voter.journal.is_open ≡ false)
             ⊎ IsToAnnounce self.old.given.announced self.old.shelf.certificates) }
         ensures stays { OnErr result
