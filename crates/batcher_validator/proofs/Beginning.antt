@@ -14,6 +14,7 @@ use Rattle.batcher_node.specs.Nodes.{NodeConfig, NodeView}
 use Rattle.batcher_validator.specs.Queues.{AreFirst}
 use Rattle.batcher_validator.specs.Running.{HasBegun, IsRunning, RunStays, ValidatorView, is_over_for}
 use Rattle.batcher_validator.specs.Histories.{began}
+use Rattle.batcher_validator.proofs.Going.{never_calm}
 use Rattle.batcher_voter.specs.Voting.{HasStarted}
 
 contains_none : {X : Type 0} (xs : List X) (x : X) → Contains (take 0 xs) x → ⊥
@@ -87,6 +88,7 @@ module _ {S D K G C L : Type 0} (x : NodeConfig D K G C) (validator : ValidatorV
       → ((i : ℕ) → slice_get blocked i ≡ Some true → ⊥)
       → validator.given ≡ record {
         blocked = blocked;
+        calm = false;
         announced = 0;
         tally = record { begun = count; recast = 0; sent = 0 };
         asked = 0;
@@ -107,6 +109,7 @@ module _ {S D K G C L : Type 0} (x : NodeConfig D K G C) (validator : ValidatorV
             were_blocked = λ i there. absurd (none i there);
             no_others = λ i was. absurd was;
           };
+          calms = rw (given) (λ wrong. absurd (never_calm wrong));
           finals = rw (given) record {
             were_asked = λ view some within. absurd (omega (arith, some, within));
             no_others = λ view was. absurd was;

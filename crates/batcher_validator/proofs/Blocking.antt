@@ -1,9 +1,19 @@
 -- Who was given to be blocked.
-use Rattle.std.proofs.Common.{◌≡◌, ◌⊎◌, ◌<◌, ◌∙◌, ℕ, zero, suc, Bool, true, false, List, [], ◌∷◌, Some, ap, arith, inl, inr, length, refl, set, subst, sym}
+use Rattle.std.proofs.Common.{◌≡◌, ◌⊎◌, ◌<◌, ◌∙◌, ℕ, zero, suc, Bool, true, false, List, [], ◌∷◌, Option, Some, None, ap, arith, cond, inl, inr, length, refl, set, subst, sym}
 use Rattle.std.specs.List.{slice_get}
+use Rattle.std.specs.Option.{option_map}
+use Rattle.std.specs.Prelude.{is_some}
+use Rattle.batcher.specs.answers.Admission.{Admission}
+use Rattle.batcher.specs.answers.BlockReason.{BlockReason}
+use Rattle.batcher.specs.messages.Vote.{Vote}
 use Rattle.batcher.specs.positions.Participant.{Participant}
+use Rattle.batcher_node.specs.Events.{cause_by, is_peer, vote_came}
+use Rattle.batcher_node.specs.Nodes.{NodeConfig}
 use Rattle.batcher_node.specs.declared.answers.Cause.{Cause}
-use Rattle.batcher_validator.specs.Running.{AreBlocked}
+use Rattle.batcher_node.specs.declared.answers.Cause.TheVariants.{Vote as ForVote}
+use Rattle.batcher_node.specs.declared.answers.Receipt.{Receipt}
+use Rattle.batcher_node.specs.declared.answers.Receipt.TheVariants.{Answered, Dropped, Outside, Unknown}
+use Rattle.batcher_validator.specs.Running.{AreBlocked, blocks_sender}
 use Rattle.batcher_validator.specs.Histories.{HasBlocked, ValidatorHistory, gave}
 use Rattle.batcher_validator.specs.declared.task.Task.TheVariants.{Block}
 
@@ -61,3 +71,21 @@ module _ {D K G C : Type 0} (past : ValidatorHistory D K G C) (blocked : List Bo
           → slice_get (set blocked who.0 true) i ≡ Some true
       of_has i (inl same) = subst (λ j. slice_get (set blocked who.0 true) j ≡ Some true) same (get_set_same blocked who.0 true lt)
       of_has i (inr before) = of_old i (are.no_others i before) (decide who.0 i)
+
+-- A vote blocks nobody, whose sender isn't blocked for it.
+module _ {D K G C : Type 0} (x : NodeConfig D K G C) where
+  none_by : (o : Option BlockReason) → is_some o ≡ false → (b : Bool)
+      → cond b (option_map ForVote o) None ≡ None
+  none_by None e true = refl
+  none_by None e false = refl
+  none_by (Some reason) e b = absurd cc
+
+  pub vote_blocks_nobody :
+      (peer : K) (vote : Vote G D) (receipt : Receipt (Admission G D))
+      → blocks_sender receipt ≡ false
+      → (i : ℕ) → cause_by {C = C} x (vote_came peer vote receipt) i ≡ None
+  vote_blocks_nobody peer vote (Answered admission) e i =
+      none_by admission.block e (is_peer x peer i)
+  vote_blocks_nobody peer vote Outside e i = refl
+  vote_blocks_nobody peer vote Dropped e i = refl
+  vote_blocks_nobody peer vote Unknown e i = refl

@@ -27,6 +27,7 @@ module _ {S D K G C L : Type 0} (x : NodeConfig D K G C) (old new : ValidatorVie
           voting = rw (voter) is.voting;
           in_turn = is.in_turn;
           blocks = rw (given) is.blocks;
+          calms = rw (given) is.calms;
           finals = rw (given) is.finals;
           votes = rw (voter, given) is.votes;
           begins = rw (voter, given) is.begins;
@@ -54,6 +55,7 @@ module _ {S D K G C L : Type 0} (x : NodeConfig D K G C) (old new : ValidatorVie
           voting = rw (voter) is.voting;
           in_turn = is.in_turn;
           blocks = rw (given) is.blocks;
+          calms = rw (given) is.calms;
           finals = rw (given) is.finals;
           votes = rw (voter, given) is.votes;
           begins = rw (voter, given) is.begins;
@@ -79,6 +81,7 @@ module _ {S D K G C L : Type 0} (x : NodeConfig D K G C) (old new : ValidatorVie
           voting = rw (voter) is.voting;
           in_turn = (may, is.in_turn);
           blocks = rw (given) is.blocks;
+          calms = rw (given) is.calms;
           finals = rw (given) is.finals;
           votes = rw (voter, given) is.votes;
           begins = rw (voter, given) is.begins;
@@ -105,6 +108,7 @@ module _ {S D K G C L : Type 0} (x : NodeConfig D K G C) (old new : ValidatorVie
           voting = rw (voter) is.voting;
           in_turn = (may, is.in_turn);
           blocks = rw (given) is.blocks;
+          calms = rw (given) is.calms;
           finals = rw (given) is.finals;
           votes = rw (voter, given) is.votes;
           begins = rw (voter, given) is.begins;
@@ -130,6 +134,7 @@ module _ {S D K G C L : Type 0} (x : NodeConfig D K G C) (old new : ValidatorVie
           voting = rw (voter) is.voting;
           in_turn = (may, is.in_turn);
           blocks = rw (given) is.blocks;
+          calms = rw (given) is.calms;
           finals = rw (given) is.finals;
           votes = rw (voter, given) is.votes;
           begins = rw (voter, given) is.begins;

@@ -10,16 +10,16 @@ use Rattle.batcher.specs.messages.Proposal.{Proposal}
 use Rattle.batcher.specs.messages.Subject.TheVariants.{Finalize}
 use Rattle.batcher_agreement.specs.Lives.{called, verified}
 use Rattle.batcher_agreement.specs.Policy.{Conduct}
-use Rattle.batcher_node.specs.Events.{view_finalized}
+use Rattle.batcher_node.specs.Events.{cause_in, view_finalized}
 use Rattle.batcher_node.specs.Nodes.{NodeConfig}
 use Rattle.batcher_validator.specs.declared.tally.Tally.{Tally}
 use Rattle.batcher_validator.specs.Running.{ForEachRun, GivenView, Gives, IsRunning, RunStays, ValidatorView, WhyNotFinal, tally_from, left_of}
 use Rattle.batcher_validator.specs.Shelves.{IsFinalAt, is_from}
-use Rattle.batcher_validator.specs.Histories.{HasHad, HasHanded, ValidatorHistory, did, gave, voter_history, window_by}
+use Rattle.batcher_validator.specs.Histories.{calls_in, HasHad, HasHanded, ValidatorHistory, did, gave, voter_history, window_by}
 use Rattle.batcher_validator.specs.declared.task.Task.TheVariants.{Final}
 use Rattle.batcher_validator.proofs.Intending.{still_intent}
 use Rattle.batcher_validator.proofs.Giving.{contained, kind_of}
-use Rattle.batcher_validator.proofs.Going.{goes_on, sent_raised, sent_still}
+use Rattle.batcher_validator.proofs.Going.{or_none, goes_on, sent_raised, sent_still}
 use Rattle.batcher_validator.proofs.Keeping.{first_from, kept_from, kept_still}
 use Rattle.batcher_voter.specs.Journals.{IsRaised}
 use Rattle.batcher_voter.specs.declared.answers.FinalizeFault.TheVariants.{Forged, NotOfEpoch, Passed}
@@ -71,6 +71,7 @@ module _ {S D K G C L : Type 0} (x : NodeConfig D K G C) (old new : ValidatorVie
             raised.was_open,
             λ Was count are. sent_raised Was old.voter.journal new.voter.journal count p.round raised are,
           ))
+          (λ yes. (yes, λ i. or_none (cause_in x (calls_in past) i)))
           refl
           (rw (certificates) (kept_from x past Before p.round.view.0 refl up c had old.shelf.certificates there is.kept))
           (rw (certificates, handed) (first_from x past Before p.round.view.0 refl up c had old.shelf.certificates
@@ -95,6 +96,7 @@ module _ {S D K G C L : Type 0} (x : NodeConfig D K G C) (old new : ValidatorVie
               moved.in_turn,
             );
             blocks = rw (given) moved.blocks;
+            calms = rw (given) moved.calms;
             finals = rw (given) (record {
               were_asked = λ v some within. inl within;
               no_others = λ v has. elim has [
@@ -132,6 +134,7 @@ not_announced x old new given shelf stays still past earlier is =
       (still opened).0,
       λ Was count are. sent_still Was old.voter.journal new.voter.journal count (still opened).1 are,
     ))
+    (λ yes. (yes, λ i. refl))
     given
     (rw (shelf) (kept_still x past past refl old.shelf.certificates (λ d h. h) is.kept))
     (rw (shelf) is.certificates)

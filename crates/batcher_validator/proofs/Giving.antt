@@ -24,15 +24,15 @@ use Rattle.batcher_agreement.specs.Policy.{Conduct, HasVoted}
 use Rattle.batcher_journal.specs.Answers.{MayFollow}
 use Rattle.batcher_journal.specs.Contradictions.{IsFree, LeavesFree}
 use Rattle.batcher_journal.specs.Floors.{is_below, is_over}
-use Rattle.batcher_node.specs.Events.{cause_in, view_history}
+use Rattle.batcher_node.specs.Events.{view_history}
 use Rattle.batcher_node.specs.Nodes.{IsAtRest, NodeConfig, cause_at, slot_at}
 use Rattle.batcher_node.specs.Represents.{ViewRepresents, is_due}
 use Rattle.batcher_node.specs.Windows.{numbered}
 use Rattle.batcher_node.specs.declared.answers.Cause.{Cause}
 use Rattle.batcher_node.specs.declared.slot.Slot.{Slot}
-use Rattle.batcher_validator.specs.Running.{AreKept, GivenView, Gives, IsRunning, RunMeets, ValidatorView, is_before_view, is_over_for}
-use Rattle.batcher_validator.specs.Histories.{HadVoted, HasAnnouncedFrom, HasAskedFrom, HasBlocked, HasHanded, HasRecast, HasSent, IsVerifying, ValidatorHistory, again, answered, calls_in, conduct_in, gave, voter_history, window_by}
-use Rattle.batcher_validator.specs.Tasks.{Counts, IsNextIn, NothingIsDue, NothingIsPosed}
+use Rattle.batcher_validator.specs.Running.{AreKept, ForEachRun, GivenView, Gives, IsRunning, RunMeets, RunStays, ValidatorView, is_before_view, is_over_for}
+use Rattle.batcher_validator.specs.Histories.{HadVoted, HasAnnouncedFrom, HasAskedFrom, HasHanded, HasRecast, HasSent, IsVerifying, ValidatorHistory, again, answered, calls_in, conduct_in, gave, voter_history, window_by}
+use Rattle.batcher_validator.specs.Tasks.{Counts, IsNextIn, NobodyIsToBlock, NothingIsDue, NothingIsPosed}
 use Rattle.batcher_validator.specs.declared.task.Task.TheVariants.{Block, Cast, Enter, SendCertificate, SendVote, Verify}
 use Rattle.batcher_validator.proofs.Blocking.{blocks_one, not_blocked}
 use Rattle.batcher_validator.proofs.Beginning.{first_none}
@@ -138,6 +138,7 @@ module _ {S D K G C L : Type 0} (x : NodeConfig D K G C) (old new : ValidatorVie
             is.in_turn,
           );
           blocks = rw (given) is.blocks;
+          calms = rw (given) is.calms;
           finals = rw (given) is.finals;
           votes = λ still. rw (voter, given) (give_one subject_of (is_over_for floor) (λ s. HasSent past s)
               votes count first (λ s. HasSent (gave (SendVote vote) ∷ past) s) vote there
@@ -172,6 +173,7 @@ module _ {S D K G C L : Type 0} (x : NodeConfig D K G C) (old new : ValidatorVie
             is.in_turn,
           );
           blocks = rw (given) is.blocks;
+          calms = rw (given) is.calms;
           finals = rw (given) is.finals;
           votes = rw (voter, given) is.votes;
           begins = rw (voter, given) is.begins;
@@ -212,6 +214,7 @@ module _ {S D K G C L : Type 0} (x : NodeConfig D K G C) (old new : ValidatorVie
           is.in_turn,
         );
         blocks = rw (given) is.blocks;
+        calms = rw (given) is.calms;
         finals = rw (given) is.finals;
         votes = rw (voter, given) is.votes;
         begins = rw (voter, given) is.begins;
@@ -264,6 +267,10 @@ module _ {S D K G C L : Type 0} (x : NodeConfig D K G C) (old new : ValidatorVie
             is.in_turn,
           );
           blocks = rw (given) (blocks_one past old.given.blocked is.blocks who cause (omega (arith, within, same)));
+          calms = rw (given) (λ yes i lt. elim (is.calms yes i lt) [
+            | inl none ↦ inl none
+            | inr was ↦ inr (inr was)
+          ]);
           finals = rw (given) is.finals;
           votes = rw (voter, given) is.votes;
           begins = rw (voter, given) is.begins;
@@ -298,6 +305,7 @@ module _ {S D K G C L : Type 0} (x : NodeConfig D K G C) (old new : ValidatorVie
             is.in_turn,
           );
           blocks = rw (given) is.blocks;
+          calms = rw (given) is.calms;
           finals = rw (given) is.finals;
           votes = rw (voter, given) is.votes;
           begins = rw (voter, given) is.begins;
@@ -339,6 +347,7 @@ module _ {S D K G C L : Type 0} (x : NodeConfig D K G C) (old new : ValidatorVie
             is.in_turn,
           );
           blocks = rw (given) is.blocks;
+          calms = rw (given) is.calms;
           finals = rw (given) is.finals;
           votes = rw (voter, given) is.votes;
           begins = rw (voter, given) is.begins;
@@ -362,6 +371,7 @@ module _ {S D K G C L : Type 0} (x : NodeConfig D K G C) (old new : ValidatorVie
           voting = rw (voter) is.voting;
           in_turn = is.in_turn;
           blocks = rw (given) is.blocks;
+          calms = rw (given) is.calms;
           finals = rw (given) is.finals;
           votes = rw (voter, given) is.votes;
           begins = rw (voter, given) is.begins;
@@ -383,6 +393,7 @@ module _ {S D K G C L : Type 0} (x : NodeConfig D K G C) (old new : ValidatorVie
         voting = rw (voter) is.voting;
         in_turn = is.in_turn;
         blocks = rw (given) is.blocks;
+        calms = rw (given) is.calms;
         finals = rw (given) is.finals;
         votes = λ opened. rw (voter, given) (first_none _ _ _ _ (λ s was. was));
         begins = rw (voter, given) is.begins;
@@ -394,6 +405,28 @@ module _ {S D K G C L : Type 0} (x : NodeConfig D K G C) (old new : ValidatorVie
         intends = rw (given) (still_intent past (again ∷ past) old.given.intent refl refl refl refl refl
             is.intends);
       }
+
+-- It is calm, where nothing is due.
+pub becomes_calm :
+    {S D K G C L : Type 0} (x : NodeConfig D K G C) (old new : ValidatorView S G D L C)
+    → new.voter ≡ old.voter → new.shelf ≡ old.shelf → new.given ≡ record old.given { calm = true }
+    → ForEachRun x old (λ past earlier. NothingIsDue x earlier past) → RunStays x old new
+becomes_calm x old new voter shelf given nothing past earlier is =
+    record {
+      voting = rw (voter) is.voting;
+      in_turn = is.in_turn;
+      blocks = rw (given) is.blocks;
+      calms = rw (given) (λ yes. (nothing past earlier is).blocks);
+      finals = rw (given) is.finals;
+      votes = rw (voter, given) is.votes;
+      begins = rw (voter, given) is.begins;
+      casts = rw (voter, given) is.casts;
+      kept = rw (shelf) is.kept;
+      certificates = rw (shelf) is.certificates;
+      asks = rw (given) is.asks;
+      verifies = rw (given) is.verifies;
+      intends = rw (given) is.intends;
+    }
 
 module _ {S D K G C L : Type 0} (x : NodeConfig D K G C) (old : ValidatorView S G D L C)
     (begins : BeginWithOneView old.voter) (epoch : x.epoch ≡ old.voter.node.epoch)
@@ -450,11 +483,11 @@ module _ {S D K G C L : Type 0} (x : NodeConfig D K G C) (old : ValidatorView S 
 
   -- nobody is blocked who wasn't given to be
   no_block_due :
-      ((i : ℕ) → i < length x.meaning.participants
+      (old.given.calm ≡ true) ⊎ ((i : ℕ) → i < length x.meaning.participants
       → (cause_at old.voter.node.blocked i ≡ None) ⊎ (slice_get old.given.blocked i ≡ Some true))
-      → (i : ℕ) → i < length x.meaning.participants
-      → (cause_in x (calls_in past) i ≡ None) ⊎ HasBlocked past i
-  no_block_due blocks i lt = elim (blocks i lt) [
+      → NobodyIsToBlock x past
+  no_block_due (inl calm) = is.calms calm
+  no_block_due (inr blocks) = λ i lt. elim (blocks i lt) [
     | inl none ↦ inl (sym (is.voting.represents.blocked_are i lt) ∙ none)
     | inr noted ↦ inr (is.blocks.were_blocked i noted)
   ]
@@ -562,7 +595,7 @@ module _ {S D K G C L : Type 0} (x : NodeConfig D K G C) (old : ValidatorView S 
 
   pub nothing_due :
       old.voter.journal.is_open ≡ true
-      → ((i : ℕ) → i < length x.meaning.participants
+      → (old.given.calm ≡ true) ⊎ ((i : ℕ) → i < length x.meaning.participants
       → (cause_at old.voter.node.blocked i ≡ None) ⊎ (slice_get old.given.blocked i ≡ Some true))
       → HaveNoFinal old.given.announced old.shelf.certificates
       → (old.given.tally.begun ≤ old.given.tally.recast)

@@ -1,7 +1,8 @@
 -- A validator goes on with what its voter did.
-use Rattle.std.proofs.Common.{◌≡◌, ◌⊎◌, ◌++◌, ◌∙◌, ℕ, Bool, true, false, not, List, [], ◌∷◌, Some, ap, inl, inr, refl, subst, sym, take}
+use Rattle.std.proofs.Common.{◌≡◌, ◌⊎◌, ◌++◌, ◌∙◌, ℕ, Bool, true, false, not, List, [], ◌∷◌, Option, Some, None, ap, inl, inr, refl, subst, sym, take}
 use Rattle.std.specs.Prelude.{MatchBool, unwrap_or}
 use Rattle.std.specs.List.{count_by, filter}
+use Rattle.std.specs.Option.{option_or}
 use Rattle.batcher.specs.Verifiers.{certifies_itself}
 use Rattle.batcher.specs.Votes.{round_in, subject_of}
 use Rattle.batcher.specs.messages.Certificate.{Certificate}
@@ -13,13 +14,14 @@ use Rattle.batcher_agreement.specs.Policy.{Conduct}
 use Rattle.batcher_journal.specs.Floors.{is_below, is_over}
 use Rattle.batcher_journal.specs.Ready.{JournalView}
 use Rattle.batcher_journal.proofs.Rounds.{still_over}
-use Rattle.batcher_node.specs.Events.{NodeEvent, constructed, window_after}
+use Rattle.batcher_node.specs.Events.{NodeEvent, cause_by, cause_in, constructed, window_after}
 use Rattle.batcher_node.specs.Nodes.{NodeConfig, NodeView}
 use Rattle.batcher_node.specs.declared.window.Window.{Window}
 use Rattle.batcher_validator.specs.Queues.{AreFirst}
 use Rattle.batcher_validator.specs.Running.{AreFirstVotes, AreKept, Constructs, IsRunning, RunMeets, RunStays, ValidatorView, tallied, is_before_view, is_over_for}
 use Rattle.batcher_validator.specs.Shelves.{Shelves, key_of}
-use Rattle.batcher_validator.specs.Histories.{HasAnnouncedFrom, HasAskedFrom, HasBlocked, HasHad, HasHanded, HasRecast, HadVoted, HasSent, IsVerifying, ValidatorEvent, ValidatorHistory, answered, did, only_did, voter_history, window_by}
+use Rattle.batcher_validator.specs.Histories.{HasAnnouncedFrom, HasAskedFrom, HasBlocked, HasHad, HasHanded, HasRecast, HadVoted, HasSent, IsVerifying, ValidatorEvent, ValidatorHistory}
+use Rattle.batcher_validator.specs.Histories.{calls_in, answered, did, only_did, voter_history, window_by}
 use Rattle.batcher_validator.specs.Tasks.{AreGivenInTurn}
 use Rattle.batcher_validator.proofs.Intending.{intent_more}
 use Rattle.batcher_validator.proofs.Keeping.{first_with, kept_beside, kept_still, kept_with}
@@ -76,6 +78,13 @@ first_more key is_over Was Now items count to back are =
       no_others = λ y now above. are.no_others y (back y now) above;
     }
 
+-- It is calm only where it was, and where nobody gave cause by more.
+abbrev pub Calms : {D K G C : Type 0} → NodeConfig D K G C → ValidatorHistory D K G C
+    → ValidatorHistory D K G C → Bool → Bool → Type 0
+Calms x past now was is =
+    is ≡ true → (was ≡ true)
+    × ((i : ℕ) → cause_in x (calls_in now) i ≡ cause_in x (calls_in past) i)
+
 -- The first votes are as they were, of what is left of each count.
 abbrev pub Recounts : {S G D L C : Type 0} → ValidatorView S G D L C → ValidatorView S G D L C
     → (ℕ → ℕ) → Type 1
@@ -94,12 +103,13 @@ module _ {S D K G C L : Type 0} (x : NodeConfig D K G C) (old new : ValidatorVie
       (f : ℕ → ℕ) → IsRunning x past earlier old
       → IsVoting x (more ++ voter_history past) earlier new.voter
       → Recounts old new f
-      → new.given ≡ record old.given { tally = tallied f old.given.tally }
+      → {calm : Bool} → Calms x past After old.given.calm calm
+      → new.given ≡ record old.given { tally = tallied f old.given.tally; calm = calm }
       → AreKept x After new.shelf.certificates
       → AreFirst key_of (is_before_view (window_by After).finalized) (λ key. HasHanded past key)
       new.shelf.certificates new.shelf.handed
       → IsRunning x After earlier new
-  goes_on f is voting recounts given kept handed =
+  goes_on f is voting recounts {calm = calm} quiet given kept handed =
       record {
         voting = subst (λ h. IsVoting x h earlier new.voter) (sym (voter_history_more more past)) voting;
         in_turn = in_turn_more x earlier more past is.in_turn;
@@ -110,6 +120,11 @@ module _ {S D K G C L : Type 0} (x : NodeConfig D K G C) (old new : ValidatorVie
               (from_more (λ h. HasBlocked h i) (λ h. HasBlocked h i)
               (λ event h. ((λ was. was), (λ was. was))) more past was);
         };
+        calms = rw (given) (λ yes i lt. elim (is.calms (quiet yes).0 i lt) [
+          | inl none ↦ inl ((quiet yes).1 i ∙ none)
+          | inr was ↦ inr (to_more (λ h. HasBlocked h i) (λ h. HasBlocked h i)
+              (λ event h. ((λ b. b), (λ b. b))) more past was)
+        ]);
         finals = rw (given) record {
           were_asked = λ view some within. to_more (λ h. HasAnnouncedFrom h view) (λ h. HasAnnouncedFrom h view)
               (λ event h. ((λ was. was), (λ was. was))) more past (is.finals.were_asked view some within);
@@ -212,11 +227,30 @@ module _ {G D L : Type 0} (WasSent : Subject D → Type 0) (old new : JournalVie
       was_above s above true e =
           absurd (wrong (sym (still_over old.contents.floor floor (round_in s) raised.up e) ∙ above))
 
+pub never_calm : false ≡ true → ⊥
+never_calm wrong = absurd cc
+
+pub or_none : {X : Type 0} (o : Option X) → option_or o None ≡ o
+or_none None = refl
+or_none (Some it) = refl
+
+-- by an event for which nobody is blocked
+pub calms_by :
+    {D K G C : Type 0} (x : NodeConfig D K G C) (event : NodeEvent D K G C)
+    (past : ValidatorHistory D K G C) (was is : Bool)
+    → (is ≡ true → (was ≡ true) × ((i : ℕ) → cause_by x event i ≡ None))
+    → Calms x past (did (called event) ∷ past) was is
+calms_by x event past was is nobody calm = (
+  (nobody calm).0,
+  λ i. ap (λ o. option_or (cause_in x (calls_in past) i) o) ((nobody calm).1 i)
+      ∙ or_none (cause_in x (calls_in past) i),
+)
+
 -- a call of the voter's node that writes nothing, or leaves all as it was
 module _ {S D K G C L : Type 0} (x : NodeConfig D K G C) (old new : ValidatorView S G D L C)
     (contents : new.voter.journal.contents ≡ old.voter.journal.contents)
     (is_open : new.voter.journal.is_open ≡ old.voter.journal.is_open)
-    (given : new.given ≡ old.given) where
+    (calm : Bool) (given : new.given ≡ record old.given { calm = calm }) where
   pub recounts_still : Recounts old new (λ n. n)
   recounts_still still = (
     sym is_open ∙ still,
@@ -229,11 +263,12 @@ module _ {S D K G C L : Type 0} (x : NodeConfig D K G C) (old new : ValidatorVie
         (more : VoterHistory D K G C) (past : ValidatorHistory D K G C) (earlier : Conduct D)
         → (window_by (only_did more ++ past)).finalized ≡ (window_by past).finalized
         → ((c : Certificate C D) → HasHad (only_did more ++ past) c → HasHad past c)
+        → Calms x past (only_did more ++ past) old.given.calm calm
         → IsRunning x past earlier old
         → IsVoting x (more ++ voter_history past) earlier new.voter
         → IsRunning x (only_did more ++ past) earlier new
-    goes more past earlier window had is voting =
-        goes_on x old new more past earlier (λ n. n) is voting recounts_still given
+    goes more past earlier window had quiet is voting =
+        goes_on x old new more past earlier (λ n. n) is voting recounts_still quiet given
         (subst (AreKept x (only_did more ++ past)) (sym shelf)
         (kept_still x past (only_did more ++ past) window old.shelf.certificates had is.kept))
         (rw (shelf, handed, window) is.certificates)
@@ -242,23 +277,28 @@ module _ {S D K G C L : Type 0} (x : NodeConfig D K G C) (old new : ValidatorVie
         (event : NodeEvent D K G C)
         → ((w : Window) → (window_after w event).finalized ≡ w.finalized)
         → ((c : Certificate C D) → held_by (called event) ≡ Some c → ⊥)
+        → (calm ≡ true → (old.given.calm ≡ true) × ((i : ℕ) → cause_by x event i ≡ None))
         → VoterMeets x old.voter new.voter event → RunMeets x old new (did (called event))
-    runs event quiet none meets past earlier is =
+    runs event quiet none nobody meets past earlier is =
         goes (called event ∷ []) past earlier (quiet (window_by past))
         (λ c had. elim had [
           | inl held ↦ absurd (none c held)
           | inr before ↦ before
-        ]) is (meets (voter_history past) earlier is.voting)
+        ])
+        (calms_by x event past old.given.calm calm nobody)
+        is (meets (voter_history past) earlier is.voting)
 
-    pub run_stays : VoterStays x old.voter new.voter → RunStays x old new
-    run_stays stays past earlier is =
-        goes [] past earlier refl (λ c had. had) is (stays (voter_history past) earlier is.voting)
+    pub run_stays : calm ≡ old.given.calm → VoterStays x old.voter new.voter → RunStays x old new
+    run_stays same stays past earlier is =
+        goes [] past earlier refl (λ c had. had) (λ yes. (sym same ∙ yes, λ i. refl)) is
+        (stays (voter_history past) earlier is.voting)
 
 -- a call of the voter's node by which a certificate comes, which is kept then
 module _ {S D K G C L : Type 0} (x : NodeConfig D K G C) (old mid new : ValidatorView S G D L C)
     (contents : mid.voter.journal.contents ≡ old.voter.journal.contents)
     (is_open : mid.voter.journal.is_open ≡ old.voter.journal.is_open)
-    (given : mid.given ≡ old.given) (shelf : mid.shelf ≡ old.shelf)
+    (calm : Bool) (given : mid.given ≡ record old.given { calm = calm })
+    (shelf : mid.shelf ≡ old.shelf)
     (voter : new.voter ≡ mid.voter) (given_still : new.given ≡ mid.given)
     (handed : new.shelf.handed ≡ mid.shelf.handed) where
   abbrev Kept : ValidatorView S G D L C
@@ -268,6 +308,7 @@ module _ {S D K G C L : Type 0} (x : NodeConfig D K G C) (old mid new : Validato
       (event : NodeEvent D K G C) (c : Certificate C D)
       → ((w : Window) → (window_after w event).finalized ≡ w.finalized)
       → held_by (called event) ≡ Some c
+      → (calm ≡ true → (old.given.calm ≡ true) × ((i : ℕ) → cause_by x event i ≡ None))
       → ((past : ValidatorHistory D K G C) (earlier : Conduct D)
       → IsVoting x (called event ∷ voter_history past) earlier mid.voter
       → certifies_itself x.meaning c ≡ true)
@@ -275,13 +316,14 @@ module _ {S D K G C L : Type 0} (x : NodeConfig D K G C) (old mid new : Validato
       → Shelves mid.voter.node.epoch mid.voter.node.window.finalized c mid.shelf.certificates
       new.shelf.certificates
       → VoterMeets x old.voter mid.voter event → RunMeets x old new (did (called event))
-  runs_with event c quiet held certifies epoch shelves meets past earlier is =
+  runs_with event c quiet held nobody certifies epoch shelves meets past earlier is =
       subst (λ v. IsRunning x (did (called event) ∷ past) earlier (record { voter = v; given = new.given; shelf = new.shelf }))
       (sym voter)
       (subst (λ it. IsRunning x (did (called event) ∷ past) earlier (record { voter = mid.voter; given = it; shelf = new.shelf }))
       (sym given_still)
       (goes_on x old Kept (called event ∷ []) past earlier (λ n. n) is voting
-      (recounts_still x old Kept contents is_open given)
+      (recounts_still x old Kept contents is_open calm given)
+      (calms_by x event past old.given.calm calm nobody)
       given
       (kept_with x past (did (called event) ∷ past) (quiet (window_by past)) c (certifies past earlier voting)
       old.shelf.certificates new.shelf.certificates had is.kept shelved)
@@ -308,9 +350,9 @@ module _ {S D K G C L : Type 0} (x : NodeConfig D K G C) (old mid new : Validato
       had d (inl other) = inl (ap (λ o. unwrap_or o c) (sym held ∙ other))
       had d (inr before) = inr before
 
--- there is more room for certificates
+-- there is more room for certificates, and somebody may be to be blocked from then on
 module _ {S D K G C L : Type 0} (x : NodeConfig D K G C) (old roomy : ValidatorView S G D L C)
-    (voter : roomy.voter ≡ old.voter) (given : roomy.given ≡ old.given)
+    (voter : roomy.voter ≡ old.voter) (given : roomy.given ≡ record old.given { calm = false })
     (certificates : roomy.shelf.certificates ≡ old.shelf.certificates)
     (handed : roomy.shelf.handed ≡ old.shelf.handed) where
   pub with_room :
@@ -321,6 +363,7 @@ module _ {S D K G C L : Type 0} (x : NodeConfig D K G C) (old roomy : ValidatorV
         voting = rw (voter) is.voting;
         in_turn = is.in_turn;
         blocks = rw (given) is.blocks;
+        calms = rw (given) (λ wrong. absurd (never_calm wrong));
         finals = rw (given) is.finals;
         votes = rw (voter, given) is.votes;
         begins = rw (voter, given) is.begins;
@@ -334,7 +377,7 @@ module _ {S D K G C L : Type 0} (x : NodeConfig D K G C) (old roomy : ValidatorV
 
 module _ {S D K G C L : Type 0} (config : NodeView S G D → NodeConfig D K G C)
     (old roomy new : ValidatorView S G D L C)
-    (voter : roomy.voter ≡ old.voter) (given : roomy.given ≡ old.given)
+    (voter : roomy.voter ≡ old.voter) (given : roomy.given ≡ record old.given { calm = false })
     (certificates : roomy.shelf.certificates ≡ old.shelf.certificates)
     (handed : roomy.shelf.handed ≡ old.shelf.handed) where
   began_with :
@@ -381,6 +424,7 @@ keeps_beside {D = D} {C = C} x old new c epoch certifies voter given handed shel
       voting = rw (voter) is.voting;
       in_turn = is.in_turn;
       blocks = rw (given) is.blocks;
+      calms = rw (given) is.calms;
       finals = rw (given) is.finals;
       votes = rw (voter, given) is.votes;
       begins = rw (voter, given) is.begins;

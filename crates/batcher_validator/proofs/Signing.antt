@@ -1,10 +1,10 @@
 -- A validator's own vote is cast.
-use Rattle.std.proofs.Common.{◌≡◌, ◌++◌, [], ◌∷◌, Some, None, inl, inr, refl, subst, sym}
+use Rattle.std.proofs.Common.{◌≡◌, ℕ, ◌++◌, [], ◌∷◌, Some, None, inl, inr, refl, subst, sym}
 use Rattle.batcher.specs.messages.Certificate.{Certificate}
 use Rattle.batcher.specs.messages.Vote.{Vote}
 use Rattle.batcher_agreement.specs.Lives.{VoterHistory, called, written}
 use Rattle.batcher_agreement.specs.Policy.{Conduct}
-use Rattle.batcher_node.specs.Events.{vote_cast}
+use Rattle.batcher_node.specs.Events.{cause_in, vote_cast}
 use Rattle.batcher_node.specs.Nodes.{NodeConfig}
 use Rattle.batcher_node.specs.declared.answers.Cast.{Cast}
 use Rattle.batcher_node.specs.declared.answers.Cast.TheVariants.{ToSend, Known as KnownVote, Outside as OutsideVote}
@@ -12,8 +12,8 @@ use Rattle.batcher.specs.messages.Activity.{Activity}
 use Rattle.batcher.specs.votes.Outcome.{Outcome}
 use Rattle.std.specs.Prelude.{Option}
 use Rattle.batcher_validator.specs.Running.{AreKept, ForEachRun, IsRunning, RunCasts, RunMayWrite, RunWrites, ValidatorView}
-use Rattle.batcher_validator.specs.Histories.{HasHad, ValidatorHistory, only_did, voter_history, window_by}
-use Rattle.batcher_validator.proofs.Going.{goes_on, sent_gained}
+use Rattle.batcher_validator.specs.Histories.{calls_in, HasHad, ValidatorHistory, only_did, voter_history, window_by}
+use Rattle.batcher_validator.proofs.Going.{goes_on, or_none, sent_gained}
 use Rattle.batcher_validator.proofs.Keeping.{kept_still}
 use Rattle.batcher_voter.specs.Journals.{MayGain}
 use Rattle.batcher_voter.specs.Voting.{Casts, ForEachLife, IsVoting, IsWritten, MayWrite, WritesAndCalls}
@@ -24,16 +24,18 @@ module _ {S D K G C L : Type 0} (x : NodeConfig D K G C) (old new : ValidatorVie
   goes :
       (more : VoterHistory D K G C) (past : ValidatorHistory D K G C) (earlier : Conduct D)
       → (window_by (only_did more ++ past)).finalized ≡ (window_by past).finalized
+      → ((i : ℕ) → cause_in x (calls_in (only_did more ++ past)) i ≡ cause_in x (calls_in past) i)
       → ((c : Certificate C D) → HasHad (only_did more ++ past) c → HasHad past c)
       → IsRunning x past earlier old
       → IsVoting x (more ++ voter_history past) earlier new.voter
       → IsRunning x (only_did more ++ past) earlier new
-  goes more past earlier window had is voting =
+  goes more past earlier window quiet had is voting =
       goes_on x old new more past earlier (λ n. n) is voting
       (λ still. (
         (gains still).0,
         λ Was count are. sent_gained Was old.voter.journal new.voter.journal count vote gains still (λ opened. are),
       ))
+      (λ yes. (yes, λ i. quiet i))
       given
       (subst (λ s. AreKept x (only_did more ++ past) s.certificates) (sym shelf)
       (kept_still x past (only_did more ++ past) window old.shelf.certificates had is.kept))
@@ -53,7 +55,7 @@ module _ {S D K G C L : Type 0} (x : NodeConfig D K G C) (old new : ValidatorVie
             record {
               more = [];
               is_written = inl (refl, before.1);
-              running = goes (called (vote_cast vote outcome report) ∷ []) past earlier refl
+              running = goes (called (vote_cast vote outcome report) ∷ []) past earlier refl (λ i. or_none (cause_in x (calls_in past) i))
                   (λ c had. elim had [
                     | inl held ↦ absurd cc
                     | inr rest ↦ rest
@@ -64,7 +66,7 @@ module _ {S D K G C L : Type 0} (x : NodeConfig D K G C) (old new : ValidatorVie
             record {
               more = written vote ∷ [];
               is_written = inr refl;
-              running = goes (called (vote_cast vote outcome report) ∷ written vote ∷ []) past earlier refl
+              running = goes (called (vote_cast vote outcome report) ∷ written vote ∷ []) past earlier refl (λ i. or_none (cause_in x (calls_in past) i))
                   (λ c had. elim had [
                     | inl held ↦ absurd cc
                     | inr (inl held) ↦ absurd cc
@@ -98,13 +100,13 @@ module _ {S D K G C L : Type 0} (x : NodeConfig D K G C) (old new : ValidatorVie
         | inl same ↦ record {
           more = [];
           is_written = inl refl;
-          running = goes [] past earlier refl (λ c had. had) is
+          running = goes [] past earlier refl (λ i. refl) (λ c had. had) is
               (subst (λ h. IsVoting x h earlier new.voter) same it.voting);
         }
         | inr one ↦ record {
           more = written vote ∷ [];
           is_written = inr refl;
-          running = goes (written vote ∷ []) past earlier refl
+          running = goes (written vote ∷ []) past earlier refl (λ i. refl)
               (λ c had. elim had [
                 | inl held ↦ absurd cc
                 | inr rest ↦ rest

@@ -1,11 +1,12 @@
 -- A validator: a voter, with what it gave to be done.
-use Rattle.std.specs.Prelude.{◌≡◌, ◌≢◌, ◌<◌, ◌≤◌, ◌⊎◌, ⊤, ℕ, Bool, true, false, List, [], ◌∷◌, ◌++◌, Contains, MatchBool, Option, Some, None, nat_lt, not, take}
+use Rattle.std.specs.Prelude.{◌≡◌, ◌≢◌, ◌<◌, ◌≤◌, ◌⊎◌, ⊤, ℕ, Bool, true, false, List, [], ◌∷◌, ◌++◌, Contains, MatchBool, Option, Some, None, is_some, nat_lt, not, take}
 use Rattle.std.specs.List.{count_by, slice_get}
 use Rattle.batcher.specs.Verifiers.{certifies_itself}
 use Rattle.batcher.specs.Votes.{kind_certified, round_in, subject_certified, subject_of}
 use Rattle.batcher.specs.messages.Certificate.{Certificate}
 use Rattle.batcher.specs.messages.Kind.{Kind}
 use Rattle.batcher.specs.messages.Kind.TheVariants.{Finalization}
+use Rattle.batcher.specs.answers.Admission.{Admission}
 use Rattle.batcher.specs.messages.Proposal.{Proposal}
 use Rattle.batcher.specs.messages.Subject.{Subject}
 use Rattle.batcher.specs.messages.Subject.TheVariants.{Finalize}
@@ -21,12 +22,14 @@ use Rattle.batcher_node.specs.Events.{NodeEvent, constructed, started, view_fina
 use Rattle.batcher_node.specs.Nodes.{IsAtRest, NodeConfig}
 use Rattle.batcher_node.specs.declared.node.Construction.{Construction}
 use Rattle.batcher_node.specs.Windows.{is_of}
+use Rattle.batcher_node.specs.declared.answers.Receipt.{Receipt}
+use Rattle.batcher_node.specs.declared.answers.Receipt.TheVariants.{Answered}
 use Rattle.batcher_node.specs.declared.answers.Cast.{Cast}
 use Rattle.batcher_node.specs.declared.answers.Cast.TheVariants.{ToSend, Known as KnownVote, Outside as OutsideVote}
 use Rattle.batcher_validator.specs.Queues.{AreFirst, HasKey}
 use Rattle.batcher_validator.specs.Shelves.{IsLookedAt, ShelfView, key_of}
 use Rattle.batcher_validator.specs.Histories.{HadVoted, HasAnnouncedFrom, HasAskedFrom, HasBlocked, HasHanded, HasRecast, HasSent, IsVerifying, ValidatorEvent}
-use Rattle.batcher_validator.specs.Tasks.{AreGivenInTurn, Counts}
+use Rattle.batcher_validator.specs.Tasks.{AreGivenInTurn, Counts, NobodyIsToBlock}
 use Rattle.batcher_validator.specs.Histories.{ValidatorHistory, answered, began, chosen_in, conduct_in, did, expired_in, gave, last_to_sign, me_in, only_did, posed_in, voter_history, window_by}
 use Rattle.batcher_validator.specs.declared.tally.Tally.{Tally}
 use Rattle.batcher_validator.specs.declared.task.Task.{Task}
@@ -52,6 +55,8 @@ pub record IntentView (D : Type 0) : Type 0 where
 pub record GivenView (D : Type 0) : Type 0 where
   -- whether each participant was given to be blocked
   pub blocked : List Bool
+  -- whether nobody is to be blocked, as far as is noted
+  pub calm : Bool
   -- the last view of which a proposal was given as final, or 0
   pub announced : ℕ
   -- how many of the journal's votes were given
@@ -125,6 +130,11 @@ pub record AreKept {D K G C : Type 0} (x : NodeConfig D K G C) (past : Validator
       (c : Certificate C D) → Contains kept c → IsLookedAt x.epoch (window_by past).finalized c
   pub are_there : (c : Certificate C D) → Counts x past c → HasKey key_of kept (key_of c)
 
+-- whether an answer to a vote blocks who sent it
+abbrev pub blocks_sender : {G D : Type 0} → Receipt (Admission G D) → Bool
+blocks_sender (Answered admission) = is_some admission.block
+blocks_sender receipt = false
+
 -- A vote that is given to be sent or cast is on the disk, a certificate is kept, and votes that are
 -- given to be verified wait.
 abbrev pub IsReady : {S G D L C : Type 0} → ValidatorView S G D L C → Task G D → Type 0
@@ -161,6 +171,7 @@ module _ {S D K G C L : Type 0} (x : NodeConfig D K G C) where
     pub voting : IsVoting x (voter_history past) earlier validator.voter
     pub in_turn : AreGivenInTurn x earlier past
     pub blocks : AreBlocked (λ i. HasBlocked past i) validator.given.blocked
+    pub calms : validator.given.calm ≡ true → NobodyIsToBlock x past
     pub finals : AreAsked (λ view. HasAnnouncedFrom past view) validator.given.announced
     pub votes :
         validator.voter.journal.is_open ≡ true → AreFirstVotes validator

@@ -58,6 +58,12 @@ module _ {D K G C : Type 0} (x : NodeConfig D K G C) where
     pub is_of : key_of certificate ≡ (kind, number)
     pub certifies : certifies_itself x.meaning certificate ≡ true
 
+  -- Whoever is blocked was given to be blocked.
+  abbrev pub NobodyIsToBlock : ValidatorHistory D K G C → Type 0
+  NobodyIsToBlock past =
+      (i : ℕ) → i < length x.meaning.participants
+      → (cause_in x (calls_in past) i ≡ None) ⊎ HasBlocked past i
+
   -- A proposal of a view is to be made, or to be judged: it would be the first of the current view,
   -- which is above the final one and whose time isn't over, and no later view is to be entered.
   pub record IsOpen (past : ValidatorHistory D K G C) (view : ℕ) : Type 0 where
@@ -165,10 +171,8 @@ module _ {D K G C : Type 0} (x : NodeConfig D K G C) where
 
     -- Nothing is left to be given.
     pub record NothingIsDue (past : ValidatorHistory D K G C) : Type 0 where
-      -- Whoever is blocked was given to be blocked,
-      pub blocks :
-          (i : ℕ) → i < length x.meaning.participants
-          → (cause_in x (calls_in past) i ≡ None) ⊎ HasBlocked past i
+      -- Nobody is to be blocked,
+      pub blocks : NobodyIsToBlock past
       -- each finalization that counts was given as final,
       pub finals :
           (c : Certificate C D) → Counts past c → (p : Proposal D)

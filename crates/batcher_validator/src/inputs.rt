@@ -9,7 +9,7 @@ ghost use Rattle.batcher_node.specs.Events.{certificate_came, constructed, view_
 ghost use Rattle.batcher_node.specs.Nodes.{IsAtRest, IsLedByAnother, IsNext, SameNode, slot_at};
 ghost use Rattle.batcher_node.specs.declared.answers.EnterFault.{EnterFault};
 ghost use Rattle.batcher_node.specs.Represents.{IsHeard, MayNeedIn};
-ghost use Rattle.batcher_validator.specs.Running.{Constructs, RunMeets, RunStays};
+ghost use Rattle.batcher_validator.specs.Running.{Constructs, RunMeets, RunStays, blocks_sender};
 ghost use Rattle.batcher_validator.specs.Shelves.{Shelves};
 ghost use Rattle.batcher_validator.specs.Histories.{answered, did};
 ghost use Rattle.batcher_voter.specs.Needing.{CertificateNeeds, ConstructionNeeds};
@@ -52,9 +52,24 @@ where
         ensures same { SameNode self.old.voter.node self.new.voter.node }
     {
         match self.call_vote(peer, vote) {
-            Ok(receipt) => Ok(receipt),
+            Ok(receipt) => {
+                if blocks_sender(&receipt) {
+                    self.stir();
+                    return Ok(receipt);
+                }
+                Ok(receipt)
+            }
             Err(fault) => Err(fault),
         }
+    }
+
+    // Somebody may be to be blocked.
+    fn stir(&mut self)
+        ensures given { self.new.given ≡ record self.old.given { calm = false } }
+        ensures voter { self.new.voter ≡ self.old.voter }
+        ensures shelf { self.new.shelf ≡ self.old.shelf }
+    {
+        self.given.calm = false;
     }
 
     // The voter takes in a vote.
@@ -114,7 +129,8 @@ where
         peer: S::PublicKey,
         certificate: Certificate<S::Certificate, D>,
     ) -> Result<Receipt<Verdict>, AllocError>
-        requires { 1 ≤ self.old.shelf.room }
+        requires room { 1 ≤ self.old.shelf.room }
+        requires stirred { self.old.given.calm ≡ false }
         ensures meets { IfOk result (λ receipt. RunMeets
             (⟦<S as NodeConfigs<D>>⟧.of self.old.voter.node) self.old self.new
             (did (called (certificate_came peer certificate receipt)))) }
@@ -268,7 +284,8 @@ where
 
     // The same where there is room for its certificate.
     fn construct_with_room<R: CryptoRng>(&mut self, rng: &mut R) -> Result<bool, AllocError>
-        requires { 1 ≤ self.old.shelf.room }
+        requires room { 1 ≤ self.old.shelf.room }
+        requires stirred { self.old.given.calm ≡ false }
         ensures needed { OnErr result (ConstructionNeeds
             (⟦<S as NodeConfigs<D>>⟧.of self.old.voter.node) self.old.voter) }
         ensures made { result ≡ Ok true → Constructs
@@ -304,15 +321,16 @@ where
         }
     }
 
-    // Makes room for one more certificate.
+    // Makes room for one more certificate. By what comes then somebody may be blocked.
     fn make_room(&mut self) -> Result<(), AllocError>
         ensures room { OnOk result (1 ≤ self.new.shelf.room) }
         ensures needed { OnErr result (self.old.shelf.room ≡ 0) }
         ensures certificates { self.new.shelf.certificates ≡ self.old.shelf.certificates }
         ensures handed { self.new.shelf.handed ≡ self.old.shelf.handed }
         ensures voter { self.new.voter ≡ self.old.voter }
-        ensures given { self.new.given ≡ self.old.given }
+        ensures given { self.new.given ≡ record self.old.given { calm = false } }
     {
+        self.stir();
         self.shelf.make_room()
     }
 
@@ -412,5 +430,17 @@ fn certificate_of<C: Drop, D>(made: Construction<C, D>) -> Option<Certificate<C,
     match batch {
         Some(Batch { certificate, .. }) => certificate,
         None => None,
+    }
+}
+
+// Whether the answer to a vote blocks who sent it.
+fn blocks_sender<G: Copy, D: Digest>(receipt: &Receipt<Admission<G, D>>) -> bool
+    ensures { result ≡ blocks_sender receipt.now }
+{
+    match receipt {
+        Receipt::Answered(admission) => admission.block.is_some(),
+        Receipt::Outside => false,
+        Receipt::Dropped => false,
+        Receipt::Unknown => false,
     }
 }

@@ -90,6 +90,7 @@ where
                                             self.note_verifying();
                                             return Ok(Some(Task::Verify));
                                         }
+                                        self.note_calm();
                                         Ok(None)
                                     }
                                 },
@@ -141,8 +142,43 @@ where
         self.voter.is_open()
     }
 
-    // Who is blocked, and wasn't given to be.
+    // Who is blocked, and wasn't given to be. Where it is calm, nobody is looked for.
     fn next_block(&self) -> Option<(Participant, Cause)>
+        ensures within { IfSome result (λ it.
+            it.0.0 < length (S.meaning self.now.voter.node.scheme).participants) }
+        ensures cause { IfSome result (λ it.
+            cause_at self.now.voter.node.blocked it.0.0 ≡ Some it.1) }
+        ensures not_yet { IfSome result (λ it.
+            slice_get self.now.given.blocked it.0.0 ≡ Some false) }
+        ensures none { result ≡ None → (self.now.given.calm ≡ true) ⊎ ((i : ℕ)
+            → i < length (S.meaning self.now.voter.node.scheme).participants
+            → (cause_at self.now.voter.node.blocked i ≡ None)
+            ⊎ (slice_get self.now.given.blocked i ≡ Some true)) }
+    {
+        if self.is_calm() {
+            return None;
+        }
+        match self.find_block() {
+            Some(it) => Some(it),
+            None => None,
+        }
+    }
+
+    fn is_calm(&self) -> bool
+        ensures { result ≡ self.now.given.calm }
+    {
+        self.given.calm
+    }
+
+    fn note_calm(&mut self)
+        ensures given { self.new.given ≡ record self.old.given { calm = true } }
+        ensures voter { self.new.voter ≡ self.old.voter }
+        ensures shelf { self.new.shelf ≡ self.old.shelf }
+    {
+        self.given.calm = true;
+    }
+
+    fn find_block(&self) -> Option<(Participant, Cause)>
         ensures within { IfSome result (λ it.
             it.0.0 < length (S.meaning self.now.voter.node.scheme).participants) }
         ensures cause { IfSome result (λ it.

@@ -57,6 +57,8 @@ impl<D: Digest> Model for Intent<D> {
 pub(crate) struct Given<D: Digest> {
     // Whether each participant was given to be blocked.
     pub(crate) blocked: Vec<bool>,
+    // Whether nobody is to be blocked, as far as is noted.
+    pub(crate) calm: bool,
     // The last view of which a proposal was given as final, or 0.
     pub(crate) announced: u64,
     pub(crate) tally: Tally,
@@ -74,6 +76,7 @@ impl<D: Digest> Model for Given<D> {
 
     ghost view = { λ g. record {
       blocked = g.blocked.items;
+      calm = g.calm;
       announced = g.announced;
       tally = g.tally;
       asked = g.asked;
@@ -189,6 +192,7 @@ where
         ensures voter { result.voter ≡ voter }
         ensures given { result.given ≡ record {
           blocked = blocked.items;
+          calm = false;
           announced = 0;
           tally = record { begun = begun; recast = 0; sent = 0 };
           asked = 0;
@@ -202,6 +206,7 @@ where
             voter,
             given: Given {
                 blocked,
+                calm: false,
                 announced: 0,
                 tally: Tally {
                     begun,

@@ -1,7 +1,7 @@
 use Rattle.std.proofs.Common.{◌≡◌, ◌⊎◌, ◌∙◌, ap, false, refl, subst, sym, true}
 use Rattle.batcher_node.specs.Nodes.{IsAtRest, node_config}
 use Rattle.batcher_types.proofs.VoteLemmas.{same_subject-refl}
-use Rattle.batcher_validator.proofs.Giving.{contained, gives_block, gives_cast, gives_certificate, gives_enter, gives_verify, gives_vote, nothing_due}
+use Rattle.batcher_validator.proofs.Giving.{becomes_calm, contained, gives_block, gives_cast, gives_certificate, gives_enter, gives_verify, gives_vote, nothing_due}
 use Rattle.batcher_validator.specs.Histories.{voter_history}
 use Rattle.batcher_validator.proofs.validator.Validator.poll.Goals as goal
 
@@ -114,3 +114,14 @@ returns-else-has_votes_waiting-clause-nothing g c = λ none past earlier is.
     (subst (λ v. (v.given.verifying ≡ true) ⊎ IsAtRest v.voter.node)
     (c.pose.ensures.same c.in-None-pose.is) c.if-has_votes_waiting.ensures)
     (c.pose.ensures.nothing c.in-None-pose.is past earlier is)
+
+pub returns-else-has_votes_waiting-clause-rests : goal.returns-else-has_votes_waiting-clause-rests
+returns-else-has_votes_waiting-clause-rests g c = λ none.
+    let old = c.args.self.now in
+    let same = c.pose.ensures.same c.in-None-pose.is in
+    becomes_calm (node_config g.S.Scheme.meaning g.S.PublicKey.Ord.cmp g.S.Signature.PartialEq.eq
+    g.D.PartialEq.eq old.voter.node) old c.note_calm.new.self
+    (c.note_calm.ensures.voter ∙ c.pose.ensures.voter)
+    (c.note_calm.ensures.shelf ∙ ap (λ v. v.shelf) same)
+    (subst (λ v. c.note_calm.new.self.given ≡ record v.given { calm = true }) same c.note_calm.ensures.given)
+    (returns-else-has_votes_waiting-clause-nothing g c none)

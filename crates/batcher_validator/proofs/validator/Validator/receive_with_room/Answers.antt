@@ -1,9 +1,9 @@
-use Rattle.std.proofs.Common.{ap, refl, sym}
+use Rattle.std.proofs.Common.{◌∙◌, ap, refl, sym}
 use Rattle.batcher_agreement.specs.Lives.{node_history}
 use Rattle.batcher_node.specs.Events.{certificate_came}
 use Rattle.batcher_node.specs.Nodes.{node_config}
 use Rattle.batcher_validator.proofs.Certifying.{certified, none_is_held, recorded_is_held}
-use Rattle.batcher_validator.proofs.Going.{run_stays, runs, runs_with}
+use Rattle.batcher_validator.proofs.Going.{never_calm, run_stays, runs, runs_with}
 use Rattle.batcher_validator.specs.Histories.{voter_history}
 use Rattle.batcher_validator.proofs.validator.Validator.receive_with_room.Goals as goal
 
@@ -16,9 +16,9 @@ returns-then-is_recorded-clause-meets g c =
     (sym c.if-is_recorded.ensures) in
     runs_with (node_config g.S.Scheme.meaning g.S.PublicKey.Ord.cmp g.S.Signature.PartialEq.eq
     g.D.PartialEq.eq old.voter.node) old call.new.self c.shelve.new.self
-    call.ensures.contents call.ensures.open call.ensures.given call.ensures.shelf
+    call.ensures.contents call.ensures.open old.given.calm call.ensures.given call.ensures.shelf
     c.shelve.ensures.voter c.shelve.ensures.given c.shelve.ensures.handed event c.args.certificate
-    (λ w. refl) held
+    (λ w. refl) held (λ calm. absurd (never_calm (sym c.requires.stirred ∙ calm)))
     (λ past earlier voting. certified g.S.Scheme.meaning g.S.PublicKey.Ord.cmp
     g.S.Signature.PartialEq.eq g.D.PartialEq.eq
     c.senders_of_votes_to_send_are_never_blocked.ensures.held_certify old.voter.node
@@ -32,10 +32,11 @@ returns-else-is_recorded-clause-meets g c =
     let call = c.call_certificate in
     runs (node_config g.S.Scheme.meaning g.S.PublicKey.Ord.cmp g.S.Signature.PartialEq.eq
     g.D.PartialEq.eq old.voter.node) old call.new.self call.ensures.contents
-    call.ensures.open call.ensures.given (ap (λ s. s.certificates) call.ensures.shelf)
+    call.ensures.open old.given.calm call.ensures.given (ap (λ s. s.certificates) call.ensures.shelf)
     (ap (λ s. s.handed) call.ensures.shelf)
     (certificate_came c.args.peer c.args.certificate c.in-Ok.receipt) (λ w. refl)
     (none_is_held g.row.S-PublicKey.Denot g.row.S-Signature.Denot c.args.peer c.args.certificate c.in-Ok.receipt (sym c.if-is_recorded.ensures))
+    (λ calm. absurd (never_calm (sym c.requires.stirred ∙ calm)))
     c.in-Ok.ensures.meets
 
 pub returns-in-Err-clause-stays : goal.returns-in-Err-clause-stays
@@ -44,5 +45,5 @@ returns-in-Err-clause-stays g c =
     let call = c.call_certificate in
     run_stays (node_config g.S.Scheme.meaning g.S.PublicKey.Ord.cmp g.S.Signature.PartialEq.eq
     g.D.PartialEq.eq old.voter.node) old call.new.self call.ensures.contents
-    call.ensures.open call.ensures.given (ap (λ s. s.certificates) call.ensures.shelf)
-    (ap (λ s. s.handed) call.ensures.shelf) c.in-Err.ensures.stays
+    call.ensures.open old.given.calm call.ensures.given (ap (λ s. s.certificates) call.ensures.shelf)
+    (ap (λ s. s.handed) call.ensures.shelf) refl c.in-Err.ensures.stays
