@@ -25,8 +25,8 @@ returns-in-Some g c = λ past has.
 
 pub returns-in-None : goal.returns-in-None
 returns-in-None g c = λ past has. (
-      omega (arith, c.if-parent-floor.false, c.floor.ensures),
-      parent_grounds c.args.self.now past has c.args.proposal.now c.requires.epoch
-          (omega (arith, c.if-parent-floor.false, c.floor.ensures)) c.if-proposal-parent.false
-          c.if-not-is_parent.ensures (c.gap.ensures.none c.in-None.is),
-    )
+  omega (arith, c.if-parent-floor.false, c.floor.ensures),
+  parent_grounds c.args.self.now past has c.args.proposal.now c.requires.epoch
+      (omega (arith, c.if-parent-floor.false, c.floor.ensures)) c.if-proposal-parent.false
+      c.if-not-is_parent.ensures (c.gap.ensures.none c.in-None.is),
+)
