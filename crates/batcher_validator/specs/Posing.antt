@@ -11,7 +11,7 @@ use Rattle.batcher_node.specs.Nodes.{NodeConfig, NodeView}
 use Rattle.batcher_node.specs.Windows.{numbered}
 use Rattle.batcher_validator.specs.Histories.{Leads, ValidatorHistory, conduct_in, leader_in, proposal_by, voter_history, window_by}
 use Rattle.batcher_validator.specs.Running.{ForEachRun, ValidatorView}
-use Rattle.batcher_validator.specs.Tasks.{HasSigned, HasVotedIn, IsContested, IsOpen, IsSigning, IsWanted, MayVote}
+use Rattle.batcher_validator.specs.Tasks.{SignsNoMore, HasVotedIn, IsContested, IsOpen, IsSigning, IsWanted, MayVote}
 
 module _ {S D K G C L : Type 0} (config : NodeView S G D → NodeConfig D K G C)
     (validator : ValidatorView S G D L C) where
@@ -45,7 +45,7 @@ module _ {S D K G C L : Type 0} (config : NodeView S G D → NodeConfig D K G C)
   Signs = Always (λ past earlier. IsSigning here earlier past)
 
   abbrev pub SignsNothing : Type 0
-  SignsNothing = Always (λ past earlier. HasSigned here earlier past)
+  SignsNothing = Always (λ past earlier. SignsNoMore here earlier past)
 
   -- a proposal of the view is to be made, or judged, or it isn't
   abbrev pub CanPose : ℕ → Type 0

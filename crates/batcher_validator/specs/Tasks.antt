@@ -96,9 +96,9 @@ module _ {D K G C : Type 0} (x : NodeConfig D K G C) where
       pub was_last : last_to_sign past ≡ Some subject
       pub may_vote : MayVote past subject
 
-    -- It may not, or it is contested.
-    abbrev pub HasSigned : ValidatorHistory D K G C → Type 0
-    HasSigned past =
+    -- It may no more, or it is contested.
+    abbrev pub SignsNoMore : ValidatorHistory D K G C → Type 0
+    SignsNoMore past =
         (s : Subject D) → last_to_sign past ≡ Some s → MayVote past s
         → IsContested (conduct_in earlier past) s
 
@@ -134,7 +134,7 @@ module _ {D K G C : Type 0} (x : NodeConfig D K G C) where
     -- no votes are being verified,
     MayGive past Verify = IsVerifying past → ⊥
     -- a vote is wanted and may be cast, and no other is being signed,
-    MayGive past (Sign s) = IsWanted past s × (MayVote past s × HasSigned past)
+    MayGive past (Sign s) = IsWanted past s × (MayVote past s × SignsNoMore past)
     -- each proposal on the parent is grounded, in a view that the validator leads,
     MayGive past (Propose view parent) =
         IsOpen past view.0 × (Leads past view.0

@@ -51,7 +51,7 @@ where
             None => match self.next_to_propose() {
                 Some((view, parent)) => {
                     self.note_posed(view);
-                    Some(Task::Propose(view, parent))
+                    Some(Task::Propose { view, parent })
                 }
                 None => match self.next_to_judge() {
                     Some(proposal) => {

@@ -24,7 +24,7 @@ pub enum Task<G, D> {
     /// Sign this with the key of the validator, and cast the vote.
     Sign(Subject<D>),
     /// Make a proposal of this view, whose parent is of that view, and say so by `propose`.
-    Propose(View, View),
+    Propose { view: View, parent: View },
     /// Judge whether this proposal is valid, and say so by `judge`.
     Judge(Proposal<D>),
 }

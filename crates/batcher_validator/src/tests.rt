@@ -331,7 +331,8 @@ fn who_leads_proposes(rt: HostRuntime) -> Result<(), Fail> {
 // It leads each view.
 fn lead(station: &mut Station, rt: &impl Abort) -> Result<(), Fail> {
     station.enter(rt, 1);
-    station.gives(rt, Task::Propose(View(1), View(0)));
+    let (view, parent) = (View(1), View(0));
+    station.gives(rt, Task::Propose { view, parent });
     station.gives(rt, Task::Verify);
     station.rests(rt);
     // It is asked once. A payload for a view that it isn't in yet is dropped.
@@ -474,7 +475,7 @@ impl Member {
             }
             Task::Cast(vote) => assert!(rt; self.station.try_cast(vote.subject())),
             Task::Sign(subject) => assert!(rt; self.station.try_cast(subject)),
-            Task::Propose(view, parent) => {
+            Task::Propose { view, parent } => {
                 self.station
                     .validator
                     .propose(view, parent, Sha256Digest([1; 32]));
