@@ -4,6 +4,8 @@ use Rattle.std.specs.Prelude.{Contains, unwrap_or}
 use Rattle.std.specs.List.{slice_get}
 use Rattle.batcher.specs.positions.Participant.{Participant}
 use Rattle.batcher.specs.Votes.{subject_of}
+use Rattle.batcher.specs.messages.Certificate.{Certificate}
+use Rattle.batcher_codec.specs.Format.{Format}
 use Rattle.batcher_agreement.specs.Policy.{Conduct, HasVoted}
 use Rattle.batcher_journal.specs.Text.{Contents}
 use Rattle.std.proofs.lemmas.List.{take_all}
@@ -12,8 +14,9 @@ use Rattle.batcher_agreement.specs.Lives.{node_history}
 use Rattle.batcher_node.specs.Events.{started}
 use Rattle.batcher_node.specs.Nodes.{NodeConfig, NodeView}
 use Rattle.batcher_validator.specs.Queues.{AreFirst}
-use Rattle.batcher_validator.specs.Running.{HasBegun, IsRunning, RunStays, ValidatorView, is_over_for}
-use Rattle.batcher_validator.specs.Histories.{began}
+use Rattle.batcher_validator.specs.Recalling.{Recalls}
+use Rattle.batcher_validator.specs.Running.{HasBegun, IsOnDisk, IsRunning, ValidatorView, is_over_for}
+use Rattle.batcher_validator.specs.Histories.{began, only_took}
 use Rattle.batcher_validator.proofs.Going.{never_calm}
 use Rattle.batcher_voter.specs.Voting.{HasStarted}
 
@@ -84,7 +87,6 @@ module _ {S D K G C L : Type 0} (x : NodeConfig D K G C) (validator : ValidatorV
   pub begun :
       (blocked : List Bool) (me : Participant) (count : ℕ)
       → count ≡ length validator.voter.journal.contents.votes
-      → me.0 ≡ validator.voter.journal.contents.owner.1.1.0
       → ((i : ℕ) → slice_get blocked i ≡ Some true → ⊥)
       → validator.given ≡ record {
         blocked = blocked;
@@ -96,62 +98,63 @@ module _ {S D K G C L : Type 0} (x : NodeConfig D K G C) (validator : ValidatorV
         intent = record { me = me; signing = None; expired = 0; chosen = None; posed = 0 };
       }
       → validator.shelf.certificates ≡ [] → validator.shelf.handed ≡ 0
-      → HasStarted x earlier validator.voter → HasBegun x earlier validator
-  begun blocked me count all owns none given empty handed has =
+      → (has : HasStarted x earlier validator.voter)
+      → IsRunning x (began me has.past ∷ []) earlier validator
+  begun blocked me count all none given empty handed has =
       record {
-        me = me;
-        owns = owns;
-        past = has.past;
-        running = record {
-          voting = has.voting;
-          in_turn = tt;
-          blocks = rw (given) record {
-            were_blocked = λ i there. absurd (none i there);
-            no_others = λ i was. absurd was;
-          };
-          calms = rw (given) (λ wrong. absurd (never_calm wrong));
-          finals = rw (given) record {
-            were_asked = λ view some within. absurd (omega (arith, some, within));
-            no_others = λ view was. absurd was;
-          };
-          votes = λ opened. rw (given) (first_none _ _ _ _ (λ s was. was));
-          begins = λ opened. rw (given, all) (first_all (has.voting.remembers opened));
-          casts = λ opened. rw (given) (first_none _ _ _ _ (λ s was. was));
-          kept = record {
-            certify = λ c there. absurd (none_contained validator.shelf.certificates empty c there);
-            looked_at = λ c there. absurd (none_contained validator.shelf.certificates empty c there);
-            are_there = λ c counts. absurd counts.had;
-          };
-          certificates = rw (handed) (first_none _ _ _ _ (λ key was. was));
-          asks = rw (given) record {
-            were_asked = λ view some within. absurd (omega (arith, some, within));
-            no_others = λ view was. absurd was;
-          };
-          verifies = rw (given) (λ is. is);
-          intends = rw (given) record {
-            votes_as = refl;
-            signs = refl;
-            expires = refl;
-            chooses = refl;
-            poses = refl;
-          };
+        voting = has.voting;
+        in_turn = tt;
+        blocks = rw (given) record {
+          were_blocked = λ i there. absurd (none i there);
+          no_others = λ i was. absurd was;
         };
-        asked_nothing = has.asked_nothing;
+        calms = rw (given) (λ wrong. absurd (never_calm wrong));
+        finals = rw (given) record {
+          were_asked = λ view some within. absurd (omega (arith, some, within));
+          no_others = λ view was. absurd was;
+        };
+        votes = λ opened. rw (given) (first_none _ _ _ _ (λ s was. was));
+        begins = λ opened. rw (given, all) (first_all (has.voting.remembers opened));
+        casts = λ opened. rw (given) (first_none _ _ _ _ (λ s was. was));
+        kept = record {
+          certify = λ c there. absurd (none_contained validator.shelf.certificates empty c there);
+          looked_at = λ c there. absurd (none_contained validator.shelf.certificates empty c there);
+          are_there = λ c counts. absurd counts.had;
+        };
+        certificates = rw (handed) (first_none _ _ _ _ (λ key was. was));
+        asks = rw (given) record {
+          were_asked = λ view some within. absurd (omega (arith, some, within));
+          no_others = λ view was. absurd was;
+        };
+        verifies = rw (given) (λ is. is);
+        intends = rw (given) record {
+          votes_as = refl;
+          signs = refl;
+          expires = refl;
+          chooses = refl;
+          poses = refl;
+        };
       }
 
--- It keeps what its disk has.
-pub still_begun :
+-- It takes in what its disk has.
+pub has_begun :
     {S D K G C L : Type 0} (config : NodeView S G D → NodeConfig D K G C)
-    (old new : ValidatorView S G D L C) (earlier : Conduct D)
-    → RunStays (config old.voter.node) old new → new.voter ≡ old.voter
-    → HasBegun (config old.voter.node) earlier old → HasBegun (config new.voter.node) earlier new
-still_begun config old new earlier stays voter has =
+    (format : Format (Certificate C D)) (old new : ValidatorView S G D L C) (earlier : Conduct D)
+    (me : Participant) → me.0 ≡ old.voter.journal.contents.owner.1.1.0
+    → (has : HasStarted (config old.voter.node) earlier old.voter)
+    → IsRunning (config old.voter.node) (began me has.past ∷ []) earlier old
+    → Recalls (config old.voter.node) (IsOnDisk format old.voter.journal.contents) old new
+    → new.voter ≡ old.voter → HasBegun (config new.voter.node) format earlier new
+has_begun config format old new earlier me owns has running recalls voter =
     record {
-      me = has.me;
-      owns = subst (λ v. has.me.0 ≡ v.journal.contents.owner.1.1.0) (sym voter) has.owns;
+      me = me;
+      owns = subst (λ v. me.0 ≡ v.journal.contents.owner.1.1.0) (sym voter) owns;
       past = has.past;
-      running = subst (λ v. IsRunning (config v.node) (began has.me has.past ∷ []) earlier new) (sym voter)
-          (stays (began has.me has.past ∷ []) earlier has.running);
+      held = recalls.held;
+      has_all = λ c on_disk. recalls.has_all c
+          (subst (λ v. IsOnDisk format v.journal.contents c) voter on_disk);
+      running = subst (λ v. IsRunning (config v.node) (only_took recalls.held ++ began me has.past ∷ []) earlier new) (sym voter)
+          (recalls.running (began me has.past ∷ []) earlier running);
       asked_nothing = subst (λ v. node_history has.past ≡ started v.node.window ∷ []) (sym voter)
           has.asked_nothing;
     }

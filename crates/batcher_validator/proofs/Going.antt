@@ -21,10 +21,10 @@ use Rattle.batcher_validator.specs.Queues.{AreFirst}
 use Rattle.batcher_validator.specs.Running.{AreFirstVotes, AreKept, Constructs, IsRunning, RunMeets, RunStays, ValidatorView, tallied, is_before_view, is_over_for}
 use Rattle.batcher_validator.specs.Shelves.{Shelves, key_of}
 use Rattle.batcher_validator.specs.Histories.{HasAnnouncedFrom, HasAskedFrom, HasBlocked, HasHad, HasHanded, HasRecast, HadVoted, HasSent, IsVerifying, ValidatorEvent, ValidatorHistory}
-use Rattle.batcher_validator.specs.Histories.{calls_in, answered, did, only_did, voter_history, window_by}
+use Rattle.batcher_validator.specs.Histories.{calls_in, answered, did, only_did, took, voter_history, window_by}
 use Rattle.batcher_validator.specs.Tasks.{AreGivenInTurn}
-use Rattle.batcher_validator.proofs.Intending.{intent_more}
-use Rattle.batcher_validator.proofs.Keeping.{first_with, kept_beside, kept_still, kept_with}
+use Rattle.batcher_validator.proofs.Intending.{intent_more, still_intent}
+use Rattle.batcher_validator.proofs.Keeping.{first_with, kept_still, kept_with}
 use Rattle.batcher_validator.proofs.Queueing.{leave, put_behind}
 use Rattle.batcher_voter.specs.Journals.{IsRaised, MayGain}
 use Rattle.batcher_voter.specs.Voting.{IsVoting, VoterMeets, VoterStays}
@@ -411,15 +411,15 @@ module _ {S D K G C L : Type 0} (config : NodeView S G D → NodeConfig D K G C)
   )
 
 -- A certificate that certifies is kept, though no call of the node took it in.
-pub keeps_beside :
+pub takes_in :
     {S D K G C L : Type 0} (x : NodeConfig D K G C) (old new : ValidatorView S G D L C)
     (c : Certificate C D)
     → x.epoch ≡ old.voter.node.epoch → certifies_itself x.meaning c ≡ true
     → new.voter ≡ old.voter → new.given ≡ old.given → new.shelf.handed ≡ old.shelf.handed
     → Shelves old.voter.node.epoch old.voter.node.window.finalized c old.shelf.certificates
     new.shelf.certificates
-    → RunStays x old new
-keeps_beside {D = D} {C = C} x old new c epoch certifies voter given handed shelves past earlier is =
+    → RunMeets x old new (took c)
+takes_in {D = D} {C = C} x old new c epoch certifies voter given handed shelves past earlier is =
     record {
       voting = rw (voter) is.voting;
       in_turn = is.in_turn;
@@ -429,13 +429,14 @@ keeps_beside {D = D} {C = C} x old new c epoch certifies voter given handed shel
       votes = rw (voter, given) is.votes;
       begins = rw (voter, given) is.begins;
       casts = rw (voter, given) is.casts;
-      kept = kept_beside x past c old.shelf.certificates new.shelf.certificates certifies is.kept shelved;
+      kept = kept_with x past (took c ∷ past) refl c certifies old.shelf.certificates new.shelf.certificates
+          (λ d had. had) is.kept shelved;
       certificates = rw (handed) (first_with x.epoch (window_by past).finalized c old.shelf.certificates
           new.shelf.certificates (is_before_view (window_by past).finalized) (λ key. HasHanded past key)
           old.shelf.handed shelved is.certificates);
       asks = rw (given) is.asks;
       verifies = rw (given) is.verifies;
-      intends = rw (given) is.intends;
+      intends = rw (given) (still_intent past (took c ∷ past) old.given.intent refl refl refl refl refl is.intends);
     }
   where
     shelved : Shelves x.epoch

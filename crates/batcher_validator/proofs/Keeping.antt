@@ -129,26 +129,6 @@ module _ {D K G C : Type 0} (x : NodeConfig D K G C) (past after : ValidatorHist
     kept_with (inl seen) = kept_taken seen.0 seen.1
     kept_with (inr passed) = subst (AreKept x after) (sym passed.1) (kept_passed passed.0)
 
--- one that certifies is put beside those that came
-pub kept_beside :
-    {D K G C : Type 0} (x : NodeConfig D K G C) (past : ValidatorHistory D K G C)
-    (c : Certificate C D)
-    (old new : List (Certificate C D)) → certifies_itself x.meaning c ≡ true → AreKept x past old
-    → Shelves x.epoch (window_by past).finalized c old new → AreKept x past new
-kept_beside x past c old new certifies are (inr passed) = subst (AreKept x past) (sym passed.1) are
-kept_beside x past c old new certifies are (inl seen) =
-    record {
-      certify = λ d there. elim (there_before c old new seen.1 d there) [
-        | inl before ↦ are.certify d before
-        | inr is ↦ subst (λ e. certifies_itself x.meaning e ≡ true) is certifies
-      ];
-      looked_at = λ d there. elim (there_before c old new seen.1 d there) [
-        | inl before ↦ are.looked_at d before
-        | inr is ↦ subst (λ e. IsLookedAt x.epoch (window_by past).finalized e) is seen.0
-      ];
-      are_there = λ d counts. key_still c old new seen.1 (key_of d) (are.are_there d counts);
-    }
-
 pub first_with :
     {C D : Type 0} (epoch : Epoch) (first : ℕ) (c : Certificate C D) (old new : List
     (Certificate C D))

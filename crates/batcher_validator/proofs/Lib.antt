@@ -1,4 +1,6 @@
 pub mod Queueing
+pub mod Reading
+pub mod Lending
 pub mod Keeping
 pub mod Intending
 pub mod Looking

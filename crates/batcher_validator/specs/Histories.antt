@@ -20,6 +20,8 @@ use Rattle.batcher_validator.specs.declared.task.Task.TheVariants.{Block, Cast, 
 pub data ValidatorEvent (D K G C : Type 0) : Type 0 where
   -- it was made of a voter, which votes as this participant, and did this before
   began : Participant → VoterHistory D K G C → ValidatorEvent D K G C
+  -- it took in a certificate that it verified itself, from its disk or from who is ahead
+  took : Certificate C D → ValidatorEvent D K G C
   -- its voter did this
   did : VoterEvent D K G C → ValidatorEvent D K G C
   -- it gave this to be done
@@ -76,9 +78,15 @@ module _ {D K G C : Type 0} where
   only_did [] = []
   only_did (event ∷ past) = did event ∷ only_did past
 
+  -- what it took in
+  abbrev pub only_took : List (Certificate C D) → ValidatorHistory D K G C
+  only_took [] = []
+  only_took (c ∷ held) = took c ∷ only_took held
+
   -- it has had a certificate since it began
   abbrev pub HasHad : ValidatorHistory D K G C → Certificate C D → Type 0
   HasHad [] c = ⊥
+  HasHad (took held ∷ past) c = (held ≡ c) ⊎ HasHad past c
   HasHad (did event ∷ past) c = (held_by event ≡ Some c) ⊎ HasHad past c
   HasHad (event ∷ past) c = HasHad past c
 

@@ -4,3 +4,4 @@ pub mod Queues
 pub mod Shelves
 pub mod Running
 pub mod Posing
+pub mod Recalling

@@ -1,5 +1,7 @@
--- What a validator votes for, proposes and judges, whatever happened to it.
-use Rattle.std.specs.Prelude.{◌≡◌, ◌≤◌, ℕ, Option, Some}
+-- What a validator votes for, proposes and judges, whatever happened to it, and what it has not to
+-- give, by what it has noted.
+use Rattle.std.specs.Prelude.{◌≡◌, ◌<◌, ◌≤◌, ◌+◌, ◌⊎◌, ◌^◌, ℕ, Option, Some, None, length, true}
+use Rattle.std.specs.List.{slice_get}
 use Rattle.batcher.specs.messages.Proposal.{Proposal}
 use Rattle.batcher.specs.messages.Subject.{Subject}
 use Rattle.batcher.specs.messages.Subject.TheVariants.{Notarize}
@@ -7,11 +9,25 @@ use Rattle.batcher.specs.positions.Participant.{Participant}
 use Rattle.batcher.specs.positions.View.{View}
 use Rattle.batcher_agreement.specs.Lives.{conduct_of}
 use Rattle.batcher_agreement.specs.Policy.{Conduct, IsGrounded}
-use Rattle.batcher_node.specs.Nodes.{NodeConfig, NodeView}
+use Rattle.batcher_node.specs.Nodes.{NodeConfig, NodeView, cause_at}
 use Rattle.batcher_node.specs.Windows.{numbered}
 use Rattle.batcher_validator.specs.Histories.{Leads, ValidatorHistory, conduct_in, leader_in, proposal_by, voter_history, window_by}
 use Rattle.batcher_validator.specs.Running.{ForEachRun, ValidatorView}
 use Rattle.batcher_validator.specs.Tasks.{SignsNoMore, HasVotedIn, IsContested, IsOpen, IsSigning, IsWanted, MayVote}
+
+module _ {S D G C L : Type 0} (validator : ValidatorView S G D L C) where
+  -- the next view was entered, or given to be
+  abbrev pub EntersNone : Type 0
+  EntersNone =
+      (2 ^ 64 ≤ validator.voter.knowledge.highest + 1)
+      ⊎ ((validator.voter.knowledge.highest + 1 ≤ validator.voter.node.window.current)
+      ⊎ (validator.voter.knowledge.highest + 1 ≤ validator.given.asked))
+
+  -- the votes of earlier lives were given to be cast again
+  abbrev pub CastsNone : Type 0
+  CastsNone =
+      (validator.given.tally.begun ≤ validator.given.tally.recast)
+      ⊎ (slice_get validator.voter.journal.contents.votes validator.given.tally.recast ≡ None)
 
 module _ {S D K G C L : Type 0} (config : NodeView S G D → NodeConfig D K G C)
     (validator : ValidatorView S G D L C) where
@@ -21,6 +37,13 @@ module _ {S D K G C L : Type 0} (config : NodeView S G D → NodeConfig D K G C)
   -- what is said of it
   abbrev Always : (ValidatorHistory D K G C → Conduct D → Type 0) → Type 0
   Always holds = ForEachRun here validator holds
+
+  -- whoever is blocked was given to be
+  abbrev pub BlocksNobody : Type 0
+  BlocksNobody =
+      (validator.given.calm ≡ true) ⊎ ((i : ℕ) → i < length here.meaning.participants
+      → (cause_at validator.voter.node.blocked i ≡ None)
+      ⊎ (slice_get validator.given.blocked i ≡ Some true))
 
   -- a subject may be voted for, or it may not
   abbrev pub CanVote : Subject D → Type 0

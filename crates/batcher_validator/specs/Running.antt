@@ -1,5 +1,5 @@
 -- A validator: a voter, with what it gave to be done.
-use Rattle.std.specs.Prelude.{◌≡◌, ◌≢◌, ◌<◌, ◌≤◌, ◌⊎◌, ⊤, ℕ, Bool, true, false, List, [], ◌∷◌, ◌++◌, Contains, MatchBool, Option, Some, None, is_some, nat_lt, not, take}
+use Rattle.std.specs.Prelude.{◌≡◌, ◌≢◌, ◌<◌, ◌≤◌, ◌⊎◌, ⊤, ℕ, Bool, true, false, List, [], ◌∷◌, ◌++◌, Contains, MatchBool, Option, Some, None, Ok, is_some, nat_lt, not, take}
 use Rattle.std.specs.List.{count_by, slice_get}
 use Rattle.batcher.specs.Verifiers.{certifies_itself}
 use Rattle.batcher.specs.Votes.{kind_certified, round_in, subject_certified, subject_of}
@@ -16,8 +16,11 @@ use Rattle.batcher.specs.positions.Round.{Round}
 use Rattle.batcher.specs.votes.Outcome.{Outcome}
 use Rattle.batcher_agreement.specs.Lives.{VoterHistory, called, node_history, verified, written}
 use Rattle.batcher_agreement.specs.Policy.{Conduct, HasVoted}
-use Rattle.batcher_codec.specs.Format.{Format}
+use Rattle.batcher_codec.specs.Format.{Format, whole}
+use Rattle.batcher_codec.specs.Messages.{versioned}
 use Rattle.batcher_journal.specs.Floors.{is_below, is_over}
+use Rattle.batcher_journal.specs.Records.{Certified}
+use Rattle.batcher_journal.specs.Text.{Contents}
 use Rattle.batcher_node.specs.Events.{NodeEvent, constructed, started, view_finalized, vote_cast}
 use Rattle.batcher_node.specs.Nodes.{IsAtRest, NodeConfig}
 use Rattle.batcher_node.specs.declared.node.Construction.{Construction}
@@ -30,7 +33,7 @@ use Rattle.batcher_validator.specs.Queues.{AreFirst, HasKey}
 use Rattle.batcher_validator.specs.Shelves.{IsLookedAt, ShelfView, key_of}
 use Rattle.batcher_validator.specs.Histories.{HadVoted, HasAnnouncedFrom, HasAskedFrom, HasBlocked, HasHanded, HasRecast, HasSent, IsVerifying, ValidatorEvent}
 use Rattle.batcher_validator.specs.Tasks.{AreGivenInTurn, Counts, NobodyIsToBlock}
-use Rattle.batcher_validator.specs.Histories.{ValidatorHistory, answered, began, chosen_in, conduct_in, did, expired_in, gave, last_to_sign, me_in, only_did, posed_in, voter_history, window_by}
+use Rattle.batcher_validator.specs.Histories.{ValidatorHistory, answered, began, chosen_in, conduct_in, did, expired_in, gave, last_to_sign, me_in, only_did, only_took, posed_in, voter_history, window_by}
 use Rattle.batcher_validator.specs.declared.tally.Tally.{Tally}
 use Rattle.batcher_validator.specs.declared.task.Task.{Task}
 use Rattle.batcher_validator.specs.declared.task.Task.TheVariants.{Cast as CastAgain, Final, SendCertificate, SendVote, Verify}
@@ -135,6 +138,13 @@ abbrev pub blocks_sender : {G D : Type 0} → Receipt (Admission G D) → Bool
 blocks_sender (Answered admission) = is_some admission.block
 blocks_sender receipt = false
 
+-- one of these has the bytes of a certificate
+pub record AreBytesOf {C D : Type 0} (format : Format (Certificate C D)) (kept : List Certified)
+    (c : Certificate C D) : Type 0 where
+  pub one : Certified
+  pub there : Contains kept one
+  pub decoded : whole (versioned format) one.1 ≡ Ok c
+
 -- A vote that is given to be sent or cast is on the disk, a certificate is kept, and votes that are
 -- given to be verified wait.
 abbrev pub IsReady : {S G D L C : Type 0} → ValidatorView S G D L C → Task G D → Type 0
@@ -164,6 +174,13 @@ WhyNotFinal x validator i Passed =
     → (round_in (subject_certified c)).view.0 < validator.voter.node.window.finalized
 WhyNotFinal x validator i fault = ⊤
 
+-- A journal has a certificate: as the finalization of its floor, or beside its votes.
+abbrev pub IsOnDisk : {G C D : Type 0} → Format (Certificate C D) → Contents G D → Certificate C D
+    → Type 0
+IsOnDisk format contents c =
+    (whole (versioned format) contents.finalization ≡ Ok c)
+    ⊎ AreBytesOf format contents.certificates c
+
 module _ {S D K G C L : Type 0} (x : NodeConfig D K G C) where
   -- What a validator is after a life so far, and what its participant did in earlier ones.
   pub record IsRunning (past : ValidatorHistory D K G C) (earlier : Conduct D)
@@ -190,13 +207,18 @@ module _ {S D K G C L : Type 0} (x : NodeConfig D K G C) where
     pub verifies : MatchBool validator.given.verifying (IsVerifying past) (IsVerifying past → ⊥)
     pub intends : IsIntent past validator.given.intent
 
-  -- A validator that was made from its journal gave nothing, and asked its node nothing. It votes
-  -- as whom the journal says.
-  pub record HasBegun (earlier : Conduct D) (validator : ValidatorView S G D L C) : Type 0 where
+  -- A validator that was made from its journal took in what that has, gave nothing, and asked its
+  -- node nothing. It votes as whom the journal says.
+  pub record HasBegun (format : Format (Certificate C D)) (earlier : Conduct D)
+      (validator : ValidatorView S G D L C) : Type 0 where
     pub me : Participant
     pub owns : me.0 ≡ validator.voter.journal.contents.owner.1.1.0
     pub past : VoterHistory D K G C
-    pub running : IsRunning (began me past ∷ []) earlier validator
+    pub held : List (Certificate C D)
+    pub has_all :
+        (c : Certificate C D) → IsOnDisk format validator.voter.journal.contents c
+        → Contains held c
+    pub running : IsRunning (only_took held ++ began me past ∷ []) earlier validator
     pub asked_nothing : node_history past ≡ started validator.voter.node.window ∷ []
 
   -- what is said of a validator whatever happened to it

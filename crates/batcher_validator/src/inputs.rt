@@ -11,7 +11,7 @@ ghost use Rattle.batcher_node.specs.declared.answers.EnterFault.{EnterFault};
 ghost use Rattle.batcher_node.specs.Represents.{IsHeard, MayNeedIn};
 ghost use Rattle.batcher_validator.specs.Running.{Constructs, RunMeets, RunStays, blocks_sender};
 ghost use Rattle.batcher_validator.specs.Shelves.{Shelves};
-ghost use Rattle.batcher_validator.specs.Histories.{answered, did};
+ghost use Rattle.batcher_validator.specs.Histories.{answered, did, took};
 ghost use Rattle.batcher_voter.specs.Needing.{CertificateNeeds, ConstructionNeeds};
 ghost use Rattle.batcher_voter.specs.Voting.{BeginWithOneView, VoterMeets, VoterStays, is_recorded};
 
@@ -224,14 +224,18 @@ where
         &mut self,
         certificate: Certificate<S::Certificate, D>,
     ) -> Result<bool, AllocError>
-        ensures stays { RunStays (⟦<S as NodeConfigs<D>>⟧.of self.old.voter.node) self.old
-            self.new }
+        ensures took { result ≡ Ok true → RunMeets
+            (⟦<S as NodeConfigs<D>>⟧.of self.old.voter.node) self.old self.new
+            (took certificate) }
         ensures forged { result ≡ Ok false
             → certifies_itself (S.meaning self.old.voter.node.scheme) certificate ≡ false }
+        ensures passed { result ≡ Ok false → self.new ≡ self.old }
         ensures taken { result ≡ Ok true → Shelves self.old.voter.node.epoch
             self.old.voter.node.window.finalized certificate self.old.shelf.certificates
             self.new.shelf.certificates }
         ensures needed { OnErr result (self.old.shelf.room ≡ 0) }
+        ensures stays { OnErr result
+            (RunStays (⟦<S as NodeConfigs<D>>⟧.of self.old.voter.node) self.old self.new) }
         ensures voter { self.new.voter ≡ self.old.voter }
     {
         if !self.verifies(&certificate) {
@@ -322,7 +326,7 @@ where
     }
 
     // Makes room for one more certificate. By what comes then somebody may be blocked.
-    fn make_room(&mut self) -> Result<(), AllocError>
+    pub(crate) fn make_room(&mut self) -> Result<(), AllocError>
         ensures room { OnOk result (1 ≤ self.new.shelf.room) }
         ensures needed { OnErr result (self.old.shelf.room ≡ 0) }
         ensures certificates { self.new.shelf.certificates ≡ self.old.shelf.certificates }
@@ -334,7 +338,7 @@ where
         self.shelf.make_room()
     }
 
-    fn note_answer(&mut self)
+    pub(crate) fn note_answer(&mut self)
         ensures given { self.new.given ≡ record self.old.given { verifying = false } }
         ensures voter { self.new.voter ≡ self.old.voter }
         ensures shelf { self.new.shelf ≡ self.old.shelf }
@@ -423,7 +427,7 @@ fn is_recorded(receipt: &Receipt<Verdict>) -> bool
 }
 
 // The certificate of a construction.
-fn certificate_of<C: Drop, D>(made: Construction<C, D>) -> Option<Certificate<C, D>>
+pub(crate) fn certificate_of<C: Drop, D>(made: Construction<C, D>) -> Option<Certificate<C, D>>
     ensures { result ≡ option_and_then (λ batch. batch.certificate) made.batch }
 {
     let Construction { batch, .. } = made;

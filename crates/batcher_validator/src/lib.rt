@@ -4,6 +4,8 @@
 mod announcing;
 mod answering;
 mod casting;
+mod concluding;
+mod due;
 mod inputs;
 mod polling;
 mod posing;

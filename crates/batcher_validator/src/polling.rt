@@ -5,7 +5,7 @@ ghost use Rattle.std.specs.List.{slice_get};
 ghost use Rattle.batcher_codec.specs.Messages.{vote_format};
 ghost use Rattle.batcher_journal.specs.Answers.{MayFollow};
 ghost use Rattle.batcher_node.specs.Nodes.{IsAtRest, IsNext, SameNode, cause_at};
-ghost use Rattle.batcher_validator.specs.Queues.{AreDistinct};
+ghost use Rattle.batcher_validator.specs.Posing.{BlocksNobody};
 ghost use Rattle.batcher_validator.specs.Running.{ForEachRun, Gives, IsReady, RunLeaves, RunMeets, RunStays};
 ghost use Rattle.batcher_validator.specs.Shelves.{HaveNoFinal, IsAt, IsFinalAt, IsToAnnounce, key_of};
 ghost use Rattle.batcher_validator.specs.declared.task.PollFault.{PollFault};
@@ -63,41 +63,7 @@ where
             }
             None => match self.next_final() {
                 Some((i, proposal)) => self.announce(i, proposal),
-                None => match self.next_view() {
-                    Some(view) => {
-                        self.note_view(view);
-                        Ok(Some(Task::Enter(view)))
-                    }
-                    None => match self.next_cast() {
-                        Some(vote) => {
-                            self.note_cast();
-                            Ok(Some(Task::Cast(vote)))
-                        }
-                        None => match self.next_vote() {
-                            Some(vote) => {
-                                self.note_vote();
-                                Ok(Some(Task::SendVote(vote)))
-                            }
-                            None => match self.next_certificate() {
-                                Some((kind, round)) => {
-                                    self.note_handed();
-                                    Ok(Some(Task::SendCertificate(kind, round)))
-                                }
-                                None => match self.pose() {
-                                    Some(task) => Ok(Some(task)),
-                                    None => {
-                                        if self.has_votes_waiting() {
-                                            self.note_verifying();
-                                            return Ok(Some(Task::Verify));
-                                        }
-                                        self.note_calm();
-                                        Ok(None)
-                                    }
-                                },
-                            },
-                        },
-                    },
-                },
+                None => Ok(self.give_own()),
             },
         }
     }
@@ -150,10 +116,7 @@ where
             cause_at self.now.voter.node.blocked it.0.0 ≡ Some it.1) }
         ensures not_yet { IfSome result (λ it.
             slice_get self.now.given.blocked it.0.0 ≡ Some false) }
-        ensures none { result ≡ None → (self.now.given.calm ≡ true) ⊎ ((i : ℕ)
-            → i < length (S.meaning self.now.voter.node.scheme).participants
-            → (cause_at self.now.voter.node.blocked i ≡ None)
-            ⊎ (slice_get self.now.given.blocked i ≡ Some true)) }
+        ensures none { result ≡ None → BlocksNobody ⟦<S as NodeConfigs<D>>⟧.of self.now }
     {
         if self.is_calm() {
             return None;
@@ -170,7 +133,7 @@ where
         self.given.calm
     }
 
-    fn note_calm(&mut self)
+    pub(crate) fn note_calm(&mut self)
         ensures given { self.new.given ≡ record self.old.given { calm = true } }
         ensures voter { self.new.voter ≡ self.old.voter }
         ensures shelf { self.new.shelf ≡ self.old.shelf }
@@ -217,75 +180,6 @@ where
         self.given.blocked[who.0 as usize] = true;
     }
 
-    // The first vote of the journal that wasn't given to be sent.
-    fn next_vote(&self) -> Option<Vote<S::Signature, D>>
-        ensures { result ≡ slice_get self.now.voter.journal.contents.votes
-            self.now.given.tally.sent }
-    {
-        self.voter
-            .journal()
-            .votes()
-            .get(self.given.tally.sent)
-            .copied()
-    }
-
-    fn note_vote(&mut self)
-        requires { self.old.given.tally.sent < length self.old.voter.journal.contents.votes }
-        ensures given { self.new.given ≡ record self.old.given {
-          tally = record self.old.given.tally { sent = self.old.given.tally.sent + 1 };
-        } }
-        ensures voter { self.new.voter ≡ self.old.voter }
-        ensures shelf { self.new.shelf ≡ self.old.shelf }
-    {
-        let _ = self.voter.journal().votes().len();
-        self.given.tally.sent += 1;
-    }
-
-    // The first vote of an earlier life that wasn't given to be cast again.
-    fn next_cast(&self) -> Option<Vote<S::Signature, D>>
-        ensures some { IfSome result (λ vote. (slice_get self.now.voter.journal.contents.votes
-            self.now.given.tally.recast ≡ Some vote)
-            × (self.now.given.tally.recast < self.now.given.tally.begun)) }
-        ensures none { result ≡ None
-            → (self.now.given.tally.begun ≤ self.now.given.tally.recast)
-            ⊎ (slice_get self.now.voter.journal.contents.votes self.now.given.tally.recast
-            ≡ None) }
-    {
-        let tally = self.tally();
-        if tally.recast < tally.begun {
-            match self.vote_at(tally.recast) {
-                Some(vote) => return Some(vote),
-                None => return None,
-            }
-        }
-        None
-    }
-
-    pub(crate) fn tally(&self) -> Tally
-        ensures { result ≡ self.now.given.tally }
-    {
-        self.given.tally
-    }
-
-    // The vote of the journal at this place.
-    fn vote_at(&self, i: usize) -> Option<Vote<S::Signature, D>>
-        ensures { result ≡ slice_get self.now.voter.journal.contents.votes i }
-    {
-        self.voter.journal().votes().get(i).copied()
-    }
-
-    fn note_cast(&mut self)
-        requires { self.old.given.tally.recast < length self.old.voter.journal.contents.votes }
-        ensures given { self.new.given ≡ record self.old.given {
-          tally = record self.old.given.tally { recast = self.old.given.tally.recast + 1 };
-        } }
-        ensures voter { self.new.voter ≡ self.old.voter }
-        ensures shelf { self.new.shelf ≡ self.old.shelf }
-    {
-        let _ = self.voter.journal().votes().len();
-        self.given.tally.recast += 1;
-    }
-
     // The proposal that is to be given as final, with the place of its finalization.
     fn next_final(&self) -> Option<(usize, Proposal<D>)>
         ensures none { result ≡ None
@@ -309,96 +203,6 @@ where
         ensures { result ≡ self.now.given.announced }
     {
         self.given.announced
-    }
-
-    // The kind and the round of the first certificate that wasn't given to be sent.
-    fn next_certificate(&self) -> Option<(Kind, Round)>
-        ensures none { result ≡ None
-            → length self.now.shelf.certificates ≤ self.now.shelf.handed }
-        ensures some { IfSome result (λ key. IsAt self.now.shelf.certificates
-            self.now.shelf.handed (key.0, key.1)) }
-        ensures distinct { AreDistinct key_of self.now.shelf.certificates }
-    {
-        let _ = self.shelf.as_slice();
-        self.shelf.next()
-    }
-
-    fn note_handed(&mut self)
-        requires { self.old.shelf.handed < length self.old.shelf.certificates }
-        ensures given { self.new.given ≡ self.old.given }
-        ensures voter { self.new.voter ≡ self.old.voter }
-        ensures certificates { self.new.shelf.certificates ≡ self.old.shelf.certificates }
-        ensures handed { self.new.shelf.handed ≡ self.old.shelf.handed + 1 }
-    {
-        self.shelf.note_handed();
-    }
-
-    // The view to be in, where it wasn't entered, nor given to be.
-    fn next_view(&self) -> Option<View>
-        ensures beyond { IfSome result (λ view.
-            self.now.voter.node.window.current < view.0) }
-        ensures unasked { IfSome result (λ view. self.now.given.asked < view.0) }
-        ensures next { IfSome result (λ view. ForEachLife
-            (⟦<S as NodeConfigs<D>>⟧.of self.now.voter.node) self.now.voter
-            (λ past earlier. IsNextView self.now.voter past view.0)) }
-        ensures none { result ≡ None → (2 ^ 64 ≤ self.now.voter.knowledge.highest + 1)
-            ⊎ ((self.now.voter.knowledge.highest + 1 ≤ self.now.voter.node.window.current)
-            ⊎ (self.now.voter.knowledge.highest + 1 ≤ self.now.given.asked)) }
-    {
-        match self.voter.next_view() {
-            Some(view) => {
-                if view.0 > self.voter.node().window().current && view.0 > self.given.asked {
-                    return Some(view);
-                }
-                None
-            }
-            None => None,
-        }
-    }
-
-    fn note_view(&mut self, view: View)
-        ensures given { self.new.given ≡ record self.old.given { asked = view.0 } }
-        ensures voter { self.new.voter ≡ self.old.voter }
-        ensures shelf { self.new.shelf ≡ self.old.shelf }
-    {
-        self.given.asked = view.0;
-    }
-
-    // Whether votes wait to be verified, and weren't given to be.
-    fn has_votes_waiting(&self) -> bool
-        ensures { MatchBool result ((self.now.given.verifying ≡ false)
-            × (IsAtRest self.now.voter.node → ⊥))
-            ((self.now.given.verifying ≡ true) ⊎ IsAtRest self.now.voter.node) }
-    {
-        if self.is_verifying() {
-            return false;
-        }
-        match self.next_construction() {
-            Some(_) => true,
-            None => false,
-        }
-    }
-
-    fn is_verifying(&self) -> bool
-        ensures { result ≡ self.now.given.verifying }
-    {
-        self.given.verifying
-    }
-
-    // The view of the next construction.
-    fn next_construction(&self) -> Option<View>
-        ensures next { IfSome result (λ view. IsNext self.now.voter.node.rounds view.0) }
-        ensures none { IfNone result (IsAtRest self.now.voter.node) }
-    {
-        self.voter.node().next_view()
-    }
-
-    fn note_verifying(&mut self)
-        ensures given { self.new.given ≡ record self.old.given { verifying = true } }
-        ensures voter { self.new.voter ≡ self.old.voter }
-        ensures shelf { self.new.shelf ≡ self.old.shelf }
-    {
-        self.given.verifying = true;
     }
 }
 

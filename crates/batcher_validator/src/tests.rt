@@ -1,20 +1,21 @@
 //! Tests of what no clause says: that what is to be done comes, and in which order. By hand.
 
-ghost use Rattle.std.specs.Prelude.{◌≡◌, ◌<◌, ℕ, length};
+ghost use Rattle.std.specs.Prelude.{◌≡◌, ◌<◌, ℕ, IfOk, length, map};
 
 use crate::{PollFault, Task, Validator};
 use batcher::messages::{Attestation, Certificate, Kind, Proposal, Sha256Digest, Subject, Vote};
 use batcher::positions::{Epoch, Participant, Round, View};
 use batcher::round::BlockReason;
-use batcher::scheme::{AttestationList, Counter, Keyed, Name, names};
+use batcher::scheme::{AttestationList, Counter, Keyed, Name, Scheme, names};
 use batcher_journal::{Journal, Owner, Unopened};
 use batcher_log::MemoryLog;
 use batcher_node::{Cast, Cause, Receipt, Verdict};
 use batcher_voter::NotStarted;
-use std::alloc::Global;
+use std::alloc::{AllocError, Global};
 use std::marker::Model;
 use std::process::Abort;
 use std::rc::Rc;
+use std::slice;
 use std::test::Fail;
 
 type Digest = Sha256Digest;
@@ -22,6 +23,8 @@ type Digest = Sha256Digest;
 type TestValidator = Validator<Keyed<true>, Digest, MemoryLog>;
 
 type TestTask = Task<[u8; 32], Digest>;
+
+type TestAttestation = Attestation<[u8; 32]>;
 
 const EPOCH: Epoch = Epoch(5);
 
@@ -163,6 +166,28 @@ impl Station {
     fn verify(&mut self, rt: &impl Abort) -> Result<bool, Fail> {
         self.gives(rt, Task::Verify);
         Ok(self.validator.try_construct(&mut self.rng)?)
+    }
+
+    // What waits to be verified, as it is lent.
+    fn lent(&self, alloc: Global) -> Result<(Subject<Digest>, Vec<TestAttestation>), Fail> {
+        let attempt = match self.validator.next_attempt() {
+            Some(attempt) => attempt,
+            None => return Err(Fail::new("nothing is lent")),
+        };
+        let mut list = Vec::new(alloc);
+        list.extend_from_slice(attempt.pending)?;
+        Ok((attempt.subject, list))
+    }
+
+    // Verdicts are handed in on what was lent. It says whether a construction was made by them.
+    fn conclude(
+        &mut self,
+        alloc: Global,
+        subject: Subject<Digest>,
+        list: &[TestAttestation],
+    ) -> Result<bool, Fail> {
+        let verdicts = verdicts_on(alloc, &*self.scheme, subject, list)?;
+        Ok(self.validator.conclude(subject, list, verdicts.as_slice())?)
     }
 
     // All votes that wait are verified, and nothing else is to be done.
@@ -317,6 +342,57 @@ fn go_on(station: &mut Station, rt: &impl Abort) -> Result<(), Fail> {
     station.hear(0, notarize(2, 1))?;
     station.gives(rt, Task::Verify);
     station.rests(rt);
+    Ok(())
+}
+
+// A verdict on each attestation, by the scheme.
+fn verdicts_on<S: Scheme<Digest>>(
+    alloc: Global,
+    scheme: &S,
+    subject: Subject<Digest>,
+    list: &[Attestation<S::Signature>],
+) -> Result<Vec<bool>, AllocError>
+    ensures { IfOk result (λ verdicts. verdicts.items
+        ≡ map ((S.meaning scheme.now).attests subject) list.now) }
+{
+    let mut verdicts = Vec::new(alloc);
+    for attestation in list {
+        let one = slice::from_ref(attestation);
+        let found = scheme.verify_attestations(alloc, &mut Counter::new(0), subject, one)?;
+        verdicts.push(found.invalid.is_empty())?;
+    }
+    Ok(verdicts)
+}
+
+#[test]
+fn verdicts_come_late(rt: HostRuntime) -> Result<(), Fail> {
+    let mut station = Station::new(&rt, rt.alloc(), ME)?;
+    let concluded = conclude(&mut station, &rt, rt.alloc());
+    drop(station);
+    concluded
+}
+
+fn conclude(station: &mut Station, rt: &impl Abort, alloc: Global) -> Result<(), Fail> {
+    station.enter(rt, 1);
+    station.hear(0, nullify(1))?;
+    station.hear(1, nullify(1))?;
+    // Two of four are no quorum: nothing is lent, and the view rests.
+    assert!(rt; station.validator.next_attempt().is_none());
+    assert!(rt; station.verify(rt)?);
+    station.rests(rt);
+    station.hear(2, nullify(1))?;
+    station.gives(rt, Task::Verify);
+    let (subject, list) = station.lent(alloc)?;
+    assert_eq!(rt; (subject, list.len()), (nullify(1), 3));
+    assert!(rt; station.conclude(alloc, subject, list.as_slice())?);
+    station.enter(rt, 2);
+    station.gives(rt, Task::SendCertificate(Kind::Nullification, at(1)));
+    // Verdicts that come too late change nothing, and votes that wait are given to be verified.
+    station.hear(0, nullify(2))?;
+    station.gives(rt, Task::Verify);
+    station.rests(rt);
+    assert!(rt; !station.conclude(alloc, subject, list.as_slice())?);
+    station.gives(rt, Task::Verify);
     Ok(())
 }
 

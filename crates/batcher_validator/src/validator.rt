@@ -129,7 +129,8 @@ where
         requires { 1 ≤ length (S.meaning scheme.value).participants }
         ensures running { IfOk result (λ validator. (earlier : Conduct D) → KeepsPolicy earlier
             → Remembers earlier journal.contents
-            → HasBegun (⟦<S as NodeConfigs<D>>⟧.of validator.voter.node) earlier validator) }
+            → HasBegun (⟦<S as NodeConfigs<D>>⟧.of validator.voter.node)
+            (certificate_format S.Certificate.format D.format) earlier validator) }
         ensures knows_floor { IfOk result (λ validator. (journal.contents.floor.view.0 ≡ 0)
             ⊎ IsFinalView validator.voter.knowledge journal.contents.floor.view.0) }
         ensures knows_kept { IfOk result (λ validator. All (IsTakenIn

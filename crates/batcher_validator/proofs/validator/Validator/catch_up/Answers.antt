@@ -1,17 +1,18 @@
 use Rattle.std.proofs.Common.{◌≡◌, refl, subst, sym, true}
 use Rattle.batcher.specs.Verifiers.{certifies_itself}
 use Rattle.batcher_node.specs.Nodes.{node_config}
-use Rattle.batcher_validator.proofs.Going.{keeps_beside, stays_roomy}
+use Rattle.batcher_validator.specs.Histories.{took}
+use Rattle.batcher_validator.proofs.Going.{runs_roomy, takes_in}
 use Rattle.batcher_validator.proofs.validator.Validator.catch_up.Goals as goal
 
-pub returns-in-Ok-clause-stays : goal.returns-in-Ok-clause-stays
-returns-in-Ok-clause-stays g c =
+pub returns-in-Ok-clause-took : goal.returns-in-Ok-clause-took
+returns-in-Ok-clause-took g c = λ yes.
     let roomy = c.make_room.new.self in
-    stays_roomy (node_config g.S.Scheme.meaning g.S.PublicKey.Ord.cmp g.S.Signature.PartialEq.eq g.D.PartialEq.eq)
+    runs_roomy (node_config g.S.Scheme.meaning g.S.PublicKey.Ord.cmp g.S.Signature.PartialEq.eq g.D.PartialEq.eq)
     c.args.self.now roomy c.shelve.new.self
     c.make_room.ensures.voter c.make_room.ensures.given c.make_room.ensures.certificates
-    c.make_room.ensures.handed
-    (keeps_beside (node_config g.S.Scheme.meaning g.S.PublicKey.Ord.cmp g.S.Signature.PartialEq.eq
+    c.make_room.ensures.handed (took c.args.certificate)
+    (takes_in (node_config g.S.Scheme.meaning g.S.PublicKey.Ord.cmp g.S.Signature.PartialEq.eq
     g.D.PartialEq.eq roomy.voter.node) roomy c.shelve.new.self c.args.certificate refl
     (subst (λ v. certifies_itself (g.S.Scheme.meaning v.node.scheme) c.args.certificate ≡ true)
     (sym c.make_room.ensures.voter) (sym c.if-not-verifies.ensures))

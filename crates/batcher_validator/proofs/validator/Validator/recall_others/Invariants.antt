@@ -1,10 +1,14 @@
-use Rattle.std.proofs.Common.{◌≡◌}
+use Rattle.std.proofs.Common.{◌≡◌, take}
+use Rattle.batcher_codec.specs.Messages.{certificate_format}
 use Rattle.batcher_node.specs.Nodes.{node_config}
-use Rattle.batcher_validator.specs.Running.{RunStays}
+use Rattle.batcher_validator.specs.Recalling.{Recalls}
+use Rattle.batcher_validator.specs.Running.{AreBytesOf}
 use Rattle.batcher_validator.proofs.validator.Validator.recall_others.Given as goal
 
 abbrev pub invariant-loop-i : goal.invariant-loop-i
 invariant-loop-i g l =
-    RunStays (node_config g.S.Scheme.meaning g.S.PublicKey.Ord.cmp g.S.Signature.PartialEq.eq
-    g.D.PartialEq.eq l.fn.self.voter.node) l.fn.self l.self
+    Recalls (node_config g.S.Scheme.meaning g.S.PublicKey.Ord.cmp g.S.Signature.PartialEq.eq
+    g.D.PartialEq.eq l.fn.self.voter.node) (AreBytesOf
+    (certificate_format g.S.Certificate.OwnedCodec.format g.D.Codec.format)
+    (take l.i l.fn.self.voter.journal.contents.certificates)) l.fn.self l.self
     × (l.self.voter ≡ l.fn.self.voter)

@@ -2,7 +2,7 @@ use Rattle.std.proofs.Common.{◌≡◌, ◌∙◌, ◌⊎◌, All, ap, length, 
 use Rattle.batcher_codec.specs.Messages.{certificate_format}
 use Rattle.batcher_journal.specs.Ready.{JournalView}
 use Rattle.batcher_node.specs.Nodes.{node_config}
-use Rattle.batcher_validator.proofs.Beginning.{begun, none_resized, still_begun}
+use Rattle.batcher_validator.proofs.Beginning.{begun, has_begun, none_resized}
 use Rattle.batcher_voter.specs.Reopening.{IsFinalView, IsTakenIn}
 use Rattle.batcher_voter.specs.Voting.{HasStarted}
 use Rattle.batcher_validator.proofs.validator.Validator.start.Goals as goal
@@ -13,18 +13,21 @@ returns-in-Ok-recall-clause-running g c = λ earlier keeps has.
     g.D.PartialEq.eq in
     let first = c.of-validator.result in
     let journal = ap (λ v. v.journal) c.of-validator.ensures.voter ∙ c.in-Ok-start.ensures.journal in
-    still_begun config first c.recall.new.self earlier c.recall.ensures.stays c.recall.ensures.voter
+    let started = subst (λ v. HasStarted (config v.node) earlier v) (sym c.of-validator.ensures.voter)
+    (c.in-Ok-start.ensures.voting earlier keeps has) in
+    has_begun config (certificate_format g.S.Certificate.OwnedCodec.format g.D.Codec.format) first
+    c.recall.new.self earlier c.participant-me.result
+    (c.participant-me.ensures
+    ∙ ap (λ (j : JournalView g.row.S-Signature.Denot g.row.D.Denot g.row.L.Denot). j.contents.owner.1.1.0) (sym journal))
+    started
     (begun (config first.voter.node) first earlier c.resize.new.self.items c.participant-me.result
     (length c.votes-begun.result.now)
     (ap length (c.votes-begun.ensures
     ∙ ap (λ (j : JournalView g.row.S-Signature.Denot g.row.D.Denot g.row.L.Denot). j.contents.votes) (sym journal)))
-    (c.participant-me.ensures
-    ∙ ap (λ (j : JournalView g.row.S-Signature.Denot g.row.D.Denot g.row.L.Denot). j.contents.owner.1.1.0) (sym journal))
     (none_resized _ _ c.new-blocked.result.items c.resize.new.self.items c.new-blocked.ensures.items
     c.in-Ok.ensures.items)
-    c.of-validator.ensures.given c.of-validator.ensures.empty c.of-validator.ensures.handed
-    (subst (λ v. HasStarted (config v.node) earlier v) (sym c.of-validator.ensures.voter)
-    (c.in-Ok-start.ensures.voting earlier keeps has)))
+    c.of-validator.ensures.given c.of-validator.ensures.empty c.of-validator.ensures.handed started)
+    c.in-Ok-recall.ensures.recalls c.recall.ensures.voter
 
 pub returns-in-Ok-recall-clause-knows_floor : goal.returns-in-Ok-recall-clause-knows_floor
 returns-in-Ok-recall-clause-knows_floor g c =

@@ -1,0 +1,69 @@
+-- What is lent to be verified is what the next construction looks at.
+use Rattle.std.proofs.Common.{◌≡◌, ◌∙◌, ℕ, List, Option, Some, None, ap, refl, subst, sym}
+use Rattle.std.specs.Prelude.{IfSome}
+use Rattle.std.specs.Option.{option_map}
+use Rattle.batcher.specs.Config.{Config}
+use Rattle.batcher.specs.Next.{pending_next, subject_next}
+use Rattle.batcher.specs.RoundState.{RoundView}
+use Rattle.batcher.specs.messages.Attestation.{Attestation}
+use Rattle.batcher.specs.messages.Subject.{Subject}
+use Rattle.batcher_node.proofs.Lowest.{one_next}
+use Rattle.batcher_node.specs.Nodes.{IsNext, slot_at}
+use Rattle.batcher_node.specs.Verdicts.{LooksAtThere}
+use Rattle.batcher_node.specs.declared.slot.Slot.{Slot}
+
+module _ {S D K G C : Type 0} (round_config : RoundView S G D → Config D K G C)
+    (rounds : List (ℕ × Slot (RoundView S G D))) (view : ℕ) (next : IsNext rounds view)
+    (round : RoundView S G D)
+    (lent : Some round ≡ option_map (λ slot. slot.round) (slot_at rounds view))
+    {A : Type 0} (subject_in : A → Subject D) (list_in : A → List (Attestation G)) where
+  its_round : (at : Option (Slot (RoundView S G D))) (slot : Slot (RoundView S G D))
+      → Some round ≡ option_map (λ slot. slot.round) at → at ≡ Some slot → round ≡ slot.round
+  its_round (Some other) slot is there = cc
+  its_round None slot is there = absurd cc
+
+  there : (at : Option (Slot (RoundView S G D)))
+      → Some round ≡ option_map (λ slot. slot.round) at → (s : Subject D)
+      → (list : List (Attestation G)) → subject_next (round_config round) round.holds ≡ Some s
+      → pending_next (round_config round) round.holds ≡ list
+      → LooksAtThere round_config at s list
+  there None is s list subject pending = absurd cc
+  there (Some slot) is s list subject pending =
+      let same : round ≡ slot.round = its_round (Some slot) slot is refl in
+      record {
+        slot = slot;
+        there = refl;
+        looks = (
+          subst (λ r. subject_next (round_config r) r.holds ≡ Some s) same subject,
+          subst (λ r. pending_next (round_config r) r.holds ≡ list) same pending,
+        );
+      }
+
+  pub looks_there :
+      (attempt : Option A)
+      → option_map subject_in attempt ≡ subject_next (round_config round) round.holds
+      → IfSome attempt (λ a. list_in a ≡ pending_next (round_config round) round.holds)
+      → IfSome attempt (λ a. (other : ℕ) → IsNext rounds other
+      → LooksAtThere round_config (slot_at rounds other) (subject_in a) (list_in a))
+  looks_there None subject pending = tt
+  looks_there (Some a) subject pending = λ other is.
+      subst (λ v. LooksAtThere round_config (slot_at rounds v) (subject_in a) (list_in a))
+      (one_next rounds view other next is)
+      (there (slot_at rounds view) lent (subject_in a) (list_in a) (sym subject) (sym pending))
+
+  pub none_there :
+      (attempt : Option A)
+      → option_map subject_in attempt ≡ subject_next (round_config round) round.holds
+      → attempt ≡ None → (other : ℕ) (s : Subject D) (list : List (Attestation G))
+      → IsNext rounds other → LooksAtThere round_config (slot_at rounds other) s list → ⊥
+  none_there attempt subject none other s list is looks =
+      let it = subst (λ v. LooksAtThere round_config (slot_at rounds v) s list)
+      (one_next rounds other view is next) looks in
+      let same : round ≡ it.slot.round = its_round (slot_at rounds view) it.slot lent it.there in
+      let ready : subject_next (round_config round) round.holds ≡ Some s =
+      subst (λ r. subject_next (round_config r) r.holds ≡ Some s) (sym same) it.looks.0 in
+      no_some (subject_next (round_config round) round.holds) s
+      (sym subject ∙ ap (option_map subject_in) none) ready
+    where
+      no_some : (o : Option (Subject D)) (s : Subject D) → o ≡ None → o ≡ Some s → ⊥
+      no_some o s none some = absurd cc

@@ -1,0 +1,50 @@
+use Rattle.std.proofs.Common.{◌∙◌, refl, sym}
+use Rattle.batcher_node.specs.Nodes.{node_config}
+use Rattle.batcher_types.proofs.VoteLemmas.{same_subject-refl}
+use Rattle.batcher_validator.proofs.Giving.{contained, gives_cast, gives_enter, gives_vote}
+use Rattle.batcher_validator.specs.Histories.{voter_history}
+use Rattle.batcher_validator.proofs.validator.Validator.give_own.Goals as goal
+
+pub returns-in-Some-clause-gives : goal.returns-in-Some-clause-gives
+returns-in-Some-clause-gives g c =
+    let old = c.args.self.now in
+    gives_enter (node_config g.S.Scheme.meaning g.S.PublicKey.Ord.cmp g.S.Signature.PartialEq.eq
+    g.D.PartialEq.eq old.voter.node) old c.note_view.new.self c.note_view.ensures.voter c.note_view.ensures.shelf
+    c.in-Some.view refl
+    (λ past earlier is. c.in-Some.ensures.next (voter_history past) earlier is.voting)
+    c.in-Some.ensures.beyond c.in-Some.ensures.unasked c.note_view.ensures.given
+
+pub returns-in-Some-next_cast-clause-gives : goal.returns-in-Some-next_cast-clause-gives
+returns-in-Some-next_cast-clause-gives g c =
+    let old = c.args.self.now in
+    let it = c.in-Some-next_cast.ensures.some in
+    gives_cast (node_config g.S.Scheme.meaning g.S.PublicKey.Ord.cmp g.S.Signature.PartialEq.eq
+    g.D.PartialEq.eq old.voter.node) old c.note_cast.new.self c.note_cast.ensures.voter
+    c.in-Some-next_cast.vote (same_subject-refl g.D.PartialEq.eq g.met.D.Eq.laws.refl) c.requires.open
+    c.requires.followed old.given.tally.recast it.0 c.note_cast.ensures.shelf refl it.1
+    c.note_cast.ensures.given
+
+pub returns-in-Some-next_cast-clause-ready : goal.returns-in-Some-next_cast-clause-ready
+returns-in-Some-next_cast-clause-ready g c =
+    let old = c.args.self.now in (
+      c.requires.open,
+      contained old.voter.journal.contents.votes old.given.tally.recast c.in-Some-next_cast.vote
+          c.in-Some-next_cast.ensures.some.0,
+    )
+
+pub returns-in-Some-next_vote-clause-gives : goal.returns-in-Some-next_vote-clause-gives
+returns-in-Some-next_vote-clause-gives g c =
+    let old = c.args.self.now in
+    gives_vote (node_config g.S.Scheme.meaning g.S.PublicKey.Ord.cmp g.S.Signature.PartialEq.eq
+    g.D.PartialEq.eq old.voter.node) old c.note_vote.new.self c.note_vote.ensures.voter
+    c.in-Some-next_vote.vote (same_subject-refl g.D.PartialEq.eq g.met.D.Eq.laws.refl) c.requires.open
+    c.requires.followed old.given.tally.sent (sym c.next_vote.ensures ∙ c.in-Some-next_vote.is)
+    c.note_vote.ensures.shelf refl c.note_vote.ensures.given
+
+pub returns-in-Some-next_vote-clause-ready : goal.returns-in-Some-next_vote-clause-ready
+returns-in-Some-next_vote-clause-ready g c =
+    let old = c.args.self.now in (
+      c.requires.open,
+      contained old.voter.journal.contents.votes old.given.tally.sent c.in-Some-next_vote.vote
+          (sym c.next_vote.ensures ∙ c.in-Some-next_vote.is),
+    )

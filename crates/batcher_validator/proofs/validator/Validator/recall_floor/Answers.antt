@@ -1,0 +1,20 @@
+use Rattle.std.proofs.Common.{Ok, ap}
+use Rattle.batcher_codec.specs.Messages.{certificate_format}
+use Rattle.batcher_node.specs.Nodes.{node_config}
+use Rattle.batcher_validator.proofs.Reading.{recalls_none, recalls_one, same_decoded}
+use Rattle.batcher_validator.proofs.validator.Validator.recall_floor.Goals as goal
+
+pub returns-in-Ok-clause-recalls : goal.returns-in-Ok-clause-recalls
+returns-in-Ok-clause-recalls g c =
+    let old = c.args.self.now in
+    recalls_one (node_config g.S.Scheme.meaning g.S.PublicKey.Ord.cmp g.S.Signature.PartialEq.eq g.D.PartialEq.eq
+    old.voter.node) _ old c.recall_one.new.self c.in-Ok-Some.certificate c.in-Ok.ensures.took
+    (λ d there. same_decoded (certificate_format g.S.Certificate.OwnedCodec.format g.D.Codec.format)
+    old.voter.journal.contents.finalization c.in-Ok-Some.field-0 c.in-Ok-Some.certificate d
+    c.in-Ok-Some.field-0-is c.in-Ok-Some.ensures.some there)
+
+pub returns-in-Ok-None-clause-recalls : goal.returns-in-Ok-None-clause-recalls
+returns-in-Ok-None-clause-recalls g c =
+    let old = c.args.self.now in
+    recalls_none (node_config g.S.Scheme.meaning g.S.PublicKey.Ord.cmp g.S.Signature.PartialEq.eq g.D.PartialEq.eq
+    old.voter.node) _ old (c.in-Ok-None.ensures.none (ap Ok c.in-Ok-None.field-0-is))

@@ -1,0 +1,28 @@
+use Rattle.std.proofs.Common.{◌∙◌, refl, subst}
+use Rattle.batcher_codec.specs.Messages.{certificate_format}
+use Rattle.batcher_node.specs.Nodes.{node_config}
+use Rattle.batcher_validator.proofs.Reading.{bytes_more, none_at_first, recalls_both, recalls_none}
+use Rattle.batcher_validator.specs.Recalling.{IsAtPlace, Recalls}
+use Rattle.batcher_validator.proofs.validator.Validator.recall_others.Goals as goal
+
+pub loop-i-init : goal.loop-i-init
+loop-i-init g c = (
+  recalls_none (node_config g.S.Scheme.meaning g.S.PublicKey.Ord.cmp g.S.Signature.PartialEq.eq g.D.PartialEq.eq
+      c.args.self.now.voter.node) _ c.args.self.now
+      (none_at_first (certificate_format g.S.Certificate.OwnedCodec.format g.D.Codec.format)
+      c.args.self.now.voter.journal.contents.certificates),
+  refl,
+)
+
+pub loop-i-preserved : goal.loop-i-preserved
+loop-i-preserved g c =
+    let config = node_config g.S.Scheme.meaning g.S.PublicKey.Ord.cmp g.S.Signature.PartialEq.eq g.D.PartialEq.eq in
+    let format = certificate_format g.S.Certificate.OwnedCodec.format g.D.Codec.format in
+    let first = c.args.self.now in
+    let before = c.loop-i.invariant in (
+      recalls_both (config first.voter.node) _ _ _ first c.loop-i.self c.recall_at.new.self before.0
+          (subst (λ v. Recalls (config v.node) (IsAtPlace format v.journal.contents.certificates c.loop-i.i)
+          c.loop-i.self c.recall_at.new.self) before.1 c.in-Ok.ensures.recalls)
+          (bytes_more format first.voter.journal.contents.certificates c.loop-i.i),
+      c.recall_at.ensures.voter ∙ before.1,
+    )

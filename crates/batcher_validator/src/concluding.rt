@@ -1,0 +1,171 @@
+//! Constructions by verdicts, or by a certificate, from elsewhere: from another thread, say.
+
+ghost use Rattle.std.specs.Prelude.{◌≡◌, ◌≤◌, ◌⊎◌, IfOk, IfSome, List, None, Ok, OnErr, false, is_some, map, true, ℕ};
+ghost use Rattle.batcher.specs.Verifiers.{IfGiven};
+ghost use Rattle.batcher.specs.messages.Attestation.{Attestation as TheAttestation};
+ghost use Rattle.batcher.specs.messages.Subject.{Subject as TheSubject};
+ghost use Rattle.batcher_node.specs.Events.{constructed};
+ghost use Rattle.batcher_node.specs.Nodes.{IsNext, SameNode, slot_at};
+ghost use Rattle.batcher_node.specs.Verdicts.{LooksAtThere};
+ghost use Rattle.batcher_validator.specs.Histories.{answered};
+ghost use Rattle.batcher_validator.specs.Running.{Constructs, RunMeets, RunStays};
+ghost use Rattle.batcher_voter.specs.Needing.{ConstructionNeeds};
+ghost use Rattle.batcher_voter.specs.Voting.{VoterMeets, VoterStays};
+
+use crate::inputs::certificate_of;
+use crate::validator::Validator;
+use batcher::messages::{Attestation, Digest, Identical, Subject};
+use batcher::round::RoundConfigs;
+use batcher::scheme::Scheme;
+use batcher::verifier::NextAttempt;
+use batcher_codec::{Codec, OwnedCodec};
+use batcher_log::Log;
+use batcher_node::{Construction, NodeConfigs, senders_of_votes_to_send_are_never_blocked};
+use std::alloc::AllocError;
+
+impl<S: Scheme<D>, D: Digest + Codec, L: Log> Validator<S, D, L>
+where
+    S::Signature: Codec + Identical,
+    S::Certificate: OwnedCodec,
+{
+    /// The attestations that the next construction looks at, and what they attest. Where they are
+    /// verified elsewhere, hand the verdicts to `conclude`. None where no kind is ready: then
+    /// `try_construct` lets the view rest, and verifies nothing.
+    pub fn next_attempt(&self) -> Option<NextAttempt<'_, S::Signature, D>>
+        ensures looks_at { IfSome result (λ attempt. (view : ℕ)
+            → IsNext self.now.voter.node.rounds view
+            → LooksAtThere ⟦<S as RoundConfigs<D>>⟧.of (slot_at self.now.voter.node.rounds view)
+            attempt.subject attempt.pending.now) }
+        ensures none { result ≡ None → (view : ℕ) (subject : TheSubject D)
+            (list : List (TheAttestation S.Signature)) → IsNext self.now.voter.node.rounds view
+            → LooksAtThere ⟦<S as RoundConfigs<D>>⟧.of
+            (slot_at self.now.voter.node.rounds view) subject list → ⊥ }
+    {
+        let node = self.voter.node();
+        match node.next_view() {
+            Some(view) => match node.round(view) {
+                Some(round) => round.next_attempt(),
+                None => None,
+            },
+            None => None,
+        }
+    }
+
+    /// Makes the construction of the next view by verdicts on the attestations that `next_attempt`
+    /// lends, and keeps its certificate. Then poll.
+    ///
+    /// False where they aren't those of the next attempt any more, as where a vote came meanwhile.
+    pub fn conclude(
+        &mut self,
+        subject: Subject<D>,
+        list: &[Attestation<S::Signature>],
+        verdicts: &[bool],
+    ) -> Result<bool, AllocError>
+        requires { verdicts.now
+            ≡ map ((S.meaning self.old.voter.node.scheme).attests subject) list.now }
+        ensures made { result ≡ Ok true → Constructs
+            (⟦<S as NodeConfigs<D>>⟧.of self.old.voter.node) self.old self.new }
+        ensures not_stale { (view : ℕ) → IsNext self.old.voter.node.rounds view
+            → LooksAtThere ⟦<S as RoundConfigs<D>>⟧.of (slot_at self.old.voter.node.rounds view)
+            subject list.now → IfOk result (λ made. made ≡ true) }
+        ensures answered { result ≡ Ok false
+            → RunMeets (⟦<S as NodeConfigs<D>>⟧.of self.old.voter.node) self.old self.new
+            answered }
+        ensures stale { result ≡ Ok false → self.new.voter.node ≡ self.old.voter.node }
+        ensures needed { OnErr result ((self.old.shelf.room ≡ 0) ⊎ ConstructionNeeds
+            (⟦<S as NodeConfigs<D>>⟧.of self.old.voter.node) self.old.voter) }
+        ensures refused { OnErr result (self.new.voter.node ≡ self.old.voter.node) }
+        ensures stays { OnErr result
+            (RunStays (⟦<S as NodeConfigs<D>>⟧.of self.old.voter.node) self.old self.new) }
+        ensures same { SameNode self.old.voter.node self.new.voter.node }
+    {
+        match self.make_room() {
+            Ok(()) => match self.conclude_with_room(subject, list, verdicts) {
+                Ok(made) => Ok(made),
+                Err(fault) => Err(fault),
+            },
+            Err(fault) => Err(fault),
+        }
+    }
+
+    // The same where there is room for its certificate.
+    fn conclude_with_room(
+        &mut self,
+        subject: Subject<D>,
+        list: &[Attestation<S::Signature>],
+        verdicts: &[bool],
+    ) -> Result<bool, AllocError>
+        requires room { 1 ≤ self.old.shelf.room }
+        requires stirred { self.old.given.calm ≡ false }
+        requires verdicts { verdicts.now
+            ≡ map ((S.meaning self.old.voter.node.scheme).attests subject) list.now }
+        ensures made { result ≡ Ok true → Constructs
+            (⟦<S as NodeConfigs<D>>⟧.of self.old.voter.node) self.old self.new }
+        ensures not_stale { (view : ℕ) → IsNext self.old.voter.node.rounds view
+            → LooksAtThere ⟦<S as RoundConfigs<D>>⟧.of (slot_at self.old.voter.node.rounds view)
+            subject list.now → IfOk result (λ made. made ≡ true) }
+        ensures answered { result ≡ Ok false
+            → RunMeets (⟦<S as NodeConfigs<D>>⟧.of self.old.voter.node) self.old self.new
+            answered }
+        ensures stale { result ≡ Ok false → self.new.voter.node ≡ self.old.voter.node }
+        ensures needed { OnErr result (ConstructionNeeds
+            (⟦<S as NodeConfigs<D>>⟧.of self.old.voter.node) self.old.voter) }
+        ensures refused { OnErr result (self.new.voter.node ≡ self.old.voter.node) }
+        ensures stays { OnErr result
+            (RunStays (⟦<S as NodeConfigs<D>>⟧.of self.old.voter.node) self.old self.new) }
+        ensures same { SameNode self.old.voter.node self.new.voter.node }
+    {
+        senders_of_votes_to_send_are_never_blocked::<S, D>();
+        self.begins();
+        match self.call_conclude(subject, list, verdicts) {
+            Ok(Some(made)) => match certificate_of(made) {
+                Some(certificate) => {
+                    self.shelve(certificate);
+                    self.note_answer();
+                    Ok(true)
+                }
+                None => {
+                    self.note_answer();
+                    Ok(true)
+                }
+            },
+            Ok(None) => {
+                self.note_answer();
+                Ok(false)
+            }
+            Err(fault) => Err(fault),
+        }
+    }
+
+    // The voter makes the construction.
+    fn call_conclude(
+        &mut self,
+        subject: Subject<D>,
+        list: &[Attestation<S::Signature>],
+        verdicts: &[bool],
+    ) -> Result<Option<Construction<S::Certificate, D>>, AllocError>
+        requires { verdicts.now
+            ≡ map ((S.meaning self.old.voter.node.scheme).attests subject) list.now }
+        ensures meets { IfGiven result (λ one. VoterMeets
+            (⟦<S as NodeConfigs<D>>⟧.of self.old.voter.node) self.old.voter self.new.voter
+            (constructed one.view.0 one.batch)) }
+        ensures not_stale { (view : ℕ) → IsNext self.old.voter.node.rounds view
+            → LooksAtThere ⟦<S as RoundConfigs<D>>⟧.of (slot_at self.old.voter.node.rounds view)
+            subject list.now → IfOk result (λ given. is_some given ≡ true) }
+        ensures stale { result ≡ Ok None → self.new.voter.node ≡ self.old.voter.node }
+        ensures stale_stays { result ≡ Ok None → VoterStays
+            (⟦<S as NodeConfigs<D>>⟧.of self.old.voter.node) self.old.voter self.new.voter }
+        ensures needed { OnErr result (ConstructionNeeds
+            (⟦<S as NodeConfigs<D>>⟧.of self.old.voter.node) self.old.voter) }
+        ensures refused { OnErr result (self.new.voter.node ≡ self.old.voter.node) }
+        ensures stays { OnErr result (VoterStays
+            (⟦<S as NodeConfigs<D>>⟧.of self.old.voter.node) self.old.voter self.new.voter) }
+        ensures same { SameNode self.old.voter.node self.new.voter.node }
+        ensures contents { self.new.voter.journal.contents ≡ self.old.voter.journal.contents }
+        ensures open { self.new.voter.journal.is_open ≡ self.old.voter.journal.is_open }
+        ensures given { self.new.given ≡ self.old.given }
+        ensures shelf { self.new.shelf ≡ self.old.shelf }
+    {
+        self.voter.conclude(subject, list, verdicts)
+    }
+}

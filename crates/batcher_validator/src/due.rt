@@ -1,0 +1,260 @@
+//! What is given to be done, once nobody is to be blocked and nothing is to be given as final.
+
+ghost use Rattle.std.specs.Prelude.{◌≡◌, ◌≤◌, ◌<◌, ◌+◌, ◌⊎◌, ◌^◌, [], IfNone, IfSome, MatchBool, None, Some, length, true, false};
+ghost use Rattle.std.specs.List.{slice_get};
+ghost use Rattle.batcher_journal.specs.Answers.{MayFollow};
+ghost use Rattle.batcher_node.specs.Nodes.{IsAtRest, IsNext};
+ghost use Rattle.batcher_validator.specs.Posing.{BlocksNobody, CastsNone, EntersNone};
+ghost use Rattle.batcher_validator.specs.Queues.{AreDistinct};
+ghost use Rattle.batcher_validator.specs.Running.{ForEachRun, Gives, IsReady, RunStays};
+ghost use Rattle.batcher_validator.specs.Shelves.{HaveNoFinal, IsAt, key_of};
+ghost use Rattle.batcher_validator.specs.Tasks.{NothingIsDue};
+ghost use Rattle.batcher_voter.specs.Voting.{BeginWithOneView, ForEachLife, IsNextView};
+
+use crate::tally::Tally;
+use crate::task::Task;
+use crate::validator::Validator;
+use batcher::messages::{Digest, Identical, Kind, Vote};
+use batcher::positions::{Round, View};
+use batcher::scheme::Scheme;
+use batcher_codec::{Codec, OwnedCodec};
+use batcher_log::Log;
+use batcher_node::NodeConfigs;
+
+impl<S: Scheme<D>, D: Digest + Codec, L: Log> Validator<S, D, L>
+where
+    S::Signature: Codec + Identical,
+    S::Certificate: OwnedCodec,
+{
+    // A view to enter, or an own vote to cast again or to send, and else what others wait for.
+    pub(crate) fn give_own(&mut self) -> Option<Task<S::Signature, D>>
+        requires open { self.old.voter.journal.is_open ≡ true }
+        requires followed { MayFollow D.eq self.old.voter.journal.contents.floor []
+            self.old.voter.journal.contents.votes }
+        requires begins { BeginWithOneView self.old.voter }
+        requires nobody { BlocksNobody ⟦<S as NodeConfigs<D>>⟧.of self.old }
+        requires no_final { HaveNoFinal self.old.given.announced self.old.shelf.certificates }
+        ensures gives { IfSome result
+            (Gives (⟦<S as NodeConfigs<D>>⟧.of self.old.voter.node) self.old self.new) }
+        ensures ready { IfSome result (IsReady self.old) }
+        ensures nothing { result ≡ None → ForEachRun
+            (⟦<S as NodeConfigs<D>>⟧.of self.old.voter.node) self.old (λ past earlier.
+            NothingIsDue (⟦<S as NodeConfigs<D>>⟧.of self.old.voter.node) earlier past) }
+        ensures rests { result ≡ None
+            → RunStays (⟦<S as NodeConfigs<D>>⟧.of self.old.voter.node) self.old self.new }
+        ensures voter { self.new.voter ≡ self.old.voter }
+    {
+        match self.next_view() {
+            Some(view) => {
+                self.note_view(view);
+                Some(Task::Enter(view))
+            }
+            None => match self.next_cast() {
+                Some(vote) => {
+                    self.note_cast();
+                    Some(Task::Cast(vote))
+                }
+                None => match self.next_vote() {
+                    Some(vote) => {
+                        self.note_vote();
+                        Some(Task::SendVote(vote))
+                    }
+                    None => self.give_others(),
+                },
+            },
+        }
+    }
+
+    // A certificate to send, what is to be signed, proposed or judged, or votes to have verified.
+    fn give_others(&mut self) -> Option<Task<S::Signature, D>>
+        requires open { self.old.voter.journal.is_open ≡ true }
+        requires begins { BeginWithOneView self.old.voter }
+        requires nobody { BlocksNobody ⟦<S as NodeConfigs<D>>⟧.of self.old }
+        requires no_final { HaveNoFinal self.old.given.announced self.old.shelf.certificates }
+        requires no_view { EntersNone self.old }
+        requires no_cast { CastsNone self.old }
+        requires no_vote { slice_get self.old.voter.journal.contents.votes
+            self.old.given.tally.sent ≡ None }
+        ensures gives { IfSome result
+            (Gives (⟦<S as NodeConfigs<D>>⟧.of self.old.voter.node) self.old self.new) }
+        ensures ready { IfSome result (IsReady self.old) }
+        ensures nothing { result ≡ None → ForEachRun
+            (⟦<S as NodeConfigs<D>>⟧.of self.old.voter.node) self.old (λ past earlier.
+            NothingIsDue (⟦<S as NodeConfigs<D>>⟧.of self.old.voter.node) earlier past) }
+        ensures rests { result ≡ None
+            → RunStays (⟦<S as NodeConfigs<D>>⟧.of self.old.voter.node) self.old self.new }
+        ensures voter { self.new.voter ≡ self.old.voter }
+    {
+        match self.next_certificate() {
+            Some((kind, round)) => {
+                self.note_handed();
+                Some(Task::SendCertificate(kind, round))
+            }
+            None => match self.pose() {
+                Some(task) => Some(task),
+                None => {
+                    if self.has_votes_waiting() {
+                        self.note_verifying();
+                        return Some(Task::Verify);
+                    }
+                    self.note_calm();
+                    None
+                }
+            },
+        }
+    }
+
+    // The first vote of the journal that wasn't given to be sent.
+    fn next_vote(&self) -> Option<Vote<S::Signature, D>>
+        ensures { result ≡ slice_get self.now.voter.journal.contents.votes
+            self.now.given.tally.sent }
+    {
+        self.voter
+            .journal()
+            .votes()
+            .get(self.given.tally.sent)
+            .copied()
+    }
+
+    fn note_vote(&mut self)
+        requires { self.old.given.tally.sent < length self.old.voter.journal.contents.votes }
+        ensures given { self.new.given ≡ record self.old.given {
+          tally = record self.old.given.tally { sent = self.old.given.tally.sent + 1 };
+        } }
+        ensures voter { self.new.voter ≡ self.old.voter }
+        ensures shelf { self.new.shelf ≡ self.old.shelf }
+    {
+        let _ = self.voter.journal().votes().len();
+        self.given.tally.sent += 1;
+    }
+
+    // The first vote of an earlier life that wasn't given to be cast again.
+    fn next_cast(&self) -> Option<Vote<S::Signature, D>>
+        ensures some { IfSome result (λ vote. (slice_get self.now.voter.journal.contents.votes
+            self.now.given.tally.recast ≡ Some vote)
+            × (self.now.given.tally.recast < self.now.given.tally.begun)) }
+        ensures none { result ≡ None → CastsNone self.now }
+    {
+        let tally = self.tally();
+        if tally.recast < tally.begun {
+            match self.vote_at(tally.recast) {
+                Some(vote) => return Some(vote),
+                None => return None,
+            }
+        }
+        None
+    }
+
+    pub(crate) fn tally(&self) -> Tally
+        ensures { result ≡ self.now.given.tally }
+    {
+        self.given.tally
+    }
+
+    // The vote of the journal at this place.
+    fn vote_at(&self, i: usize) -> Option<Vote<S::Signature, D>>
+        ensures { result ≡ slice_get self.now.voter.journal.contents.votes i }
+    {
+        self.voter.journal().votes().get(i).copied()
+    }
+
+    fn note_cast(&mut self)
+        requires { self.old.given.tally.recast < length self.old.voter.journal.contents.votes }
+        ensures given { self.new.given ≡ record self.old.given {
+          tally = record self.old.given.tally { recast = self.old.given.tally.recast + 1 };
+        } }
+        ensures voter { self.new.voter ≡ self.old.voter }
+        ensures shelf { self.new.shelf ≡ self.old.shelf }
+    {
+        let _ = self.voter.journal().votes().len();
+        self.given.tally.recast += 1;
+    }
+
+    // The kind and the round of the first certificate that wasn't given to be sent.
+    fn next_certificate(&self) -> Option<(Kind, Round)>
+        ensures none { result ≡ None
+            → length self.now.shelf.certificates ≤ self.now.shelf.handed }
+        ensures some { IfSome result (λ key. IsAt self.now.shelf.certificates
+            self.now.shelf.handed (key.0, key.1)) }
+        ensures distinct { AreDistinct key_of self.now.shelf.certificates }
+    {
+        let _ = self.shelf.as_slice();
+        self.shelf.next()
+    }
+
+    fn note_handed(&mut self)
+        requires { self.old.shelf.handed < length self.old.shelf.certificates }
+        ensures given { self.new.given ≡ self.old.given }
+        ensures voter { self.new.voter ≡ self.old.voter }
+        ensures certificates { self.new.shelf.certificates ≡ self.old.shelf.certificates }
+        ensures handed { self.new.shelf.handed ≡ self.old.shelf.handed + 1 }
+    {
+        self.shelf.note_handed();
+    }
+
+    // The view to be in, where it wasn't entered, nor given to be.
+    fn next_view(&self) -> Option<View>
+        ensures beyond { IfSome result (λ view.
+            self.now.voter.node.window.current < view.0) }
+        ensures unasked { IfSome result (λ view. self.now.given.asked < view.0) }
+        ensures next { IfSome result (λ view. ForEachLife
+            (⟦<S as NodeConfigs<D>>⟧.of self.now.voter.node) self.now.voter
+            (λ past earlier. IsNextView self.now.voter past view.0)) }
+        ensures none { result ≡ None → EntersNone self.now }
+    {
+        match self.voter.next_view() {
+            Some(view) => {
+                if view.0 > self.voter.node().window().current && view.0 > self.given.asked {
+                    return Some(view);
+                }
+                None
+            }
+            None => None,
+        }
+    }
+
+    fn note_view(&mut self, view: View)
+        ensures given { self.new.given ≡ record self.old.given { asked = view.0 } }
+        ensures voter { self.new.voter ≡ self.old.voter }
+        ensures shelf { self.new.shelf ≡ self.old.shelf }
+    {
+        self.given.asked = view.0;
+    }
+
+    // Whether votes wait to be verified, and weren't given to be.
+    fn has_votes_waiting(&self) -> bool
+        ensures { MatchBool result ((self.now.given.verifying ≡ false)
+            × (IsAtRest self.now.voter.node → ⊥))
+            ((self.now.given.verifying ≡ true) ⊎ IsAtRest self.now.voter.node) }
+    {
+        if self.is_verifying() {
+            return false;
+        }
+        match self.next_construction() {
+            Some(_) => true,
+            None => false,
+        }
+    }
+
+    fn is_verifying(&self) -> bool
+        ensures { result ≡ self.now.given.verifying }
+    {
+        self.given.verifying
+    }
+
+    // The view of the next construction.
+    fn next_construction(&self) -> Option<View>
+        ensures next { IfSome result (λ view. IsNext self.now.voter.node.rounds view.0) }
+        ensures none { IfNone result (IsAtRest self.now.voter.node) }
+    {
+        self.voter.node().next_view()
+    }
+
+    fn note_verifying(&mut self)
+        ensures given { self.new.given ≡ record self.old.given { verifying = true } }
+        ensures voter { self.new.voter ≡ self.old.voter }
+        ensures shelf { self.new.shelf ≡ self.old.shelf }
+    {
+        self.given.verifying = true;
+    }
+}
