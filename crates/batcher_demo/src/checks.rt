@@ -252,11 +252,10 @@ fn is_just(role: Role, validator: &Validator, witness: &Witness, peer: u32) -> b
         (Role::Equivocates | Role::Contradicts, Some(Cause::Vote(_))) => {
             witness.saw_contradiction(peer) || validator.restarted.is_some()
         }
-        (Role::SignsBadly, Some(Cause::Signature)) => validator.has_named(peer),
+        (Role::SignsBadly, Some(Cause::Signature)) => witness.took_bad_vote(peer),
         (Role::Forges, Some(Cause::Certificate)) => witness.saw_forged,
         (_, Some(_)) => false,
         (Role::Equivocates | Role::Contradicts, None) => !witness.saw_contradiction(peer),
-        (Role::SignsBadly, None) => !validator.has_named(peer),
         (Role::Forges, None) => !witness.saw_forged,
         (_, None) => true,
     }

@@ -6,9 +6,7 @@ use crate::network::{Network, SLOWEST, Stops, stops_of};
 use crate::record::{Record, Seen};
 use crate::roles::Role;
 use crate::station::AHEAD;
-use crate::validator::{
-    BEHIND, Counts, NOTHING, VALIDATORS, VIEWS, Validator, leader_of, letter_of,
-};
+use crate::validator::{Counts, NOTHING, VALIDATORS, VIEWS, Validator, leader_of, letter_of};
 use anyhow::Result;
 use batcher::messages::Kind;
 use batcher::positions::quorum;
@@ -281,15 +279,14 @@ fn draw_votes(rt: &impl Print, network: &Network) -> Result<()> {
     let Counts {
         votes,
         added,
-        processed,
         outside,
         dropped,
         rounds,
     } = all;
-    print!(rt; "votes heard {votes}, added {added}, processed {processed}, ")?;
+    print!(rt; "votes heard {votes}, added {added}, ")?;
     println!(rt; "outside of windows {outside}; messages of blocked peers {dropped}")?;
-    print!(rt; "rounds kept at once: {rounds} at most, from {BEHIND} views before the last ")?;
-    println!(rt; "finalized to {AHEAD} beyond the current")?;
+    print!(rt; "rounds kept at once: {rounds} at most, from the last final view ")?;
+    println!(rt; "to {AHEAD} beyond the current")?;
     Ok(())
 }
 

@@ -1,20 +1,20 @@
-//! A voter, with what its validator signs by. Each call is in a function that promises little,
-//! since what a call promises is carried to its caller's end.
+//! A validator of the library, with what it signs by. Each call is in a function that promises
+//! little, since what a call promises is carried to its caller's end.
 
 ghost use Rattle.std.specs.Prelude.{◌≡◌, ◌<◌, length};
 
 use anyhow::{Result, bail};
-use batcher::messages::{Certificate, Proposal, Sha256Digest, Subject, Vote};
+use batcher::messages::{Certificate, Kind, Proposal, Sha256Digest, Subject, Vote};
 use batcher::positions::{Epoch, Participant, Round, View};
 use batcher::round::Admission;
 use batcher::scheme::{AttestationList, Counter, Keyed, Name};
 use batcher::votes::Mode;
-use batcher_codec::{DecodeError, decode_owned};
 use batcher_evidence::attests;
 use batcher_journal::{Journal, Owner, Unopened};
 use batcher_log::MemoryLog;
-use batcher_node::{Cast, Cause, Construction, EnterFault, Receipt, Verdict};
-use batcher_voter::{CastFault, FinalizeFault, NotStarted, Permission, Voter};
+use batcher_node::{Cast, Cause, EnterFault, Node, Receipt, Verdict};
+use batcher_validator::{PollFault, Task, Validator};
+use batcher_voter::{CastFault, NotStarted};
 use std::alloc::{AllocError, Global};
 use std::marker::Model;
 use std::rc::Rc;
@@ -24,6 +24,8 @@ pub(crate) type DemoScheme = Keyed<true>;
 pub(crate) type AnyVote = Vote<[u8; 32], Sha256Digest>;
 
 pub(crate) type AnyCertificate = Certificate<AttestationList, Sha256Digest>;
+
+pub(crate) type AnyTask = Task<[u8; 32], Sha256Digest>;
 
 const EPOCH: Epoch = Epoch(16);
 // So many views beyond the current one are looked at.
@@ -47,10 +49,10 @@ fn owner(me: u32) -> Owner<'static> {
     }
 }
 
-// The voter of a participant. Contracts see it as the index.
+// The validator of a participant. Contracts see it as the index.
 #[derive(Drop)]
 pub(crate) struct Station {
-    voter: Voter<DemoScheme, Sha256Digest, MemoryLog>,
+    validator: Validator<DemoScheme, Sha256Digest, MemoryLog>,
     scheme: Rc<DemoScheme>,
     me: Participant,
     rng: Counter,
@@ -65,7 +67,7 @@ impl Model for Station {
 
     ghost view = { λ s. s.me.0 };
 
-    ghost invariant = { λ s. (s.voter.node.scheme ≡ s.scheme.value)
+    ghost invariant = { λ s. (s.validator.voter.node.scheme ≡ s.scheme.value)
         × (s.me.0 < length s.scheme.value.participants) };
 }
 
@@ -86,28 +88,37 @@ impl Station {
     {
         let again = Rc::clone(&scheme)?;
         let journal = opened(alloc, log, me.get())?;
-        match Voter::start(alloc, again, AHEAD, true, journal) {
-            Ok(voter) => Ok(Station {
-                voter,
+        match Validator::start(alloc, again, AHEAD, true, journal) {
+            Ok(validator) => Ok(Station {
+                validator,
                 scheme,
                 me,
                 rng: Counter::new(0),
                 constructions: 0,
             }),
-            Err(NotStarted { .. }) => bail!("no voter is made of the journal"),
+            Err(NotStarted { .. }) => bail!("no validator is made of the journal"),
         }
     }
 
     // It ends, and begins again by its disk alone.
     pub(crate) fn restarted(self, alloc: Global) -> Result<Self> {
         let Station {
-            voter,
+            validator,
             scheme,
             me,
             ..
         } = self;
-        let log = voter.into_journal().into_log();
+        let log = validator.into_voter().into_journal().into_log();
         Station::of(alloc, log, scheme, me)
+    }
+
+    // What is to be done next.
+    pub(crate) fn poll(&mut self) -> Result<Option<AnyTask>> {
+        match self.validator.poll() {
+            Ok(task) => Ok(task),
+            Err(PollFault::OutOfMemory) => Err(AllocError.into()),
+            Err(PollFault::Full | PollFault::Closed) => bail!("the disk failed"),
+        }
     }
 
     pub(crate) fn hear_vote(
@@ -115,113 +126,97 @@ impl Station {
         peer: Name,
         vote: AnyVote,
     ) -> Result<Receipt<Admission<[u8; 32], Sha256Digest>>, AllocError> {
-        self.voter.receive_vote(peer, vote)
+        self.validator.receive_vote(peer, vote)
     }
 
     pub(crate) fn hear_certificate(
         &mut self,
         peer: Name,
-        certificate: &AnyCertificate,
+        certificate: AnyCertificate,
     ) -> Result<Receipt<Verdict>, AllocError> {
-        self.voter.receive_certificate(peer, certificate)
+        self.validator.receive_certificate(peer, certificate)
     }
 
-    // Votes for a subject, where the policy clears it and it has no vote yet.
-    pub(crate) fn vote(&mut self, subject: Subject<Sha256Digest>) -> Result<Option<AnyVote>> {
-        match self.voter.ask(&subject) {
-            Permission::Sign => self.cast(subject),
-            Permission::Known(_) | Permission::Refused(_) | Permission::Outside => Ok(None),
-            Permission::Closed => bail!("the disk failed"),
+    // It goes on by a certificate from beyond its window. False where that is forged.
+    pub(crate) fn catch_up(&mut self, certificate: AnyCertificate) -> Result<bool, AllocError> {
+        self.validator.catch_up(certificate)
+    }
+
+    pub(crate) fn enter(&mut self, view: View, leader: u32) -> Result<(), EnterFault> {
+        self.validator.enter(view, Participant::new(leader))
+    }
+
+    // Votes that wait are verified.
+    pub(crate) fn verify(&mut self) -> Result<(), AllocError> {
+        if self.validator.try_construct(&mut self.rng)? {
+            self.constructions = self.constructions.saturating_add(1);
         }
+        Ok(())
     }
 
-    // Signs a vote, and casts it. There is none where it isn't to be sent.
-    fn cast(&mut self, subject: Subject<Sha256Digest>) -> Result<Option<AnyVote>> {
+    // Signs a vote, and casts it.
+    pub(crate) fn sign(&mut self, subject: Subject<Sha256Digest>) -> Result<()> {
         let vote = Vote::new(subject, self.scheme.sign(self.me, subject));
-        to_send(vote, self.voter.cast(vote))
+        is_cast(self.validator.cast(vote))
     }
 
-    // Casts the vote that was written at this place again, as it was signed. There is none where it
-    // isn't to be sent, as where it was cast since the start.
-    pub(crate) fn cast_again(&mut self, alloc: Global, place: usize) -> Result<Option<AnyVote>> {
-        let Some(vote) = self.written_at(place) else {
-            return Ok(None);
-        };
+    // Casts a vote of an earlier life again, as it was signed.
+    pub(crate) fn cast_again(&mut self, alloc: Global, vote: AnyVote) -> Result<()> {
         if !attests(alloc, &*self.scheme, &mut self.rng, &vote)? {
             bail!("the disk has a vote that doesn't attest");
         }
-        to_send(vote, self.voter.cast(vote))
+        is_cast(self.validator.cast(vote))
     }
 
-    // How many votes its disk has.
-    pub(crate) fn written(&self) -> usize {
-        self.voter.journal().votes().len()
+    // It proposes the payload of a letter.
+    pub(crate) fn propose(&mut self, view: View, parent: View, letter: u8) {
+        self.validator
+            .propose(view, parent, Sha256Digest([letter; 32]));
     }
 
-    // The vote that was written at this place.
-    pub(crate) fn written_at(&self, place: usize) -> Option<AnyVote> {
-        self.voter.journal().votes().get(place).copied()
+    // What is proposed is valid.
+    pub(crate) fn accept(&mut self, proposal: &Proposal<Sha256Digest>) {
+        self.validator.judge(proposal, true);
     }
 
-    // The certificates that its disk has.
-    pub(crate) fn kept(&self, alloc: Global) -> Result<Vec<AnyCertificate>> {
-        let mut kept = Vec::new(alloc);
-        let journal = self.voter.journal();
-        if !journal.finalization().is_empty() {
-            kept.push(decoded(alloc, journal.finalization())?)?;
-        }
-        for certified in journal.certificates() {
-            kept.push(decoded(alloc, certified.certificate())?)?;
-        }
-        Ok(kept)
+    // The time of a view is over.
+    pub(crate) fn expire(&mut self, view: u64) {
+        self.validator.expire(View(view));
     }
 
-    pub(crate) fn enter(&mut self, view: u64, leader: u32) -> Result<(), EnterFault> {
-        self.voter.enter(View(view), Participant::new(leader))
+    pub(crate) fn send_again(&mut self) {
+        self.validator.send_again();
     }
 
-    pub(crate) fn finalize(&mut self, finalization: &AnyCertificate) -> Result<(), FinalizeFault> {
-        self.voter.finalize(finalization)
-    }
-
-    pub(crate) fn construct(
-        &mut self,
-    ) -> Result<Option<Construction<AttestationList, Sha256Digest>>, AllocError> {
-        let made = self.voter.try_construct(&mut self.rng)?;
-        if made.is_some() {
-            self.constructions = self.constructions.saturating_add(1);
-        }
-        Ok(made)
-    }
-
-    // The view to be in.
-    pub(crate) fn next_view(&self) -> Option<u64> {
-        match self.voter.next_view() {
-            Some(view) => Some(view.0),
-            None => None,
+    // A copy of the certificate of this kind and round, if it keeps one.
+    pub(crate) fn certificate(
+        &self,
+        kind: Kind,
+        round: Round,
+    ) -> Result<Option<AnyCertificate>, AllocError> {
+        match self.validator.certificate(kind, round) {
+            Some(certificate) => Ok(Some(certificate.clone()?)),
+            None => Ok(None),
         }
     }
 
-    // The view on which to propose in this one.
-    pub(crate) fn parent_for(&self, view: u64) -> Option<u64> {
-        match self.voter.parent_for(View(view)) {
-            Some(parent) => Some(parent.0),
-            None => None,
-        }
+    // Whether it keeps a certificate of that kind and view.
+    pub(crate) fn has(&self, kind: Kind, view: u64) -> bool {
+        self.validator.certificate(kind, numbered(view)).is_some()
     }
 
     // The first view that is looked at.
     pub(crate) fn first_view(&self) -> u64 {
-        self.voter.node().window().finalized
+        self.node().window().finalized
     }
 
     pub(crate) fn rounds_kept(&self) -> usize {
-        self.voter.node().rounds_kept()
+        self.node().rounds_kept()
     }
 
     // Why the node has blocked a peer, if it has.
     pub(crate) fn cause_against(&self, peer: u32) -> Option<Cause> {
-        match self.voter.node().blocked().get(peer as usize) {
+        match self.node().blocked().get(peer as usize) {
             Some(cause) => *cause,
             None => None,
         }
@@ -229,12 +224,20 @@ impl Station {
 
     // Whether messages of the view are looked at.
     pub(crate) fn looks_at(&self, view: u64) -> bool {
-        self.voter.node().window().contains(view)
+        self.node().window().contains(view)
+    }
+
+    // The view whose votes are verified next, if any wait.
+    pub(crate) fn verified_next(&self) -> Option<u64> {
+        match self.node().next_view() {
+            Some(view) => Some(view.0),
+            None => None,
+        }
     }
 
     // The proposal that is selected in the view.
     pub(crate) fn selected(&self, view: u64) -> Option<Proposal<Sha256Digest>> {
-        match self.voter.node().round(View(view)) {
+        match self.node().round(View(view)) {
             Some(round) => round.proposal(),
             None => None,
         }
@@ -242,21 +245,22 @@ impl Station {
 
     // Whether votes of the view are kept as evidence, and make certificates.
     pub(crate) fn keeps_evidence(&self, view: u64) -> bool {
-        match self.voter.node().round(View(view)) {
+        match self.node().round(View(view)) {
             Some(round) => round.mode() == Mode::Retaining,
             None => false,
         }
     }
+
+    fn node(&self) -> &Node<DemoScheme, Sha256Digest> {
+        self.validator.voter().node()
+    }
 }
 
-// The vote, where it is to be sent.
-fn to_send(
-    vote: AnyVote,
+fn is_cast(
     cast: Result<Cast<[u8; 32], Sha256Digest>, CastFault<[u8; 32], Sha256Digest>>,
-) -> Result<Option<AnyVote>> {
+) -> Result<()> {
     match cast {
-        Ok(Cast::ToSend(_)) => Ok(Some(vote)),
-        Ok(Cast::Known | Cast::Outside) => Ok(None),
+        Ok(_) => Ok(()),
         Err(CastFault::OutOfMemory) => Err(AllocError.into()),
         Err(_) => bail!("a vote is refused that may be signed"),
     }
@@ -285,13 +289,5 @@ fn opened(
     match Journal::open(alloc, log, &owner(me)) {
         Ok(journal) => Ok(journal),
         Err(Unopened { .. }) => bail!("the journal doesn't open"),
-    }
-}
-
-fn decoded(alloc: Global, bytes: &[u8]) -> Result<AnyCertificate> {
-    match decode_owned(alloc, bytes) {
-        Ok(certificate) => Ok(certificate),
-        Err(DecodeError::OutOfMemory) => Err(AllocError.into()),
-        Err(DecodeError::Fault(_)) => bail!("the disk has bytes that are no certificate"),
     }
 }

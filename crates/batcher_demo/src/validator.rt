@@ -1,14 +1,12 @@
-//! A validator: what its voter leaves to it. It hands in what comes, asks for votes, keeps time,
-//! keeps certificates to send them again, and leads.
+//! A validator: it hands in what comes, does what is to be done, and keeps time.
 
-use crate::station::{AnyCertificate, AnyVote, Station, numbered};
+use crate::station::{AnyCertificate, AnyTask, AnyVote, Station, numbered};
 use anyhow::{Result, bail};
-use batcher::messages::{Kind, Proposal, Sha256Digest, Subject};
-use batcher::positions::Participant;
-use batcher::scheme::{AttestationList, Name};
-use batcher::verifier::Batch;
-use batcher_node::{Cause, Construction, Receipt, Verdict};
-use batcher_voter::FinalizeFault;
+use batcher::messages::{Kind, Proposal, Sha256Digest};
+use batcher::positions::{Round, View};
+use batcher::scheme::Name;
+use batcher_node::{Cause, Receipt, Verdict};
+use batcher_validator::Task;
 use std::alloc::{AllocError, Global};
 
 /// How many validators there are.
@@ -20,9 +18,8 @@ pub(crate) const VIEWS: u64 = 13;
 const PATIENCE: usize = 8;
 // Behind the last view it says so often what it knows, for who fell behind.
 const REPEATS: u32 = 4;
-/// So many views before the last final one are still looked at, since messages of them may be on
-/// their way.
-pub(crate) const BEHIND: u64 = 4;
+// A message has fewer things to be done than this.
+const MOST_TASKS: usize = 1000;
 
 /// What a validator sends to all others.
 #[derive(Drop)]
@@ -63,7 +60,6 @@ pub(crate) struct Block {
 pub(crate) struct Counts {
     pub(crate) votes: usize,
     pub(crate) added: usize,
-    pub(crate) processed: usize,
     pub(crate) outside: usize,
     pub(crate) dropped: usize,
     pub(crate) rounds: usize,
@@ -72,7 +68,6 @@ pub(crate) struct Counts {
 pub(crate) const NOTHING: Counts = Counts {
     votes: 0,
     added: 0,
-    processed: 0,
     outside: 0,
     dropped: 0,
     rounds: 0,
@@ -84,7 +79,6 @@ impl Counts {
         Counts {
             votes: self.votes.saturating_add(other.votes),
             added: self.added.saturating_add(other.added),
-            processed: self.processed.saturating_add(other.processed),
             outside: self.outside.saturating_add(other.outside),
             dropped: self.dropped.saturating_add(other.dropped),
             rounds: self.rounds.max(other.rounds),
@@ -94,19 +88,16 @@ impl Counts {
 
 #[derive(Drop)]
 pub(crate) struct Validator {
+    alloc: Global,
     pub(crate) station: Station,
     pub(crate) me: u32,
     pub(crate) current: u64,
     // When it entered that view, or last said again what it had said.
     since: usize,
     said: u32,
-    // What leaders propose, as far as it was heard, by views.
-    heard: Vec<Option<Proposal<Sha256Digest>>>,
-    // The certificates that it knows of the views that are looked at.
-    certificates: Vec<AnyCertificate>,
+    // The view of what it took in last.
+    heard: u64,
     pub(crate) blocks: Vec<Block>,
-    // Whose votes constructions have named as bad.
-    named: Vec<u32>,
     /// When it was last stopped and started again, if it was.
     pub(crate) restarted: Option<usize>,
     pub(crate) counts: Counts,
@@ -117,14 +108,7 @@ pub(crate) struct Validator {
 impl Validator {
     /// One that begins with the epoch.
     pub(crate) fn new(alloc: Global, station: Station, me: u32) -> Result<Self> {
-        let mut validator = Validator::of(alloc, station, me, NOTHING)?;
-        match validator.begin(alloc, 0) {
-            Ok(()) => Ok(validator),
-            Err(fault) => {
-                drop(validator);
-                Err(fault)
-            }
-        }
+        Validator::of(alloc, station, me, NOTHING, None, 0)
     }
 
     /// It is stopped, and started again by its disk alone. Only the counts are of all its lives.
@@ -135,9 +119,31 @@ impl Validator {
             counts,
             ..
         } = self;
-        let mut validator = Validator::of(alloc, station.restarted(alloc)?, me, counts)?;
-        validator.restarted = Some(now);
-        match validator.begin(alloc, now) {
+        Validator::of(alloc, station.restarted(alloc)?, me, counts, Some(now), now)
+    }
+
+    fn of(
+        alloc: Global,
+        station: Station,
+        me: u32,
+        counts: Counts,
+        restarted: Option<usize>,
+        now: usize,
+    ) -> Result<Self> {
+        let mut validator = Validator {
+            alloc,
+            station,
+            me,
+            current: 0,
+            since: now,
+            said: 0,
+            heard: 0,
+            blocks: Vec::new(alloc),
+            restarted,
+            counts,
+            outbox: Vec::new(alloc),
+        };
+        match validator.settle(now) {
             Ok(()) => Ok(validator),
             Err(fault) => {
                 drop(validator);
@@ -146,69 +152,9 @@ impl Validator {
         }
     }
 
-    fn of(alloc: Global, station: Station, me: u32, counts: Counts) -> Result<Self> {
-        let mut heard = Vec::new(alloc);
-        for _ in 0..VIEWS + 2 {
-            heard.push(None)?;
-        }
-        Ok(Validator {
-            station,
-            me,
-            current: 0,
-            since: 0,
-            said: 0,
-            heard,
-            certificates: Vec::new(alloc),
-            blocks: Vec::new(alloc),
-            named: Vec::new(alloc),
-            restarted: None,
-            counts,
-            outbox: Vec::new(alloc),
-        })
-    }
-
-    // Goes on with what its disk has: it sends the certificates again, enters the views above the
-    // final one, and casts the votes again, in their order.
-    fn begin(&mut self, alloc: Global, now: usize) -> Result<()> {
-        for certificate in self.station.kept(alloc)? {
-            self.keep(certificate)?;
-        }
-        let first = self.station.first_view();
-        let next = self.next_view();
-        for view in first.saturating_add(1)..=next {
-            self.station.enter(view, leader_of(view))?;
-        }
-        self.current = next;
-        self.since = now;
-        for place in 0..self.station.written() {
-            let cast = self.station.cast_again(alloc, place)?;
-            self.send(cast)?;
-        }
-        self.go_on(now)
-    }
-
-    // Votes for a subject, where its voter clears that.
-    fn vote(&mut self, subject: Subject<Sha256Digest>) -> Result<()> {
-        let cast = self.station.vote(subject)?;
-        self.send(cast)?;
-        Ok(())
-    }
-
-    fn send(&mut self, vote: Option<AnyVote>) -> Result<(), AllocError> {
-        if let Some(vote) = vote {
-            self.outbox.push(Message::Vote(vote))?;
-        }
-        Ok(())
-    }
-
     /// Whether it has blocked a peer.
     pub(crate) fn has_blocked(&self, peer: u32) -> bool {
         self.blocks.iter().any(|b| b.peer == peer)
-    }
-
-    /// Whether a construction of its own has named a vote of a peer as bad.
-    pub(crate) fn has_named(&self, peer: u32) -> bool {
-        self.named.contains(&peer)
     }
 
     /// Whether it has blocked anybody for what was sent in the view.
@@ -224,14 +170,8 @@ impl Validator {
         }
     }
 
-    /// Whether it keeps a certificate of that kind and view.
-    pub(crate) fn has(&self, kind: Kind, view: u64) -> bool {
-        self.certificates
-            .iter()
-            .any(|c| c.kind() == kind && c.round().view.0 == view)
-    }
-
-    fn block(&mut self, peer: u32, view: u64, cause: Cause) -> Result<(), AllocError> {
+    fn block(&mut self, peer: u32, cause: Cause) -> Result<(), AllocError> {
+        let view = self.heard;
         self.blocks.push(Block { peer, view, cause })?;
         Ok(())
     }
@@ -246,20 +186,16 @@ impl Validator {
             Message::Vote(vote) => self.hear_vote(peer, *vote)?,
             Message::Certificate(certificate) => self.hear_certificate(peer, certificate)?,
         }
-        self.go_on(now)
+        self.settle(now)
     }
 
     fn hear_vote(&mut self, peer: u32, vote: AnyVote) -> Result<(), AllocError> {
         self.counts.votes = self.counts.votes.saturating_add(1);
-        let view = vote.round().view.0;
+        self.heard = vote.round().view.0;
         match self.station.hear_vote(Name(u64::from(peer)), vote)? {
             Receipt::Answered(admission) => {
                 if admission.added {
                     self.counts.added = self.counts.added.saturating_add(1);
-                    self.note_proposal(peer, &vote);
-                }
-                if let Some(reason) = admission.block {
-                    self.block(peer, view, Cause::Vote(reason))?;
                 }
             }
             Receipt::Outside => self.counts.outside = self.counts.outside.saturating_add(1),
@@ -270,32 +206,20 @@ impl Validator {
         Ok(())
     }
 
-    // The leader's notarize is its proposal.
-    fn note_proposal(&mut self, peer: u32, vote: &AnyVote) {
-        if let Subject::Notarize { proposal } = vote.subject() {
-            let view = proposal.round.view.0;
-            if peer == leader_of(view) {
-                if let Some(place) = self.heard.get_mut(view as usize) {
-                    *place = Some(proposal);
-                }
-            }
-        }
-    }
-
     // A certificate that it has is of no use again, and is not verified.
     fn hear_certificate(&mut self, peer: u32, certificate: &AnyCertificate) -> Result<()> {
-        let view = certificate.round().view.0;
-        if self.has(certificate.kind(), view) {
+        self.heard = certificate.round().view.0;
+        if self.station.has(certificate.kind(), self.heard) {
             return Ok(());
         }
         match self
             .station
-            .hear_certificate(Name(u64::from(peer)), certificate)?
+            .hear_certificate(Name(u64::from(peer)), certificate.clone()?)?
         {
-            Receipt::Answered(Verdict::Recorded(_)) => self.keep(certificate.clone()?)?,
-            Receipt::Answered(Verdict::Forged) => self.block(peer, view, Cause::Certificate)?,
             Receipt::Outside => self.catch_up(peer, certificate)?,
-            Receipt::Answered(Verdict::Known) | Receipt::Dropped | Receipt::Unknown => {}
+            Receipt::Answered(Verdict::Recorded(_) | Verdict::Forged | Verdict::Known)
+            | Receipt::Dropped
+            | Receipt::Unknown => {}
         }
         Ok(())
     }
@@ -310,28 +234,8 @@ impl Validator {
 
     // Goes on from a finalization, where it fell behind.
     fn catch_up(&mut self, peer: u32, certificate: &AnyCertificate) -> Result<()> {
-        if !self.is_ahead(certificate) {
-            return Ok(());
-        }
-        match self.station.finalize(certificate) {
-            Ok(()) => self.keep(certificate.clone()?)?,
-            Err(FinalizeFault::Forged) => {
-                self.block(peer, certificate.round().view.0, Cause::Certificate)?;
-            }
-            Err(FinalizeFault::NotOfEpoch | FinalizeFault::Passed) => {}
-            Err(FinalizeFault::OutOfMemory | FinalizeFault::Full | FinalizeFault::Closed) => {
-                bail!("the disk or memory has no room for a finalization");
-            }
-        }
-        Ok(())
-    }
-
-    // Keeps a certificate, and sends it on.
-    fn keep(&mut self, certificate: AnyCertificate) -> Result<(), AllocError> {
-        if !self.has(certificate.kind(), certificate.round().view.0) {
-            self.outbox
-                .push(Message::Certificate(certificate.clone()?))?;
-            self.certificates.push(certificate)?;
+        if self.is_ahead(certificate) && !self.station.catch_up(certificate.clone()?)? {
+            self.block(peer, Cause::Certificate)?;
         }
         Ok(())
     }
@@ -341,199 +245,73 @@ impl Validator {
     pub(crate) fn wait(&mut self, now: usize) -> Result<()> {
         if now.saturating_sub(self.since) >= PATIENCE {
             self.since = now;
-            let round = numbered(self.current);
             if self.current <= VIEWS {
-                self.vote(Subject::Nullify { round })?;
+                self.station.expire(self.current);
             }
             if self.current <= VIEWS || self.said < REPEATS {
                 self.said = self.said.saturating_add(1);
-                self.say_again()?;
+                self.station.send_again();
             }
         }
-        self.go_on(now)
+        self.settle(now)
     }
 
-    // Sends its votes of the current view again, as they were signed, and all certificates.
-    fn say_again(&mut self) -> Result<()> {
-        for place in 0..self.station.written() {
-            if let Some(vote) = self.station.written_at(place) {
-                if vote.round().view.0 == self.current {
-                    self.send(Some(vote))?;
+    // Does what is to be done, until nothing is.
+    fn settle(&mut self, now: usize) -> Result<()> {
+        for _ in 0..MOST_TASKS {
+            match self.station.poll()? {
+                Some(task) => self.perform(now, task)?,
+                None => {
+                    self.counts.rounds = self.counts.rounds.max(self.station.rounds_kept());
+                    return Ok(());
                 }
             }
         }
-        for place in 0..self.certificates.len() {
-            if let Some(certificate) = self.certificates.get(place) {
-                self.outbox
-                    .push(Message::Certificate(certificate.clone()?))?;
+        bail!("there is no end of what is to be done");
+    }
+
+    fn perform(&mut self, now: usize, task: AnyTask) -> Result<()> {
+        match task {
+            Task::Block(peer, cause) => self.block(peer.get(), cause)?,
+            Task::Final(_) => {}
+            Task::Cast(vote) => self.station.cast_again(self.alloc, vote)?,
+            Task::SendVote(vote) => self.outbox.push(Message::Vote(vote))?,
+            Task::SendCertificate(kind, round) => self.send_certificate(kind, round)?,
+            Task::Enter(view) => self.enter(now, view)?,
+            Task::Verify => self.verify()?,
+            Task::Sign(subject) => self.station.sign(subject)?,
+            Task::Propose { view, parent } => {
+                if view.0 <= VIEWS {
+                    self.station.propose(view, parent, b'a');
+                }
+            }
+            Task::Judge(proposal) => {
+                if proposal.round.view.0 <= VIEWS {
+                    self.station.accept(&proposal);
+                }
             }
         }
         Ok(())
     }
 
-    // What can be done is done, until nothing is left. A turn that goes on has something to send or
-    // enters a view, so few are enough.
-    fn go_on(&mut self, now: usize) -> Result<()> {
-        for _ in 0..8 * VIEWS {
-            let before = self.outbox.len();
-            self.construct()?;
-            self.finalize()?;
-            self.notarize()?;
-            if !self.enter(now)? && self.outbox.len() == before {
-                break;
-            }
-        }
-        self.forget()?;
-        // A vote that the node knew was passed to a view too, which is to rest.
-        self.construct()?;
-        self.counts.rounds = self.counts.rounds.max(self.station.rounds_kept());
-        Ok(())
-    }
-
-    // Constructs until all views rest. A round gives three batches in a row at most.
-    fn construct(&mut self) -> Result<(), AllocError> {
-        for _ in 0..4 * (VIEWS + 2) {
-            match self.station.construct()? {
-                Some(construction) => self.take(construction)?,
-                None => break,
-            }
+    fn send_certificate(&mut self, kind: Kind, round: Round) -> Result<(), AllocError> {
+        if let Some(certificate) = self.station.certificate(kind, round)? {
+            self.outbox.push(Message::Certificate(certificate))?;
         }
         Ok(())
     }
 
-    fn take(
-        &mut self,
-        construction: Construction<AttestationList, Sha256Digest>,
-    ) -> Result<(), AllocError> {
-        let Construction { view, batch } = construction;
-        if let Some(batch) = batch {
-            let Batch {
-                processed,
-                invalid,
-                certificate,
-                fallback: _,
-            } = batch;
-            self.counts.processed = self.counts.processed.saturating_add(processed);
-            self.note_named(invalid.as_slice())?;
-            self.block_signers(view.0, invalid.as_slice())?;
-            if let Some(certificate) = certificate {
-                self.keep(certificate)?;
-            }
-        }
-        Ok(())
-    }
-
-    // The node has blocked whose votes don't attest. It is noted of whom it wasn't before.
-    fn block_signers(&mut self, view: u64, signers: &[Participant]) -> Result<(), AllocError> {
-        for signer in signers {
-            if !self.has_blocked(signer.get()) {
-                self.block(signer.get(), view, Cause::Signature)?;
-            }
-        }
-        Ok(())
-    }
-
-    // The network checks at its end that just those who were answered so have blocked the one that
-    // signs badly.
-    fn note_named(&mut self, signers: &[Participant]) -> Result<(), AllocError> {
-        for signer in signers {
-            self.named.push(signer.get())?;
-        }
-        Ok(())
-    }
-
-    // Votes to finalize what is notarized, where its voter clears that.
-    fn finalize(&mut self) -> Result<()> {
-        for place in 0..self.certificates.len() {
-            if let Some(proposal) = self.notarized_at(place) {
-                self.vote(Subject::Finalize { proposal })?;
-            }
-        }
-        Ok(())
-    }
-
-    fn notarized_at(&self, place: usize) -> Option<Proposal<Sha256Digest>> {
-        match self.certificates.get(place)?.subject() {
-            Subject::Notarize { proposal } => Some(proposal),
-            Subject::Nullify { .. } | Subject::Finalize { .. } => None,
-        }
-    }
-
-    // Proposes as the leader, and else notarizes what the leader proposes, where its voter clears
-    // that.
-    fn notarize(&mut self) -> Result<()> {
-        let view = self.current;
-        if view > VIEWS {
-            return Ok(());
-        }
-        let proposal = if leader_of(view) == self.me {
-            match self.station.parent_for(view) {
-                Some(parent) => Some(proposed(view, parent, b'a')),
-                None => None,
-            }
-        } else {
-            match self.heard.get(view as usize) {
-                Some(heard) => *heard,
-                None => None,
-            }
-        };
-        if let Some(proposal) = proposal {
-            self.vote(Subject::Notarize { proposal })?;
-        }
-        Ok(())
-    }
-
-    // Enters the view that its voter says, if that is a later one.
-    fn enter(&mut self, now: usize) -> Result<bool> {
-        let next = self.next_view();
-        if next <= self.current {
-            return Ok(false);
-        }
-        self.station.enter(next, leader_of(next))?;
-        self.current = next;
+    fn enter(&mut self, now: usize, view: View) -> Result<()> {
+        self.station.enter(view, leader_of(view.0))?;
+        self.current = view.0;
         self.since = now;
-        Ok(true)
-    }
-
-    fn next_view(&self) -> u64 {
-        match self.station.next_view() {
-            Some(next) => next,
-            None => self.current,
-        }
-    }
-
-    // Begins with a final view some views back, and forgets what is before it.
-    fn forget(&mut self) -> Result<()> {
-        let mut last = 0;
-        for certificate in self.certificates.as_slice() {
-            if certificate.kind() == Kind::Finalization {
-                last = last.max(certificate.round().view.0);
-            }
-        }
-        if let Some(place) = self.final_before(last.saturating_sub(BEHIND)) {
-            if let Some(finalization) = self.certificates.get(place) {
-                match self.station.finalize(finalization) {
-                    Ok(()) => {}
-                    Err(_) => bail!("a finalization isn't taken in"),
-                }
-            }
-        }
-        let first = self.station.first_view();
-        self.certificates.retain(move |c| c.round().view.0 >= first);
         Ok(())
     }
 
-    // Where the finalization of the highest view up to this one is that is above the first.
-    fn final_before(&self, view: u64) -> Option<usize> {
-        let mut found = None;
-        let mut highest = self.station.first_view();
-        for (place, certificate) in self.certificates.iter().enumerate() {
-            let of = certificate.round().view.0;
-            if certificate.kind() == Kind::Finalization && of > highest && of <= view {
-                highest = of;
-                found = Some(place);
-            }
+    fn verify(&mut self) -> Result<(), AllocError> {
+        if let Some(view) = self.station.verified_next() {
+            self.heard = view;
         }
-        found
+        self.station.verify()
     }
 }

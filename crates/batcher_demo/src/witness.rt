@@ -119,6 +119,8 @@ pub(crate) struct Witness {
     sides: Vec<Sides>,
     /// Whether it looked at a certificate that was forged.
     pub(crate) saw_forged: bool,
+    // Of whom it took in a vote that doesn't attest, by bits.
+    bad_voters: u32,
     // By views.
     voters: Vec<Voters>,
     /// How many votes that it had taken in came to it again.
@@ -138,6 +140,7 @@ impl Witness {
         Ok(Witness {
             sides: Vec::new(alloc),
             saw_forged: false,
+            bad_voters: 0,
             voters,
             repeats: 0,
             was_woken: false,
@@ -152,10 +155,16 @@ impl Witness {
             .any(|it| it.peer == peer && it.contradict())
     }
 
+    /// Whether it took in a vote of the peer's that doesn't attest.
+    pub(crate) fn took_bad_vote(&self, peer: u32) -> bool {
+        self.bad_voters & bit_of(peer) != 0
+    }
+
     /// The validator was stopped.
     pub(crate) fn forget(&mut self) {
         self.sides.clear();
         self.saw_forged = false;
+        self.bad_voters = 0;
         for voters in self.voters.as_mut_slice() {
             *voters = NOBODY;
         }
@@ -187,7 +196,9 @@ impl Witness {
         }
         if validator.counts.added != added {
             posted.taken |= bit;
-            if role != Role::SignsBadly {
+            if role == Role::SignsBadly {
+                self.bad_voters |= bit_of(from);
+            } else {
                 self.note(from, &posted.message);
             }
         }
@@ -254,19 +265,20 @@ impl Witness {
 // Whether the validator has a certificate of the view of each quorum. Votes for a proposal make one
 // where it is selected.
 fn is_complete(validator: &Validator, view: u64, voters: &Voters) -> bool {
-    if !validator.station.keeps_evidence(view) {
+    let station = &validator.station;
+    if !station.keeps_evidence(view) {
         return true;
     }
     let needed = quorum(VALIDATORS);
-    if voters.nullifies.count_ones() >= needed && !validator.has(Kind::Nullification, view) {
+    if voters.nullifies.count_ones() >= needed && !station.has(Kind::Nullification, view) {
         return false;
     }
-    match validator.station.selected(view) {
+    match station.selected(view) {
         None => true,
         Some(proposal) => {
             let (notarizes, finalizes) = voters.count_for(&proposal);
-            (notarizes < needed || validator.has(Kind::Notarization, view))
-                && (finalizes < needed || validator.has(Kind::Finalization, view))
+            (notarizes < needed || station.has(Kind::Notarization, view))
+                && (finalizes < needed || station.has(Kind::Finalization, view))
         }
     }
 }
@@ -280,7 +292,7 @@ fn is_forged(certificate: &AnyCertificate) -> bool {
 fn looks_at(validator: &Validator, from: u32, certificate: &AnyCertificate) -> bool {
     let view = certificate.round().view.0;
     !validator.has_blocked(from)
-        && !validator.has(certificate.kind(), view)
+        && !validator.station.has(certificate.kind(), view)
         && (validator.station.looks_at(view) || validator.is_ahead(certificate))
 }
 
