@@ -32,7 +32,7 @@ use Rattle.batcher_node.specs.declared.answers.Cause.{Cause}
 use Rattle.batcher_node.specs.declared.slot.Slot.{Slot}
 use Rattle.batcher_validator.specs.Running.{AreKept, ForEachRun, GivenView, Gives, IsRunning, RunMeets, RunStays, ValidatorView, is_before_view, is_over_for}
 use Rattle.batcher_validator.specs.Histories.{HadVoted, HasAnnouncedFrom, HasAskedFrom, HasHanded, HasRecast, HasSent, IsVerifying, ValidatorHistory, again, answered, calls_in, conduct_in, gave, voter_history, window_by}
-use Rattle.batcher_validator.specs.Tasks.{Counts, IsNextIn, NobodyIsToBlock, NothingIsDue, NothingIsPosed}
+use Rattle.batcher_validator.specs.Tasks.{Counts, HasEntered, IsNextIn, NobodyIsToBlock, NothingIsDue, NothingIsPosed}
 use Rattle.batcher_validator.specs.declared.task.Task.TheVariants.{Block, Cast, Enter, SendCertificate, SendVote, Verify}
 use Rattle.batcher_validator.proofs.Blocking.{blocks_one, not_blocked}
 use Rattle.batcher_validator.proofs.Beginning.{first_none}
@@ -159,16 +159,20 @@ module _ {S D K G C L : Type 0} (x : NodeConfig D K G C) (old new : ValidatorVie
             (is.votes opened)
 
     pub gives_cast :
-        count ≡ old.given.tally.recast → count < old.given.tally.begun
+        ForEachRun x old (λ past earlier. HasEntered x past)
+        → count ≡ old.given.tally.recast → count < old.given.tally.begun
         → new.given ≡ record old.given { tally = record old.given.tally { recast = count + 1 } }
         → Gives x old new (Cast vote)
-    gives_cast here before given past earlier is =
+    gives_cast entered here before given past earlier is =
         record {
           voting = rw (voter) is.voting;
           in_turn = (
             (
               (is.begins opened).were_given vote (contained_first votes count old.given.tally.begun vote there before),
-              not_given subject_of (is_over_for floor) (λ s. HasRecast past s) votes count first vote may.1 differs,
+              (
+                not_given subject_of (is_over_for floor) (λ s. HasRecast past s) votes count first vote may.1 differs,
+                entered past earlier is,
+              ),
             ),
             is.in_turn,
           );
@@ -513,7 +517,7 @@ module _ {S D K G C L : Type 0} (x : NodeConfig D K G C) (old : ValidatorView S 
       of_slot view (Some slot) rest there = sym there.changed_is ∙ rest
 
   -- the next view was entered, or given to be
-  no_enter_due :
+  pub no_enter_due :
       (2 ^ 64 ≤ old.voter.knowledge.highest + 1)
       ⊎ ((old.voter.knowledge.highest + 1 ≤ old.voter.node.window.current)
       ⊎ (old.voter.knowledge.highest + 1 ≤ old.given.asked))

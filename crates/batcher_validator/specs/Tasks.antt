@@ -64,6 +64,12 @@ module _ {D K G C : Type 0} (x : NodeConfig D K G C) where
       (i : ℕ) → i < length x.meaning.participants
       → (cause_in x (calls_in past) i ≡ None) ⊎ HasBlocked past i
 
+  -- The next view above the final one was entered, or given to be.
+  abbrev pub HasEntered : ValidatorHistory D K G C → Type 0
+  HasEntered past =
+      (next : ℕ) → IsNextIn past next → (window_by past).finalized < next → next < 2 ^ 64
+      → (next ≤ (window_by past).current) ⊎ HasAskedFrom past next
+
   -- A proposal of a view is to be made, or to be judged: it would be the first of the current view,
   -- which is above the final one and whose time isn't over, and no later view is to be entered.
   pub record IsOpen (past : ValidatorHistory D K G C) (view : ℕ) : Type 0 where
@@ -121,9 +127,10 @@ module _ {D K G C : Type 0} (x : NodeConfig D K G C) where
     MayGive past (SendVote vote) =
         HasVoted (conduct_in earlier past) (subject_of vote)
         × (HasSent past (subject_of vote) → ⊥)
-    -- a vote was written in an earlier life,
+    -- a vote was written in an earlier life, and the next view was entered,
     MayGive past (Cast vote) =
-        HadVoted earlier past (subject_of vote) × (HasRecast past (subject_of vote) → ⊥)
+        HadVoted earlier past (subject_of vote)
+        × ((HasRecast past (subject_of vote) → ⊥) × HasEntered past)
     -- there is a certificate of the kind and the round,
     MayGive past (SendCertificate kind number) =
         IsThere kind number × (HasHanded past (kind, number) → ⊥)
@@ -191,9 +198,7 @@ module _ {D K G C : Type 0} (x : NodeConfig D K G C) where
       -- one of the kind and the round of each certificate that counts was given to be sent,
       pub certificates : (c : Certificate C D) → Counts past c → HasHanded past (key_of c)
       -- the next view above the final one was entered, or given to be,
-      pub enters :
-          (next : ℕ) → IsNextIn past next → (window_by past).finalized < next → next < 2 ^ 64
-          → (next ≤ (window_by past).current) ⊎ HasAskedFrom past next
+      pub enters : HasEntered past
       -- votes that wait are being verified,
       pub verifies :
           IsVerifying past

@@ -1,7 +1,7 @@
 use Rattle.std.proofs.Common.{◌∙◌, refl, sym}
 use Rattle.batcher_node.specs.Nodes.{node_config}
 use Rattle.batcher_types.proofs.VoteLemmas.{same_subject-refl}
-use Rattle.batcher_validator.proofs.Giving.{contained, gives_cast, gives_enter, gives_vote}
+use Rattle.batcher_validator.proofs.Giving.{contained, gives_cast, gives_enter, gives_vote, no_enter_due}
 use Rattle.batcher_validator.specs.Histories.{voter_history}
 use Rattle.batcher_validator.proofs.validator.Validator.give_own.Goals as goal
 
@@ -21,7 +21,10 @@ returns-in-Some-next_cast-clause-gives g c =
     gives_cast (node_config g.S.Scheme.meaning g.S.PublicKey.Ord.cmp g.S.Signature.PartialEq.eq
     g.D.PartialEq.eq old.voter.node) old c.note_cast.new.self c.note_cast.ensures.voter
     c.in-Some-next_cast.vote (same_subject-refl g.D.PartialEq.eq g.met.D.Eq.laws.refl) c.requires.open
-    c.requires.followed old.given.tally.recast it.0 c.note_cast.ensures.shelf refl it.1
+    c.requires.followed old.given.tally.recast it.0 c.note_cast.ensures.shelf
+    (λ past earlier is. no_enter_due (node_config g.S.Scheme.meaning g.S.PublicKey.Ord.cmp
+    g.S.Signature.PartialEq.eq g.D.PartialEq.eq old.voter.node) old c.requires.begins refl past earlier is
+    (c.next_view.ensures.none c.in-None.is)) refl it.1
     c.note_cast.ensures.given
 
 pub returns-in-Some-next_cast-clause-ready : goal.returns-in-Some-next_cast-clause-ready
