@@ -17,7 +17,7 @@ use Rattle.batcher_bytes.specs.declared.signature.Keys.{Keys}
 use Rattle.batcher_bytes.specs.declared.signature.Signature.{Signature}
 use Rattle.batcher_bytes.specs.declared.truth.Truth.{Ghosts}
 
-same_as_itself : (bytes : List ℕ) → pointwise (λ x y. x == y) bytes bytes ≡ true
+pub same_as_itself : (bytes : List ℕ) → pointwise (λ x y. x == y) bytes bytes ≡ true
 same_as_itself [] = refl
 same_as_itself (b ∷ bytes) =
     let yes : (b == b) ≡ true = grind (arith, nat_tests) in rw (yes, same_as_itself bytes) refl

@@ -3,11 +3,16 @@
 #![tactic(auto)]
 
 mod certificates;
+mod codec;
+mod proof;
 mod scheme;
 mod signature;
+mod signed;
 mod truth;
 
 pub use certificates::{Content, Listed, Verified};
+pub use proof::Proof;
 pub use scheme::Bytes;
 pub use signature::{Keys, Signature, WIDTH};
+pub use signed::Signed;
 pub use truth::Truth;

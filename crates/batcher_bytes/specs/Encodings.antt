@@ -1,0 +1,106 @@
+-- The bytes of signatures, and of certificates with their verdicts.
+use Rattle.std.proofs.Common.{◌≡◌, ◌++◌, ℕ, zero, suc, Bool, true, false, List, [], ◌∷◌, Result, Ok, Err, ap, length, refl, subst}
+use Rattle.batcher_types.specs.declared.messages.Sha256Digest.{Sha256Digest}
+use Rattle.batcher_types.specs.declared.messages.Subject.{Subject}
+use Rattle.batcher_codec.specs.Exact.{bind_ok, bytes_is_exact, fixed_is_exact, mapped_is_exact, ok_is, pair_is_exact}
+use Rattle.batcher_codec.specs.Format.{◌>>=◌, AreBytes, Format, IsExact, bytes_format, fixed, mapped, pair}
+use Rattle.batcher_codec.specs.Lawful.{sha256_is_exact, subject_is_exact}
+use Rattle.batcher_codec.specs.Messages.{sha256_format, subject_format}
+use Rattle.batcher_codec.specs.declared.fault.DecodeFault.{DecodeFault}
+use Rattle.batcher_codec.specs.declared.fault.DecodeFault.TheVariants.{Kind, Short}
+use Rattle.batcher_bytes.specs.declared.signature.Signature.{Signature}
+use Rattle.batcher_bytes.specs.declared.signature.TheConstants.{WIDTH}
+
+-- A certificate as bytes, and whether it is one of its subject.
+pub record ProofView : Type 0 where
+  pub subject : Subject Sha256Digest
+  pub certifies : Bool
+  pub bytes : List ℕ
+
+-- how many bytes a signature has, and then these, with the zeros after them
+abbrev pub signature_at : List ℕ → Result (Signature × List ℕ) DecodeFault
+signature_at [] = Err Short
+signature_at (n ∷ rest) =
+    (fixed WIDTH).decoding rest >>= λ b. Ok (record { length = n; bytes = b.0 }, b.1)
+
+abbrev pub signature_format : Format Signature
+signature_format = record {
+  IsValue = λ s. length s.bytes ≡ WIDTH;
+  encoding = λ s. s.length ∷ s.bytes;
+  decoding = signature_at;
+}
+
+-- what a length and then other bytes give
+abbrev IsFound : ℕ → List ℕ → Signature × List ℕ → Type 0
+IsFound n bytes y =
+    (length y.0.bytes ≡ WIDTH) × (n ∷ bytes ≡ (y.0.length ∷ y.0.bytes) ++ y.1)
+
+signature_found : (bytes : List ℕ) (x : Signature) (rest : List ℕ) → AreBytes bytes
+    → signature_at bytes ≡ Ok (x, rest)
+    → (length x.bytes ≡ WIDTH) × (bytes ≡ (x.length ∷ x.bytes) ++ rest)
+signature_found [] x rest are e = absurd cc
+signature_found (n ∷ bytes) x rest are e =
+    let made : List ℕ → Signature = λ b. record { length = n; bytes = b } in
+    let a = bind_ok ((fixed WIDTH).decoding bytes) (λ b. Ok (made b.0, b.1)) (x, rest) e in
+    let t = (fixed_is_exact WIDTH).found bytes a.0.0 a.0.1 (λ i. are (suc i)) a.1 in
+    subst (IsFound n bytes) (ok_is (made a.0.0, a.0.1) (x, rest) a.2) (t.0, ap (λ bs. n ∷ bs) t.1)
+
+pub signature_is_exact : IsExact signature_format
+signature_is_exact = record {
+  found = signature_found;
+  again = λ x rest value. rw ((fixed_is_exact WIDTH).again x.bytes rest value) refl;
+}
+
+-- a byte for whether it is so
+abbrev pub flag_byte : Bool → ℕ
+flag_byte false = 0
+flag_byte true = 1
+
+abbrev pub flag_at : List ℕ → Result (Bool × List ℕ) DecodeFault
+flag_at [] = Err Short
+flag_at (zero ∷ rest) = Ok (false, rest)
+flag_at (suc zero ∷ rest) = Ok (true, rest)
+flag_at (suc (suc b) ∷ rest) = Err Kind
+
+abbrev pub flag_format : Format Bool
+flag_format = record {
+  IsValue = λ b. Unit {0};
+  encoding = λ b. flag_byte b ∷ [];
+  decoding = flag_at;
+}
+
+flag_found : (bytes : List ℕ) (x : Bool) (rest : List ℕ) → flag_at bytes ≡ Ok (x, rest)
+    → bytes ≡ (flag_byte x ∷ []) ++ rest
+flag_found [] x rest e = absurd cc
+flag_found (zero ∷ bytes) x rest e =
+    subst (λ (y : Bool × List ℕ). 0 ∷ bytes ≡ (flag_byte y.0 ∷ []) ++ y.1)
+    (ok_is (false, bytes) (x, rest) e) refl
+flag_found (suc zero ∷ bytes) x rest e =
+    subst (λ (y : Bool × List ℕ). 1 ∷ bytes ≡ (flag_byte y.0 ∷ []) ++ y.1)
+    (ok_is (true, bytes) (x, rest) e) refl
+flag_found (suc (suc b) ∷ bytes) x rest e = absurd cc
+
+flag_again : (x : Bool) (rest : List ℕ) → flag_at ((flag_byte x ∷ []) ++ rest) ≡ Ok (x, rest)
+flag_again false rest = refl
+flag_again true rest = refl
+
+pub flag_is_exact : IsExact flag_format
+flag_is_exact = record {
+  found = λ bytes x rest are e. (tt, flag_found bytes x rest e);
+  again = λ x rest value. flag_again x rest;
+}
+
+-- subject, verdict and bytes
+abbrev pub proof_format : Format ProofView
+proof_format =
+    mapped (λ p. record { subject = p.0; certifies = p.1.0; bytes = p.1.1 })
+    (λ r. (r.subject, (r.certifies, r.bytes)))
+    (pair (subject_format sha256_format) (pair flag_format bytes_format))
+
+pub proof_is_exact : IsExact proof_format
+proof_is_exact =
+    mapped_is_exact _ _ (pair (subject_format sha256_format) (pair flag_format bytes_format))
+    (λ x. refl) (λ y. refl)
+    (pair_is_exact (subject_format sha256_format) (pair flag_format bytes_format)
+    (subject_is_exact sha256_format sha256_is_exact)
+    (pair_is_exact flag_format bytes_format flag_is_exact bytes_is_exact))
