@@ -211,6 +211,13 @@ impl<G: Codec, D: Digest + Codec, L: Log> Journal<G, D, L> {
         }
     }
 
+    /// The log that it is in, to look at.
+    pub fn log(&self) -> &L
+        ensures { result.now ≡ self.now.log }
+    {
+        &self.log
+    }
+
     /// The log that it is in.
     pub fn into_log(self) -> L
         ensures { result ≡ self.log }

@@ -82,7 +82,8 @@ pub trait Log: Drop {
     ghost stays: { (log : Self) → is_honest log → is_settled log → may_leave log (written log) };
 }
 
-/// Bytes in memory that are taken to outlive a crash, for tests.
+/// Bytes in memory that are taken to outlive a crash: for tests, or where whoever calls writes them
+/// down before it does anything else.
 #[derive(Drop)]
 pub struct MemoryLog {
     bytes: Vec<u8>,
@@ -95,6 +96,13 @@ impl MemoryLog {
         MemoryLog {
             bytes: Vec::new(alloc),
         }
+    }
+
+    /// Bytes that were written before.
+    pub fn of(bytes: Vec<u8>) -> Self
+        ensures { result.bytes.items ≡ bytes.items }
+    {
+        MemoryLog { bytes }
     }
 }
 
