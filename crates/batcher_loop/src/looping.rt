@@ -1,6 +1,6 @@
 //! What is to be done next, and what is to be written before.
 
-ghost use Rattle.std.specs.Prelude.{◌≡◌, ◌≢◌, ◌++◌, ◌⊎◌, Err, IfOk, IfSome, MatchBool, None, Ok, OnErr, OnOk, Some, false};
+ghost use Rattle.std.specs.Prelude.{◌≡◌, ◌≢◌, ◌++◌, ◌⊎◌, Err, IfOk, IfSome, MatchBool, None, Ok, OnErr, OnOk, Some, false, true};
 ghost use Rattle.batcher_loop.specs.declared.looping.Next.TheVariants.{Do, Write};
 ghost use Rattle.batcher_node.specs.Nodes.{SameNode};
 ghost use Rattle.batcher_validator.specs.Running.{ForEachRun, Gives, IsReady, RunStays};
@@ -70,6 +70,8 @@ impl<T: Truth> Loop<T> {
             self.old.validator self.new.validator) }
         ensures closed { result ≡ Err Fault.Closed
             → self.new.validator.voter.journal.is_open ≡ false }
+        ensures full { result ≡ Err Fault.Full
+            → self.new.validator.voter.journal.is_open ≡ true }
         ensures on_disk { self.new.on_disk ≡ self.old.on_disk }
         ensures same { SameNode self.old.validator.voter.node self.new.validator.voter.node }
     {
@@ -114,6 +116,8 @@ impl<T: Truth> Loop<T> {
             self.old.validator self.new.validator) }
         ensures closed { result ≡ Err Fault.Closed
             → self.new.validator.voter.journal.is_open ≡ false }
+        ensures full { result ≡ Err Fault.Full
+            → self.new.validator.voter.journal.is_open ≡ true }
         ensures on_disk { self.new.on_disk ≡ self.old.on_disk }
         ensures same { SameNode self.old.validator.voter.node self.new.validator.voter.node }
     {

@@ -48,6 +48,7 @@ where
             (RunStays (⟦<S as NodeConfigs<D>>⟧.of self.old.voter.node) self.old self.new) }
         ensures closed { result ≡ Err PollFault.Closed
             → self.new.voter.journal.is_open ≡ false }
+        ensures full { result ≡ Err PollFault.Full → self.new.voter.journal.is_open ≡ true }
         ensures leaves { RunLeaves (⟦<S as NodeConfigs<D>>⟧.of self.old.voter.node)
             (vote_format S.Signature.format D.format) L.is_honest L.may_leave self.old self.new }
         ensures same { SameNode self.old.voter.node self.new.voter.node }

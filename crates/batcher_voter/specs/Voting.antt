@@ -29,7 +29,7 @@ use Rattle.batcher_voter.specs.Knowledge.{HasLearned, IsHighest, KnowledgeView, 
 use Rattle.batcher_voter.specs.Refusals.{IsRefused, RestsOnLearned}
 use Rattle.batcher_voter.specs.Remembering.{IsLeft, Remembers}
 use Rattle.batcher_voter.specs.declared.answers.CastFault.{CastFault}
-use Rattle.batcher_voter.specs.declared.answers.CastFault.TheVariants.{Closed as NotOpen, Excluded, NotOwn, OutOfMemory as NoMemory, Refused as RefusedBy, Signed}
+use Rattle.batcher_voter.specs.declared.answers.CastFault.TheVariants.{Closed as NotOpen, Excluded, NotOwn, OutOfMemory as NoMemory, Refused as RefusedBy, Signed, Full as NoRoom}
 use Rattle.batcher_voter.specs.declared.answers.Permission.{Permission}
 use Rattle.batcher_voter.specs.declared.answers.Permission.TheVariants.{Sign, Known, Refused, Outside, Closed}
 
@@ -208,6 +208,7 @@ module _ {S D K G C L : Type 0} (x : NodeConfig D K G C) where
       Contains old.journal.contents.votes known × ((subject_of known ≡ subject_of vote)
       × (known ≢ vote))
   WhyNotCast same old vote NotOpen new = new.journal.is_open ≡ false
+  WhyNotCast same old vote NoRoom new = new.journal.is_open ≡ true
   WhyNotCast same old vote (Excluded fault) new =
       WhyNotShown x old.node vote (Excluded fault)
   WhyNotCast same old vote fault new = ⊤

@@ -58,6 +58,8 @@ where
             → (round_in (subject_certified finalization.now)).view.0
             < self.old.node.window.finalized }
         ensures closed { result ≡ Err FinalizeFault.Closed → self.new.journal.is_open ≡ false }
+        ensures full { result ≡ Err FinalizeFault.Full
+            → self.new.journal.is_open ≡ self.old.journal.is_open }
         ensures leaves { (left : List ℕ) → self.old.journal.is_open ≡ true
             → L.is_honest self.new.journal.log → L.may_leave self.new.journal.log left
             → ForEachLife (⟦<S as NodeConfigs<D>>⟧.of self.old.node) self.old (λ past earlier.
@@ -116,6 +118,8 @@ where
         ensures of_epoch { result ≡ Err FinalizeFault.NotOfEpoch → ⊥ }
         ensures passed { result ≡ Err FinalizeFault.Passed → ⊥ }
         ensures closed { result ≡ Err FinalizeFault.Closed → self.new.journal.is_open ≡ false }
+        ensures full { result ≡ Err FinalizeFault.Full
+            → self.new.journal.is_open ≡ self.old.journal.is_open }
         ensures leaves { (left : List ℕ) → self.old.journal.is_open ≡ true
             → L.is_honest self.new.journal.log → L.may_leave self.new.journal.log left
             → ForEachLife (⟦<S as NodeConfigs<D>>⟧.of self.old.node) self.old (λ past earlier.
