@@ -36,7 +36,8 @@ pub struct Owed<'a> {
 /// A validator whose caller verifies signatures and writes to the disk.
 #[derive(Drop)]
 pub struct Loop<T: Truth> {
-    /// Messages, verdicts and answers are handed to it.
+    /// Messages, verdicts and answers are handed to it. Poll the loop, and not it: it doesn't know
+    /// what is written.
     pub validator: Validator<Signed<T, true>, Sha256Digest, MemoryLog>,
     // What the caller has written.
     pub(crate) on_disk: Vec<u8>,
