@@ -15,7 +15,7 @@ use Rattle.batcher_node.specs.Events.{started}
 use Rattle.batcher_node.specs.Nodes.{NodeConfig, NodeView}
 use Rattle.batcher_validator.specs.Queues.{AreFirst}
 use Rattle.batcher_validator.specs.Recalling.{Recalls}
-use Rattle.batcher_validator.specs.Running.{HasBegun, IsOnDisk, IsRunning, ValidatorView, is_over_for}
+use Rattle.batcher_validator.specs.Running.{HasBegun, HasCertificate, IsRunning, ValidatorView, is_over_for}
 use Rattle.batcher_validator.specs.Histories.{began, only_took}
 use Rattle.batcher_validator.proofs.Going.{never_calm}
 use Rattle.batcher_voter.specs.Voting.{HasStarted}
@@ -143,7 +143,7 @@ pub has_begun :
     (me : Participant) → me.0 ≡ old.voter.journal.contents.owner.1.1.0
     → (has : HasStarted (config old.voter.node) earlier old.voter)
     → IsRunning (config old.voter.node) (began me has.past ∷ []) earlier old
-    → Recalls (config old.voter.node) (IsOnDisk format old.voter.journal.contents) old new
+    → Recalls (config old.voter.node) (HasCertificate format old.voter.journal.contents) old new
     → new.voter ≡ old.voter → HasBegun (config new.voter.node) format earlier new
 has_begun config format old new earlier me owns has running recalls voter =
     record {
@@ -152,7 +152,7 @@ has_begun config format old new earlier me owns has running recalls voter =
       past = has.past;
       held = recalls.held;
       has_all = λ c on_disk. recalls.has_all c
-          (subst (λ v. IsOnDisk format v.journal.contents c) voter on_disk);
+          (subst (λ v. HasCertificate format v.journal.contents c) voter on_disk);
       running = subst (λ v. IsRunning (config v.node) (only_took recalls.held ++ began me has.past ∷ []) earlier new) (sym voter)
           (recalls.running (began me has.past ∷ []) earlier running);
       asked_nothing = subst (λ v. node_history has.past ≡ started v.node.window ∷ []) (sym voter)

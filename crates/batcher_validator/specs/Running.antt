@@ -175,9 +175,9 @@ WhyNotFinal x validator i Passed =
 WhyNotFinal x validator i fault = ⊤
 
 -- A journal has a certificate: as the finalization of its floor, or beside its votes.
-abbrev pub IsOnDisk : {G C D : Type 0} → Format (Certificate C D) → Contents G D → Certificate C D
-    → Type 0
-IsOnDisk format contents c =
+abbrev pub HasCertificate : {G C D : Type 0} → Format (Certificate C D) → Contents G D
+    → Certificate C D → Type 0
+HasCertificate format contents c =
     (whole (versioned format) contents.finalization ≡ Ok c)
     ⊎ AreBytesOf format contents.certificates c
 
@@ -216,7 +216,7 @@ module _ {S D K G C L : Type 0} (x : NodeConfig D K G C) where
     pub past : VoterHistory D K G C
     pub held : List (Certificate C D)
     pub has_all :
-        (c : Certificate C D) → IsOnDisk format validator.voter.journal.contents c
+        (c : Certificate C D) → HasCertificate format validator.voter.journal.contents c
         → Contains held c
     pub running : IsRunning (only_took held ++ began me past ∷ []) earlier validator
     pub asked_nothing : node_history past ≡ started validator.voter.node.window ∷ []

@@ -6,7 +6,7 @@ ghost use Rattle.batcher_codec.specs.Format.{whole};
 ghost use Rattle.batcher_codec.specs.Messages.{certificate_format, versioned};
 ghost use Rattle.batcher_validator.specs.Histories.{took};
 ghost use Rattle.batcher_validator.specs.Recalling.{IsAtPlace, Recalls};
-ghost use Rattle.batcher_validator.specs.Running.{AreBytesOf, IsOnDisk, RunMeets};
+ghost use Rattle.batcher_validator.specs.Running.{AreBytesOf, HasCertificate, RunMeets};
 
 use crate::validator::Validator;
 use batcher::messages::{Certificate, Digest, Identical};
@@ -25,7 +25,7 @@ where
     // Takes in the certificates that are on the disk, to send them again.
     pub(crate) fn recall(&mut self, alloc: Global) -> Result<(), StartFault>
         ensures recalls { OnOk result (Recalls
-            (⟦<S as NodeConfigs<D>>⟧.of self.old.voter.node) (IsOnDisk
+            (⟦<S as NodeConfigs<D>>⟧.of self.old.voter.node) (HasCertificate
             (certificate_format S.Certificate.format D.format) self.old.voter.journal.contents)
             self.old self.new) }
         ensures voter { self.new.voter ≡ self.old.voter }
