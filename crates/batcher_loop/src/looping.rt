@@ -3,6 +3,10 @@
 ghost use Rattle.std.specs.Prelude.{◌≡◌, ◌≢◌, ◌++◌, ◌⊎◌, Err, IfOk, IfSome, MatchBool, None, Ok, OnErr, OnOk, Some, false, true};
 ghost use Rattle.batcher_loop.specs.declared.looping.Next.TheVariants.{Do, Write};
 ghost use Rattle.batcher_node.specs.Nodes.{SameNode};
+ghost use Rattle.batcher_bytes.specs.Encodings.{signature_format};
+ghost use Rattle.batcher_codec.specs.Messages.{sha256_format, vote_format};
+ghost use Rattle.batcher_validator.specs.Histories.{conduct_in};
+ghost use Rattle.batcher_voter.specs.Remembering.{IsLeft};
 ghost use Rattle.batcher_validator.specs.Running.{ForEachRun, Gives, IsReady, RunStays};
 ghost use Rattle.batcher_validator.specs.Shelves.{IsToAnnounce};
 ghost use Rattle.batcher_validator.specs.Tasks.{NothingIsDue};
@@ -84,6 +88,18 @@ impl<T: Truth> Loop<T> {
             Ok(None) => Ok(None),
             Err(fault) => Err(fault),
         }
+    }
+
+    /// Does nothing. Where all is written, the disk has what was done, by which `start` goes on.
+    pub fn leaves_what_was_done(&self)
+        ensures { self.now.on_disk.items ≡ self.now.validator.voter.journal.log.bytes.items
+            → self.now.validator.voter.journal.is_open ≡ true → ForEachRun
+            (⟦<Signed<T, true> as NodeConfigs<Sha256Digest>>⟧.of self.now.validator.voter.node)
+            self.now.validator (λ past earlier. IsLeft
+            (vote_format signature_format sha256_format) (conduct_in earlier past)
+            self.now.on_disk.items) }
+    {
+        self.validator.leaves_what_was_done();
     }
 
     // Whether something is to be written.

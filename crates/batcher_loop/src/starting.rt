@@ -66,6 +66,11 @@ impl<T: Truth> Loop<T> {
             it.validator) }
         ensures on_disk { IfOk result (λ it. it.on_disk.items ≡ bytes.items) }
         ensures scheme { IfOk result (λ it. it.validator.voter.node.scheme ≡ scheme.value) }
+        ensures owner { IfOk result (λ it.
+            it.validator.voter.journal.contents.owner ≡ fields_of owner.now) }
+        ensures retains { IfOk result (λ it.
+            it.validator.voter.node.retains ≡ track_historical_votes) }
+        ensures ahead { IfOk result (λ it. it.validator.voter.node.window.ahead ≡ ahead) }
     {
         let mut on_disk = Vec::new(alloc);
         match on_disk.extend_from_slice(bytes.as_slice()) {

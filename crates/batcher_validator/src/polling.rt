@@ -69,8 +69,8 @@ where
         }
     }
 
-    // Does nothing. A crash leaves what was done.
-    pub(crate) fn leaves_what_was_done(&self)
+    /// Does nothing. A crash leaves what was done, by which `start` goes on.
+    pub fn leaves_what_was_done(&self)
         ensures { RunLeaves (⟦<S as NodeConfigs<D>>⟧.of self.now.voter.node)
             (vote_format S.Signature.format D.format) L.is_honest L.may_leave self.now self.now }
     {

@@ -1,0 +1,5 @@
+use Rattle.batcher_loop.proofs.looping.Loop.leaves_what_was_done.Goals as goal
+
+pub returns : goal.returns
+returns g c = λ same opened past earlier is.
+    c.leaves_what_was_done.ensures c.args.self.now.on_disk.items opened tt same past earlier is
