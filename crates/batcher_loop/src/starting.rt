@@ -1,20 +1,24 @@
 //! A validator is begun, and started again by what its disk has.
 
-ghost use Rattle.std.specs.Prelude.{◌≡◌, ◌≤◌, [], IfOk, length};
-ghost use Rattle.batcher_agreement.specs.Policy.{Conduct};
+ghost use Rattle.std.specs.Prelude.{◌≡◌, ◌≤◌, [], Err, IfOk, length};
+ghost use Rattle.batcher_agreement.specs.Policy.{Conduct, KeepsPolicy};
 ghost use Rattle.batcher_bytes.specs.Encodings.{proof_format, signature_format};
+ghost use Rattle.batcher_bytes.specs.Keys.{same_digest};
 ghost use Rattle.batcher_codec.specs.Messages.{certificate_format, sha256_format, vote_format};
+ghost use Rattle.batcher_journal.specs.Causes.{Cause};
 ghost use Rattle.batcher_journal.specs.Text.{IsText, fields_of};
+ghost use Rattle.batcher_journal.specs.declared.journal.OpenFault.{OpenFault as TheOpenFault};
 ghost use Rattle.batcher_journal.specs.Ready.{begun};
 ghost use Rattle.batcher_validator.specs.Running.{HasBegun};
-ghost use Rattle.batcher_voter.specs.Remembering.{IsLeft};
+ghost use Rattle.batcher_node.specs.Windows.{numbered};
+ghost use Rattle.batcher_voter.specs.Remembering.{IsLeft, Remembers};
 
 use crate::looping::Loop;
 use batcher::messages::Sha256Digest;
-use batcher::positions::Round;
+use batcher::positions::{Epoch, Round, View};
 use batcher_bytes::{Signature, Signed, Truth};
-use batcher_journal::{BeginFault, Journal, OpenFault, Owner, Unopened};
-use batcher_log::{Log, MemoryLog};
+use batcher_journal::{Journal, OpenFault, Owner, Unopened, bytes_are_of_one_journal};
+use batcher_log::MemoryLog;
 use batcher_node::NodeConfigs;
 use batcher_validator::Validator;
 use batcher_voter::{NotStarted, StartFault};
@@ -32,19 +36,50 @@ pub enum LoopFault {
 }
 
 impl<T: Truth> Loop<T> {
-    /// The bytes of a journal in which nothing was signed: write them to a disk without bytes,
-    /// once, and start. Nothing is signed in rounds before the floor, which is above each round in
-    /// which this participant may have voted.
-    pub fn begin(alloc: Global, owner: &Owner, floor: Round) -> Result<Vec<u8>, BeginFault>
-        ensures { IfOk result (λ bytes. IsText (vote_format signature_format sha256_format)
-            bytes.items (begun (fields_of owner.now) floor [])) }
+    /// A validator of whose participant nothing was ever signed, on a disk that has no bytes. What
+    /// it gives first is to write what `owed` says: its journal, without votes, from the start of
+    /// the epoch on. Begin it once, and start it again by its disk.
+    pub fn begin(
+        alloc: Global,
+        scheme: Rc<Signed<T, true>>,
+        ahead: u64,
+        track_historical_votes: bool,
+        owner: &Owner,
+        epoch: Epoch,
+    ) -> Result<Self, LoopFault>
+        requires { 1 ≤ length scheme.value.participants }
+        ensures running { IfOk result (λ it. HasBegun (⟦<Signed<T, true> as NodeConfigs<Sha256Digest>>⟧.of it.validator.voter.node)
+            (certificate_format proof_format sha256_format) [] it.validator) }
+        ensures on_disk { IfOk result (λ it. it.on_disk.items ≡ []) }
+        ensures journal { IfOk result (λ it. it.validator.voter.journal.contents
+            ≡ begun (fields_of owner.now) (numbered epoch 0) []) }
+        ensures scheme { IfOk result (λ it. it.validator.voter.node.scheme ≡ scheme.value) }
+        ensures retains { IfOk result (λ it.
+            it.validator.voter.node.retains ≡ track_historical_votes) }
+        ensures ahead { IfOk result (λ it. it.validator.voter.node.window.ahead ≡ ahead) }
     {
         let mut log = MemoryLog::new(alloc);
-        Journal::<Signature, Sha256Digest, MemoryLog>::begin(alloc, &mut log, owner, floor, b"")?;
-        let mut bytes = Vec::new(alloc);
-        match bytes.extend_from_slice(log.bytes()) {
-            Ok(()) => Ok(bytes),
-            Err(_) => Err(BeginFault::OutOfMemory),
+        let floor = Round::new(epoch, View(0));
+        match Journal::<Signature, Sha256Digest, MemoryLog>::begin(
+            alloc, &mut log, owner, floor, b"",
+        ) {
+            Ok(()) => {}
+            // The log is in memory, and has no bytes.
+            Err(_) => return Err(LoopFault::OutOfMemory),
+        }
+        bytes_are_of_one_journal::<Signature, Sha256Digest>();
+        let on_disk = Vec::new(alloc);
+        match Loop::of(
+            alloc,
+            scheme,
+            ahead,
+            track_historical_votes,
+            owner,
+            log,
+            on_disk,
+        ) {
+            Ok(it) => Ok(it),
+            Err(fault) => Err(fault),
         }
     }
 
@@ -64,6 +99,9 @@ impl<T: Truth> Loop<T> {
             → HasBegun (⟦<Signed<T, true> as NodeConfigs<Sha256Digest>>⟧.of
             it.validator.voter.node) (certificate_format proof_format sha256_format) earlier
             it.validator) }
+        ensures cause { (fault : TheOpenFault) → result ≡ Err (LoopFault.NotOpened fault) → Cause
+            (vote_format signature_format sha256_format) bytes.items (fields_of owner.now)
+            same_digest fault }
         ensures on_disk { IfOk result (λ it. it.on_disk.items ≡ bytes.items) }
         ensures scheme { IfOk result (λ it. it.validator.voter.node.scheme ≡ scheme.value) }
         ensures owner { IfOk result (λ it.
@@ -77,7 +115,47 @@ impl<T: Truth> Loop<T> {
             Ok(()) => {}
             Err(_) => return Err(LoopFault::OutOfMemory),
         }
-        let journal = match Journal::open(alloc, MemoryLog::of(bytes), owner) {
+        Loop::of(
+            alloc,
+            scheme,
+            ahead,
+            track_historical_votes,
+            owner,
+            MemoryLog::of(bytes),
+            on_disk,
+        )
+    }
+
+    // The validator whose journal is in a log, of which these bytes are on the disk.
+    fn of(
+        alloc: Global,
+        scheme: Rc<Signed<T, true>>,
+        ahead: u64,
+        track_historical_votes: bool,
+        owner: &Owner,
+        log: MemoryLog,
+        on_disk: Vec<u8>,
+    ) -> Result<Self, LoopFault>
+        requires { 1 ≤ length scheme.value.participants }
+        ensures running { IfOk result (λ it. (earlier : Conduct _) → KeepsPolicy earlier
+            → Remembers earlier it.validator.voter.journal.contents
+            → HasBegun (⟦<Signed<T, true> as NodeConfigs<Sha256Digest>>⟧.of
+            it.validator.voter.node) (certificate_format proof_format sha256_format) earlier
+            it.validator) }
+        ensures text { IfOk result (λ it. IsText (vote_format signature_format sha256_format)
+            log.bytes.items it.validator.voter.journal.contents) }
+        ensures cause { (fault : TheOpenFault) → result ≡ Err (LoopFault.NotOpened fault) → Cause
+            (vote_format signature_format sha256_format) log.bytes.items (fields_of owner.now)
+            same_digest fault }
+        ensures on_disk { IfOk result (λ it. it.on_disk ≡ on_disk) }
+        ensures scheme { IfOk result (λ it. it.validator.voter.node.scheme ≡ scheme.value) }
+        ensures owner { IfOk result (λ it.
+            it.validator.voter.journal.contents.owner ≡ fields_of owner.now) }
+        ensures retains { IfOk result (λ it.
+            it.validator.voter.node.retains ≡ track_historical_votes) }
+        ensures ahead { IfOk result (λ it. it.validator.voter.node.window.ahead ≡ ahead) }
+    {
+        let journal = match Journal::open(alloc, log, owner) {
             Ok(journal) => journal,
             Err(Unopened { fault, .. }) => return Err(LoopFault::NotOpened(fault)),
         };

@@ -4,7 +4,7 @@ ghost use Rattle.std.specs.Prelude.{◌≡◌, length};
 
 use crate::{Loop, Next};
 use batcher::messages::{Attestation, Sha256Digest, Vote};
-use batcher::positions::{Epoch, Participant, Round, View};
+use batcher::positions::{Epoch, Participant};
 use batcher::scheme::{Counter, names};
 use batcher_bytes::{Keys, Signature, Signed, Truth};
 use batcher_journal::Owner;
@@ -67,6 +67,15 @@ impl Model for Alone {
 }
 
 impl Alone {
+    // One of whom nothing was ever signed, on a disk without bytes.
+    fn new(alloc: Global) -> Result<Self, Fail> {
+        let scheme = Rc::new(alloc, Signed::new(names(alloc, 1)?, Keys([7; 32])))?;
+        match Loop::begin(alloc, scheme, 5, true, &owner(), EPOCH) {
+            Ok(running) => Ok(Alone::with(running, Vec::new(alloc))),
+            Err(_) => Err(Fail::new("no validator begins")),
+        }
+    }
+
     // What it is by the bytes of its disk.
     fn of(alloc: Global, bytes: &[u8]) -> Result<Self, Fail> {
         let scheme = Rc::new(alloc, Signed::new(names(alloc, 1)?, Keys([7; 32])))?;
@@ -75,15 +84,21 @@ impl Alone {
         let mut copy = Vec::new(alloc);
         copy.extend_from_slice(bytes)?;
         match Loop::start(alloc, scheme, 5, true, &owner(), copy) {
-            Ok(running) => Ok(Alone {
-                running,
-                disk,
-                appends: 0,
-                replacements: 0,
-                sent: 0,
-                last: 0,
-            }),
+            Ok(running) => Ok(Alone::with(running, disk)),
             Err(_) => Err(Fail::new("no validator is made of the disk")),
+        }
+    }
+
+    fn with(running: Loop<Anything>, disk: Vec<u8>) -> Self
+        requires { length running.validator.voter.node.scheme.participants ≡ 1 }
+    {
+        Alone {
+            running,
+            disk,
+            appends: 0,
+            replacements: 0,
+            sent: 0,
+            last: 0,
         }
     }
 
@@ -179,12 +194,7 @@ impl Alone {
 #[test]
 fn it_goes_on_by_what_was_written(rt: HostRuntime) -> Result<(), Fail> {
     let alloc = rt.alloc();
-    let floor = Round::new(EPOCH, View(0));
-    let bytes = match Loop::<Anything>::begin(alloc, &owner(), floor) {
-        Ok(bytes) => bytes,
-        Err(_) => return Err(Fail::new("no journal begins")),
-    };
-    let mut alone = Alone::of(alloc, bytes.as_slice())?;
+    let mut alone = Alone::new(alloc)?;
     let mut last = 0;
     // It is stopped after each number of things that it did, and started by its disk.
     for times in 40..60usize {

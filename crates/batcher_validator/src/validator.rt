@@ -235,6 +235,13 @@ where
         &self.voter
     }
 
+    /// How many participants there are.
+    pub fn participants(&self) -> usize
+        ensures { result ≡ length (S.meaning self.now.voter.node.scheme).participants }
+    {
+        self.given.blocked.len()
+    }
+
     /// The voter, without what was given.
     pub fn into_voter(self) -> Voter<S, D, L>
         ensures { result ≡ self.voter }

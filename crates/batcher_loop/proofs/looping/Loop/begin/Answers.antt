@@ -1,0 +1,34 @@
+use Rattle.std.proofs.Common.{◌≡◌, ◌∙◌, [], ap, arith, rules}
+use Rattle.std.specs.Prelude.{Contains}
+use Rattle.batcher.specs.messages.Sha256Digest.{Sha256Digest}
+use Rattle.batcher.specs.messages.Vote.{Vote}
+use Rattle.batcher_bytes.specs.declared.signature.Signature.{Signature}
+use Rattle.batcher_journal.specs.Ready.{begun}
+use Rattle.batcher_journal.specs.Text.{Contents, fields_of}
+use Rattle.batcher_node.specs.Windows.{numbered}
+use Rattle.batcher_voter.specs.Remembering.{Remembers}
+use Rattle.batcher_loop.proofs.looping.Loop.begin.Goals as goal
+
+none_there : {vote : Vote Signature Sha256Digest} → Contains [] vote → ⊥
+none_there (i, below, is) = omega (arith, below)
+
+-- Nothing was done by whom no vote is there of.
+nothing_done : (contents : Contents Signature Sha256Digest) → contents.votes ≡ []
+    → Remembers [] contents
+nothing_done contents none = record {
+  are_there = λ s voted. absurd voted;
+  no_others = λ vote there. absurd (none_there (rw none at there));
+}
+
+pub returns-in-Ok-of-clause-journal : goal.returns-in-Ok-of-clause-journal
+returns-in-Ok-of-clause-journal g c =
+    let floor_is : c.new-floor.result ≡ numbered c.args.epoch 0 = search rules in
+    c.bytes_are_of_one_journal.ensures _ _ _ c.in-Ok-of.ensures.text c.in-Ok.ensures.begun.1
+    ∙ ap (λ floor. begun (fields_of c.args.owner.now) floor []) floor_is
+
+pub returns-in-Ok-of-clause-running : goal.returns-in-Ok-of-clause-running
+returns-in-Ok-of-clause-running g c =
+    let journal = c.bytes_are_of_one_journal.ensures _ _ _ c.in-Ok-of.ensures.text
+    c.in-Ok.ensures.begun.1 in
+    c.in-Ok-of.ensures.running [] tt
+    (nothing_done c.in-Ok-of.it.validator.voter.journal.contents (ap (λ x. x.votes) journal))
