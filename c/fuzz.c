@@ -1,4 +1,4 @@
-/* Rounds and nodes under any order of calls, sizes and bytes, by seeds 0, 1, .. up to the one that is named, while memory is refused
+/* Rounds and validators under any order of calls, sizes and bytes, by seeds 0, 1, .. up to the one that is named, while memory is refused
  * now and then. What is answered is compared with what holds of every call, and each certificate with the votes that were
  * handed in. It ends with 0, or with 1 where a check fails, and names its line and the seed. */
 #include "batcher.h"
@@ -7,6 +7,7 @@
 #include <string.h>
 
 #define MOST 7
+#define DISK 65536
 #define CHECK(holds)                                                                                \
     do {                                                                                            \
         if (!(holds)) return __LINE__;                                                              \
@@ -14,8 +15,9 @@
 
 static uint64_t state;
 
-/* How many certificates were made by single verdicts and as a whole, votes were bad, and calls were out of memory. */
-static uint64_t certified, passed, bad, out_of_memory;
+/* How many certificates were made by single verdicts and as a whole, votes were bad, calls were out of memory, validators made
+ * constructions, and they cast votes. */
+static uint64_t certified, passed, bad, out_of_memory, concluded, signed_votes;
 
 /* A number below a bound. */
 static uint64_t below(uint64_t bound) {
@@ -270,173 +272,154 @@ static int one_round(uint64_t seed) {
     return 0;
 }
 
-/* A proposal of a view that a node may have in its window. */
-static struct batcher_proposal view_proposal(void) {
-    struct batcher_proposal proposal = any_proposal();
-    proposal.view = below(6);
-    return proposal;
+/* What is owed is written, into a room of any size first. */
+static int write_down(struct batcher_loop *loop, uint8_t *disk, size_t *written) {
+    static uint8_t room[DISK];
+    uint64_t count = 0;
+    size_t tried = below(200);
+    bool replaces = false;
+    uint8_t code = batcher_loop_owed(loop, room, tried, &count, &replaces);
+    CHECK((code == BATCHER_SHORT) == (code != BATCHER_IDLE && tried < count));
+    code = batcher_loop_owed(loop, room, sizeof room, &count, &replaces);
+    CHECK(code == BATCHER_DONE || code == BATCHER_IDLE);
+    if (code == BATCHER_IDLE) return 0;
+    if (replaces) *written = 0;
+    CHECK(*written + count <= DISK);
+    memcpy(disk + *written, room, count);
+    *written += count;
+    do {
+        code = batcher_loop_wrote(loop);
+        CHECK(code == BATCHER_DONE || (code == BATCHER_OUT_OF_MEMORY && refused));
+    } while (code != BATCHER_DONE);
+    CHECK(batcher_loop_owed(loop, room, sizeof room, &count, &replaces) == BATCHER_IDLE);
+    return 0;
 }
 
-static int together_in(struct batcher_node *node, const struct batcher_step *wanted,
-                       const struct batcher_attestation *known, const struct batcher_attestation *list,
-                       uint32_t participants) {
-    struct batcher_attestation all[MOST];
+/* Verdicts on what is lent, or late ones on what isn't. */
+static int conclude_in(struct batcher_loop *loop, uint32_t participants) {
+    struct batcher_attestation list[MOST];
     struct batcher_step step;
-    size_t count = 0;
-    for (size_t i = 0; i < wanted->verified; i++) all[count++] = known[i];
-    for (size_t i = 0; i < wanted->listed; i++) all[count++] = list[i];
-    for (size_t i = 0; i < count; i++)
-        if (!attests(&all[i])) return 0;
-    uint8_t code = batcher_node_construct_together(node, wanted->kind, &wanted->proposal, all, count, &step);
-    MADE(code);
-    CHECK(code == BATCHER_DONE || code == BATCHER_STALE);
-    CHECK(code == BATCHER_STALE || (step.view == wanted->view && step.certified && step.listed == count));
-    passed += code == BATCHER_DONE;
-    return code == BATCHER_DONE ? quorum(&step, step.view, all, participants) : 0;
-}
-
-/* The next construction of a node. Whose votes it finds not to attest is blocked then. */
-static int construct_in(struct batcher_node *node, uint32_t participants, bool answers) {
-    struct batcher_attestation known[MOST], list[MOST];
-    uint32_t signers[MOST];
-    uint8_t causes[MOST];
-    uint64_t count;
     bool verdicts[MOST];
-    struct batcher_step step;
     size_t room = below(3) != 0 ? MOST : below(MOST);
     memset(&step, 0, sizeof step);
-    uint8_t code = batcher_node_try_construct(node, &step, known, MOST, list, room, signers, MOST);
+    uint8_t code = batcher_loop_lend(loop, &step, list, room);
     CHECK((code == BATCHER_SHORT) == (room < participants));
-    if (code == BATCHER_VERIFY) {
-        CHECK(step.listed >= 1 && step.listed + step.verified <= participants && step.proposal.view == step.view);
-        if (!answers) return together_in(node, &step, known, list, participants);
-        size_t answered = step.listed;
-        for (size_t i = 0; i < answered; i++) verdicts[i] = attests(&list[i]);
-        if (answered > 1) answered = 1 + below(answered);
-        code = batcher_node_record_verdicts(node, step.kind, &step.proposal, list, answered, verdicts, answered);
+    if (code == BATCHER_SHORT || code == BATCHER_IDLE) return 0;
+    MADE(code);
+    CHECK(code == BATCHER_VERIFY && step.listed <= participants && step.kind <= BATCHER_FINALIZATION);
+    for (uint64_t i = 0; i < step.listed; i++) verdicts[i] = attests(&list[i]);
+    if (below(5) == 0) step.kind = (uint8_t)mostly_below(3);
+    size_t given = below(10) != 0 ? step.listed : below(MOST);
+    code = batcher_loop_conclude(loop, step.kind, &step.proposal, list, step.listed, verdicts, given);
+    MADE(code);
+    CHECK(code == BATCHER_DONE || code == BATCHER_STALE || code == BATCHER_MALFORMED);
+    CHECK(given == step.listed || code == BATCHER_MALFORMED);
+    concluded += code == BATCHER_DONE;
+    return 0;
+}
+
+/* A task is done, or isn't. */
+static int poll_once(struct batcher_loop *loop, uint32_t me, uint8_t *disk, size_t *written) {
+    struct batcher_task task;
+    struct batcher_vote vote;
+    memset(&task, 0x5a, sizeof task);
+    uint8_t code = batcher_loop_poll(loop, &task);
+    MADE(code);
+    CHECK(code == BATCHER_DONE || code == BATCHER_WRITE || code == BATCHER_IDLE);
+    if (code == BATCHER_WRITE) return write_down(loop, disk, written);
+    if (code == BATCHER_IDLE || below(20) == 0) return 0;
+    CHECK(task.task <= BATCHER_TASK_JUDGE);
+    switch (task.task) {
+    case BATCHER_TASK_ENTER:
+        code = batcher_loop_enter(loop, task.proposal.view, 0);
         MADE(code);
-        CHECK(code == BATCHER_DONE);
+        CHECK(code == BATCHER_DONE || code == BATCHER_LEADER_CHANGED);
         return 0;
+    case BATCHER_TASK_SIGN:
+        memset(&vote, 0, sizeof vote);
+        vote.kind = task.kind;
+        vote.proposal = task.proposal;
+        vote.attestation.signer = me;
+        vote.attestation.length = 64;
+        memset(vote.attestation.bytes, 1, 64);
+        code = batcher_loop_cast(loop, &vote, true);
+        MADE(code);
+        signed_votes += code == BATCHER_DONE;
+        return 0;
+    case BATCHER_TASK_PROPOSE:
+    case BATCHER_TASK_JUDGE: CHECK(batcher_loop_judge(loop, &task.proposal, below(5) != 0) == BATCHER_DONE); return 0;
+    default: return 0;
     }
-    if (code == BATCHER_DONE) {
-        CHECK(step.processed <= participants && step.invalid <= participants);
-        CHECK(batcher_node_blocked(node, causes, MOST, &count) == BATCHER_DONE && count == participants);
-        for (size_t i = 0; i < step.invalid; i++)
-            CHECK(signers[i] < participants && causes[signers[i]] != BATCHER_CAUSE_NONE);
-        bad += step.invalid;
-        certified += step.certified;
-        return step.certified ? quorum(&step, step.view, list, participants) : 0;
-    }
-    CHECK(code == BATCHER_IDLE || code == BATCHER_RESTS || code == BATCHER_SHORT || code == BATCHER_OUT_OF_MEMORY);
-    MADE(code);
-    return 0;
 }
 
-static int node_questions(struct batcher_node *node, uint32_t participants) {
-    uint32_t leader = 0, missing[MOST];
-    uint64_t count = 0, view = below(7);
-    bool flag = false;
-    struct batcher_proposal proposal = view_proposal();
-    size_t room = below(MOST + 1);
-    CHECK(batcher_node_leader(node, view, &leader) <= BATCHER_IDLE);
-    CHECK(batcher_node_proposal(node, view, &proposal) <= BATCHER_IDLE);
-    CHECK(batcher_node_has_nullify(node, view, (uint32_t)below(300), &flag) == BATCHER_DONE);
-    CHECK(batcher_node_is_missing_voter(node, view, &proposal, (uint32_t)below(300), &flag) == BATCHER_DONE);
-    uint8_t code = batcher_node_missing_voters(node, view, &proposal, missing, room, &count);
-    MADE(code);
-    CHECK(code == BATCHER_IDLE || (code == BATCHER_DONE && count <= participants));
-    uint8_t kind = (uint8_t)mostly_below(3);
-    CHECK((batcher_node_has_certificate(node, view, kind, &flag) == BATCHER_MALFORMED) == (kind > 2));
-    code = batcher_node_try_forward_proposal(node, view, mostly_below(participants), &proposal);
-    CHECK(code == BATCHER_DONE || code == BATCHER_IDLE);
-    return 0;
-}
-
-/* What a peer sent isn't looked at where it takes no part, is blocked, or is outside of the window. */
-static int heard(uint8_t code, uint64_t peer, uint32_t participants, const uint8_t *causes, bool is_within) {
-    bool takes_part = peer < participants, is_blocked = takes_part && causes[peer] != BATCHER_CAUSE_NONE;
-    CHECK((code == BATCHER_UNKNOWN) == !takes_part);
-    CHECK((code == BATCHER_DROPPED) == is_blocked);
-    CHECK((code == BATCHER_ELSEWHERE) == (takes_part && !is_blocked && !is_within));
-    return 0;
-}
-
-static int one_node_call(struct batcher_node *node, uint32_t participants) {
+static int one_loop_call(struct batcher_loop *loop, uint32_t participants, uint32_t me, uint8_t *disk, size_t *written) {
     struct batcher_admission admission;
     struct batcher_vote vote = any_vote(participants);
-    uint64_t finalized, current, ahead, count, peer, view = below(7);
-    uint8_t bytes[8] = {0}, causes[MOST], code;
-    bool anew = false;
-    vote.proposal = view_proposal();
-    CHECK(batcher_node_window(node, &finalized, &current, &ahead) == BATCHER_DONE && finalized <= current);
-    CHECK(batcher_node_blocked(node, causes, MOST, &count) == BATCHER_DONE && count == participants);
-    CHECK(batcher_node_rounds_kept(node, &count) == BATCHER_DONE && count <= current - finalized + ahead + 1);
-    bool is_within = vote.proposal.epoch == 0 && finalized <= vote.proposal.view
-        && vote.proposal.view <= current + ahead;
+    uint8_t bytes[8] = {0}, room[8], code;
+    uint64_t count = 0, peer = below(10) != 0 ? vote.attestation.signer : below(300);
     may_refuse = below(4) == 0;
     refused = false;
+    vote.proposal.view = below(6);
+    vote.proposal.parent = below(6);
     memset(&admission, 0x5a, sizeof admission);
-    struct batcher_admission untouched = admission;
-    switch (below(10)) {
+    switch (below(12)) {
     case 0:
     case 1:
     case 2:
-    case 3:
-        peer = below(10) != 0 ? vote.attestation.signer : below(300);
-        code = batcher_node_receive_vote(node, peer, &vote, &admission);
-        CHECK(code == BATCHER_DONE || memcmp(&admission, &untouched, sizeof untouched) == 0);
+        code = batcher_loop_vote(loop, peer, &vote, &admission);
         MADE(code);
         CHECK((code == BATCHER_MALFORMED) == (vote.kind > 2 || vote.attestation.length > BATCHER_SIGNATURE_BYTES));
-        return code == BATCHER_MALFORMED ? 0 : heard(code, peer, participants, causes, is_within);
-    case 4:
-        code = batcher_node_cast_vote(node, &vote, attests(&vote.attestation), &admission);
-        CHECK(code == BATCHER_DONE || memcmp(&admission, &untouched, sizeof untouched) == 0);
+        CHECK((code == BATCHER_UNKNOWN) == (code != BATCHER_MALFORMED && peer >= participants));
+        return 0;
+    case 3:
+        code = batcher_loop_cast(loop, &vote, attests(&vote.attestation));
         MADE(code);
-        if (code == BATCHER_DONE) CHECK(is_within && attests(&vote.attestation) && vote.attestation.signer < participants);
+        if (code == BATCHER_DONE) CHECK(attests(&vote.attestation) && vote.attestation.signer == me);
+        return 0;
+    case 4:
+        vote.proposal.view = below(20);
+        code = batcher_loop_certificate(loop, peer, vote.kind, &vote.proposal, bytes, below(9), below(3) == 0);
+        MADE(code);
+        CHECK((code == BATCHER_MALFORMED) == (vote.kind > 2));
         return 0;
     case 5:
-        code = batcher_node_enter(node, view, mostly_below(participants));
-        MADE(code);
-        CHECK((code == BATCHER_PASSED) == (view < finalized));
-        CHECK(code == BATCHER_DONE || code == BATCHER_PASSED || code == BATCHER_LEADER_CHANGED);
+        code = batcher_loop_kept(loop, vote.kind, &vote.proposal, room, sizeof room, &count);
+        CHECK((code == BATCHER_MALFORMED) == (vote.kind > 2));
+        CHECK(code != BATCHER_SHORT || count > sizeof room);
         return 0;
-    case 6:
-        if (below(10) != 0) return node_questions(node, participants);
-        view = finalized + below(2);
-        CHECK(batcher_node_finalize(node, view) == BATCHER_DONE);
-        CHECK(batcher_node_window(node, &finalized, &current, &ahead) == BATCHER_DONE && finalized == view);
-        return 0;
-    case 7:
-        if (below(5) != 0) return construct_in(node, participants, true);
-        peer = mostly_below(participants);
-        vote.kind = (uint8_t)below(3);
-        code = batcher_node_receive_certificate(node, peer, vote.kind, &vote.proposal, bytes, below(9), false, &anew);
-        MADE(code);
-        CHECK(!anew && code != BATCHER_DONE);
-        return heard(code, peer, participants, causes, is_within);
-    default: return construct_in(node, participants, below(4) != 0);
+    case 6: CHECK(batcher_loop_expire(loop, below(8)) == BATCHER_DONE); return 0;
+    case 7: return conclude_in(loop, participants);
+    default: return poll_once(loop, me, disk, written);
     }
 }
 
-static int one_node(uint64_t seed) {
-    struct batcher_node node = {0};
-    struct batcher_node_options options;
-    struct batcher_step step;
+static int one_loop(uint64_t seed) {
+    static uint8_t disk[DISK];
+    struct batcher_loop loop = {0};
+    struct batcher_loop_options options;
+    size_t written = 0;
     state = seed;
     may_refuse = false;
     memset(&options, 0, sizeof options);
     options.participants = 1 + (uint32_t)below(MOST);
+    options.participant = (uint32_t)below(options.participants);
     options.ahead = below(4);
     options.track_historical_votes = below(2) != 0;
-    options.batchable = below(2) != 0;
-    CHECK(batcher_node_try_construct(&node, &step, NULL, 0, NULL, 0, NULL, 0) == BATCHER_NONE);
-    CHECK(batcher_node_new(&node, &options) == BATCHER_DONE);
+    options.begins = true;
+    CHECK(batcher_loop_wrote(&loop) == BATCHER_NONE);
+    CHECK(batcher_loop_start(&loop, &options, (const uint8_t *)"c", 1, NULL, 0) == BATCHER_DONE);
     for (int calls = 0; calls < 200; calls++) {
-        int line = one_node_call(&node, options.participants);
+        int line = one_loop_call(&loop, options.participants, options.participant, disk, &written);
         if (line != 0) return line;
     }
-    batcher_node_free(&node);
-    CHECK(node.at == NULL);
+    /* It goes on by its disk alone, once memory isn't refused. */
+    options.begins = written == 0;
+    may_refuse = below(2) != 0;
+    refused = false;
+    uint8_t code = batcher_loop_start(&loop, &options, (const uint8_t *)"c", 1, disk, written);
+    CHECK(code == BATCHER_DONE || (code == BATCHER_OUT_OF_MEMORY && refused));
+    batcher_loop_free(&loop);
+    CHECK(loop.at == NULL);
     return 0;
 }
 
@@ -445,12 +428,13 @@ int main(int count, char **words) {
     if (count != 2 || sscanf(words[1], "%llu", &seeds) != 1) return 2;
     for (uint64_t seed = 0; seed < seeds; seed++) {
         int line = one_round(seed);
-        if (line == 0) line = one_node(seed);
+        if (line == 0) line = one_loop(seed);
         if (line != 0) {
             fprintf(stderr, "fuzz.c:%d: not so with seed %llu\n", line, (unsigned long long)seed);
             return 1;
         }
     }
     /* Where none of these comes up, nothing was tried. */
-    return seeds != 0 && (certified < seeds / 8 || passed < seeds / 40 || bad < seeds / 16 || out_of_memory < seeds);
+    return seeds != 0 && (certified < seeds / 8 || passed < seeds / 40 || bad < seeds / 16 || out_of_memory < seeds
+                         || concluded < seeds / 8 || signed_votes < seeds / 8);
 }

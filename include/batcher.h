@@ -1,13 +1,13 @@
-/* Rounds and nodes of a verified vote batcher, over signatures as bytes. Link libbatcher_ffi.a, and what
+/* Rounds and validators of a verified vote batcher, over signatures as bytes. Link libbatcher_ffi.a, and what
  * defines `rattle_alloc`, `rattle_dealloc` and `rattle_realloc` below, as c/heap.c does.
  *
  * What a caller owes, which nothing here can test:
- *   - a handle, a `struct batcher_round` or a `struct batcher_node`, begins as {0}, is in one call at a
- *     time, on one thread, and its pointer is neither copied nor written;
+ *   - a handle, a `struct batcher_round`, `batcher_loop` or `batcher_files`, begins as {0}, is in one call at
+ *     a time, on one thread, and its pointer is neither copied nor written;
  *   - each pointer is to a live value of its type that nobody else writes meanwhile, or to as many as
  *     the length after it says; a `bool` is 0 or 1; pointers that are written through don't overlap;
  *   - a verdict is true: of a signature of that participant on that subject, by the keys of the round
- *     or node.
+ *     or validator.
  * All else is tested: on an empty handle, for a code that means nothing, for a length that is too large
  * and for a vote of another round a call answers a code, and changes nothing. A leader's index alone
  * isn't looked at, and nor is whether a view is final. */
@@ -29,7 +29,11 @@ struct batcher_round {
     void *at; /* null: none */
 };
 
-struct batcher_node {
+struct batcher_loop {
+    void *at; /* null: none */
+};
+
+struct batcher_files {
     void *at; /* null: none */
 };
 
@@ -55,8 +59,19 @@ enum batcher_code {
     BATCHER_PASSED, /* the view is before the finalized one */
     BATCHER_KNOWN, /* one of its kind was there, so it isn't to be sent, or wasn't looked at */
     BATCHER_FORGED, /* the certificate doesn't certify what it names, and its peer is blocked */
-    BATCHER_RESTS, /* the construction gave no batch, so its view rests; others may not */
-    BATCHER_SHORT /* a list has fewer places than there are participants, so nothing changed */
+    BATCHER_SHORT, /* a list or a room has too few places, so nothing changed */
+    BATCHER_WRITE, /* what is owed to the disk is to be written first */
+    BATCHER_FULL, /* the journal has no room left */
+    BATCHER_CLOSED, /* the journal is closed: start again by what is on the disk */
+    BATCHER_NOT_OWN, /* a vote that another participant signed isn't cast */
+    BATCHER_SIGNED, /* its subject was signed before, by other bytes */
+    BATCHER_REFUSED, /* a rule of voting refuses it */
+    BATCHER_NOT_BEGUN, /* there are no bytes to start by */
+    BATCHER_BEGUN, /* there are bytes, so nothing begins */
+    BATCHER_OTHER_VERSION, /* the bytes are of another version of this library */
+    BATCHER_OTHER_OWNER, /* they are of another participant, epoch or namespace, or of other keys */
+    BATCHER_DAMAGED, /* they are no journal, or have what wasn't written so */
+    BATCHER_UNFINISHED /* what is to be done to the files already is to be done first */
 };
 
 enum batcher_kind { BATCHER_NOTARIZATION, BATCHER_NULLIFICATION, BATCHER_FINALIZATION };
@@ -79,7 +94,7 @@ enum batcher_block {
     BATCHER_BLOCK_FINALIZE_AFTER_NULLIFY
 };
 
-/* Why a participant of a node is blocked, if it is: for a vote, as by `enum batcher_block`, or for one of
+/* Why a validator blocks a participant, if it does: for a vote, as by `enum batcher_block`, or for one of
  * these, which leave room for more reasons. */
 enum batcher_cause {
     BATCHER_CAUSE_NONE,
@@ -96,6 +111,27 @@ enum batcher_report {
     BATCHER_REPORT_CONFLICTING_NOTARIZE, /* the first is the earlier one */
     BATCHER_REPORT_CONFLICTING_FINALIZE, /* the first is the earlier one */
     BATCHER_REPORT_NULLIFY_FINALIZE /* the first is the nullify */
+};
+
+/* What a validator has to do, by the members of `struct batcher_task` that it is said in. */
+enum batcher_task_code {
+    BATCHER_TASK_BLOCK, /* drop what `participant` sends and close its connection, for `cause` */
+    BATCHER_TASK_FINAL, /* `proposal` is final, and so are those that it builds on */
+    BATCHER_TASK_CAST, /* cast `vote`, of an earlier life, again */
+    BATCHER_TASK_SEND_VOTE, /* send `vote` to all others */
+    BATCHER_TASK_SEND_CERTIFICATE, /* send that of `kind` and the round of `proposal` to all others */
+    BATCHER_TASK_ENTER, /* enter the view of `proposal` with its leader, and start its timer */
+    BATCHER_TASK_VERIFY, /* have what `batcher_loop_lend` lends verified */
+    BATCHER_TASK_SIGN, /* sign `kind` and `proposal`, and cast the vote */
+    BATCHER_TASK_PROPOSE, /* make the payload of `proposal`, and judge it to be valid */
+    BATCHER_TASK_JUDGE /* judge whether `proposal` is valid */
+};
+
+/* What is to be done to a file. */
+enum batcher_change_code {
+    BATCHER_CHANGE_FRAME, /* write the frame at this byte */
+    BATCHER_CHANGE_BYTE, /* write one byte there */
+    BATCHER_CHANGE_LENGTH /* cut the file to so many bytes */
 };
 
 /* A proposal. Of a nullify and a nullification its epoch and view alone count. */
@@ -135,7 +171,6 @@ struct batcher_admission {
  * certificate what it is of and of how many attestations it is made. */
 struct batcher_step {
     struct batcher_proposal proposal;
-    uint64_t view; /* of a node's construction; that of a round leaves it as it was */
     uint64_t processed; /* how many votes were looked at */
     uint64_t listed;
     uint64_t verified;
@@ -143,6 +178,24 @@ struct batcher_step {
     uint8_t kind;
     bool certified;
     bool fallback; /* the pending votes had to be verified one by one */
+};
+
+/* What is to be done. Members that its task doesn't name stay as they were. */
+struct batcher_task {
+    struct batcher_vote vote;
+    struct batcher_proposal proposal;
+    uint32_t participant;
+    uint8_t task;
+    uint8_t kind;
+    uint8_t cause;
+};
+
+/* One thing to do to a file, which is synced before anything else is done. */
+struct batcher_change {
+    uint64_t at;
+    uint8_t change;
+    uint8_t byte;
+    bool in_other; /* it is of the file that isn't in use */
 };
 
 /* What a round is made of. */
@@ -155,20 +208,20 @@ struct batcher_round_options {
     bool batchable; /* it waits for a quorum before it wants verdicts */
 };
 
-/* What a node is made of. */
-struct batcher_node_options {
+/* What a validator is made of. */
+struct batcher_loop_options {
     uint64_t epoch;
-    uint64_t finalized; /* the view that is final, which is the current one at first */
     uint64_t ahead; /* how many views beyond the current one are of its window */
     uint32_t participants;
+    uint32_t participant; /* which of them it is */
     uint8_t keys[32];
     bool track_historical_votes; /* votes are kept in full to their round's end */
-    bool batchable;
+    bool begins; /* its participant never signed anything in the epoch, and its disk has no bytes */
 };
 
 /* Does nothing. Its name has the version of this header, so a library of another one doesn't link. */
-void batcher_abi_2(void);
-__attribute__((used)) static void (*const batcher_abi)(void) = batcher_abi_2;
+void batcher_abi_3(void);
+__attribute__((used)) static void (*const batcher_abi)(void) = batcher_abi_3;
 
 /* The library takes its memory by these three, which a program defines: c/heap.c does, over malloc. A block
  * is aligned by 16, and `at` is never null, also where the request is refused. */
@@ -204,8 +257,19 @@ static inline const char *batcher_code_text(uint8_t code) {
     case BATCHER_PASSED: return "the view is before the finalized one";
     case BATCHER_KNOWN: return "one of its kind was there";
     case BATCHER_FORGED: return "the certificate doesn't certify what it names";
-    case BATCHER_RESTS: return "the view rests";
-    case BATCHER_SHORT: return "a list is too short";
+    case BATCHER_SHORT: return "a list or a room is too short";
+    case BATCHER_WRITE: return "bytes are to be written first";
+    case BATCHER_FULL: return "the journal has no room left";
+    case BATCHER_CLOSED: return "the journal is closed";
+    case BATCHER_NOT_OWN: return "another participant signed it";
+    case BATCHER_SIGNED: return "its subject was signed before";
+    case BATCHER_REFUSED: return "a rule of voting refuses it";
+    case BATCHER_NOT_BEGUN: return "there are no bytes to start by";
+    case BATCHER_BEGUN: return "there are bytes, so nothing begins";
+    case BATCHER_OTHER_VERSION: return "the bytes are of another version";
+    case BATCHER_OTHER_OWNER: return "the bytes are somebody else's";
+    case BATCHER_DAMAGED: return "the bytes are damaged";
+    case BATCHER_UNFINISHED: return "other changes are to be done first";
     default: return "no code of this version";
     }
 }
@@ -286,88 +350,104 @@ uint8_t batcher_round_construct_together(struct batcher_round *round, uint8_t ki
                                          const struct batcher_attestation *list, size_t list_length,
                                          struct batcher_step *out);
 
-/* A validator's rounds over the views of a window: from the one that was finalized last to so many beyond
- * the current one. Where it is DONE, the handle's earlier node is freed. */
-uint8_t batcher_node_new(struct batcher_node *node, const struct batcher_node_options *options);
+/* A validator: it takes in what comes, votes by the rules, and says what is to be done next. `poll` after
+ * each call, until it is IDLE. Its disk has the bytes `disk`; where it `begins`, none. The namespace keeps
+ * its votes apart from those of other uses of the keys. Where it is DONE, the handle's earlier one is freed. */
+uint8_t batcher_loop_start(struct batcher_loop *validator, const struct batcher_loop_options *options,
+                           const uint8_t *namespace_bytes, size_t namespace_bytes_length, const uint8_t *disk,
+                           size_t disk_length);
 
-/* Frees the node, if there is one. */
-void batcher_node_free(struct batcher_node *node);
+/* Frees the validator, if there is one. */
+void batcher_loop_free(struct batcher_loop *validator);
 
-/* A vote of the peer whose key is the number. Where it gives cause, the peer is blocked from then on. */
-uint8_t batcher_node_receive_vote(struct batcher_node *node, uint64_t peer,
-                                  const struct batcher_vote *vote, struct batcher_admission *out);
+/* What is to be done next. DONE: the task, once. WRITE: nothing is, until what is owed is written. IDLE:
+ * nothing is, until something comes. FULL and CLOSED: start it again, by what is on the disk. */
+uint8_t batcher_loop_poll(struct batcher_loop *validator, struct batcher_task *out);
 
-/* A certificate of a peer, as bytes, and whether it certifies what it names. DONE: it is recorded, as that
- * of a round is. FORGED: the peer is blocked from then on. */
-uint8_t batcher_node_receive_certificate(struct batcher_node *node, uint64_t peer, uint8_t kind,
-                                         const struct batcher_proposal *proposal, const uint8_t *bytes,
-                                         size_t bytes_length, bool certifies, bool *selected_anew);
+/* What is to be written to the disk, so that a crash leaves all of it or none: in the place of all that is
+ * there where it `replaces`, and else behind it. SHORT: the room is too short for so many. IDLE: nothing. */
+uint8_t batcher_loop_owed(const struct batcher_loop *validator, uint8_t *room, size_t room_length,
+                          uint64_t *count, bool *replaces);
 
-/* A vote of the node's own, and whether it attests. DONE: it is to be sent. Nothing else says so. */
-uint8_t batcher_node_cast_vote(struct batcher_node *node, const struct batcher_vote *vote, bool attests,
-                               struct batcher_admission *out);
+/* What is owed is written, and lasts. */
+uint8_t batcher_loop_wrote(struct batcher_loop *validator);
 
-/* A view that passes over others makes their rounds skipped ones, where nothing was said there yet. The
- * leader's index isn't looked at, and can't be changed. */
-uint8_t batcher_node_enter(struct batcher_node *node, uint64_t view, uint32_t leader);
+/* A vote of the peer whose key is the number, who is authenticated. */
+uint8_t batcher_loop_vote(struct batcher_loop *validator, uint64_t peer, const struct batcher_vote *vote,
+                          struct batcher_admission *out);
 
-/* Only for a finalization that certifies: the window never moves back. The rounds of the views before it
- * are freed. An earlier view than the last one changes nothing. */
-uint8_t batcher_node_finalize(struct batcher_node *node, uint64_t view);
+/* A certificate of a peer, as bytes, and whether they certify what it names. By one from beyond the window
+ * a validator that fell behind goes on; where that is FORGED, drop its peer. */
+uint8_t batcher_loop_certificate(struct batcher_loop *validator, uint64_t peer, uint8_t kind,
+                                 const struct batcher_proposal *proposal, const uint8_t *bytes,
+                                 size_t bytes_length, bool certifies);
 
-/* Verdicts on what the next construction wants, as those of a round. STALE also where another view is next.
- * On what waits in other views they are wanted once that is next. */
-uint8_t batcher_node_record_verdicts(struct batcher_node *node, uint8_t kind,
-                                     const struct batcher_proposal *proposal,
-                                     const struct batcher_attestation *list, size_t list_length,
-                                     const bool *verdicts, size_t verdicts_length);
+/* VERIFY: verdicts are wanted on the attestations of the list. IDLE: on none, and their view rests. SHORT:
+ * the list has fewer places than there are participants. */
+uint8_t batcher_loop_lend(struct batcher_loop *validator, struct batcher_step *out,
+                          struct batcher_attestation *list, size_t list_length);
 
-/* The next construction, as that of a round, in the lowest view that changed: which one is in out. IDLE:
- * all views rest. Whose votes a batch found not to attest is blocked from then on. */
-uint8_t batcher_node_try_construct(struct batcher_node *node, struct batcher_step *out,
-                                   struct batcher_attestation *known, size_t known_length,
-                                   struct batcher_attestation *list, size_t list_length,
-                                   uint32_t *signers, size_t signers_length);
+/* Whether each attestation that was lent attests. The answer may come late. STALE: others are wanted by
+ * now, and the task to verify comes again. */
+uint8_t batcher_loop_conclude(struct batcher_loop *validator, uint8_t kind,
+                              const struct batcher_proposal *proposal,
+                              const struct batcher_attestation *list, size_t list_length,
+                              const bool *verdicts, size_t verdicts_length);
 
-/* The next construction, of attestations that pass as a whole, as that of a round. */
-uint8_t batcher_node_construct_together(struct batcher_node *node, uint8_t kind,
-                                        const struct batcher_proposal *proposal,
-                                        const struct batcher_attestation *list, size_t list_length,
-                                        struct batcher_step *out);
+/* A vote of its own, and whether it attests: what was to be signed, or to be cast again. It is sent only
+ * where a task says so. */
+uint8_t batcher_loop_cast(struct batcher_loop *validator, const struct batcher_vote *vote, bool attests);
 
-uint8_t batcher_node_try_forward_proposal(struct batcher_node *node, uint64_t view, uint32_t me,
-                                          struct batcher_proposal *out);
+/* The leader's index isn't looked at, and can't be changed. */
+uint8_t batcher_loop_enter(struct batcher_loop *validator, uint64_t view, uint32_t leader);
 
-/* The last finalized view, the current one, and how many beyond that are in the window. */
-uint8_t batcher_node_window(const struct batcher_node *node, uint64_t *finalized, uint64_t *current,
-                            uint64_t *ahead);
+/* Whether a proposal is valid. One of its own is. Of one that isn't, the view is given up. */
+uint8_t batcher_loop_judge(struct batcher_loop *validator, const struct batcher_proposal *proposal,
+                           bool valid);
 
-uint8_t batcher_node_rounds_kept(const struct batcher_node *node, uint64_t *count);
+/* The time of the view is over, for the first time or again: it is given up, unless its proposal is
+ * notarized. All votes and certificates from the final view on are sent again. */
+uint8_t batcher_loop_expire(struct batcher_loop *validator, uint64_t view);
 
-/* Of each participant by its index why it is blocked. The count is that of participants. */
-uint8_t batcher_node_blocked(const struct batcher_node *node, uint8_t *causes, size_t causes_length,
-                             uint64_t *count);
+/* The certificate of this kind and of the round of the proposal: its bytes, and the whole proposal. One that
+ * it made is its list of attestations. SHORT: the room is too short for so many bytes. IDLE: none is kept. */
+uint8_t batcher_loop_kept(const struct batcher_loop *validator, uint8_t kind,
+                          struct batcher_proposal *proposal, uint8_t *room, size_t room_length,
+                          uint64_t *count);
 
-/* What is asked of a round is asked of a view. Where nothing was said in it, there is none of it. */
-uint8_t batcher_node_leader(const struct batcher_node *node, uint64_t view, uint32_t *out);
+/* What is in two files that take turns, so that a crash at any moment leaves all that was written, or that and
+ * what was being written. Nothing here reads or writes a file: each of the first four calls says what is to be done,
+ * and `batcher_files_carried_out` that it is. Where a disk fails to do it, free this, and open the files again.
+ * `turned`: the second is the one in use. NOT_BEGUN: both are empty, so create. */
+uint8_t batcher_files_open(struct batcher_files *files, const uint8_t *first, size_t first_length,
+                           const uint8_t *second, size_t second_length, bool *turned);
 
-uint8_t batcher_node_proposal(const struct batcher_node *node, uint64_t view,
-                              struct batcher_proposal *out);
+/* The first is the one in use. BEGUN: they aren't empty. */
+uint8_t batcher_files_create(struct batcher_files *files, const uint8_t *first, size_t first_length,
+                             const uint8_t *second, size_t second_length, const uint8_t *bytes,
+                             size_t bytes_length);
 
-uint8_t batcher_node_has_certificate(const struct batcher_node *node, uint64_t view, uint8_t kind,
-                                     bool *out);
+/* Frees what is known of the files. */
+void batcher_files_free(struct batcher_files *files);
 
-uint8_t batcher_node_has_nullify(const struct batcher_node *node, uint64_t view, uint32_t signer,
-                                 bool *out);
+uint8_t batcher_files_append(struct batcher_files *files, const uint8_t *bytes, size_t bytes_length);
 
-uint8_t batcher_node_is_missing_voter(const struct batcher_node *node, uint64_t view,
-                                      const struct batcher_proposal *proposal,
-                                      uint32_t participant, bool *out);
+/* Once it is carried out, the other file is the one in use. */
+uint8_t batcher_files_replace(struct batcher_files *files, const uint8_t *bytes, size_t bytes_length);
 
-/* IDLE: nothing was said in the view, so nobody is known to have it. */
-uint8_t batcher_node_missing_voters(const struct batcher_node *node, uint64_t view,
-                                    const struct batcher_proposal *proposal, uint32_t *list,
-                                    size_t list_length, uint64_t *count);
+/* The change of this number, from 0 on. IDLE: there are no more. */
+uint8_t batcher_files_change(const struct batcher_files *files, uint64_t number, struct batcher_change *out);
+
+/* All changes are done, each before the next one was begun, and last. */
+uint8_t batcher_files_carried_out(struct batcher_files *files);
+
+/* The frame that the changes write. SHORT: the room is too short for so many bytes. */
+uint8_t batcher_files_frame(const struct batcher_files *files, uint8_t *room, size_t room_length,
+                            uint64_t *count);
+
+/* What was written to the files, in all. SHORT: the room is too short for so many bytes. */
+uint8_t batcher_files_bytes(const struct batcher_files *files, uint8_t *room, size_t room_length,
+                            uint64_t *count);
 
 /* The signer that two votes convict: they are of one of so many participants with these keys, which are 32
  * bytes as those of a round, contradict each other, and both attest, as the caller has verified. IDLE:

@@ -2,11 +2,13 @@
 //! benchmark, in which n participants notarize, a certificate is made, they finalize, and another
 //! is made. Nothing is printed.
 //!
-//! usage: counted ROUNDS PARTICIPANTS BYTES made|added|constructed
+//! usage: counted ROUNDS PARTICIPANTS BYTES made|added|constructed|looped
 //!
 //! `made` makes the rounds and drops them, `added` hands in the votes too, and `constructed` makes
-//! the certificates too.
+//! the certificates too. `looped` plays as many views of a validator, which leads each of them, and
+//! does all that it gives to be done; what is written goes nowhere.
 
+use batcher::looping::{Loop, Options, Task};
 use batcher::positions::Round as Number;
 use batcher::{
     Attestation, Epoch, Participant, Proposal, Round, Scheme, Set, Sha256Digest, Subject, View,
@@ -102,17 +104,79 @@ fn play<const BYTES: usize>(rounds: u32, participants: u32, adds: bool, construc
     }
 }
 
+/// A validator hears the votes of all others in each view, until so many are final.
+fn play_loop<const BYTES: usize>(views: u64, participants: u32) {
+    let options = Options {
+        epoch: Epoch::zero(),
+        me: Participant::new(0),
+        participants,
+        keys: [0; 32],
+        namespace: b"counted",
+        ahead: 4,
+        track_historical_votes: true,
+    };
+    let leader = |_: View| Participant::new(0);
+    let mut validator = Loop::<[u8; BYTES]>::begin(&options, leader).expect("memory is there");
+    let mut last = 0;
+    while last < views {
+        match validator
+            .poll()
+            .expect("memory is there")
+            .expect("it goes on")
+        {
+            Task::Write(write) => {
+                black_box(write);
+                validator.wrote().expect("memory is there");
+            }
+            Task::Sign(subject) => {
+                let own = vote::<BYTES>(0, subject);
+                let signature = &own.attestation().signature;
+                validator
+                    .signed(subject, signature)
+                    .expect("memory is there");
+            }
+            Task::Propose { view, parent } => {
+                let payload = Sha256Digest([view.get() as u8; 32]);
+                validator.propose(view, parent, payload).expect("it leads");
+            }
+            Task::SendVote(own) => {
+                for signer in 1..participants {
+                    let vote = vote(signer, own.subject());
+                    let heard = validator.vote(vote.signer(), &vote);
+                    black_box(heard.expect("memory is there"));
+                }
+            }
+            Task::Verify(wanted) => {
+                let verdicts = vec![true; wanted.attestations().len()];
+                validator
+                    .conclude(&wanted, &verdicts)
+                    .expect("memory is there");
+            }
+            Task::Final(proposal) => last = proposal.round.view.get(),
+            Task::SendCertificate(_) | Task::Enter(_) => {}
+            Task::Judge(_) | Task::Block(..) => unreachable!("all are honest, and it leads"),
+        }
+    }
+}
+
 fn main() {
     let words: Vec<_> = std::env::args().skip(1).collect();
     let [rounds, participants, bytes, phase] = &words[..] else {
-        panic!("usage: counted ROUNDS PARTICIPANTS BYTES made|added|constructed");
+        panic!("usage: counted ROUNDS PARTICIPANTS BYTES made|added|constructed|looped");
     };
-    let number = |word: &str| word.parse().expect("a number");
+    let number = |word: &str| word.parse::<u32>().expect("a number");
+    if phase == "looped" {
+        return match &bytes[..] {
+            "8" => play_loop::<8>(number(rounds).into(), number(participants)),
+            "64" => play_loop::<64>(number(rounds).into(), number(participants)),
+            other => panic!("signatures of {other} bytes aren't played"),
+        };
+    }
     let (adds, constructs) = match &phase[..] {
         "made" => (false, false),
         "added" => (true, false),
         "constructed" => (true, true),
-        other => panic!("{other} is none of made, added and constructed"),
+        other => panic!("{other} is none of made, added, constructed and looped"),
     };
     match &bytes[..] {
         "8" => play::<8>(number(rounds), number(participants), adds, constructs),

@@ -1,4 +1,4 @@
-//! What rounds and nodes answer.
+//! What rounds answer.
 
 use crate::messages::{Activity, Certificate};
 use crate::positions::Participant;
@@ -65,7 +65,7 @@ pub struct Admission<G> {
     pub added: bool,
     /// Why its sender is to be blocked, if it is. It is the sender, also where the vote names
     /// another signer. To block it is the caller's matter: a round goes on taking in its votes. A
-    /// node has blocked it.
+    /// validator gives it to be blocked.
     pub block: Option<BlockReason>,
     /// The vote, where it was added, or evidence of two that contradict each other. It may be none
     /// beside a block: the earlier vote isn't kept in full for ever.
@@ -130,7 +130,7 @@ pub struct Batch<C> {
     /// How many pending votes were looked at.
     pub processed: usize,
     /// The signers whose votes were found not to attest, in the order in which they were looked at.
-    /// They are to be blocked, as a node has done: a vote is taken in from its signer alone.
+    /// They are to be blocked: a vote is taken in from its signer alone.
     pub invalid: Vec<Participant>,
     /// The certificate, if one was made, which is to be sent. It is recorded already, and isn't
     /// given again.
@@ -139,7 +139,7 @@ pub struct Batch<C> {
     pub fallback: bool,
 }
 
-/// Why a call was refused. The round or node is as it was, but where it is `Gone`.
+/// Why a call was refused. The round or validator is as it was, but where it is `Gone`.
 #[derive(Clone, Copy, Debug, PartialEq, Eq, Hash)]
 pub enum Error {
     /// The scheme has no participant.
@@ -153,8 +153,6 @@ pub enum Error {
     LeaderChanged,
     /// No participant has this index.
     UnknownParticipant,
-    /// The view is before the finalized one.
-    Passed,
     /// The own vote doesn't attest, as the scheme says.
     NotVerified,
     /// The certificate doesn't certify what it names, as the scheme says. Who sent it is to be
@@ -169,8 +167,8 @@ pub enum Error {
     /// since peers would block this node for it.
     BadAssembly,
     /// The thread on which the value lives has ended, or a job of it has panicked, which took the
-    /// value with it. Where that was a round or a node, what it knew of own votes is gone too: see
-    /// [`Round::accept_vote`](crate::Round::accept_vote) and [`Node::new`](crate::Node::new).
+    /// value with it. Where that was a round, what it knew of own votes is gone too: see
+    /// [`Round::accept_vote`](crate::Round::accept_vote). A validator is started again by its disk.
     Gone,
     /// The system gives no thread.
     NoThread,
@@ -187,7 +185,6 @@ impl fmt::Display for Error {
             Error::OutOfMemory => f.write_str("out of memory"),
             Error::LeaderChanged => f.write_str("leader changed within round"),
             Error::UnknownParticipant => f.write_str("no participant has this index"),
-            Error::Passed => f.write_str("view before the finalized one"),
             Error::NotVerified => f.write_str("own vote doesn't attest"),
             Error::Forged => f.write_str("certificate doesn't certify"),
             Error::Own(fault) => fault.fmt(f),

@@ -1,4 +1,4 @@
-//! Constructions of a round or a node: what they want verified, what was found, and what they give.
+//! Constructions of a round: what they want verified, what was found, and what they give.
 
 use crate::answers::{Batch, Error};
 use crate::ffi::{self, code};
@@ -6,12 +6,12 @@ use crate::flat::{
     attestation_of, error_of, flat_attestation, flat_subject, kind_code, kind_of, subject_of,
 };
 use crate::messages::{Attestation, Certificate, Subject};
-use crate::positions::{Participant, View, quorum};
+use crate::positions::{Participant, quorum};
 use crate::scheme::Scheme;
 use std::sync::atomic::{AtomicU64, Ordering};
 
 /// Attestations of one subject, on each of which a verdict is wanted. It is plain data: it may go
-/// to another thread, and the round or node goes on meanwhile.
+/// to another thread, and the round goes on meanwhile.
 #[derive(Clone, Debug)]
 pub struct Wanted<G> {
     subject: Subject,
@@ -33,7 +33,7 @@ impl<G> Wanted<G> {
 }
 
 /// Attestations of one subject, on which one verdict is wanted, as a whole. It is plain data: it
-/// may go to another thread, and the round or node goes on meanwhile.
+/// may go to another thread, and the round goes on meanwhile.
 #[derive(Clone, Debug)]
 pub struct WantedTogether<G> {
     wanted: Wanted<G>,
@@ -58,42 +58,14 @@ impl<G> WantedTogether<G> {
 }
 
 /// Of a caller that hands in more verdicts than attestations, or fewer.
-const ONE_EACH: &str = "there isn't one verdict for each";
+pub(crate) const ONE_EACH: &str = "there isn't one verdict for each";
 
-/// What is asked of a round and of a node in the library alike.
-pub(crate) trait Library {
-    fn record_verdicts(
-        &mut self,
-        kind: u8,
-        proposal: &ffi::Proposal,
-        list: &[ffi::Attestation],
-        verdicts: &[bool],
-    ) -> u8;
-
-    fn try_construct(
-        &mut self,
-        step: &mut ffi::Step,
-        known: &mut [ffi::Attestation],
-        list: &mut [ffi::Attestation],
-        signers: &mut [u32],
-    ) -> u8;
-
-    fn construct_together(
-        &mut self,
-        kind: u8,
-        proposal: &ffi::Proposal,
-        list: &[ffi::Attestation],
-        step: &mut ffi::Step,
-    ) -> u8;
-}
-
-/// What the next construction comes to; of a node in which view.
+/// What the next construction comes to.
 pub(crate) enum Next<G, C> {
     Idle,
-    Rests(View),
     Verify(Wanted<G>),
     VerifyTogether(WantedTogether<G>),
-    Made(View, Batch<C>),
+    Made(Batch<C>),
 }
 
 /// What was last found of attestations as a whole.
@@ -104,7 +76,7 @@ struct Together {
 }
 
 pub(crate) struct Constructions {
-    /// A number that distinguishes a round, or a node, from all others of the process.
+    /// A number that distinguishes a round from all others of the process.
     owner: u64,
     // Where the library lists attestations and signers: a place for each participant, once one is
     // wanted.
@@ -130,18 +102,17 @@ impl Constructions {
         }
     }
 
-    /// The next construction, for which the scheme verifies on the spot what is wanted: the view that
-    /// it was made in, and the batch, if it gave one. None where there is nothing to be made.
+    /// The next construction, for which the scheme verifies on the spot what is wanted. None where
+    /// there is nothing to be made.
     pub(crate) fn construct<S: Scheme>(
         &mut self,
         scheme: &S,
-        library: &mut impl Library,
-    ) -> Result<Option<(View, Option<Batch<S::Certificate>>)>, Error> {
+        library: &mut ffi::Round,
+    ) -> Result<Option<Batch<S::Certificate>>, Error> {
         loop {
             match self.step(scheme, library)? {
                 Next::Idle => return Ok(None),
-                Next::Rests(view) => return Ok(Some((view, None))),
-                Next::Made(view, batch) => return Ok(Some((view, Some(batch)))),
+                Next::Made(batch) => return Ok(Some(batch)),
                 Next::Verify(wanted) => {
                     let Wanted {
                         subject,
@@ -170,7 +141,7 @@ impl Constructions {
     pub(crate) fn step<S: Scheme>(
         &mut self,
         scheme: &S,
-        library: &mut impl Library,
+        library: &mut ffi::Round,
     ) -> Result<Next<S::Signature, S::Certificate>, Error> {
         let participants = scheme.participants().len();
         reserve_each(&mut self.known, participants, ffi::Attestation::default())?;
@@ -187,7 +158,6 @@ impl Constructions {
             &mut self.signers,
         ) {
             code::IDLE => Ok(Next::Idle),
-            code::RESTS => Ok(Next::Rests(View::new(step.view))),
             code::DONE => self.finish(scheme, step),
             code::VERIFY => self.verify(scheme, library, &step),
             answer => Err(error_of(answer)),
@@ -198,7 +168,7 @@ impl Constructions {
     fn verify<S: Scheme>(
         &mut self,
         scheme: &S,
-        library: &mut impl Library,
+        library: &mut ffi::Round,
         step: &ffi::Step,
     ) -> Result<Next<S::Signature, S::Certificate>, Error> {
         let subject = subject_of(kind_of(step.kind)?, &step.proposal);
@@ -252,7 +222,7 @@ impl Constructions {
     /// where that isn't wanted any more.
     pub(crate) fn record_verdicts<G: AsRef<[u8]>>(
         &mut self,
-        library: &mut impl Library,
+        library: &mut ffi::Round,
         wanted: &Wanted<G>,
         verdicts: &[bool],
     ) -> Result<bool, Error> {
@@ -310,7 +280,7 @@ impl Constructions {
         if !matches!(made, Err(Error::OutOfMemory)) {
             self.unfinished = None;
         }
-        Ok(Next::Made(View::new(step.view), made?))
+        Ok(Next::Made(made?))
     }
 
     fn made<S: Scheme>(
@@ -344,7 +314,7 @@ impl Constructions {
 
 /// Hands in verdicts on a list, and says whether they are recorded.
 fn hand_in(
-    library: &mut impl Library,
+    library: &mut ffi::Round,
     subject: &Subject,
     list: &[ffi::Attestation],
     verdicts: &[bool],
@@ -357,7 +327,7 @@ fn hand_in(
     }
 }
 
-fn attestations_of<G: for<'b> TryFrom<&'b [u8]>>(
+pub(crate) fn attestations_of<G: for<'b> TryFrom<&'b [u8]>>(
     list: &[ffi::Attestation],
 ) -> Result<Vec<Attestation<G>>, Error> {
     let mut attestations = Vec::new();
@@ -369,7 +339,7 @@ fn attestations_of<G: for<'b> TryFrom<&'b [u8]>>(
 }
 
 /// Makes room in a list.
-fn reserve<T>(list: &mut Vec<T>, more: usize) -> Result<(), Error> {
+pub(crate) fn reserve<T>(list: &mut Vec<T>, more: usize) -> Result<(), Error> {
     list.try_reserve_exact(more).map_err(|_| Error::OutOfMemory)
 }
 

@@ -2,14 +2,15 @@
 //! the heap that the static library takes its memory from. `tools/header` compares the declarations
 //! with the header.
 
-use crate::construct::Library;
 use std::alloc::{Layout, alloc, dealloc, realloc};
 use std::ffi::c_void;
 use std::ptr;
 
-pub(crate) mod node;
+pub(crate) mod files;
+pub(crate) mod loops;
 
-/// The numbers of the header: answers of calls, kinds, modes, block reasons, causes and reports.
+/// The numbers of the header: answers of calls, kinds, modes, block reasons, causes, reports,
+/// tasks and changes.
 #[allow(dead_code)]
 pub(crate) mod code {
     pub(crate) const DONE: u8 = 0;
@@ -32,8 +33,19 @@ pub(crate) mod code {
     pub(crate) const PASSED: u8 = 17;
     pub(crate) const KNOWN: u8 = 18;
     pub(crate) const FORGED: u8 = 19;
-    pub(crate) const RESTS: u8 = 20;
-    pub(crate) const SHORT: u8 = 21;
+    pub(crate) const SHORT: u8 = 20;
+    pub(crate) const WRITE: u8 = 21;
+    pub(crate) const FULL: u8 = 22;
+    pub(crate) const CLOSED: u8 = 23;
+    pub(crate) const NOT_OWN: u8 = 24;
+    pub(crate) const SIGNED: u8 = 25;
+    pub(crate) const REFUSED: u8 = 26;
+    pub(crate) const NOT_BEGUN: u8 = 27;
+    pub(crate) const BEGUN: u8 = 28;
+    pub(crate) const OTHER_VERSION: u8 = 29;
+    pub(crate) const OTHER_OWNER: u8 = 30;
+    pub(crate) const DAMAGED: u8 = 31;
+    pub(crate) const UNFINISHED: u8 = 32;
     pub(crate) const NOTARIZATION: u8 = 0;
     pub(crate) const NULLIFICATION: u8 = 1;
     pub(crate) const FINALIZATION: u8 = 2;
@@ -61,6 +73,19 @@ pub(crate) mod code {
     pub(crate) const REPORT_CONFLICTING_NOTARIZE: u8 = 4;
     pub(crate) const REPORT_CONFLICTING_FINALIZE: u8 = 5;
     pub(crate) const REPORT_NULLIFY_FINALIZE: u8 = 6;
+    pub(crate) const TASK_BLOCK: u8 = 0;
+    pub(crate) const TASK_FINAL: u8 = 1;
+    pub(crate) const TASK_CAST: u8 = 2;
+    pub(crate) const TASK_SEND_VOTE: u8 = 3;
+    pub(crate) const TASK_SEND_CERTIFICATE: u8 = 4;
+    pub(crate) const TASK_ENTER: u8 = 5;
+    pub(crate) const TASK_VERIFY: u8 = 6;
+    pub(crate) const TASK_SIGN: u8 = 7;
+    pub(crate) const TASK_PROPOSE: u8 = 8;
+    pub(crate) const TASK_JUDGE: u8 = 9;
+    pub(crate) const CHANGE_FRAME: u8 = 0;
+    pub(crate) const CHANGE_BYTE: u8 = 1;
+    pub(crate) const CHANGE_LENGTH: u8 = 2;
 }
 
 /// `struct batcher_proposal`
@@ -121,7 +146,6 @@ pub(crate) struct Admission {
 #[derive(Clone, Copy, Default)]
 pub(crate) struct Step {
     pub(crate) proposal: Proposal,
-    pub(crate) view: u64,
     pub(crate) processed: u64,
     pub(crate) listed: u64,
     pub(crate) verified: u64,
@@ -158,7 +182,7 @@ pub(crate) struct Round {
 // No function here unwinds: Rattle has no panics. A slice is a pointer and its length.
 unsafe extern "C" {
     /// Its name has the version of the header, so a library of another one doesn't link.
-    safe fn batcher_abi_2();
+    safe fn batcher_abi_3();
 
     fn batcher_round_new(round: *mut RoundHandle, options: *const RoundOptions) -> u8;
     fn batcher_round_free(round: *mut RoundHandle);
@@ -285,7 +309,7 @@ impl Round {
             at: ptr::null_mut(),
         };
         let mut round = Round { handle };
-        batcher_abi_2();
+        batcher_abi_3();
         // SAFETY: as above; an empty handle is a null pointer.
         match unsafe { batcher_round_new(&mut round.handle, options) } {
             code::DONE => Ok(round),
@@ -393,8 +417,8 @@ impl Round {
     }
 }
 
-impl Library for Round {
-    fn record_verdicts(
+impl Round {
+    pub(crate) fn record_verdicts(
         &mut self,
         kind: u8,
         proposal: &Proposal,
@@ -415,7 +439,7 @@ impl Library for Round {
         }
     }
 
-    fn try_construct(
+    pub(crate) fn try_construct(
         &mut self,
         step: &mut Step,
         known: &mut [Attestation],
@@ -437,7 +461,7 @@ impl Library for Round {
         }
     }
 
-    fn construct_together(
+    pub(crate) fn construct_together(
         &mut self,
         kind: u8,
         proposal: &Proposal,

@@ -25,7 +25,7 @@ pub(crate) fn flat_subject(subject: &Subject) -> ffi::Proposal {
 }
 
 /// A proposal of which the round alone counts.
-fn flat_round(round: &Round) -> ffi::Proposal {
+pub(crate) fn flat_round(round: &Round) -> ffi::Proposal {
     ffi::Proposal {
         epoch: round.epoch.get(),
         view: round.view.get(),
@@ -113,6 +113,12 @@ fn contradiction_of<G: for<'b> TryFrom<&'b [u8]>>(
     })
 }
 
+/// A vote of any kind.
+pub(crate) fn vote_of<G: for<'b> TryFrom<&'b [u8]>>(flat: &ffi::Vote) -> Result<Vote<G>, Error> {
+    let subject = subject_of(kind_of(flat.kind)?, &flat.proposal);
+    Ok(Vote::new(subject, attestation_of(&flat.attestation)?))
+}
+
 fn notarize_of<G: for<'b> TryFrom<&'b [u8]>>(flat: &ffi::Vote) -> Result<Notarize<G>, Error> {
     Ok(Notarize {
         proposal: proposal_of(&flat.proposal),
@@ -134,7 +140,7 @@ fn finalize_of<G: for<'b> TryFrom<&'b [u8]>>(flat: &ffi::Vote) -> Result<Finaliz
     })
 }
 
-fn round_of(flat: &ffi::Proposal) -> Round {
+pub(crate) fn round_of(flat: &ffi::Proposal) -> Round {
     Round::new(Epoch::new(flat.epoch), View::new(flat.view))
 }
 
@@ -216,7 +222,6 @@ pub(crate) fn error_of(answer: u8) -> Error {
         code::CONFLICTING => Error::Own(OwnFault::Conflicting),
         code::NULLIFY_AFTER_FINALIZE => Error::Own(OwnFault::NullifyAfterFinalize),
         code::FINALIZE_AFTER_NULLIFY => Error::Own(OwnFault::FinalizeAfterNullify),
-        code::PASSED => Error::Passed,
         other => Error::Unknown(other),
     }
 }

@@ -9,11 +9,12 @@
 //! A [`Scheme`] says what signatures are worth, and a [`Round`] is one view: votes go in by
 //! [`Round::add_network`] and [`Round::accept_vote`], certificates come out of
 //! [`Round::try_construct`]. Who verifies elsewhere, as on other threads, takes [`Round::step`] in
-//! its place. A [`Node`] keeps the rounds of many views, and blocks whom they have cause to block;
-//! [`node`] says how a validator uses one. Both stay on their thread; [`thread`] has a handle that
-//! doesn't. Of two votes that a round or a node reports, [`convicted`] says whether they show others
-//! too that their signer broke the rules. The examples `view`, `node` and `mailbox` of this crate
-//! are whole programs.
+//! its place. A [`Loop`] is a validator: it votes by the rules over many views, and says what is to be
+//! done next; [`looping`] says how it is used, and [`Files`] keeps what it writes. A round and a loop
+//! stay on their thread; [`thread`] has a handle that doesn't. Of two votes that are reported,
+//! [`convicted`] says whether they show others too that their signer broke the rules. The examples
+//! `view` and `mailbox` of this crate are whole programs, and `rust/validator` is one with real
+//! signatures.
 //!
 //! The number of a round has the name of what happens in it, so import it by another one:
 //! `use batcher::positions::Round as Number;`
@@ -62,9 +63,10 @@ mod construct;
 mod evidence;
 #[allow(unsafe_code)]
 mod ffi;
+mod files;
 mod flat;
+pub mod looping;
 pub mod messages;
-pub mod node;
 pub mod positions;
 pub mod round;
 mod scheme;
@@ -72,17 +74,18 @@ pub mod thread;
 
 pub use answers::{Admission, Batch, BlockReason, Error, Mode, Outcome, OwnFault};
 pub use evidence::convicted;
+pub use files::Files;
+pub use looping::Loop;
 pub use messages::{
     Activity, Attestation, Certificate, Finalization, Finalize, Kind, Notarization, Notarize,
     Nullification, Nullify, Proposal, Sha256Digest, Subject, Vote,
 };
-pub use node::Node;
 pub use positions::{Epoch, Participant, Set, SetFault, View, quorum};
 pub use round::{Round, Step, Wanted, WantedTogether};
 pub use scheme::Scheme;
 
-/// What a round or a node answers isn't dropped without a warning. The first programs are refused
-/// for that alone: the last makes the same calls, says that it drops their answers, and compiles.
+/// What a round answers isn't dropped without a warning. The first programs are refused for that
+/// alone: the last makes the same calls, says that it drops their answers, and compiles.
 ///
 /// ```compile_fail
 /// #![deny(unused_must_use)]
@@ -114,40 +117,14 @@ pub use scheme::Scheme;
 /// # }
 /// ```
 ///
-/// ```compile_fail
-/// #![deny(unused_must_use)]
-/// # include!(concat!(env!("CARGO_MANIFEST_DIR"), "/tests/toy/mod.rs"));
-/// # use batcher::{Epoch, View};
-/// # fn main() -> Result<(), batcher::Error> {
-/// let mut node = batcher::Node::new(Epoch::zero(), Toy::new(4), View::zero(), 4, true)?;
-/// node.cast_vote(notarize(0, 7))?;
-/// # Ok(())
-/// # }
-/// ```
-///
-/// ```compile_fail
-/// #![deny(unused_must_use)]
-/// # include!(concat!(env!("CARGO_MANIFEST_DIR"), "/tests/toy/mod.rs"));
-/// # use batcher::{Epoch, View};
-/// # fn main() -> Result<(), batcher::Error> {
-/// let mut node = batcher::Node::new(Epoch::zero(), Toy::new(4), View::zero(), 4, true)?;
-/// node.receive_vote(&"ada", notarize(0, 7))?;
-/// # Ok(())
-/// # }
-/// ```
-///
 /// ```
 /// #![deny(unused_must_use)]
 /// # include!(concat!(env!("CARGO_MANIFEST_DIR"), "/tests/toy/mod.rs"));
-/// # use batcher::{Epoch, View};
 /// # fn main() -> Result<(), batcher::Error> {
 /// let mut round = batcher::Round::new(ROUND, Toy::new(4), true)?;
 /// let _ = round.accept_vote(notarize(0, 7))?;
 /// let _ = round.add_network(&"ada", notarize(0, 7))?;
 /// let _ = round.step()?;
-/// let mut node = batcher::Node::new(Epoch::zero(), Toy::new(4), View::zero(), 4, true)?;
-/// let _ = node.cast_vote(notarize(0, 7))?;
-/// let _ = node.receive_vote(&"ada", notarize(0, 7))?;
 /// # Ok(())
 /// # }
 /// ```

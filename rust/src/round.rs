@@ -535,10 +535,8 @@ impl<S: Scheme> Round<S> {
     ///
     /// Where the scheme doesn't give a verdict on each attestation.
     pub fn try_construct(&mut self) -> Result<Option<Batch<S::Certificate>>, Error> {
-        let made = self
-            .constructions
-            .construct(&*self.scheme, &mut self.library)?;
-        Ok(made.and_then(|(_, batch)| batch))
+        self.constructions
+            .construct(&*self.scheme, &mut self.library)
     }
 
     /// Makes the next construction, or hands out what has to be verified for it, which may be done
@@ -583,11 +581,10 @@ impl<S: Scheme> Round<S> {
     pub fn step(&mut self) -> Result<Step<S::Signature, S::Certificate>, Error> {
         Ok(
             match self.constructions.step(&*self.scheme, &mut self.library)? {
-                // A round has no view that rests beside others.
-                Next::Idle | Next::Rests(_) => Step::Idle,
+                Next::Idle => Step::Idle,
                 Next::Verify(wanted) => Step::Verify(wanted),
                 Next::VerifyTogether(wanted) => Step::VerifyTogether(wanted),
-                Next::Made(_, batch) => Step::Made(batch),
+                Next::Made(batch) => Step::Made(batch),
             },
         )
     }

@@ -1,6 +1,6 @@
-//! Rounds and nodes on a thread of their own, for callers on many threads and for tasks.
+//! Rounds and validators on a thread of their own, for callers on many threads and for tasks.
 //!
-//! A [`Round`](crate::Round) or a [`Node`](crate::Node) stays on the thread on which it was made,
+//! A [`Round`](crate::Round) or a [`Loop`](crate::Loop) stays on the thread on which it was made,
 //! since the library counts references without atomics. A [`Host`] is a thread that holds any
 //! number of them, and a [`Mailbox`] a handle to one that may be cloned and sent anywhere. Each job
 //! is run on it alone, in the order in which jobs were handed in. Its answer can be waited for by
@@ -44,10 +44,8 @@
 //! that can be cancelled, send on from within the job what is made.
 //!
 //! `try_construct` verifies on the host's thread, and what else lives there waits meanwhile. Where
-//! that isn't to be, use [`Round::step`](crate::Round::step) or [`Node::step`](crate::Node::step),
-//! and verify elsewhere: the example `mailbox` of this crate does so. A node verifies certificates
-//! too, unless they go by
-//! [`receive_verified_certificate`](crate::Node::receive_verified_certificate).
+//! that isn't to be, use [`Round::step`](crate::Round::step), and verify elsewhere: the example
+//! `mailbox` of this crate does so.
 
 use crate::answers::Error;
 use std::any::Any;
@@ -67,7 +65,7 @@ type Values = HashMap<u64, Box<dyn Any>>;
 
 type Job = Box<dyn FnOnce(&mut Values) + Send>;
 
-/// A thread on which values live that can't leave it, as rounds and nodes. It ends once the host and all
+/// A thread on which values live that can't leave it, as rounds and validators. It ends once the host and all
 /// mailboxes to it are dropped.
 #[derive(Clone)]
 pub struct Host {

@@ -2,9 +2,8 @@
 
 mod toy;
 
-use batcher::node::{Node, Receipt};
 use batcher::thread::{Host, Mailbox, Reply};
-use batcher::{Epoch, Error, Kind, Participant, Round, View};
+use batcher::{Error, Participant, Round};
 use std::future::Future;
 use std::pin::pin;
 use std::sync::Arc;
@@ -85,35 +84,6 @@ fn rounds_of_a_host_are_apart() {
     assert_eq!(none.unwrap_err(), Error::NoParticipants);
     let gone = host.start(|| -> Result<Round<Toy>, Error> { panic!("a maker that panics") });
     assert_eq!(gone.unwrap_err(), Error::Gone);
-}
-
-// A node lives on a host as a round does.
-#[test]
-fn many_threads_share_a_node() {
-    let host = Host::new().unwrap();
-    let make = || Node::new(Epoch::zero(), Toy::new(4), View::zero(), 4, false);
-    let mailbox = host.start(make).unwrap();
-    is_send(&mailbox);
-    let peers: Vec<_> = (0..4)
-        .map(|signer| {
-            let mailbox = mailbox.clone();
-            thread::spawn(move || {
-                let vote = nullify(signer);
-                let key = KEYS[signer as usize];
-                mailbox.call(move |node| node.receive_vote(&key, vote))
-            })
-        })
-        .collect();
-    for peer in peers {
-        let receipt = peer.join().unwrap().unwrap().unwrap();
-        assert!(matches!(receipt, Receipt::Answered(admission) if admission.added));
-    }
-    let construction = mailbox.call(|node| node.try_construct()).unwrap();
-    let batch = construction.unwrap().unwrap().batch.unwrap();
-    assert_eq!(batch.certificate.unwrap().kind(), Kind::Nullification);
-    let panics = mailbox.call(|_| panic!("a job that panics"));
-    assert_eq!(panics, Err::<(), _>(Error::Gone));
-    assert_eq!(mailbox.call(|node| node.rounds_kept()), Err(Error::Gone));
 }
 
 // A value is dropped on its thread, with its last mailbox.

@@ -1,4 +1,3 @@
 mod Plain
-mod NextRounds
 mod Wholes
 mod Assembled

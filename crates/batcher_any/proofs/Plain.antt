@@ -1,6 +1,5 @@
 -- What holds of an answer, over plain variables.
-use Rattle.std.proofs.Common.{◌≡◌, Result, Ok, Err, Option, Some, None, is_some, refl}
-use Rattle.std.specs.Option.{option_map}
+use Rattle.std.proofs.Common.{Result, Ok, Err, Option, Some, None}
 use Rattle.std.specs.Prelude.{IfSome, OnErr}
 
 pub on_err : {A E P Q : Type 0} (r : Result A E) → (P → Q) → OnErr r P → OnErr r Q
@@ -10,8 +9,3 @@ on_err (Err e) goes h = goes h
 pub always : {A P : Type 0} (o : Option A) → P → IfSome o (λ _. P)
 always (Some a) h = h
 always None h = tt
-
-pub is_some_map : {A B : Type 0} (f : A → B) (o : Option A)
-    → is_some (option_map f o) ≡ is_some o
-is_some_map f (Some a) = refl
-is_some_map f None = refl

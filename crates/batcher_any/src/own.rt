@@ -53,12 +53,3 @@ impl<T: Truth> Call<T> for AcceptVote {
         }
     }
 }
-
-/// Why a node doesn't take in a vote of its own.
-#[derive(Clone, Copy, Debug, PartialEq, Eq)]
-pub enum CastRefusal {
-    /// The verdict on it says that it doesn't attest.
-    NotVerified,
-    /// The node refuses it.
-    Fault(OwnFault),
-}

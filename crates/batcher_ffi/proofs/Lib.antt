@@ -1,5 +1,3 @@
-mod Places
 mod Pointers
 mod Verified
 mod Quorums
-mod NodesOfEither

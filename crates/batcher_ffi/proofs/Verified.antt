@@ -8,11 +8,10 @@ use Rattle.batcher_types.specs.declared.messages.Attestation.{Attestation}
 use Rattle.batcher_types.specs.declared.messages.Sha256Digest.{Sha256Digest}
 use Rattle.batcher_types.specs.declared.messages.Subject.{Subject}
 use Rattle.batcher_bytes.specs.declared.signature.Signature.{Signature}
-use Rattle.batcher_any.specs.AnyNodes.{SameAnyNode, node_keys_in}
 use Rattle.batcher_any.specs.Judging.{SameAny, keys_in}
 use Rattle.batcher_any.specs.declared.either.Either.TheVariants.{Batchable, OneByOne}
 use Rattle.batcher_ffi.specs.Flat.{AreIn, attestation_in}
-use Rattle.batcher_ffi.specs.Nodes.{CNode, node_config_of}
+use Rattle.batcher_ffi.specs.Loops.{CLoop, loop_config, loop_keys, loop_participants}
 use Rattle.batcher_ffi.specs.Rounds.{CRound, config_of, is_short}
 use Rattle.batcher_ffi.specs.Truths.{is_attested}
 use Rattle.batcher_ffi.specs.declared.codes.TheConstants.{SHORT}
@@ -48,28 +47,20 @@ all_attest r subject all h =
     each_attests (length (config_of r).meaning.participants) (is_attested (keys_in r) subject)
     ((config_of r).meaning.attests subject) (attests_if r subject) all h
 
--- The same of a node.
-pub node_attests_if : (s : CNode) (subject : Subject Sha256Digest) (a : Attestation Signature)
-    → (node_config_of s).meaning.attests subject a
-    ≡ (nat_lt a.signer.0 (length (node_config_of s).meaning.participants)
-    && is_attested (node_keys_in s) subject a)
-node_attests_if (Batchable judged) subject a = refl
-node_attests_if (OneByOne judged) subject a = refl
+-- The same of a validator.
+pub loop_attests_if : (l : CLoop) (subject : Subject Sha256Digest) (a : Attestation Signature)
+    → (loop_config l).meaning.attests subject a
+    ≡ (nat_lt a.signer.0 (loop_participants l) && is_attested (loop_keys l) subject a)
+loop_attests_if l subject a = refl
 
-pub node_all_attest : (s : CNode) (subject : Subject Sha256Digest)
+pub loop_all_attest : (l : CLoop) (subject : Subject Sha256Digest)
     (all : List (Attestation Signature))
-    → list_all (λ a. nat_lt a.signer.0 (length (node_config_of s).meaning.participants)) all
-    ≡ true
-    → map (is_attested (node_keys_in s) subject) all
-    ≡ map ((node_config_of s).meaning.attests subject) all
-node_all_attest s subject all h =
-    each_attests (length (node_config_of s).meaning.participants)
-    (is_attested (node_keys_in s) subject) ((node_config_of s).meaning.attests subject)
-    (node_attests_if s subject) all h
-
-pub node_same_self : (s : CNode) → SameAnyNode s s
-node_same_self (Batchable judged) = (refl, refl, refl)
-node_same_self (OneByOne judged) = (refl, refl, refl)
+    → list_all (λ a. nat_lt a.signer.0 (loop_participants l)) all ≡ true
+    → map (is_attested (loop_keys l) subject) all
+    ≡ map ((loop_config l).meaning.attests subject) all
+loop_all_attest l subject all h =
+    each_attests (loop_participants l) (is_attested (loop_keys l) subject)
+    ((loop_config l).meaning.attests subject) (loop_attests_if l subject) all h
 
 -- A call that changes nothing changes nothing of the round.
 pub same_self : (r : CRound) → SameAny r r

@@ -1,7 +1,8 @@
 -- What a call does to a handle, and to what it is of.
 use Rattle.std.specs.Prelude.{◌≡◌, ◌≢◌, ℕ, Option, Some, None}
 use Rattle.batcher_ffi.specs.declared.codes.TheConstants.{NONE}
-use Rattle.batcher_ffi.specs.Nodes.{CNode}
+use Rattle.batcher_ffi.specs.Files.{CFiles}
+use Rattle.batcher_ffi.specs.Loops.{CLoop}
 use Rattle.batcher_ffi.specs.Rounds.{CRound}
 
 -- A call on an empty handle leaves it empty, and what it writes to as it was, and the code says so.
@@ -16,6 +17,11 @@ abbrev pub OnRound : Option CRound → Option CRound → ℕ → Type 0 → (CRo
     → Type 0
 OnRound = OnHandle
 
--- of a node
-abbrev pub OnNode : Option CNode → Option CNode → ℕ → Type 0 → (CNode → CNode → Type 0) → Type 0
-OnNode = OnHandle
+-- of a validator
+abbrev pub OnLoop : Option CLoop → Option CLoop → ℕ → Type 0 → (CLoop → CLoop → Type 0) → Type 0
+OnLoop = OnHandle
+
+-- of files
+abbrev pub OnFiles : Option CFiles → Option CFiles → ℕ → Type 0 → (CFiles → CFiles → Type 0)
+    → Type 0
+OnFiles = OnHandle

@@ -2,18 +2,25 @@
 -- nothing is as it was.
 use Rattle.std.specs.Prelude.{Option, Some}
 use Rattle.std.specs.Borrow.{Fml, LendsIf, MutBor}
-use Rattle.batcher_ffi.specs.Nodes.{CNode}
+use Rattle.batcher_ffi.specs.Files.{CFiles}
+use Rattle.batcher_ffi.specs.Loops.{CLoop}
 use Rattle.batcher_ffi.specs.Rounds.{CRound}
-use Rattle.batcher_ffi.specs.Rows.{node_row, round_row}
-use Rattle.batcher_ffi.specs.contracts.handle.NodeHandle as node_handle
+use Rattle.batcher_ffi.specs.Rows.{files_row, loop_row, round_row}
+use Rattle.batcher_ffi.specs.contracts.handle.FilesHandle as files_handle
+use Rattle.batcher_ffi.specs.contracts.handle.LoopHandle as loop_handle
 use Rattle.batcher_ffi.specs.contracts.handle.RoundHandle as round_handle
-use Rattle.batcher_ffi.specs.declared.handle.NodeHandle.{NodeHandle}
+use Rattle.batcher_ffi.specs.declared.handle.FilesHandle.{FilesHandle}
+use Rattle.batcher_ffi.specs.declared.handle.LoopHandle.{LoopHandle}
 use Rattle.batcher_ffi.specs.declared.handle.RoundHandle.{RoundHandle}
 
 abbrev pub LendsRound : MutBor RoundHandle → Option (MutBor CRound) → Fml
 LendsRound s r =
     LendsIf round_handle.the_row round_row s r (λ w. record s.now { value = Some w }) s.now
 
-abbrev pub LendsNode : MutBor NodeHandle → Option (MutBor CNode) → Fml
-LendsNode s r =
-    LendsIf node_handle.the_row node_row s r (λ w. record s.now { value = Some w }) s.now
+abbrev pub LendsLoop : MutBor LoopHandle → Option (MutBor CLoop) → Fml
+LendsLoop s r =
+    LendsIf loop_handle.the_row loop_row s r (λ w. record s.now { value = Some w }) s.now
+
+abbrev pub LendsFiles : MutBor FilesHandle → Option (MutBor CFiles) → Fml
+LendsFiles s r =
+    LendsIf files_handle.the_row files_row s r (λ w. record s.now { value = Some w }) s.now

@@ -4,8 +4,10 @@ pub mod Rows
 pub mod Flat
 pub mod Output
 pub mod Rounds
-pub mod NodeAnswers
-pub mod Nodes
+pub mod Answers
+pub mod Tasks
+pub mod Loops
+pub mod Files
 pub mod Handles
 pub mod Lending
 pub mod Convictions

@@ -1,5 +1,5 @@
 -- What is written into the room that a caller hands in.
-use Rattle.std.specs.Prelude.{◌≡◌, ◌<◌, ◌≤◌, ℕ, List, length, slice_get, Some, is_some, IfSome}
+use Rattle.std.specs.Prelude.{◌≡◌, ◌<◌, ◌≤◌, ◌⊎◌, ℕ, List, length, slice_get, Some, is_some, IfSome}
 use Rattle.std.specs.Option.{option_map}
 use Rattle.batcher_types.specs.declared.messages.Sha256Digest.{Sha256Digest}
 use Rattle.batcher_types.specs.declared.messages.Certificate.{Certificate}
@@ -11,6 +11,7 @@ use Rattle.batcher_bytes.specs.declared.certificates.Content.{Content}
 use Rattle.batcher_bytes.specs.declared.certificates.Content.TheVariants.{Made as MadeHere, Received}
 use Rattle.batcher_ffi.specs.contracts.caller.CallerTruth.TheImpl.{ghosts}
 use Rattle.batcher_ffi.specs.declared.caller.Caller.{Caller}
+use Rattle.batcher_ffi.specs.declared.codes.TheConstants.{DONE, SHORT}
 use Rattle.batcher_ffi.specs.declared.flat.FlatAttestation.{FlatAttestation}
 use Rattle.batcher_ffi.specs.declared.flat.FlatStep.{FlatStep}
 use Rattle.batcher_ffi.specs.Flat.{raw_in, subject_in}
@@ -22,6 +23,15 @@ pub record IsWritten {A B : Type 0} (meaning : A → B) (values : List B) (room 
   pub written : (i : ℕ) → i < length values → i < length room
       → option_map meaning (slice_get new i) ≡ slice_get values i
   pub rest : (i : ℕ) → length values ≤ i → slice_get new i ≡ slice_get room i
+
+-- Bytes are written where they fit, and how many they are.
+pub record WritesAll (bytes room list : List ℕ) (count code : ℕ) : Type 0 where
+  pub codes : (code ≡ DONE) ⊎ (code ≡ SHORT)
+  pub counted : count ≡ length bytes
+  pub short : code ≡ SHORT → length room < length bytes
+  pub fits : code ≡ DONE → length bytes ≤ length room
+  pub written : code ≡ DONE → IsWritten (λ b. b) bytes room list
+  pub stays : code ≡ SHORT → list ≡ room
 
 -- the certificates that rounds of a caller make
 abbrev pub Made : Type 0

@@ -331,7 +331,6 @@ module _ (before : CRound) (code : ℕ) (after : CRound) where
         → (step ≡ old) × ((list ≡ room) × (signers ≡ signers_room))
     pub known_stays : code ≢ VERIFY → known ≡ known_room
     pub signers_stay : code ≡ VERIFY → signers ≡ signers_room
-    pub view_stays : step.view ≡ old.view
     -- All that is promised of a round holds of each history that this one represents.
     pub promised : AfterAny before (λ past. IsPromised (config_of before) past)
     pub same : SameAny before after
@@ -351,6 +350,5 @@ module _ (before : CRound) (code : ℕ) (after : CRound) where
         × (MakesQuorum (keys_in before) (length (config_of before).meaning.participants) batch
         × Goes (ConstructCall, ConstructAnswer (Some batch))))
     pub stays : code ≢ DONE → (after ≡ before) × (step ≡ old)
-    pub view_stays : step.view ≡ old.view
     pub verdicts : (held_in after).verdicts ≡ (held_in before).verdicts
     pub same : SameAny before after

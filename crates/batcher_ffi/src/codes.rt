@@ -41,11 +41,33 @@ pub const PASSED: u8 = 17;
 pub const KNOWN: u8 = 18;
 /// A certificate doesn't certify what it names, and its peer is blocked.
 pub const FORGED: u8 = 19;
-/// The construction gave no batch, so its view rests; others may not.
-pub const RESTS: u8 = 20;
-/// A list has fewer places than there are participants, so a construction might not fit. Nothing
-/// changed.
-pub const SHORT: u8 = 21;
+/// A list has fewer places than there are participants, so a construction might not fit, or a room
+/// fewer than there are bytes. Nothing changed.
+pub const SHORT: u8 = 20;
+/// The bytes that are owed are to be written first.
+pub const WRITE: u8 = 21;
+/// The journal has no room left.
+pub const FULL: u8 = 22;
+/// The journal is closed: start the validator again.
+pub const CLOSED: u8 = 23;
+/// An own vote that is signed by another participant.
+pub const NOT_OWN: u8 = 24;
+/// The subject of an own vote was signed before, by other bytes.
+pub const SIGNED: u8 = 25;
+/// A rule of voting refuses an own vote.
+pub const REFUSED: u8 = 26;
+/// The disk has no bytes, so there is nothing to start by.
+pub const NOT_BEGUN: u8 = 27;
+/// The disk has bytes, so nothing is begun.
+pub const BEGUN: u8 = 28;
+/// What is on the disk is of another version of this library.
+pub const OTHER_VERSION: u8 = 29;
+/// What is on the disk is of another participant, other keys, another epoch or another namespace.
+pub const OTHER_OWNER: u8 = 30;
+/// What is on the disk is no journal, or has what no validator wrote.
+pub const DAMAGED: u8 = 31;
+/// What is to be done to the files already is to be done first.
+pub const UNFINISHED: u8 = 32;
 
 /// Kinds of votes and certificates.
 pub const NOTARIZATION: u8 = 0;
@@ -84,7 +106,7 @@ pub const BLOCK_NULLIFY_AFTER_FINALIZE: u8 = 9;
 
 pub const BLOCK_FINALIZE_AFTER_NULLIFY: u8 = 10;
 
-/// Why a participant of a node is blocked, if it is: for a vote, by the codes above, or for one of
+/// Why a validator blocks a participant, if it does: for a vote, by the codes above, or for one of
 /// these, which leave room for more reasons.
 pub const CAUSE_NONE: u8 = 0;
 
@@ -106,3 +128,31 @@ pub const REPORT_CONFLICTING_NOTARIZE: u8 = 4;
 pub const REPORT_CONFLICTING_FINALIZE: u8 = 5;
 
 pub const REPORT_NULLIFY_FINALIZE: u8 = 6;
+
+/// What a validator gives to be done.
+pub const TASK_BLOCK: u8 = 0;
+
+pub const TASK_FINAL: u8 = 1;
+
+pub const TASK_CAST: u8 = 2;
+
+pub const TASK_SEND_VOTE: u8 = 3;
+
+pub const TASK_SEND_CERTIFICATE: u8 = 4;
+
+pub const TASK_ENTER: u8 = 5;
+
+pub const TASK_VERIFY: u8 = 6;
+
+pub const TASK_SIGN: u8 = 7;
+
+pub const TASK_PROPOSE: u8 = 8;
+
+pub const TASK_JUDGE: u8 = 9;
+
+/// What is to be done to a file.
+pub const CHANGE_FRAME: u8 = 0;
+
+pub const CHANGE_BYTE: u8 = 1;
+
+pub const CHANGE_LENGTH: u8 = 2;

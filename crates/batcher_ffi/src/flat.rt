@@ -72,8 +72,6 @@ pub struct FlatAdmission {
 pub struct FlatStep {
     /// What the attestations are to attest, or what the certificate is of.
     pub proposal: FlatProposal,
-    /// Of a node's construction, its view. That of a round leaves it as it was.
-    pub view: u64,
     pub processed: u64,
     /// How many attestations there are, also where the list has room for fewer.
     pub listed: u64,
@@ -95,6 +93,17 @@ pub fn kind_of(code: u8) -> Option<Kind>
         NULLIFICATION => Some(Kind::Nullification),
         FINALIZATION => Some(Kind::Finalization),
         _ => None,
+    }
+}
+
+/// The code of a kind.
+pub fn kind_code(kind: Kind) -> u8
+    ensures { kind_in result ≡ Some kind }
+{
+    match kind {
+        Kind::Notarization => NOTARIZATION,
+        Kind::Nullification => NULLIFICATION,
+        Kind::Finalization => FINALIZATION,
     }
 }
 
@@ -292,6 +301,17 @@ impl FlatVote {
         }
     }
 
+    /// Writes a vote.
+    pub fn write(&mut self, vote: &Vote<Signature, Sha256Digest>)
+        ensures { raw_vote_in self.new ≡ Some vote.now }
+    {
+        match vote {
+            Vote::Notarize(vote) => self.write_notarize(vote),
+            Vote::Nullify(vote) => self.write_nullify(vote),
+            Vote::Finalize(vote) => self.write_finalize(vote),
+        }
+    }
+
     // Each is written in place: a flat vote that is made first would be copied.
     fn write_notarize(&mut self, vote: &Notarize<Signature, Sha256Digest>)
         ensures { raw_vote_in self.new ≡ Some (Vote.Notarize vote.now) }
@@ -339,18 +359,6 @@ impl FlatAdmission {
         ensures report { report_in self.new ≡ report.now }
     {
         self.set(added, retained, None, report);
-    }
-
-    /// Writes what is reported of a node's own vote that is to be sent.
-    pub fn write_sent(&mut self, report: &Activity<Signature, Sha256Digest>)
-        ensures sent { admission_in self.new ≡ record {
-          added = true;
-          block = None;
-          report = Some report.now;
-        } }
-        ensures retained { self.new.retained ≡ false }
-    {
-        self.set(true, false, None, &Some(*report));
     }
 
     // A vote that the report doesn't have stays as it was: it takes as long to write as all else.

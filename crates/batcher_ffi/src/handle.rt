@@ -1,13 +1,16 @@
-//! What C holds of a round, and of a node. Each handle has a type of its own, since no type with
-//! parameters passes to C. What their proofs by hand have in common is in `proofs/Pointers`.
+//! What C holds of a round, of a validator and of files. Each handle has a type of its own, since
+//! no type with parameters passes to C. What their proofs by hand have in common is in
+//! `proofs/Pointers`.
 
 ghost use Rattle.std.specs.Prelude.{◌≡◌, Option, None, Some};
 ghost use Rattle.std.specs.Option.{MatchOption};
-ghost use Rattle.batcher_ffi.specs.Nodes.{CNode};
+ghost use Rattle.batcher_ffi.specs.Files.{CFiles};
+ghost use Rattle.batcher_ffi.specs.Loops.{CLoop};
 ghost use Rattle.batcher_ffi.specs.Rounds.{CRound};
 
 use crate::caller::Caller;
-use crate::nodes::Node;
+use crate::files::Files;
+use crate::loops::Looping;
 use crate::unboxed::Unboxed;
 use batcher_any::AnyRound;
 use std::alloc::Global;
@@ -100,64 +103,64 @@ impl RoundHandle {
     }
 }
 
-/// A node, or none. C sees one pointer, which is null where there is none.
+/// A validator, or none. C sees one pointer, which is null where there is none.
 #[repr(C)]
-pub struct NodeHandle {
+pub struct LoopHandle {
     pub(crate) at: *mut u8,
     alloc: Global,
-    pub ghost value: { Option CNode },
+    pub ghost value: { Option CLoop },
 }
 
-impl Model for NodeHandle {
+impl Model for LoopHandle {
     ghost use Rattle.batcher_ffi.specs.Ownership.{owned_or_null};
-    ghost use Rattle.batcher_ffi.specs.Rows.{node_row};
+    ghost use Rattle.batcher_ffi.specs.Rows.{loop_row};
 
-    ghost also_owns = { λ h. owned_or_null node_row h.alloc h.at h.value };
+    ghost also_owns = { λ h. owned_or_null loop_row h.alloc h.at h.value };
 }
 
-impl NodeHandle {
+impl LoopHandle {
     // A handle of none.
-    fn empty(alloc: Global) -> NodeHandle
+    fn empty(alloc: Global) -> LoopHandle
         ensures { result.value ≡ None }
     {
-        NodeHandle {
+        LoopHandle {
             at: ptr::null_mut(),
             alloc,
         }
     }
 
-    fn from_unboxed(whole: Unboxed<Node, Global>) -> NodeHandle
+    fn from_unboxed(whole: Unboxed<Looping, Global>) -> LoopHandle
         ensures { result.value ≡ Some whole.value }
     {
         let Unboxed { at, alloc } = whole;
-        NodeHandle {
+        LoopHandle {
             at: at as *mut u8,
             alloc,
         }
     }
 
-    fn into_unboxed(self) -> Option<Unboxed<Node, Global>>
+    fn into_unboxed(self) -> Option<Unboxed<Looping, Global>>
         ensures { MatchOption result (self.value ≡ None) (λ whole. self.value ≡ Some whole.value) }
     {
-        let NodeHandle { at, alloc } = self;
+        let LoopHandle { at, alloc } = self;
         if at.is_null() {
             None
         } else {
             Some(Unboxed {
-                at: at as *mut Node,
+                at: at as *mut Looping,
                 alloc,
             })
         }
     }
 
-    /// A handle of the node.
-    fn of(node: Box<Node>) -> NodeHandle
-        ensures { result.value ≡ Some node.value }
+    /// A handle of the validator.
+    fn of(looping: Box<Looping>) -> LoopHandle
+        ensures { result.value ≡ Some looping.value }
     {
-        NodeHandle::from_unboxed(Unboxed::of(node))
+        LoopHandle::from_unboxed(Unboxed::of(looping))
     }
 
-    fn into_box(self) -> Option<Box<Node>>
+    fn into_box(self) -> Option<Box<Looping>>
         ensures { MatchOption result (self.value ≡ None) (λ b. self.value ≡ Some b.value) }
     {
         match self.into_unboxed() {
@@ -166,19 +169,102 @@ impl NodeHandle {
         }
     }
 
-    /// Takes the node out, where there is one, so that the handle is empty.
-    pub fn take(&mut self, alloc: Global) -> Option<Box<Node>>
+    /// Takes the validator out, where there is one, so that the handle is empty.
+    pub fn take(&mut self, alloc: Global) -> Option<Box<Looping>>
         ensures taken { MatchOption result (self.old.value ≡ None)
-            (λ node. self.old.value ≡ Some node.value) }
+            (λ looping. self.old.value ≡ Some looping.value) }
         ensures left { self.new.value ≡ None }
     {
-        mem::replace(self, NodeHandle::empty(alloc)).into_box()
+        mem::replace(self, LoopHandle::empty(alloc)).into_box()
     }
 
-    /// Puts a node in. One that was there is freed.
-    pub fn put(&mut self, node: Box<Node>)
-        ensures { self.new.value ≡ Some node.value }
+    /// Puts a validator in. One that was there is freed.
+    pub fn put(&mut self, looping: Box<Looping>)
+        ensures { self.new.value ≡ Some looping.value }
     {
-        drop(mem::replace(self, NodeHandle::of(node)).into_box());
+        drop(mem::replace(self, LoopHandle::of(looping)).into_box());
+    }
+}
+
+/// Two files, or none. C sees one pointer, which is null where there is none.
+#[repr(C)]
+pub struct FilesHandle {
+    pub(crate) at: *mut u8,
+    alloc: Global,
+    pub ghost value: { Option CFiles },
+}
+
+impl Model for FilesHandle {
+    ghost use Rattle.batcher_ffi.specs.Ownership.{owned_or_null};
+    ghost use Rattle.batcher_ffi.specs.Rows.{files_row};
+
+    ghost also_owns = { λ h. owned_or_null files_row h.alloc h.at h.value };
+}
+
+impl FilesHandle {
+    // A handle of none.
+    fn empty(alloc: Global) -> FilesHandle
+        ensures { result.value ≡ None }
+    {
+        FilesHandle {
+            at: ptr::null_mut(),
+            alloc,
+        }
+    }
+
+    fn from_unboxed(whole: Unboxed<Files, Global>) -> FilesHandle
+        ensures { result.value ≡ Some whole.value }
+    {
+        let Unboxed { at, alloc } = whole;
+        FilesHandle {
+            at: at as *mut u8,
+            alloc,
+        }
+    }
+
+    fn into_unboxed(self) -> Option<Unboxed<Files, Global>>
+        ensures { MatchOption result (self.value ≡ None) (λ whole. self.value ≡ Some whole.value) }
+    {
+        let FilesHandle { at, alloc } = self;
+        if at.is_null() {
+            None
+        } else {
+            Some(Unboxed {
+                at: at as *mut Files,
+                alloc,
+            })
+        }
+    }
+
+    /// A handle of the files.
+    fn of(files: Box<Files>) -> FilesHandle
+        ensures { result.value ≡ Some files.value }
+    {
+        FilesHandle::from_unboxed(Unboxed::of(files))
+    }
+
+    fn into_box(self) -> Option<Box<Files>>
+        ensures { MatchOption result (self.value ≡ None) (λ b. self.value ≡ Some b.value) }
+    {
+        match self.into_unboxed() {
+            Some(whole) => Some(whole.into_box()),
+            None => None,
+        }
+    }
+
+    /// Takes the files out, where there is one, so that the handle is empty.
+    pub fn take(&mut self, alloc: Global) -> Option<Box<Files>>
+        ensures taken { MatchOption result (self.old.value ≡ None)
+            (λ files. self.old.value ≡ Some files.value) }
+        ensures left { self.new.value ≡ None }
+    {
+        mem::replace(self, FilesHandle::empty(alloc)).into_box()
+    }
+
+    /// Puts files in. Those that were there are freed.
+    pub fn put(&mut self, files: Box<Files>)
+        ensures { self.new.value ≡ Some files.value }
+    {
+        drop(mem::replace(self, FilesHandle::of(files)).into_box());
     }
 }

@@ -4,10 +4,11 @@
 ghost use Rattle.std.specs.Prelude.{◌≡◌, None, Some};
 ghost use Rattle.std.specs.Borrow.{sem};
 ghost use Rattle.std.specs.Option.{MatchOption};
-ghost use Rattle.batcher_ffi.specs.Lending.{LendsNode, LendsRound};
+ghost use Rattle.batcher_ffi.specs.Lending.{LendsFiles, LendsLoop, LendsRound};
 
-use crate::handle::{NodeHandle, Round, RoundHandle};
-use crate::nodes::Node;
+use crate::files::Files;
+use crate::handle::{FilesHandle, LoopHandle, Round, RoundHandle};
+use crate::loops::Looping;
 
 impl RoundHandle {
     /// The round, where there is one.
@@ -25,14 +26,30 @@ impl RoundHandle {
     }
 }
 
-impl NodeHandle {
-    /// The node, where there is one.
-    pub fn as_mut(&mut self) -> Option<&mut Node>
-        ensures* writes_back { sem 𝓛 (LendsNode self.entry result) }
+impl LoopHandle {
+    /// The validator, where there is one.
+    pub fn as_mut(&mut self) -> Option<&mut Looping>
+        ensures* writes_back { sem 𝓛 (LendsLoop self.entry result) }
         ensures value { MatchOption result (self.old.value ≡ None)
-            (λ node. self.old.value ≡ Some node.now) }
+            (λ looping. self.old.value ≡ Some looping.now) }
     {
-        let at = self.at as *mut Node;
+        let at = self.at as *mut Looping;
+        if at.is_null() {
+            None
+        } else {
+            Some(unsafe { &mut *at })
+        }
+    }
+}
+
+impl FilesHandle {
+    /// The files, where there is one.
+    pub fn as_mut(&mut self) -> Option<&mut Files>
+        ensures* writes_back { sem 𝓛 (LendsFiles self.entry result) }
+        ensures value { MatchOption result (self.old.value ≡ None)
+            (λ files. self.old.value ≡ Some files.now) }
+    {
+        let at = self.at as *mut Files;
         if at.is_null() {
             None
         } else {

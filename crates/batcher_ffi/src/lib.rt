@@ -1,16 +1,19 @@
-//! A static library: rounds and nodes of the batcher for C, and for what calls C.
+//! A static library: rounds and validators of the batcher for C, and for what calls C.
 #![tactic(auto)]
 
+mod answers;
 mod caller;
 mod codes;
 mod evidence;
 mod exports;
+mod file_exports;
+mod files;
 mod flat;
 mod handle;
 mod lending;
-mod node_answers;
-mod node_exports;
-mod nodes;
+mod loop_exports;
+mod loops;
 mod rounds;
+mod tasks;
 mod unboxed;
 mod writing;

@@ -3,13 +3,13 @@
 ghost use Rattle.std.specs.Prelude.{◌≡◌, ◌≤◌, true, length, is_none, None, Some, Ok, IfOk, IfSome, OnErr};
 ghost use Rattle.std.specs.List.{list_any};
 ghost use Rattle.batcher_types.specs.Keys.{participant};
-ghost use Rattle.batcher_ffi.specs.Flat.{AreIn, attestation_in, cause_in, raw_in, subject_in};
-ghost use Rattle.batcher_ffi.specs.Output.{IsWritten, WritesContent, WritesBatch};
+ghost use Rattle.batcher_ffi.specs.Flat.{AreIn, attestation_in, raw_in, subject_in};
+ghost use Rattle.batcher_ffi.specs.Output.{IsWritten, WritesAll, WritesContent, WritesBatch};
 
 use crate::caller::Caller;
-use crate::flat::{FlatAttestation, FlatStep, cause_code, flat_subject};
+use crate::codes::{DONE, SHORT};
+use crate::flat::{FlatAttestation, FlatStep, flat_subject};
 use batcher_bytes::{Content, Signature};
-use batcher_node::Cause;
 use batcher_types::messages::{Attestation, Certificate, Sha256Digest};
 use batcher_types::positions::Participant;
 use batcher_votes::verifier::{Batch, NextAttempt};
@@ -24,7 +24,6 @@ pub fn write_wanted(
     list: &mut [FlatAttestation],
 )
     ensures subject { subject_in step.new.kind step.new.proposal ≡ Some wanted.now.subject }
-    ensures view { step.new.view ≡ step.old.view }
     ensures listed { step.new.listed ≡ length wanted.now.pending.now }
     ensures verified { step.new.verified ≡ length wanted.now.verified.now }
     ensures known { IsWritten raw_in wanted.now.verified.now known.old known.new }
@@ -47,7 +46,6 @@ pub fn write_batch(
     signers: &mut [u32],
 )
     ensures batch { WritesBatch step.new list.old list.new signers.old signers.new batch.now }
-    ensures view { step.new.view ≡ step.old.view }
 {
     step.processed = batch.processed as u64;
     step.fallback = batch.fallback;
@@ -98,12 +96,24 @@ pub fn write_signers(from: &[Participant], to: &mut [u32])
     }
 }
 
-/// Writes as many as there is room for.
-pub fn write_causes(from: &[Option<Cause>], to: &mut [u8])
-    ensures { IsWritten cause_in from.now to.old to.new }
+/// Writes the bytes, where they fit, and how many they are.
+pub fn write_all(bytes: &[u8], room: &mut [u8], count: &mut u64) -> u8
+    ensures { WritesAll bytes.now room.old room.new count.new result }
+{
+    *count = bytes.len() as u64;
+    if room.len() < bytes.len() {
+        return SHORT;
+    }
+    write_bytes(bytes, room);
+    DONE
+}
+
+// Writes as many as there is room for.
+fn write_bytes(from: &[u8], to: &mut [u8])
+    ensures { IsWritten (λ b. b) from.now to.old to.new }
 {
     for index in 0..from.len().min(to.len()) {
-        to[index] = cause_code(from[index]);
+        to[index] = from[index];
     }
 }
 

@@ -48,7 +48,8 @@ impl<T: Truth> Loop<T> {
         epoch: Epoch,
     ) -> Result<Self, LoopFault>
         requires { 1 ≤ length scheme.value.participants }
-        ensures running { IfOk result (λ it. HasBegun (⟦<Signed<T, true> as NodeConfigs<Sha256Digest>>⟧.of it.validator.voter.node)
+        ensures running { IfOk result (λ it. HasBegun
+            (⟦<Signed<T, true> as NodeConfigs<Sha256Digest>>⟧.of it.validator.voter.node)
             (certificate_format proof_format sha256_format) [] it.validator) }
         ensures on_disk { IfOk result (λ it. it.on_disk.items ≡ []) }
         ensures journal { IfOk result (λ it. it.validator.voter.journal.contents

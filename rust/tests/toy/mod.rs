@@ -45,13 +45,13 @@ impl Toy {
     }
 }
 
-fn sign(subject: &batcher::Subject, signer: u32) -> Signature {
+pub fn sign(subject: &batcher::Subject, signer: u32) -> Signature {
     let [a, b, c, d] = signer.to_be_bytes();
     let payload = subject.proposal().map_or(0, |it| it.payload.0[0]);
     [a, b, c, d, subject.kind() as u8, payload, 1]
 }
 
-fn attests(subject: &batcher::Subject, it: &batcher::Attestation<Signature>) -> bool {
+pub fn attests(subject: &batcher::Subject, it: &batcher::Attestation<Signature>) -> bool {
     it.signature == sign(subject, it.signer.get())
 }
 

@@ -1,251 +1,109 @@
-//! One validator on its thread: a round for each view, and messages in and out by channels.
+//! One validator: what comes goes into its loop, and what that gives is done.
 
-use crate::scheme::Ed25519;
-use crate::sodium::{KeyPair, Signature};
-use batcher::positions::Round as Number;
+use crate::faults::Fault;
+use crate::sodium::{KeyPair, PublicKey, Signature, sha256, verify};
+use crate::transport::{Message, Peers};
+use batcher::looping::{Listed, Loop, Options, Task, Wanted};
 use batcher::{
-    Attestation, Certificate, Epoch, Error, Kind, Outcome, Participant, Proposal, Round, Scheme,
-    Sha256Digest, Step, Subject, View, Vote, Wanted,
+    Attestation, Epoch, Files, Participant, Proposal, Sha256Digest, Subject, View, Vote,
 };
-use std::collections::{BTreeMap, BTreeSet};
-use std::sync::Arc;
-use std::sync::mpsc::{Receiver, RecvTimeoutError, Sender};
+use std::error::Error;
+use std::fs::File;
+use std::io::Write;
+use std::sync::mpsc::{Receiver, RecvTimeoutError};
 use std::time::{Duration, Instant};
 
-/// How long a validator waits on the first view before it gives it up.
+/// How long it waits on a view before it gives the view up.
 const PATIENCE: Duration = Duration::from_millis(250);
 
-/// How far from its view a validator listens, so that nobody has it keep rounds without end.
-const AHEAD: u64 = 64;
+type Outcome<T> = Result<T, Box<dyn Error>>;
 
-pub type Made = Certificate<Vec<Attestation<Signature>>>;
-
-/// What comes into a validator's channel. The transport vouches for who sent it.
-pub enum Message {
-    Vote(Participant, Vote<Signature>),
-    Certificate(Participant, Made),
-    /// What the verifiers found of attestations that a round wanted.
-    Verdicts(u64, Wanted<Signature>, Vec<bool>),
-    /// A certificate that they found to certify, or not, and who sent it.
-    Certifies(Participant, Made, bool),
-    Stop,
-}
-
-/// What the verifiers are asked, with where the answer goes.
-pub enum Job {
-    Attestations(u64, Wanted<Signature>, Sender<Message>),
-    Certificate(Participant, Made, Sender<Message>),
-}
-
-/// Verifies what comes, beside other threads that do too.
-pub fn verify(scheme: &Ed25519, job: Job) {
-    // Where the validator has stopped nobody waits for the answer.
-    let _ = match job {
-        Job::Attestations(view, wanted, answer) => {
-            let verdicts = scheme.verify_attestations(wanted.subject(), wanted.attestations());
-            answer.send(Message::Verdicts(view, wanted, verdicts))
-        }
-        Job::Certificate(from, made, answer) => {
-            let certifies = scheme.verify_certificate(&made.subject(), made.content());
-            answer.send(Message::Certifies(from, made, certifies))
-        }
-    };
-}
-
-/// What a validator does wrong.
-#[derive(Clone, Copy, Debug, PartialEq, Eq)]
-pub enum Fault {
-    None,
-    /// It notarizes two proposals.
-    Equivocates,
-    /// What it sends doesn't attest.
-    SignsBadly,
-}
-
-/// What a validator comes to.
-pub struct Report {
+/// What a validator is given: who it is, and the ways to the others and to its disk.
+pub struct Station {
     pub me: Participant,
-    pub finalized: BTreeMap<u64, Proposal>,
-    pub blocked: BTreeMap<Participant, String>,
+    pub keys: KeyPair,
+    pub participants: Vec<PublicKey>,
+    pub fault: Fault,
+    pub peers: Peers,
+    pub disk: Files,
+    /// Where it notes what is final, whom it blocks and what it sends.
+    pub record: File,
 }
 
 pub struct Validator {
-    pub me: Participant,
-    pub keys: KeyPair,
-    pub fault: Fault,
-    pub scheme: Arc<Ed25519>,
-    /// The way to each participant, and here to this one.
-    pub peers: Vec<Sender<Message>>,
-    pub verifiers: Sender<Job>,
-    /// Where it says how many views are final.
-    pub finals: Sender<(Participant, usize)>,
-    pub view: u64,
-    pub since: Instant,
-    pub rounds: BTreeMap<u64, Round<Ed25519>>,
-    /// Views of which attestations are with the verifiers.
-    pub asked: BTreeSet<u64>,
-    pub finalized: BTreeMap<u64, Proposal>,
-    /// All that it made or recorded. Who has blocked the maker of one drops it, and may have no
-    /// quorum of its own: so they are sent again where a view takes too long.
-    pub certificates: Vec<Made>,
-    pub blocked: BTreeMap<Participant, String>,
+    pub station: Station,
+    running: Loop<Signature>,
+    view: View,
+    last: View,
+    deadline: Instant,
 }
 
 impl Validator {
-    pub fn run(mut self, inbox: &Receiver<Message>) -> Result<Report, Error> {
-        self.enter(1)?;
-        loop {
-            let left = self.patience().saturating_sub(self.since.elapsed());
-            match inbox.recv_timeout(left) {
-                Ok(Message::Stop) | Err(RecvTimeoutError::Disconnected) => break,
-                Ok(message) => self.hear(message)?,
-                Err(RecvTimeoutError::Timeout) => {
-                    // It gives the view up, unless it did.
-                    self.since = Instant::now();
-                    // What the verifiers haven't answered by now is asked for again.
-                    self.asked.clear();
-                    for made in &self.certificates {
-                        self.send_each(|_| Message::Certificate(self.me, made.clone()));
-                    }
-                    self.cast(Subject::Nullify {
-                        round: number(self.view),
-                    })?;
-                }
-            }
-            self.go_on()?;
-        }
-        let Validator {
-            me,
-            finalized,
-            blocked,
-            ..
-        } = self;
-        Ok(Report {
-            me,
-            finalized,
-            blocked,
+    /// The validator that goes on by what its disk has. A disk that was created for it and has
+    /// nothing yet shows that nothing was signed, so it begins.
+    pub fn new(station: Station) -> Outcome<Self> {
+        let count = station.participants.len() as u32;
+        let options = Options {
+            epoch: Epoch::zero(),
+            me: station.me,
+            participants: count,
+            keys: sha256(&station.participants.concat()),
+            namespace: b"batcher validator example",
+            ahead: 16,
+            track_historical_votes: false,
+        };
+        let leader = move |view: View| Participant::new((view.get() % u64::from(count)) as u32);
+        let running = match station.disk.bytes() {
+            [] => Loop::begin(&options, leader)?,
+            bytes => Loop::start(&options, leader, bytes)?,
+        };
+        Ok(Validator {
+            station,
+            running,
+            view: View::zero(),
+            last: View::zero(),
+            deadline: Instant::now() + PATIENCE,
         })
     }
 
-    /// How long it waits on its view. That doubles with each view that isn't final, up to four
-    /// seconds, so that validators on a slow machine come to an end too.
+    /// Goes on until it is killed.
+    pub fn run(mut self, inbox: &Receiver<(Participant, Message)>) -> Outcome<()> {
+        loop {
+            while let Some(task) = self.running.poll()? {
+                self.perform(task)?;
+            }
+            let left = self.deadline.saturating_duration_since(Instant::now());
+            match inbox.recv_timeout(left) {
+                Ok((sender, message)) => self.hear(sender, message)?,
+                Err(RecvTimeoutError::Timeout) => {
+                    self.running.expire(self.view)?;
+                    self.deadline = Instant::now() + self.patience();
+                }
+                Err(RecvTimeoutError::Disconnected) => return Ok(()),
+            }
+        }
+    }
+
+    /// That doubles with each view that isn't final, up to four seconds.
     fn patience(&self) -> Duration {
-        let last = self.finalized.keys().next_back().map_or(0, |view| *view);
-        let behind = self.view.saturating_sub(last + 1).min(4);
+        let behind = self.view.get().saturating_sub(self.last.get() + 1).min(4);
         PATIENCE * (1 << behind)
     }
 
-    fn leader(&self, view: u64) -> Participant {
-        Participant::new((view % self.peers.len() as u64) as u32)
-    }
-
-    fn round(&mut self, view: u64) -> Result<&mut Round<Ed25519>, Error> {
-        if !self.rounds.contains_key(&view) {
-            let round = Round::new(number(view), self.scheme.clone(), false)?;
-            self.rounds.insert(view, round);
-        }
-        self.rounds.get_mut(&view).ok_or(Error::Elsewhere)
-    }
-
-    fn has(&self, view: u64, kind: Kind) -> bool {
-        self.rounds
-            .get(&view)
-            .is_some_and(|round| round.has_certificate(kind))
-    }
-
-    fn block(&mut self, peer: Participant, why: String) {
-        self.blocked.entry(peer).or_insert(why);
-    }
-
-    fn hear(&mut self, message: Message) -> Result<(), Error> {
-        let near =
-            |round: Number| round.epoch == Epoch::zero() && round.view.get() <= self.view + AHEAD;
+    fn hear(&mut self, sender: Participant, message: Message) -> Outcome<()> {
         match message {
-            Message::Vote(from, vote)
-                if near(vote.round()) && !self.blocked.contains_key(&from) =>
-            {
-                let Some(key) = self.scheme.participants().key(from).copied() else {
-                    return Ok(());
-                };
-                let admission = self
-                    .round(vote.round().view.get())?
-                    .add_network(&key, vote)?;
-                if let Some(reason) = admission.block {
-                    self.block(from, reason.to_string());
-                }
+            Message::Vote(subject, signature) => {
+                let vote = Vote::new(subject, Attestation::new(sender, signature));
+                let _ = self.running.vote(sender, &vote)?;
             }
-            Message::Certificate(from, made)
-                if near(made.round()) && !self.blocked.contains_key(&from) =>
-            {
-                // One that is there already isn't verified.
-                if !self.has(made.round().view.get(), made.kind()) {
-                    let job =
-                        Job::Certificate(from, made, self.peers[usize::from(self.me)].clone());
-                    let _ = self.verifiers.send(job);
-                }
-            }
-            Message::Certifies(from, _, false) => {
-                self.block(from, "a certificate that is none".into())
-            }
-            Message::Certifies(_, made, true)
-                if !self.has(made.round().view.get(), made.kind()) =>
-            {
-                self.round(made.round().view.get())?
-                    .record_verified_certificate(&made)?;
-                self.note(&made);
-            }
-            Message::Verdicts(view, wanted, verdicts) => {
-                self.asked.remove(&view);
-                self.round(view)?.record_verdicts(&wanted, &verdicts)?;
-            }
-            Message::Vote(..)
-            | Message::Certificate(..)
-            | Message::Certifies(..)
-            | Message::Stop => {}
-        }
-        Ok(())
-    }
-
-    /// Does what can be done, until nothing is left.
-    fn go_on(&mut self) -> Result<(), Error> {
-        loop {
-            self.construct()?;
-            if self.view != 0 && !self.notarize()? && !self.enter_next()? {
-                return Ok(());
-            }
-        }
-    }
-
-    /// Makes the certificates that are due, and hands out what has to be verified for others.
-    fn construct(&mut self) -> Result<(), Error> {
-        let views: Vec<u64> = self
-            .rounds
-            .keys()
-            .copied()
-            .filter(|it| !self.asked.contains(it))
-            .collect();
-        for view in views {
-            loop {
-                match self.round(view)?.step()? {
-                    Step::Idle => break,
-                    Step::VerifyTogether(_) => unreachable!("Ed25519 doesn't aggregate"),
-                    Step::Verify(wanted) => {
-                        let answer = self.peers[usize::from(self.me)].clone();
-                        let job = Job::Attestations(view, wanted, answer);
-                        // What nobody verifies isn't waited for.
-                        if self.verifiers.send(job).is_ok() {
-                            self.asked.insert(view);
-                        }
-                        break;
-                    }
-                    Step::Made(batch) => {
-                        for signer in batch.invalid {
-                            self.block(signer, "a vote that doesn't attest".into());
-                        }
-                        if let Some(made) = batch.certificate {
-                            self.note(&made);
-                            self.send_each(|_| Message::Certificate(self.me, made.clone()));
-                        }
+            Message::Certificate(certificate) => {
+                let (kind, round) = (certificate.kind(), certificate.round());
+                // One that is there, or of a view that is passed, isn't verified.
+                if !self.running.has_certificate(kind, round) && round.view >= self.last {
+                    let certifies = self.certifies(&certificate);
+                    let _ = self.running.certificate(sender, &certificate, certifies)?;
+                    if !certifies {
+                        self.station.peers.block(sender);
                     }
                 }
             }
@@ -253,109 +111,93 @@ impl Validator {
         Ok(())
     }
 
-    fn note(&mut self, made: &Made) {
-        self.certificates.push(made.clone());
-        if let (Kind::Finalization, Some(proposal)) = (made.kind(), made.proposal()) {
-            self.finalized.insert(proposal.round.view.get(), proposal);
-            let _ = self.finals.send((self.me, self.finalized.len()));
-        }
+    fn certifies(&self, certificate: &Listed) -> bool {
+        let subject = certificate.subject();
+        let all = self.running.attestations(certificate);
+        all.is_some_and(|all| self.verdicts(&subject, &all).iter().all(|attests| *attests))
     }
 
-    /// Notarizes the leader's proposal, once, where it builds on what is known.
-    fn notarize(&mut self) -> Result<bool, Error> {
-        let (view, me) = (self.view, self.me);
-        let Some(proposal) = self.round(view)?.proposal() else {
-            return Ok(false);
+    fn verdicts(&self, subject: &Subject, all: &[Attestation<Signature>]) -> Vec<bool> {
+        let message = self.running.message(subject);
+        let attests = |it: &Attestation<Signature>| {
+            let key = self.station.participants.get(usize::from(it.signer));
+            key.is_some_and(|key| verify(key, &message, &it.signature))
         };
-        if self.leader(view) == me || !self.may_build(proposal.parent.get(), view) {
-            return Ok(false);
-        }
-        self.cast(Subject::Notarize { proposal })
+        all.iter().map(attests).collect()
     }
 
-    /// Whether a proposal of the view may build on that of its parent: one that is notarized, after
-    /// which each view was given up.
-    fn may_build(&self, parent: u64, view: u64) -> bool {
-        parent < view
-            && (parent == 0 || self.has(parent, Kind::Notarization))
-            && (parent + 1..view).all(|it| self.has(it, Kind::Nullification))
-    }
-
-    /// Goes to the next view, once this one is notarized or given up.
-    fn enter_next(&mut self) -> Result<bool, Error> {
-        let view = self.view;
-        let notarized = self.has(view, Kind::Notarization);
-        if let (true, Some(proposal)) = (notarized, self.round(view)?.proposal()) {
-            self.cast(Subject::Finalize { proposal })?;
-        }
-        let goes = notarized || self.has(view, Kind::Nullification);
-        if goes {
-            self.enter(view + 1)?;
-        }
-        Ok(goes)
-    }
-
-    fn enter(&mut self, view: u64) -> Result<(), Error> {
-        let leader = self.leader(view);
-        (self.view, self.since) = (view, Instant::now());
-        self.round(view)?.set_leader(leader)?;
-        if leader == self.me {
-            let notarized = |it: &u64| self.has(*it, Kind::Notarization);
-            let parent = (1..view).rev().find(notarized).unwrap_or(0);
-            self.cast(Subject::Notarize {
-                proposal: proposal(view, parent, 0),
-            })?;
+    fn perform(&mut self, task: Task<Signature>) -> Outcome<()> {
+        match task {
+            Task::Write(write) => {
+                self.station.disk.write(write.replaces, &write.bytes)?;
+                self.running.wrote()?;
+            }
+            Task::Block(peer, cause) => {
+                self.note(&format!("blocks {peer} {cause}\n"))?;
+                self.station.peers.block(peer);
+            }
+            Task::Final(proposal) => {
+                self.last = proposal.round.view;
+                let Proposal {
+                    parent, payload, ..
+                } = proposal;
+                self.note(&format!("final {} {parent} {payload}\n", self.last))?;
+            }
+            Task::SendVote(vote) => {
+                let subject = vote.subject();
+                self.note(&format!("{}\n", shown(&subject)))?;
+                let message = Message::Vote(subject, vote.attestation().signature);
+                self.station.fault.send(self, message);
+            }
+            Task::SendCertificate(certificate) => {
+                self.station
+                    .fault
+                    .send(self, Message::Certificate(certificate));
+            }
+            Task::Enter(view) => {
+                self.view = view;
+                self.deadline = Instant::now() + self.patience();
+            }
+            Task::Verify(wanted) => self.verify(&wanted)?,
+            Task::Sign(subject) => {
+                let signature = self.sign(&subject);
+                self.running.signed(subject, &signature)?;
+            }
+            Task::Propose { view, parent } => {
+                let payload =
+                    sha256(&[view.get().to_be_bytes(), parent.get().to_be_bytes()].concat());
+                self.running.propose(view, parent, Sha256Digest(payload))?;
+            }
+            // There is nothing in a payload here.
+            Task::Judge(proposal) => self.running.judge(&proposal, true)?,
         }
         Ok(())
     }
 
-    /// Casts a vote, and sends it where the round says that it is to be sent. Answers whether it
-    /// was.
-    fn cast(&mut self, subject: Subject) -> Result<bool, Error> {
-        let vote = Ed25519::sign(&self.keys, self.me, subject);
-        match self
-            .round(subject.round().view.get())?
-            .accept_verified_vote(vote)
-        {
-            Ok(Outcome::ToSend { .. }) => {}
-            // A vote that was added already, or that an earlier one excludes, isn't sent.
-            Ok(Outcome::Duplicate { .. }) | Err(Error::Own(_)) => return Ok(false),
-            Err(error) => return Err(error),
-        }
-        self.send_each(|_| Message::Vote(self.me, self.spoilt(vote)));
-        if let (Fault::Equivocates, Subject::Notarize { proposal: first }) = (self.fault, subject) {
-            let second = proposal(first.round.view.get(), first.parent.get(), 1);
-            let other = Ed25519::sign(&self.keys, self.me, Subject::Notarize { proposal: second });
-            self.send_each(|_| Message::Vote(self.me, other));
-        }
-        Ok(true)
+    /// A line of the record is written at once, so that none is torn where it is killed.
+    fn note(&mut self, line: &str) -> Outcome<()> {
+        Ok(self.station.record.write_all(line.as_bytes())?)
     }
 
-    fn spoilt(&self, vote: Vote<Signature>) -> Vote<Signature> {
-        let mut attestation = *vote.attestation();
-        if self.fault == Fault::SignsBadly {
-            attestation.signature[0] ^= 1;
-        }
-        Vote::new(vote.subject(), attestation)
+    fn verify(&mut self, wanted: &Wanted<Signature>) -> Outcome<()> {
+        let verdicts = self.verdicts(wanted.subject(), wanted.attestations());
+        self.running.conclude(wanted, &verdicts)?;
+        Ok(())
     }
 
-    /// Sends a message to each other validator. One that has stopped hears nothing.
-    fn send_each(&self, message: impl Fn(usize) -> Message) {
-        for (place, peer) in self.peers.iter().enumerate() {
-            if place != usize::from(self.me) {
-                let _ = peer.send(message(place));
-            }
-        }
+    /// Its signature, for whatever it is.
+    pub fn sign(&self, subject: &Subject) -> Signature {
+        self.station.keys.sign(&self.running.message(subject))
     }
 }
 
-fn number(view: u64) -> Number {
-    Number::new(Epoch::zero(), View::new(view))
-}
-
-/// What a leader proposes in a view. Its second proposal is another.
-fn proposal(view: u64, parent: u64, which: u8) -> Proposal {
-    let mut payload = [which; 32];
-    payload[..8].copy_from_slice(&view.to_be_bytes());
-    Proposal::new(number(view), View::new(parent), Sha256Digest(payload))
+/// A vote in the record: its kind, its view and what it is for.
+fn shown(subject: &Subject) -> String {
+    let payload = subject.proposal().map(|it| it.payload.to_string());
+    let view = subject.round().view;
+    format!(
+        "sends {} {view} {}",
+        subject.kind(),
+        payload.unwrap_or_default()
+    )
 }

@@ -12,7 +12,6 @@ returns-in-Ok-None c = record {
       (c.in-Ok-None.ensures.none (ap Ok c.in-Ok-None.field-0-is));
   done = search rules;
   stays = search rules;
-  view_stays = refl;
   verdicts = refl;
   same = same_self c.args.round.now;
 }
@@ -31,7 +30,6 @@ returns-in-Ok-None-call c =
       malformed = search rules;
       done = search rules;
       stays = λ is. (c.in-Ok-None-call.ensures.whole (does.waits (ap Ok c.in-Ok-None-call.field-0-is)), refl);
-      view_stays = refl;
       verdicts = does.verdicts;
       same = c.in-Ok-None-call.ensures.same;
     }

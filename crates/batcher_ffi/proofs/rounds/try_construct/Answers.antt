@@ -36,7 +36,6 @@ returns-in-Some c =
       untouched = search rules;
       known_stays = search rules;
       signers_stay = λ is. refl;
-      view_stays = c.write_wanted.ensures.view;
       promised = c.ask.ensures;
       same = c.in-Ok-None.ensures.same;
     }
@@ -59,7 +58,6 @@ returns-in-None c =
       untouched = search rules;
       known_stays = λ is. refl;
       signers_stay = search rules;
-      view_stays = refl;
       promised = c.ask.ensures;
       same = c.in-Ok-None.ensures.same;
     }
@@ -92,7 +90,6 @@ returns-in-Ok-Some c =
       untouched = search rules;
       known_stays = λ is. refl;
       signers_stay = search rules;
-      view_stays = c.write_batch.ensures.view;
       promised = c.ask.ensures;
       same = c.in-Ok-Some.ensures.same;
     }
@@ -114,7 +111,6 @@ returns-in-Err c =
       untouched = search rules;
       known_stays = λ is. refl;
       signers_stay = search rules;
-      view_stays = refl;
       promised = c.ask.ensures;
       same = c.in-Err.ensures.same;
     }

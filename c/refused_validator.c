@@ -1,0 +1,99 @@
+/* A validator alone, whose own vote is a quorum, with each request for memory refused in turn: the call that made it says so,
+ * and made again it goes on as if nothing had been. It is stopped in the middle, and goes on by its disk. It ends with 0,
+ * or with 1 where a check failed, and says at which request. */
+#include "refusing.h"
+#include "votes.h"
+
+#define LAST 4
+#define ROOM 16384
+
+struct alone {
+    struct batcher_loop loop;
+    struct batcher_loop_options options;
+    uint8_t disk[ROOM], room[ROOM];
+    size_t written;
+    uint64_t last;
+};
+
+static bool start(struct alone *it) {
+    uint8_t code;
+    it->options.begins = it->written == 0;
+    return AGAIN(batcher_loop_start(&it->loop, &it->options, (const uint8_t *)"c", 1, it->disk, it->written))
+        == BATCHER_DONE;
+}
+
+static bool write_down(struct alone *it) {
+    uint64_t count = 0;
+    bool replaces = false;
+    uint8_t code;
+    if (batcher_loop_owed(&it->loop, it->room, ROOM, &count, &replaces) != BATCHER_DONE) return false;
+    if (replaces) it->written = 0;
+    if (it->written + count > ROOM) return false;
+    memcpy(it->disk + it->written, it->room, count);
+    it->written += count;
+    return AGAIN(batcher_loop_wrote(&it->loop)) == BATCHER_DONE;
+}
+
+static bool cast(struct alone *it, const struct batcher_task *task) {
+    uint8_t code;
+    struct batcher_vote vote = task->vote;
+    if (task->task == BATCHER_TASK_SIGN) {
+        vote = vote_of(task->kind, task->proposal.view, 0, 0);
+        vote.proposal = task->proposal;
+    }
+    code = AGAIN(batcher_loop_cast(&it->loop, &vote, true));
+    return code == BATCHER_DONE || code == BATCHER_KNOWN;
+}
+
+static bool verify(struct alone *it) {
+    struct batcher_attestation list[1];
+    struct batcher_step step;
+    const bool good[] = {true};
+    uint8_t code = AGAIN(batcher_loop_lend(&it->loop, &step, list, 1));
+    if (code == BATCHER_IDLE) return true;
+    return code == BATCHER_VERIFY
+        && AGAIN(batcher_loop_conclude(&it->loop, step.kind, &step.proposal, list, step.listed, good, step.listed))
+        == BATCHER_DONE;
+}
+
+static bool perform(struct alone *it, const struct batcher_task *task) {
+    uint8_t code;
+    switch (task->task) {
+    case BATCHER_TASK_FINAL: it->last = task->proposal.view; return true;
+    case BATCHER_TASK_ENTER: return AGAIN(batcher_loop_enter(&it->loop, task->proposal.view, 0)) == BATCHER_DONE;
+    case BATCHER_TASK_VERIFY: return verify(it);
+    case BATCHER_TASK_CAST:
+    case BATCHER_TASK_SIGN: return cast(it, task);
+    case BATCHER_TASK_PROPOSE: return batcher_loop_judge(&it->loop, &task->proposal, true) == BATCHER_DONE;
+    case BATCHER_TASK_SEND_VOTE:
+    case BATCHER_TASK_SEND_CERTIFICATE: return true;
+    default: return false;
+    }
+}
+
+static bool go_on(struct alone *it, uint64_t last) {
+    struct batcher_task task;
+    uint8_t code;
+    memset(&task, 0, sizeof task);
+    while (it->last < last) {
+        code = AGAIN(batcher_loop_poll(&it->loop, &task));
+        if (code == BATCHER_WRITE ? !write_down(it) : code != BATCHER_DONE || !perform(it, &task)) return false;
+    }
+    return true;
+}
+
+static int play(const void *sort) {
+    static struct alone it;
+    (void)sort;
+    memset(&it, 0, sizeof it);
+    it.options.ahead = 4;
+    it.options.participants = 1;
+    bool fine = start(&it) && go_on(&it, LAST / 2);
+    batcher_loop_free(&it.loop);
+    it.last = 0;
+    fine = fine && start(&it) && go_on(&it, LAST);
+    batcher_loop_free(&it.loop);
+    return fine && it.loop.at == NULL;
+}
+
+int main(void) { return each_refused_in_turn("a validator", play, NULL); }

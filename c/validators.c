@@ -1,0 +1,491 @@
+/* Four validators with disks in one process, of which one votes both ways. Messages between them come in
+ * any order and are lost now and then, and each validator is stopped at any moment, in the middle of a write
+ * too, and started again by its disk; now and then all are at once. By seeds 0, 1, .. up to the one
+ * that is named. It ends with 0, or with 1 where the honest don't agree, contradict themselves, block each
+ * other or come to a halt, and names the line and the seed.
+ *
+ * A signature here is a checksum that anybody can make, in the place of a real one. */
+#include "batcher.h"
+#include <stdio.h>
+#include <stdlib.h>
+#include <string.h>
+
+#define VALIDATORS 4
+#define EQUIVOCATES 3
+#define VIEWS 10000
+#define ROOM 65536
+#define MESSAGES 4096
+#define CHECK(holds)                                                                                \
+    do {                                                                                            \
+        if (!(holds)) return __LINE__;                                                              \
+    } while (0)
+
+static uint64_t state;
+
+/* A number below a bound. */
+static uint64_t below(uint64_t bound) {
+    state = state * 6364136223846793005u + 1442695040888963407u;
+    return (state >> 33) % bound;
+}
+
+/* A vote, or a certificate by its bytes. */
+struct message {
+    uint32_t from;
+    bool is_vote;
+    struct batcher_vote vote; /* of a certificate its kind and proposal alone */
+    uint8_t bytes[1024];
+    size_t length;
+};
+
+struct validator {
+    struct batcher_loop loop;
+    /* What was written is in two files, of which one is in use. */
+    struct batcher_files files;
+    uint8_t file[2][ROOM];
+    size_t length[2];
+    int in_use;
+    struct message *inbox;
+    size_t count;
+    uint64_t view;
+    /* Over all its lives: what is final, and what it sent in each view, of each kind. */
+    uint64_t last;
+    struct batcher_proposal *sent[3];
+    bool *did_send[3];
+};
+
+static struct validator all[VALIDATORS];
+static struct batcher_proposal chain[VIEWS];
+static bool is_final[VIEWS];
+
+static uint64_t mixed(uint64_t sum, const void *from, size_t length) {
+    const uint8_t *bytes = from;
+    for (size_t i = 0; i < length; i++) sum = (sum ^ bytes[i]) * 1099511628211u;
+    return sum;
+}
+
+/* Of a nullify the epoch and the view alone are signed. */
+static uint64_t checksum(uint32_t signer, uint8_t kind, const struct batcher_proposal *proposal) {
+    uint64_t sum = mixed(mixed(14695981039346656037u, &signer, sizeof signer), &kind, 1);
+    sum = mixed(mixed(sum, &proposal->epoch, 8), &proposal->view, 8);
+    if (kind == BATCHER_NULLIFICATION) return sum;
+    return mixed(mixed(sum, &proposal->parent, 8), proposal->payload, 32);
+}
+
+static struct batcher_attestation sign(uint32_t signer, uint8_t kind, const struct batcher_proposal *proposal) {
+    struct batcher_attestation made;
+    uint64_t sum = checksum(signer, kind, proposal);
+    memset(&made, 0, sizeof made);
+    made.signer = signer;
+    made.length = sizeof sum;
+    memcpy(made.bytes, &sum, sizeof sum);
+    return made;
+}
+
+static bool attests(uint8_t kind, const struct batcher_proposal *proposal, const struct batcher_attestation *it) {
+    struct batcher_attestation made = sign(it->signer, kind, proposal);
+    return it->length == made.length && memcmp(it->bytes, made.bytes, sizeof made.bytes) == 0;
+}
+
+static uint64_t number(const uint8_t *bytes, size_t length) {
+    uint64_t found = 0;
+    for (size_t i = 0; i < length; i++) found = found << 8 | bytes[i];
+    return found;
+}
+
+/* Whether a certificate is the list of a quorum of different participants who attest each: how many they are, and of each its
+ * index, how long its signature is, and 96 bytes. */
+static bool certifies(const struct message *it) {
+    bool is_there[VALIDATORS] = {false};
+    const uint8_t *bytes = it->bytes + 8;
+    if (it->length < 8) return false;
+    uint64_t count = number(it->bytes, 8);
+    if (count < 3 || count > VALIDATORS || it->length != 8 + count * 101) return false;
+    for (uint64_t i = 0; i < count; i++, bytes += 101) {
+        struct batcher_attestation one;
+        memset(&one, 0, sizeof one);
+        one.signer = (uint32_t)number(bytes, 4);
+        one.length = bytes[4];
+        memcpy(one.bytes, bytes + 5, sizeof one.bytes);
+        if (one.signer >= VALIDATORS || is_there[one.signer]) return false;
+        if (!attests(it->vote.kind, &it->vote.proposal, &one)) return false;
+        is_there[one.signer] = true;
+    }
+    return true;
+}
+
+/* One in ten messages is lost, and so is each that finds no room. */
+static void send_all(const struct message *message) {
+    for (uint32_t to = 0; to < VALIDATORS; to++) {
+        if (to == message->from || below(10) == 0 || all[to].count == MESSAGES) continue;
+        all[to].inbox[all[to].count++] = *message;
+    }
+}
+
+/* Writes to a file, or only the first of the bytes where it is stopped meanwhile. */
+static void write_at(struct validator *it, int file, uint64_t at, const uint8_t *bytes, size_t count, bool *is_stopped) {
+    *is_stopped = below(100) == 0;
+    if (*is_stopped) count = below(count + 1);
+    memcpy(it->file[file] + at, bytes, count);
+    if (it->length[file] < at + count) it->length[file] = at + count;
+}
+
+/* Does what is to be done to the files, unless it is stopped. */
+static int carry_out(struct validator *it, bool *is_stopped) {
+    static uint8_t frame[ROOM];
+    struct batcher_change change;
+    uint64_t count = 0;
+    CHECK(batcher_files_frame(&it->files, frame, sizeof frame, &count) == BATCHER_DONE);
+    for (uint64_t number = 0; batcher_files_change(&it->files, number, &change) == BATCHER_DONE; number++) {
+        int file = change.in_other ? 1 - it->in_use : it->in_use;
+        CHECK(change.at + (change.change == BATCHER_CHANGE_FRAME ? count : 1) <= ROOM);
+        if (change.change == BATCHER_CHANGE_FRAME)
+            write_at(it, file, change.at, frame, count, is_stopped);
+        else if (change.change == BATCHER_CHANGE_BYTE)
+            write_at(it, file, change.at, &change.byte, 1, is_stopped);
+        else
+            it->length[file] = change.at;
+        if (*is_stopped) return 0;
+    }
+    CHECK(batcher_files_carried_out(&it->files) == BATCHER_DONE);
+    CHECK(batcher_files_carried_out(&it->files) == BATCHER_IDLE);
+    return 0;
+}
+
+/* The validator that goes on by its files, or begins where they have nothing. */
+static int start(uint32_t me) {
+    static uint8_t disk[ROOM];
+    struct validator *it = &all[me];
+    struct batcher_loop_options options;
+    uint64_t count = 0;
+    bool turned = false, is_stopped = false;
+    memset(&options, 0, sizeof options);
+    options.ahead = 8;
+    options.participants = VALIDATORS;
+    options.participant = me;
+    memset(options.keys, 7, sizeof options.keys);
+    batcher_files_free(&it->files);
+    uint8_t code = batcher_files_open(&it->files, it->file[0], it->length[0], it->file[1], it->length[1], &turned);
+    CHECK(code == BATCHER_DONE || code == BATCHER_NOT_BEGUN);
+    options.begins = code == BATCHER_NOT_BEGUN;
+    it->in_use = turned;
+    if (code == BATCHER_DONE) {
+        int line = carry_out(it, &is_stopped);
+        if (line != 0) return line;
+        /* It is stopped again, while what a crash left is cut off. */
+        if (is_stopped) return start(me);
+        CHECK(batcher_files_bytes(&it->files, disk, sizeof disk, &count) == BATCHER_DONE);
+    }
+    CHECK(batcher_loop_start(&it->loop, &options, (const uint8_t *)"c", 1, disk, count) == BATCHER_DONE);
+    return 0;
+}
+
+/* What is owed is written, unless it is stopped before that is done. */
+static int write_down(uint32_t me, bool *is_stopped) {
+    static uint8_t room[ROOM];
+    struct validator *it = &all[me];
+    uint64_t count = 0;
+    bool replaces = false;
+    uint8_t code;
+    CHECK(batcher_loop_owed(&it->loop, room, 1, &count, &replaces) == BATCHER_SHORT);
+    CHECK(batcher_loop_owed(&it->loop, room, sizeof room, &count, &replaces) == BATCHER_DONE);
+    if (it->files.at == NULL) {
+        CHECK(!replaces);
+        code = batcher_files_create(&it->files, it->file[0], it->length[0], it->file[1], it->length[1], room, count);
+    } else if (replaces) {
+        code = batcher_files_replace(&it->files, room, count);
+    } else {
+        code = batcher_files_append(&it->files, room, count);
+    }
+    CHECK(code == BATCHER_DONE && batcher_files_append(&it->files, room, count) == BATCHER_UNFINISHED);
+    int line = carry_out(it, is_stopped);
+    if (line != 0 || *is_stopped) return line;
+    if (replaces) it->in_use = 1 - it->in_use;
+    CHECK(batcher_loop_wrote(&it->loop) == BATCHER_DONE);
+    CHECK(batcher_loop_owed(&it->loop, room, sizeof room, &count, &replaces) == BATCHER_IDLE);
+    return 0;
+}
+
+static bool is_same(const struct batcher_proposal *one, const struct batcher_proposal *other) {
+    return one->view == other->view && one->parent == other->parent && memcmp(one->payload, other->payload, 32) == 0;
+}
+
+/* No two votes that it sends contradict each other, whenever it sends them. */
+static int note_sent(uint32_t me, const struct batcher_vote *vote) {
+    struct validator *it = &all[me];
+    uint64_t view = vote->proposal.view;
+    CHECK(view < VIEWS && vote->attestation.signer == me && vote->kind <= BATCHER_FINALIZATION);
+    if (it->did_send[vote->kind][view] && vote->kind != BATCHER_NULLIFICATION)
+        CHECK(is_same(&it->sent[vote->kind][view], &vote->proposal));
+    it->did_send[vote->kind][view] = true;
+    it->sent[vote->kind][view] = vote->proposal;
+    CHECK(!it->did_send[BATCHER_NULLIFICATION][view] || !it->did_send[BATCHER_FINALIZATION][view]);
+    return 0;
+}
+
+static int verify(uint32_t me) {
+    struct validator *it = &all[me];
+    struct batcher_attestation list[VALIDATORS];
+    struct batcher_step step;
+    bool verdicts[VALIDATORS];
+    CHECK(batcher_loop_lend(&it->loop, &step, list, VALIDATORS - 1) == BATCHER_SHORT);
+    uint8_t code = batcher_loop_lend(&it->loop, &step, list, VALIDATORS);
+    if (code == BATCHER_IDLE) return 0;
+    CHECK(code == BATCHER_VERIFY && step.listed <= VALIDATORS);
+    for (uint64_t i = 0; i < step.listed; i++) verdicts[i] = attests(step.kind, &step.proposal, &list[i]);
+    CHECK(batcher_loop_conclude(&it->loop, step.kind, &step.proposal, list, step.listed, verdicts, step.listed)
+          == BATCHER_DONE);
+    return 0;
+}
+
+static int cast(uint32_t me, uint8_t kind, const struct batcher_proposal *proposal) {
+    struct batcher_vote vote;
+    memset(&vote, 0, sizeof vote);
+    vote.proposal = *proposal;
+    vote.kind = kind;
+    vote.attestation = sign(me, kind, proposal);
+    uint8_t code = batcher_loop_cast(&all[me].loop, &vote, true);
+    CHECK(code == BATCHER_DONE || code == BATCHER_KNOWN || code == BATCHER_REFUSED);
+    return 0;
+}
+
+static int perform(uint32_t me, const struct batcher_task *task) {
+    struct validator *it = &all[me];
+    struct batcher_proposal proposal = task->proposal;
+    struct message message;
+    uint64_t count = 0;
+    memset(&message, 0, sizeof message);
+    message.from = me;
+    switch (task->task) {
+    case BATCHER_TASK_BLOCK: CHECK(me == EQUIVOCATES || task->participant == EQUIVOCATES); return 0;
+    case BATCHER_TASK_FINAL:
+        CHECK(proposal.view > 0 && proposal.view < VIEWS);
+        if (proposal.view > it->last) it->last = proposal.view;
+        if (is_final[proposal.view]) CHECK(is_same(&chain[proposal.view], &proposal));
+        is_final[proposal.view] = true;
+        chain[proposal.view] = proposal;
+        return 0;
+    case BATCHER_TASK_CAST:
+        CHECK(attests(task->vote.kind, &task->vote.proposal, &task->vote.attestation));
+        CHECK(batcher_loop_cast(&it->loop, &task->vote, true) != BATCHER_MALFORMED);
+        return 0;
+    case BATCHER_TASK_SEND_VOTE:
+        CHECK(note_sent(me, &task->vote) == 0);
+        message.is_vote = true;
+        message.vote = task->vote;
+        send_all(&message);
+        if (me == EQUIVOCATES && task->vote.kind == BATCHER_NOTARIZATION) {
+            message.vote.proposal.payload[0] ^= 1;
+            message.vote.attestation = sign(me, BATCHER_NOTARIZATION, &message.vote.proposal);
+            send_all(&message);
+        }
+        return 0;
+    case BATCHER_TASK_SEND_CERTIFICATE:
+        CHECK(batcher_loop_kept(&it->loop, task->kind, &proposal, message.bytes, sizeof message.bytes, &count)
+              == BATCHER_DONE);
+        message.length = count;
+        message.vote.kind = task->kind;
+        message.vote.proposal = proposal;
+        CHECK(certifies(&message));
+        send_all(&message);
+        return 0;
+    case BATCHER_TASK_ENTER:
+        it->view = proposal.view;
+        CHECK(batcher_loop_enter(&it->loop, it->view, (uint32_t)(it->view % VALIDATORS)) == BATCHER_DONE);
+        return 0;
+    case BATCHER_TASK_VERIFY: return verify(me);
+    case BATCHER_TASK_SIGN: return cast(me, task->kind, &proposal);
+    case BATCHER_TASK_PROPOSE:
+        memset(proposal.payload, (int)me, sizeof proposal.payload);
+        proposal.payload[31] = (uint8_t)proposal.view;
+        CHECK(batcher_loop_judge(&it->loop, &proposal, true) == BATCHER_DONE);
+        return 0;
+    case BATCHER_TASK_JUDGE: CHECK(batcher_loop_judge(&it->loop, &proposal, true) == BATCHER_DONE); return 0;
+    default: return __LINE__;
+    }
+}
+
+/* Does all that is to be done, unless it is stopped. */
+static int go_on(uint32_t me, bool *is_stopped) {
+    struct batcher_task task;
+    *is_stopped = false;
+    for (;;) {
+        int line = 0;
+        uint8_t code = batcher_loop_poll(&all[me].loop, &task);
+        if (code == BATCHER_IDLE) return 0;
+        CHECK(code == BATCHER_DONE || code == BATCHER_WRITE);
+        if (code == BATCHER_WRITE)
+            line = write_down(me, is_stopped);
+        else
+            line = perform(me, &task);
+        if (line != 0) return line;
+        if (below(200) == 0) *is_stopped = true;
+        if (*is_stopped) return 0;
+    }
+}
+
+static int hear(uint32_t me) {
+    struct validator *it = &all[me];
+    struct batcher_admission admission;
+    size_t place = below(it->count);
+    struct message message = it->inbox[place];
+    it->inbox[place] = it->inbox[--it->count];
+    uint8_t code;
+    if (message.is_vote) {
+        code = batcher_loop_vote(&it->loop, message.from, &message.vote, &admission);
+    } else {
+        code = batcher_loop_certificate(&it->loop, message.from, message.vote.kind, &message.vote.proposal,
+                                        message.bytes, message.length, certifies(&message));
+        CHECK(code != BATCHER_FORGED);
+    }
+    CHECK(code == BATCHER_DONE || code == BATCHER_ELSEWHERE || code == BATCHER_DROPPED || code == BATCHER_KNOWN);
+    return 0;
+}
+
+static int restart(uint32_t me) {
+    /* What was on its way is lost. */
+    all[me].count = 0;
+    batcher_loop_free(&all[me].loop);
+    return start(me);
+}
+
+static int one_network(uint64_t seed) {
+    int line;
+    bool is_stopped;
+    state = seed;
+    memset(is_final, 0, sizeof is_final);
+    for (uint32_t me = 0; me < VALIDATORS; me++) {
+        all[me].length[0] = all[me].length[1] = all[me].count = all[me].view = all[me].last = 0;
+        for (int kind = 0; kind < 3; kind++) memset(all[me].did_send[kind], 0, VIEWS * sizeof(bool));
+        if ((line = start(me)) != 0) return line;
+    }
+    for (int turn = 0; turn < 6000; turn++) {
+        uint32_t me = (uint32_t)below(VALIDATORS);
+        uint64_t what = below(400);
+        if (what == 0) {
+            for (uint32_t each = 0; each < VALIDATORS; each++)
+                if ((line = restart(each)) != 0) return line;
+        } else if (what < 4) {
+            if ((line = restart(me)) != 0) return line;
+        } else if (what < 24) {
+            CHECK(batcher_loop_expire(&all[me].loop, all[me].view) == BATCHER_DONE);
+        } else {
+            for (int heard = 0; heard < 8 && all[me].count != 0; heard++)
+                if ((line = hear(me)) != 0) return line;
+        }
+        if ((line = go_on(me, &is_stopped)) != 0) return line;
+        if (is_stopped && (line = restart(me)) != 0) return line;
+    }
+    for (uint32_t me = 0; me < VALIDATORS; me++) {
+        CHECK(me == EQUIVOCATES || all[me].last >= 20);
+        batcher_loop_free(&all[me].loop);
+        batcher_files_free(&all[me].files);
+        CHECK(all[me].loop.at == NULL && all[me].files.at == NULL);
+    }
+    return 0;
+}
+
+/* What a caller may do wrong. */
+static int mistakes(void) {
+    struct batcher_loop loop = {0};
+    struct batcher_loop_options options;
+    struct batcher_admission admission;
+    struct batcher_proposal proposal;
+    struct batcher_attestation list[VALIDATORS];
+    struct batcher_step step;
+    struct batcher_task task;
+    struct batcher_vote vote;
+    static uint8_t room[ROOM];
+    uint64_t count;
+    bool replaces, verdict = true;
+    memset(&options, 0, sizeof options);
+    memset(&proposal, 0, sizeof proposal);
+    memset(&vote, 0, sizeof vote);
+    memset(&task, 0, sizeof task);
+    CHECK(batcher_loop_poll(&loop, &task) == BATCHER_NONE);
+    CHECK(batcher_loop_owed(&loop, room, ROOM, &count, &replaces) == BATCHER_NONE);
+    CHECK(batcher_loop_start(&loop, &options, NULL, 0, NULL, 0) == BATCHER_MALFORMED);
+    options.participants = VALIDATORS;
+    options.participant = VALIDATORS;
+    options.ahead = 8;
+    CHECK(batcher_loop_start(&loop, &options, NULL, 0, NULL, 0) == BATCHER_MALFORMED);
+    options.participant = 1;
+    CHECK(batcher_loop_start(&loop, &options, NULL, 0, NULL, 0) == BATCHER_NOT_BEGUN);
+    CHECK(batcher_loop_start(&loop, &options, NULL, 0, (const uint8_t *)"abc", 3) == BATCHER_OTHER_VERSION);
+    options.begins = true;
+    CHECK(batcher_loop_start(&loop, &options, NULL, 0, (const uint8_t *)"abc", 3) == BATCHER_BEGUN);
+    CHECK(loop.at == NULL);
+    CHECK(batcher_loop_start(&loop, &options, (const uint8_t *)"c", 1, NULL, 0) == BATCHER_DONE);
+    /* Nothing is done before its journal is written. */
+    CHECK(batcher_loop_poll(&loop, &task) == BATCHER_WRITE && batcher_loop_poll(&loop, &task) == BATCHER_WRITE);
+    CHECK(batcher_loop_owed(&loop, room, ROOM, &count, &replaces) == BATCHER_DONE && count > 0);
+    CHECK(batcher_loop_wrote(&loop) == BATCHER_DONE);
+    CHECK(batcher_loop_poll(&loop, &task) == BATCHER_DONE && task.task == BATCHER_TASK_ENTER);
+    CHECK(task.proposal.view == 1 && task.proposal.epoch == 0);
+    CHECK(batcher_loop_poll(&loop, &task) == BATCHER_IDLE);
+    vote.kind = 3;
+    CHECK(batcher_loop_vote(&loop, 2, &vote, &admission) == BATCHER_MALFORMED);
+    CHECK(batcher_loop_cast(&loop, &vote, true) == BATCHER_MALFORMED);
+    vote.kind = BATCHER_NULLIFICATION;
+    vote.proposal.view = 1;
+    vote.attestation.signer = 2;
+    CHECK(batcher_loop_cast(&loop, &vote, false) == BATCHER_NOT_VERIFIED);
+    CHECK(batcher_loop_cast(&loop, &vote, true) == BATCHER_NOT_OWN);
+    vote.attestation.signer = VALIDATORS;
+    CHECK(batcher_loop_cast(&loop, &vote, true) == BATCHER_NOT_VERIFIED);
+    vote.attestation.signer = 2;
+    CHECK(batcher_loop_vote(&loop, VALIDATORS, &vote, &admission) == BATCHER_UNKNOWN);
+    CHECK(batcher_loop_certificate(&loop, 2, 3, &proposal, room, 0, true) == BATCHER_MALFORMED);
+    proposal.view = 1;
+    CHECK(batcher_loop_kept(&loop, 3, &proposal, room, ROOM, &count) == BATCHER_MALFORMED);
+    CHECK(batcher_loop_kept(&loop, BATCHER_NULLIFICATION, &proposal, room, ROOM, &count) == BATCHER_IDLE);
+    CHECK(batcher_loop_conclude(&loop, 3, &proposal, list, 0, &verdict, 0) == BATCHER_MALFORMED);
+    CHECK(batcher_loop_conclude(&loop, 0, &proposal, list, 0, &verdict, 1) == BATCHER_MALFORMED);
+    CHECK(batcher_loop_conclude(&loop, 0, &proposal, list, 0, &verdict, 0) == BATCHER_STALE);
+    CHECK(batcher_loop_lend(&loop, &step, list, VALIDATORS - 1) == BATCHER_SHORT);
+    CHECK(batcher_loop_lend(&loop, &step, list, VALIDATORS) == BATCHER_IDLE);
+    /* A certificate that is forged blocks its peer, and one from beyond the window is taken in. */
+    CHECK(batcher_loop_certificate(&loop, 3, BATCHER_NULLIFICATION, &proposal, room, 9, false) == BATCHER_FORGED);
+    CHECK(batcher_loop_poll(&loop, &task) == BATCHER_DONE && task.task == BATCHER_TASK_BLOCK);
+    CHECK(task.participant == 3 && task.cause == BATCHER_CAUSE_CERTIFICATE);
+    proposal.view = 100;
+    CHECK(batcher_loop_certificate(&loop, 2, BATCHER_FINALIZATION, &proposal, room, 9, false) == BATCHER_FORGED);
+    CHECK(batcher_loop_certificate(&loop, 2, BATCHER_FINALIZATION, &proposal, room, 9, true) == BATCHER_DONE);
+    CHECK(batcher_loop_kept(&loop, BATCHER_FINALIZATION, &proposal, room, 8, &count) == BATCHER_SHORT && count == 9);
+    /* The bytes are of another participant, of another epoch, or are damaged. */
+    CHECK(batcher_loop_start(&loop, &options, (const uint8_t *)"c", 1, NULL, 0) == BATCHER_DONE);
+    CHECK(batcher_loop_owed(&loop, room, ROOM, &count, &replaces) == BATCHER_DONE);
+    options.begins = false;
+    CHECK(batcher_loop_start(&loop, &options, (const uint8_t *)"d", 1, room, count) == BATCHER_OTHER_OWNER);
+    options.epoch = 1;
+    CHECK(batcher_loop_start(&loop, &options, (const uint8_t *)"c", 1, room, count) == BATCHER_OTHER_OWNER);
+    options.epoch = 0;
+    CHECK(batcher_loop_start(&loop, &options, (const uint8_t *)"c", 1, room, count - 1) == BATCHER_DAMAGED);
+    CHECK(batcher_loop_start(&loop, &options, (const uint8_t *)"c", 1, room, count) == BATCHER_DONE);
+    batcher_loop_free(&loop);
+    batcher_loop_free(&loop);
+    return 0;
+}
+
+int main(int count, char **words) {
+    unsigned long long seeds = 0;
+    if (count != 2 || sscanf(words[1], "%llu", &seeds) != 1) return 2;
+    for (uint32_t me = 0; me < VALIDATORS; me++) {
+        all[me].inbox = calloc(MESSAGES, sizeof(struct message));
+        for (int kind = 0; kind < 3; kind++) {
+            all[me].sent[kind] = calloc(VIEWS, sizeof(struct batcher_proposal));
+            all[me].did_send[kind] = calloc(VIEWS, sizeof(bool));
+        }
+    }
+    int line = mistakes();
+    uint64_t seed = 0;
+    for (; line == 0 && seed < seeds; seed++) line = one_network(seed);
+    if (line != 0) fprintf(stderr, "validators.c:%d: not so with seed %llu\n", line, (unsigned long long)seed - 1);
+    for (uint32_t me = 0; me < VALIDATORS; me++) {
+        free(all[me].inbox);
+        for (int kind = 0; kind < 3; kind++) {
+            free(all[me].sent[kind]);
+            free(all[me].did_send[kind]);
+        }
+    }
+    return line != 0;
+}

@@ -1,0 +1,18 @@
+use Rattle.std.proofs.Common.{◌∷◌, refl, subst}
+use Rattle.batcher_validator.specs.Histories.{again, expired}
+use Rattle.batcher_validator.specs.Running.{RunMeets}
+use Rattle.batcher_ffi.specs.Loops.{config_by}
+use Rattle.batcher_ffi.proofs.loops.expire.Goals as goal
+
+pub returns : goal.returns
+returns c =
+    let meets = subst (λ v. RunMeets (config_by v.node) c.expire.new.self c.send_again.new.self again)
+    c.expire.ensures.voter c.send_again.ensures.meets in
+    record {
+      codes = refl;
+      expires = λ below past earlier running. meets (expired c.args.view ∷ past) earlier
+          (c.expire.ensures.expired below past earlier running);
+      ahead = λ beyond. subst (λ v. RunMeets (config_by c.args.it.now.validator.voter.node) v
+          c.send_again.new.self again) (c.expire.ensures.ahead beyond) meets;
+      on_disk = refl;
+    }

@@ -1,0 +1,471 @@
+-- What the calls of a validator do whose caller verifies signatures and writes to the disk, and how
+-- its answers are written. What is said of it are the words of `batcher_validator`.
+use Rattle.std.specs.Prelude.{◌≡◌, ◌≢◌, ◌<◌, ◌≤◌, ◌++◌, ◌⊎◌, ◌&&◌, ⊤, ℕ, Bool, true, false, List, [], ◌∷◌, length, map}
+use Rattle.std.specs.Prelude.{nat_lt, Contains, MatchBool, MatchOption, Option, Some, None, Result, Ok, Err, IfErr, IfOk, IfSome, IsSomeAnd, OnErr, OnOk, is_some}
+use Rattle.std.specs.Ordering.{nat_cmp}
+use Rattle.std.specs.declared.alloc.AllocError.{AllocError}
+use Rattle.batcher.specs.Meaning.{Meaning}
+use Rattle.batcher.specs.RoundContracts.{round_config}
+use Rattle.batcher.specs.RoundState.{RoundView}
+use Rattle.batcher.specs.Config.{Config}
+use Rattle.batcher.specs.Verifiers.{certifies_itself}
+use Rattle.batcher.specs.answers.Admission.{Admission}
+use Rattle.batcher_types.specs.Votes.{attestation_of, round_in as round_signed, subject_certified, content_of, subject_of}
+use Rattle.batcher_types.specs.declared.messages.Attestation.{Attestation}
+use Rattle.batcher_types.specs.declared.messages.Certificate.{Certificate}
+use Rattle.batcher_types.specs.declared.messages.Kind.{Kind}
+use Rattle.batcher_types.specs.declared.messages.Sha256Digest.{Sha256Digest}
+use Rattle.batcher_types.specs.declared.messages.Subject.{Subject}
+use Rattle.batcher_types.specs.declared.messages.Vote.{Vote}
+use Rattle.batcher_types.specs.declared.positions.Round.{Round}
+use Rattle.batcher_types.specs.declared.scheme.keyed.Name.{Name}
+use Rattle.batcher_types.specs.Keys.{participant}
+use Rattle.batcher_agreement.specs.Lives.{called}
+use Rattle.batcher_agreement.specs.Policy.{Conduct}
+use Rattle.batcher_bytes.specs.Encodings.{ProofView, proof_format, signature_format}
+use Rattle.batcher_bytes.specs.Keys.{same_digest}
+use Rattle.batcher_bytes.specs.Kept.{proof_of, proved_at_once, vouches}
+use Rattle.batcher_bytes.specs.Listings.{attests}
+use Rattle.batcher_bytes.specs.declared.signature.Keys.{Keys}
+use Rattle.batcher_bytes.specs.declared.signature.Signature.{Signature}
+use Rattle.batcher_bytes.specs.declared.signature.TheConstants.{WIDTH}
+use Rattle.batcher_bytes.specs.declared.signed.Signed.{Signed}
+use Rattle.batcher_codec.specs.Messages.{certificate_format, sha256_format, vote_format}
+use Rattle.batcher_journal.specs.Text.{OwnerFields}
+use Rattle.batcher_journal.specs.declared.journal.OpenFault.{OpenFault}
+use Rattle.batcher_journal.specs.declared.journal.OpenFault.TheVariants.{NotBegun, OtherVersion, OtherLengths, OtherParticipant, OtherKeys, OtherNamespace, OutOfMemory as NoMemoryToOpen, Malformed as NoJournal, Contradiction}
+use Rattle.batcher_loop.specs.declared.looping.Loop.{Loop}
+use Rattle.batcher_loop.specs.declared.looping.Next.{Next}
+use Rattle.batcher_loop.specs.declared.looping.Next.TheVariants.{Do, Write}
+use Rattle.batcher_loop.specs.declared.starting.LoopFault.{LoopFault}
+use Rattle.batcher_loop.specs.declared.starting.LoopFault.TheVariants.{NotOpened, NotStarted, OutOfMemory as NoMemoryToStart}
+use Rattle.batcher_node.specs.Events.{certificate_came, view_entered, vote_came}
+use Rattle.batcher_node.specs.Nodes.{IsLedByAnother, IsNext, NodeConfig, NodeView, node_config, slot_at}
+use Rattle.batcher_node.specs.Represents.{IsHeard}
+use Rattle.batcher_node.specs.Windows.{is_of}
+use Rattle.batcher_node.specs.Verdicts.{LooksAtThere}
+use Rattle.batcher_node.specs.declared.answers.Cast.{Cast}
+use Rattle.batcher_node.specs.declared.answers.Cast.TheVariants.{ToSend, Known as KnownVote, Outside as OutsideVote}
+use Rattle.batcher_node.specs.declared.answers.EnterFault.{EnterFault}
+use Rattle.batcher_node.specs.declared.answers.Receipt.{Receipt}
+use Rattle.batcher_node.specs.declared.answers.Verdict.{Verdict}
+use Rattle.batcher_validator.specs.Histories.{ValidatorEvent, again, answered, chose, did, expired, took}
+use Rattle.batcher_validator.specs.Queues.{HasKey}
+use Rattle.batcher_validator.specs.Running.{Constructs, ForEachRun, Gives, HasBegun, IsReady, IsRunning, RunCasts, RunMayWrite, RunMeets, RunStays}
+use Rattle.batcher_validator.specs.Shelves.{IsToAnnounce, key_of}
+use Rattle.batcher_validator.specs.Tasks.{NothingIsDue}
+use Rattle.batcher_validator.specs.declared.task.PollFault.{PollFault}
+use Rattle.batcher_validator.specs.declared.task.PollFault.TheVariants.{Closed, Full, OutOfMemory as NoMemoryToPoll}
+use Rattle.batcher_validator.specs.declared.task.Task.{Task}
+use Rattle.batcher_voter.specs.Remembering.{IsLeft}
+use Rattle.batcher_voter.specs.Voting.{WhyNotCast}
+use Rattle.batcher_voter.specs.declared.answers.CastFault.{CastFault}
+use Rattle.batcher_voter.specs.declared.answers.CastFault.TheVariants.{Closed as NotOpen, Excluded, Full as NoRoom, NotOwn, OutOfMemory as NoMemoryToCast, Refused, Signed as SignedBefore}
+use Rattle.batcher_voter.specs.declared.answers.StartFault.{StartFault}
+use Rattle.batcher_voter.specs.declared.answers.StartFault.TheVariants.{OutOfMemory as NoMemoryForVoter}
+use Rattle.batcher_any.specs.Judging.{same_signature}
+use Rattle.batcher_ffi.specs.contracts.caller.CallerTruth.TheImpl.{ghosts}
+use Rattle.batcher_ffi.specs.declared.caller.Caller.{Caller}
+use Rattle.batcher_ffi.specs.declared.codes.TheConstants.{BEGUN, CLOSED, DAMAGED, DONE, ELSEWHERE, FORGED, FULL, IDLE, KNOWN, LEADER_CHANGED, MALFORMED, NOT_BEGUN}
+use Rattle.batcher_ffi.specs.declared.codes.TheConstants.{NOT_OWN, NOT_VERIFIED, OTHER_OWNER, OTHER_VERSION, OUT_OF_MEMORY, PASSED, REFUSED, SHORT, SIGNED, STALE, VERIFY, WRITE}
+use Rattle.batcher_ffi.specs.declared.flat.FlatAdmission.{FlatAdmission}
+use Rattle.batcher_ffi.specs.declared.flat.FlatAttestation.{FlatAttestation}
+use Rattle.batcher_ffi.specs.declared.flat.FlatProposal.{FlatProposal}
+use Rattle.batcher_ffi.specs.declared.flat.FlatStep.{FlatStep}
+use Rattle.batcher_ffi.specs.declared.flat.FlatVote.{FlatVote}
+use Rattle.batcher_ffi.specs.declared.loops.LoopOptions.{LoopOptions}
+use Rattle.batcher_ffi.specs.declared.tasks.FlatTask.{FlatTask}
+use Rattle.batcher_ffi.specs.Flat.{AreIn, fault_in, kind_in, proposal_in, raw_in, round_in, subject_in, vote_in}
+use Rattle.batcher_ffi.specs.Answers.{AnswersVote, enter_code, receipt_code, verdict_code}
+use Rattle.batcher_ffi.specs.Output.{IsWritten, WritesAll}
+use Rattle.batcher_ffi.specs.Rounds.{AreOfParticipants, is_one_of}
+use Rattle.batcher_ffi.specs.Tasks.{IsProposedIn, task_in}
+use Rattle.batcher_ffi.specs.Truths.{is_attested}
+
+-- a validator as C has it
+abbrev pub CLoop : Type 0
+CLoop = Loop Caller
+
+-- what a scheme means whose certificates are kept with their verdicts
+abbrev pub signed_meaning : List Name → Keys → Meaning Sha256Digest Name Signature ProofView
+signed_meaning participants keys =
+    record {
+      participants = participants;
+      batchable = true;
+      attests = λ subject a. attests ghosts keys (length participants) subject a;
+      certifies = λ subject c. vouches subject c;
+      left_by_verifying = λ subject pending stream. stream;
+      assembled_at_once = λ subject pending verified stream. proved_at_once ghosts keys
+          (length participants) subject pending verified stream;
+      assembled = λ subject prior fresh. proof_of subject (prior ++ fresh);
+    }
+
+-- the configuration of its rounds
+abbrev pub config_by : NodeView (Signed Caller 1) Signature Sha256Digest
+    → NodeConfig Sha256Digest Name Signature ProofView
+config_by node =
+    node_config (λ s. signed_meaning s.participants s.keys) (λ a b. nat_cmp a.0 b.0) same_signature
+    same_digest node
+
+abbrev pub loop_config : CLoop → NodeConfig Sha256Digest Name Signature ProofView
+loop_config l = config_by l.validator.voter.node
+
+-- and of one of them
+abbrev pub loop_round_config : RoundView (Signed Caller 1) Signature Sha256Digest
+    → Config Sha256Digest Name Signature ProofView
+loop_round_config round =
+    round_config (λ s. signed_meaning s.participants s.keys) (λ a b. nat_cmp a.0 b.0) same_signature
+    same_digest round
+
+-- which keys its participants have, and how many these are
+abbrev pub loop_keys : CLoop → Keys
+loop_keys l = l.validator.voter.node.scheme.keys
+
+abbrev pub loop_participants : CLoop → ℕ
+loop_participants l = length l.validator.voter.node.scheme.participants
+
+-- what its disk is to have
+abbrev pub log_of : CLoop → List ℕ
+log_of l = l.validator.voter.journal.log.bytes.items
+
+-- the certificates that it keeps
+abbrev pub kept_in : CLoop → List (Certificate ProofView Sha256Digest)
+kept_in l = l.validator.shelf.certificates
+
+-- What a caller has verified, by the keys of the validator: a vote, or a list one by one.
+module _ (handle : Option CLoop) where
+  abbrev pub IsVerifiedFor : FlatVote → Bool → Type 0
+  IsVerifiedFor vote attests = IfSome handle (λ l. IfSome (vote_in vote) (λ typed.
+      is_attested (loop_keys l) (subject_of typed) (attestation_of typed) ≡ attests))
+
+  abbrev pub AreVerifiedBy : ℕ → FlatProposal → List FlatAttestation → List Bool → Type 0
+  AreVerifiedBy kind proposal list verdicts = IfSome handle (λ l.
+      IfSome (subject_in kind proposal) (λ subject. (all : List (Attestation Signature))
+      → AreIn list all → length verdicts ≡ length all
+      → verdicts ≡ map (is_attested (loop_keys l) subject) all))
+
+-- why there is no validator of what a disk has
+abbrev pub open_code : OpenFault → ℕ
+open_code NoMemoryToOpen = OUT_OF_MEMORY
+open_code NotBegun = NOT_BEGUN
+open_code OtherVersion = OTHER_VERSION
+open_code OtherLengths = OTHER_OWNER
+open_code OtherParticipant = OTHER_OWNER
+open_code OtherKeys = OTHER_OWNER
+open_code OtherNamespace = OTHER_OWNER
+open_code NoJournal = DAMAGED
+open_code Contradiction = DAMAGED
+
+abbrev pub voter_code : StartFault → ℕ
+voter_code NoMemoryForVoter = OUT_OF_MEMORY
+voter_code fault = DAMAGED
+
+abbrev pub start_code : LoopFault → ℕ
+start_code NoMemoryToStart = OUT_OF_MEMORY
+start_code (NotOpened fault) = open_code fault
+start_code (NotStarted fault) = voter_code fault
+
+abbrev pub start_codes : List ℕ
+start_codes =
+    OUT_OF_MEMORY ∷ NOT_BEGUN ∷ OTHER_VERSION ∷ OTHER_OWNER ∷ DAMAGED ∷ []
+
+-- A validator is of this scheme and this owner, and looks so many views ahead.
+pub record IsOf (options : LoopOptions) (scheme : Signed Caller 1) (owner : OwnerFields)
+    (l : CLoop) : Type 0 where
+  pub scheme_is : l.validator.voter.node.scheme ≡ scheme
+  pub epoch_is : l.validator.voter.node.epoch ≡ record { 0 = options.epoch }
+  pub owner_is : l.validator.voter.journal.contents.owner ≡ owner
+  pub ahead_is : l.validator.voter.node.window.ahead ≡ options.ahead
+  pub retains_is : l.validator.voter.node.retains ≡ options.track_historical_votes
+
+-- It begins where nothing is on the disk, or goes on from what its participant did.
+abbrev pub GoesOnFrom : Bool → List ℕ → CLoop → Type 0
+GoesOnFrom begins disk l =
+    MatchBool begins
+    ((disk ≡ [])
+    × HasBegun (loop_config l) (certificate_format proof_format sha256_format) [] l.validator)
+    ((earlier : Conduct Sha256Digest)
+    → IsLeft (vote_format signature_format sha256_format) earlier disk
+    → HasBegun (loop_config l) (certificate_format proof_format sha256_format) earlier
+    l.validator)
+
+pub record IsMade (options : LoopOptions) (namespace disk : List ℕ) (l : CLoop) : Type 0 where
+  pub participants_are : loop_participants l ≡ options.participants
+  pub keys_are : loop_keys l ≡ record { 0 = options.keys }
+  pub epoch_is : l.validator.voter.node.epoch ≡ record { 0 = options.epoch }
+  pub owner_is : l.validator.voter.journal.contents.owner
+      ≡ (32, (WIDTH, (options.participant, (options.keys, namespace))))
+  pub ahead_is : l.validator.voter.node.window.ahead ≡ options.ahead
+  pub retains_is : l.validator.voter.node.retains ≡ options.track_historical_votes
+  pub goes_on : GoesOnFrom options.begins disk l
+  pub on_disk : l.on_disk.items ≡ disk
+
+pub record WhyNotMade (options : LoopOptions) (disk : List ℕ) (code : ℕ) : Type 0 where
+  pub codes : is_one_of (MALFORMED ∷ BEGUN ∷ start_codes) code ≡ true
+  pub malformed : code ≡ MALFORMED → options.participants ≤ options.participant
+  pub begun : code ≡ BEGUN → (options.begins ≡ true) × (disk ≢ [])
+  pub not_begun : code ≡ NOT_BEGUN → disk ≡ []
+
+-- What a call that makes a validator does to a handle: where it fails, the handle stays as it was.
+pub record MakesLoop (old new : Option CLoop) (code : ℕ) (options : LoopOptions)
+    (namespace disk : List ℕ) : Type 0 where
+  pub done : code ≡ DONE → IsSomeAnd new (IsMade options namespace disk)
+  pub refused : code ≢ DONE → WhyNotMade options disk code
+  pub stays : code ≢ DONE → new ≡ old
+
+-- what is to be done next, or why that isn't said
+abbrev pub AnswersPoll : Result (Option Next) PollFault → ℕ → FlatTask → FlatTask → Type 0
+AnswersPoll (Ok (Some (Do task))) code old out = (code ≡ DONE) × (task_in out ≡ Some task)
+AnswersPoll (Ok (Some Write)) code old out = (code ≡ WRITE) × (out ≡ old)
+AnswersPoll (Ok None) code old out = (code ≡ IDLE) × (out ≡ old)
+AnswersPoll (Err NoMemoryToPoll) code old out = (code ≡ OUT_OF_MEMORY) × (out ≡ old)
+AnswersPoll (Err Full) code old out = (code ≡ FULL) × (out ≡ old)
+AnswersPoll (Err Closed) code old out = (code ≡ CLOSED) × (out ≡ old)
+
+-- What a vote of its own is answered that is cast. Where the node excludes it, the code says why.
+abbrev pub CastCode : Result (Cast Signature Sha256Digest) (CastFault Signature Sha256Digest) → ℕ
+    → Type 0
+CastCode (Ok (ToSend report)) code = code ≡ DONE
+CastCode (Ok KnownVote) code = code ≡ KNOWN
+CastCode (Ok OutsideVote) code = code ≡ ELSEWHERE
+CastCode (Err NoMemoryToCast) code = code ≡ OUT_OF_MEMORY
+CastCode (Err NoRoom) code = code ≡ FULL
+CastCode (Err NotOwn) code = code ≡ NOT_OWN
+CastCode (Err (SignedBefore known)) code = code ≡ SIGNED
+CastCode (Err (Refused rule)) code = code ≡ REFUSED
+CastCode (Err NotOpen) code = code ≡ CLOSED
+CastCode (Err (Excluded fault)) code = fault_in code ≡ Some fault
+
+-- Attestations are lent, on which verdicts are wanted.
+pub record IsLent (l : CLoop) (out : FlatStep) (room list : List FlatAttestation) : Type 0 where
+  pub subject : Subject Sha256Digest
+  pub asked : List (Attestation Signature)
+  pub looks_at : (view : ℕ) → IsNext l.validator.voter.node.rounds view
+      → LooksAtThere loop_round_config (slot_at l.validator.voter.node.rounds view) subject asked
+  pub about : subject_in out.kind out.proposal ≡ Some subject
+  pub listed : out.listed ≡ length asked
+  pub written : IsWritten raw_in asked room list
+
+-- Questions to a validator, and what is answered to them. It stays as it was.
+module _ (l : CLoop) (code : ℕ) where
+  -- What is to be written, behind what is there or in its place.
+  pub record AsksOwed (room list : List ℕ) (count : ℕ) (replaces : Bool) : Type 0 where
+    pub codes : is_one_of (DONE ∷ IDLE ∷ SHORT ∷ []) code ≡ true
+    pub none : code ≡ IDLE → (l.on_disk.items ≡ log_of l) × (list ≡ room)
+    pub owed : List ℕ
+    pub has_all : code ≢ IDLE
+        → MatchBool replaces (owed ≡ log_of l) (l.on_disk.items ++ owed ≡ log_of l)
+    pub written : code ≢ IDLE → WritesAll owed room list count code
+
+  -- A certificate is kept, and its bytes and its proposal are written.
+  pub record IsKept (key : Kind × Round) (kind : ℕ) (asked out : FlatProposal)
+      (room list : List ℕ) (count : ℕ) : Type 0 where
+    pub certificate : Certificate ProofView Sha256Digest
+    pub there : Contains (kept_in l) certificate
+    pub key_is : key_of certificate ≡ key
+    pub bytes : WritesAll (content_of certificate).bytes room list count code
+    pub subject : code ≡ DONE → subject_in kind out ≡ Some (subject_certified certificate)
+    pub short : code ≡ SHORT → out ≡ asked
+
+  -- One of a kind and a round, if it is kept.
+  abbrev pub AsksKept : ℕ → FlatProposal → FlatProposal → List ℕ → List ℕ → ℕ → Type 0
+  AsksKept kind asked out room list count =
+      MatchOption (kind_in kind) ((code ≡ MALFORMED) × ((list ≡ room) × (out ≡ asked))) (λ typed.
+      IsKept (typed, round_in asked) kind asked out room list count
+      ⊎ ((code ≡ IDLE) × ((list ≡ room) × ((out ≡ asked)
+      × (HasKey key_of (kept_in l) (typed, round_in asked) → ⊥)))))
+
+-- Calls of a validator, and what is answered to them.
+module _ (before : CLoop) (code : ℕ) (after : CLoop) where
+  -- it goes on with one more event
+  abbrev pub Notes : ValidatorEvent Sha256Digest Name Signature ProofView → Type 0
+  Notes event = RunMeets (loop_config before) before.validator after.validator event
+
+  -- nothing happened that counts
+  abbrev pub Rests : Type 0
+  Rests = RunStays (loop_config before) before.validator after.validator
+
+  -- What is handed in has a meaning, of which it holds. Else the code says so, and nothing changes.
+  abbrev pub IfRead : {A : Type 0} → Option A → Type 0 → (A → Type 0) → Type 0
+  IfRead None stays holds = (code ≡ MALFORMED) × ((after ≡ before) × stays)
+  IfRead (Some read) stays holds = holds read
+
+  -- What is to be done next. A task is given only where all is written that it rests on.
+  pub record Polls (old out : FlatTask) : Type 0 where
+    pub answer : Result (Option Next) PollFault
+    pub written : AnswersPoll answer code old out
+    pub proposed : IsProposedIn before.validator.voter.node.epoch out ⊎ (code ≢ DONE)
+    pub writes : code ≡ WRITE → (after ≡ before) × (before.on_disk.items ≢ log_of before)
+    pub is_written : code ≡ DONE → before.on_disk.items ≡ log_of before
+    pub gives : (task : Task Signature Sha256Digest) → answer ≡ Ok (Some (Do task))
+        → Gives (loop_config before) before.validator after.validator task
+    pub ready : (task : Task Signature Sha256Digest) → answer ≡ Ok (Some (Do task))
+        → IsReady before.validator task
+    pub nothing : code ≡ IDLE → ForEachRun (loop_config before) before.validator
+        (λ past earlier. NothingIsDue (loop_config before) earlier past)
+    pub rests : code ≡ IDLE → Rests
+    pub why : OnErr answer ((before.validator.voter.journal.is_open ≡ false)
+        ⊎ IsToAnnounce before.validator.given.announced (kept_in before))
+    pub refused : OnErr answer Rests
+    pub closed : code ≡ CLOSED → after.validator.voter.journal.is_open ≡ false
+    pub full : code ≡ FULL → after.validator.voter.journal.is_open ≡ true
+    pub on_disk : after.on_disk ≡ before.on_disk
+
+  -- what is owed is written
+  pub record Wrote : Type 0 where
+    pub codes : is_one_of (DONE ∷ OUT_OF_MEMORY ∷ []) code ≡ true
+    pub written : code ≡ DONE → after.on_disk.items ≡ log_of after
+    pub validator : after.validator ≡ before.validator
+    pub refused : code ≡ OUT_OF_MEMORY → after.on_disk.items ≡ before.on_disk.items
+
+  -- a vote of a peer, whose key is the number
+  pub record VoteCame (peer : ℕ) (vote : Vote Signature Sha256Digest) (old out : FlatAdmission)
+      : Type 0 where
+    pub answer : Result (Receipt (Admission Signature Sha256Digest)) AllocError
+    pub written : AnswersVote answer code old out
+    pub meets : IfOk answer (λ receipt.
+        Notes (did (called (vote_came (record { 0 = peer }) vote receipt))))
+    pub heard : OnErr answer (IsHeard (loop_config before) before.validator.voter.node
+        (record { 0 = peer }) (round_signed (subject_of vote)))
+    pub refused : OnErr answer (after ≡ before)
+    pub on_disk : after.on_disk ≡ before.on_disk
+
+  abbrev pub HearsVote : ℕ → FlatVote → FlatAdmission → FlatAdmission → Type 0
+  HearsVote peer vote old out =
+      IfRead (vote_in vote) (out ≡ old) (λ typed. VoteCame peer typed old out)
+
+  -- A certificate is taken in as one that a peer sent,
+  pub record IsOfPeer (peer : ℕ) (certificate : Certificate ProofView Sha256Digest) : Type 0 where
+    pub answer : Result (Receipt Verdict) AllocError
+    pub code_is : code ≡ receipt_code verdict_code answer
+    pub meets : IfOk answer (λ receipt.
+        Notes (did (called (certificate_came (record { 0 = peer }) certificate receipt))))
+    pub refused : OnErr answer Rests
+
+  -- or from beyond the window, where who fell behind goes on by it.
+  pub record IsFromAhead (certificate : Certificate ProofView Sha256Digest) : Type 0 where
+    pub codes : is_one_of (DONE ∷ FORGED ∷ OUT_OF_MEMORY ∷ []) code ≡ true
+    pub outside : is_of before.validator.voter.node.epoch before.validator.voter.node.window
+        (round_signed (subject_certified certificate)) ≡ false
+    pub took_in : code ≡ DONE → Notes (took certificate)
+    pub forged : code ≡ FORGED
+        → certifies_itself (loop_config before).meaning certificate ≡ false
+    pub forged_stays : code ≡ FORGED → after ≡ before
+    pub refused : code ≡ OUT_OF_MEMORY → Rests
+
+  -- memory is refused for the copy of its bytes
+  pub record IsNotCopied (bytes : List ℕ) : Type 0 where
+    pub code_is : code ≡ OUT_OF_MEMORY
+    pub some : 1 ≤ length bytes
+    pub same : after ≡ before
+
+  -- Its bytes are copied first, with whether they certify.
+  pub record CertificateCame (peer : ℕ) (subject : Subject Sha256Digest) (bytes : List ℕ)
+      (certifies : Bool) : Type 0 where
+    pub certificate : Certificate ProofView Sha256Digest
+    pub subject_is : subject_certified certificate ≡ subject
+    pub content_is : content_of certificate ≡ record {
+      subject = subject;
+      certifies = certifies;
+      bytes = bytes;
+    }
+    pub came : IsOfPeer peer certificate ⊎ IsFromAhead certificate
+    pub on_disk : after.on_disk ≡ before.on_disk
+
+  abbrev pub HearsCertificate : ℕ → ℕ → FlatProposal → List ℕ → Bool → Type 0
+  HearsCertificate peer kind proposal bytes certifies =
+      IfRead (subject_in kind proposal) (Unit {0}) (λ subject.
+      IsNotCopied bytes ⊎ CertificateCame peer subject bytes certifies)
+
+  -- Where no kind is ready, its view rests.
+  pub record Lends (old out : FlatStep) (room list : List FlatAttestation) : Type 0 where
+    pub codes : is_one_of (VERIFY ∷ IDLE ∷ SHORT ∷ OUT_OF_MEMORY ∷ []) code ≡ true
+    pub short : code ≡ SHORT → length room < loop_participants before
+    pub fits : code ≡ VERIFY → loop_participants before ≤ length room
+    pub lent : code ≡ VERIFY → IsLent before out room list
+    pub same : (code ≡ VERIFY) ⊎ (code ≡ SHORT) → after ≡ before
+    pub rests : code ≡ IDLE
+        → Constructs (loop_config before) before.validator after.validator ⊎ Notes answered
+    pub refused : code ≡ OUT_OF_MEMORY → Rests
+    pub stays : code ≢ VERIFY → (out ≡ old) × (list ≡ room)
+    pub on_disk : after.on_disk ≡ before.on_disk
+
+  -- A construction is made by verdicts, or they are of something else.
+  pub record IsConcluded (subject : Subject Sha256Digest) (all : List (Attestation Signature))
+      : Type 0 where
+    pub codes : is_one_of (DONE ∷ STALE ∷ OUT_OF_MEMORY ∷ []) code ≡ true
+    pub made : code ≡ DONE → Constructs (loop_config before) before.validator after.validator
+    pub stale : code ≡ STALE → Notes answered
+    pub not_stale : (view : ℕ) → IsNext before.validator.voter.node.rounds view
+        → LooksAtThere loop_round_config (slot_at before.validator.voter.node.rounds view) subject
+        all → code ≢ STALE
+    pub refused : code ≡ OUT_OF_MEMORY → Rests
+    pub on_disk : after.on_disk ≡ before.on_disk
+
+  -- Verdicts on what was lent.
+  pub record Concludes (kind : ℕ) (proposal : FlatProposal) (list : List FlatAttestation)
+      (verdicts : List Bool) : Type 0 where
+    pub codes : is_one_of (DONE ∷ MALFORMED ∷ STALE ∷ OUT_OF_MEMORY ∷ []) code ≡ true
+    pub meaningless : subject_in kind proposal ≡ None → code ≡ MALFORMED
+    pub unlike : length verdicts ≢ length list → code ≡ MALFORMED
+    pub malformed : code ≡ MALFORMED → is_some (subject_in kind proposal) ≡ true
+        → AreOfParticipants (loop_participants before) list → length verdicts ≡ length list → ⊥
+    pub concluded : code ≢ MALFORMED → code ≢ OUT_OF_MEMORY → (subject : Subject Sha256Digest)
+        × ((all : List (Attestation Signature)) × ((subject_in kind proposal ≡ Some subject)
+        × (AreIn list all × IsConcluded subject all)))
+    pub refused : code ≡ OUT_OF_MEMORY → Rests
+    pub stays : code ≡ MALFORMED → after ≡ before
+    pub on_disk : after.on_disk ≡ before.on_disk
+
+  -- a vote of its own that attests
+  pub record VoteCast (vote : Vote Signature Sha256Digest) : Type 0 where
+    pub answer : Result (Cast Signature Sha256Digest) (CastFault Signature Sha256Digest)
+    pub code_is : CastCode answer code
+    pub meets : IfOk answer (λ cast.
+        RunCasts (loop_config before) before.validator vote cast after.validator)
+    pub refused : OnErr answer (ForEachRun (loop_config before) before.validator (λ past earlier.
+        RunMayWrite (loop_config before) vote past earlier after.validator))
+    pub why : IfErr answer (λ fault. WhyNotCast (loop_config before) same_digest
+        before.validator.voter vote fault after.validator.voter)
+    pub on_disk : after.on_disk ≡ before.on_disk
+
+  -- one that doesn't attest, or whose signer takes no part
+  pub record IsNotVerified (vote : Vote Signature Sha256Digest) (attests : Bool) : Type 0 where
+    pub code_is : code ≡ NOT_VERIFIED
+    pub why : (nat_lt (attestation_of vote).signer.0 (loop_participants before) && attests) ≡ false
+    pub stays : after ≡ before
+
+  abbrev pub CastsOwn : FlatVote → Bool → Type 0
+  CastsOwn vote attests =
+      IfRead (vote_in vote) (Unit {0}) (λ typed. IsNotVerified typed attests ⊎ VoteCast typed)
+
+  -- a view, with its leader
+  pub record EntersNext (view leader : ℕ) : Type 0 where
+    pub answer : Result ⊤ EnterFault
+    pub code_is : code ≡ enter_code answer
+    pub meets : OnOk answer (Notes (did (called (view_entered view (participant leader)))))
+    pub passed : code ≡ PASSED → view < before.validator.voter.node.window.finalized
+    pub led : code ≡ LEADER_CHANGED
+        → IsLedByAnother (slot_at before.validator.voter.node.rounds view) (participant leader)
+    pub needed : code ≡ OUT_OF_MEMORY → slot_at before.validator.voter.node.rounds view ≡ None
+    pub refused : OnErr answer (after ≡ before)
+    pub on_disk : after.on_disk ≡ before.on_disk
+
+  -- Whether a proposal is valid. Of a view that it isn't in yet nothing is noted.
+  pub record Judges (proposal : FlatProposal) (valid : Bool) : Type 0 where
+    pub codes : code ≡ DONE
+    pub chooses : valid ≡ true → proposal.view ≤ before.validator.voter.node.window.current
+        → Notes (chose (proposal_in proposal))
+    pub gives_up : valid ≡ false → proposal.view ≤ before.validator.voter.node.window.current
+        → Notes (expired proposal.view)
+    pub ahead : before.validator.voter.node.window.current < proposal.view → after ≡ before
+    pub on_disk : after.on_disk ≡ before.on_disk
+
+  -- The time of a view is over, and all that is to be sent is given again.
+  pub record Expires (view : ℕ) : Type 0 where
+    pub codes : code ≡ DONE
+    pub expires : view ≤ before.validator.voter.node.window.current
+        → ForEachRun (loop_config before) before.validator (λ past earlier.
+        IsRunning (loop_config before) (again ∷ expired view ∷ past) earlier after.validator)
+    pub ahead : before.validator.voter.node.window.current < view → Notes again
+    pub on_disk : after.on_disk ≡ before.on_disk

@@ -1,0 +1,245 @@
+//! The functions of a validator that C calls. Each answers a code of the header.
+
+ghost use Rattle.std.specs.Prelude.{◌≡◌, ⊤, None};
+ghost use Rattle.batcher_ffi.specs.Handles.{OnLoop};
+ghost use Rattle.batcher_ffi.specs.Loops.{AreVerifiedBy, AsksKept, AsksOwed, CastsOwn, Concludes, EntersNext, Expires, HearsCertificate, HearsVote, IsVerifiedFor, Judges, Lends};
+ghost use Rattle.batcher_ffi.specs.Loops.{MakesLoop, Polls, Wrote};
+
+use crate::codes::{DONE, NONE, OUT_OF_MEMORY};
+use crate::flat::{FlatAdmission, FlatAttestation, FlatProposal, FlatStep, FlatVote};
+use crate::handle::LoopHandle;
+use crate::loops::{self, LoopOptions};
+use crate::tasks::FlatTask;
+use std::alloc::Global;
+
+/// Makes a validator that begins, or that goes on by what its disk has. The handle's earlier one is
+/// freed.
+#[unsafe(no_mangle)]
+pub extern "C" fn batcher_loop_start(
+    validator: &mut LoopHandle,
+    alloc: Global,
+    options: &LoopOptions,
+    namespace_bytes: &[u8],
+    disk: &[u8],
+) -> u8
+    ensures { MakesLoop validator.old.value validator.new.value result options.now
+        namespace_bytes.now disk.now }
+{
+    match loops::made(alloc, options, namespace_bytes, disk) {
+        Ok(made) => match Box::new(alloc, made) {
+            Ok(made) => {
+                validator.put(made);
+                DONE
+            }
+            Err(_) => OUT_OF_MEMORY,
+        },
+        Err(code) => code,
+    }
+}
+
+/// Frees the validator, if there is one, and leaves the handle empty.
+#[unsafe(no_mangle)]
+pub extern "C" fn batcher_loop_free(validator: &mut LoopHandle, alloc: Global)
+    ensures { validator.new.value ≡ None }
+{
+    drop(validator.take(alloc));
+}
+
+/// What is to be done next, or that something is to be written before, or that nothing is until
+/// something comes.
+#[unsafe(no_mangle)]
+pub extern "C" fn batcher_loop_poll(validator: &mut LoopHandle, out: &mut FlatTask) -> u8
+    ensures { OnLoop validator.old.value validator.new.value result (out.new ≡ out.old)
+        (λ before after. Polls before result after out.old out.new) }
+{
+    let Some(validator) = validator.as_mut() else {
+        return NONE;
+    };
+    loops::poll(validator, out)
+}
+
+/// What is to be written to the disk: behind what is there, or in its place.
+#[unsafe(no_mangle)]
+pub extern "C" fn batcher_loop_owed(
+    validator: &mut LoopHandle,
+    room: &mut [u8],
+    count: &mut u64,
+    replaces: &mut bool,
+) -> u8
+    ensures { OnLoop validator.old.value validator.new.value result ((room.new ≡ room.old)
+        × ((count.new ≡ count.old) × (replaces.new ≡ replaces.old))) (λ before after.
+        (after ≡ before) × AsksOwed before result room.old room.new count.new replaces.new) }
+{
+    let Some(validator) = validator.as_mut() else {
+        return NONE;
+    };
+    loops::owed(validator, room, count, replaces)
+}
+
+/// What is owed is written. Where memory is refused, say it again.
+#[unsafe(no_mangle)]
+pub extern "C" fn batcher_loop_wrote(validator: &mut LoopHandle) -> u8
+    ensures { OnLoop validator.old.value validator.new.value result (Unit {0}) (λ before after.
+        Wrote before result after) }
+{
+    let Some(validator) = validator.as_mut() else {
+        return NONE;
+    };
+    loops::wrote(validator)
+}
+
+/// Takes in a vote that was sent by the peer with this key.
+#[unsafe(no_mangle)]
+pub extern "C" fn batcher_loop_vote(
+    validator: &mut LoopHandle,
+    peer: u64,
+    vote: &FlatVote,
+    out: &mut FlatAdmission,
+) -> u8
+    ensures { OnLoop validator.old.value validator.new.value result (out.new ≡ out.old)
+        (λ before after. HearsVote before result after peer vote.now out.old out.new) }
+{
+    let Some(validator) = validator.as_mut() else {
+        return NONE;
+    };
+    loops::receive_vote(validator, peer, vote, out)
+}
+
+/// Takes in a certificate that was sent by the peer with this key, with the caller's verdict on it.
+/// One from beyond the window is taken in too: by it a validator that fell behind goes on.
+#[unsafe(no_mangle)]
+pub extern "C" fn batcher_loop_certificate(
+    validator: &mut LoopHandle,
+    alloc: Global,
+    peer: u64,
+    kind: u8,
+    proposal: &FlatProposal,
+    bytes: &[u8],
+    certifies: bool,
+) -> u8
+    ensures { OnLoop validator.old.value validator.new.value result (Unit {0}) (λ before after.
+        HearsCertificate before result after peer kind proposal.now bytes.now certifies) }
+{
+    let Some(validator) = validator.as_mut() else {
+        return NONE;
+    };
+    loops::receive_certificate(validator, alloc, peer, kind, proposal, bytes, certifies)
+}
+
+/// Writes the attestations on which verdicts are wanted, and what they are to attest. Where there
+/// are none, the view rests.
+#[unsafe(no_mangle)]
+pub extern "C" fn batcher_loop_lend(
+    validator: &mut LoopHandle,
+    out: &mut FlatStep,
+    list: &mut [FlatAttestation],
+) -> u8
+    ensures { OnLoop validator.old.value validator.new.value result ((out.new ≡ out.old)
+        × (list.new ≡ list.old)) (λ before after.
+        Lends before result after out.old out.new list.old list.new) }
+{
+    let Some(validator) = validator.as_mut() else {
+        return NONE;
+    };
+    loops::lend(validator, out, list)
+}
+
+/// Makes the next construction by verdicts on what was lent.
+#[unsafe(no_mangle)]
+pub extern "C" fn batcher_loop_conclude(
+    validator: &mut LoopHandle,
+    alloc: Global,
+    kind: u8,
+    proposal: &FlatProposal,
+    list: &[FlatAttestation],
+    verdicts: &[bool],
+) -> u8
+    requires { AreVerifiedBy validator.old.value kind proposal.now list.now verdicts.now }
+    ensures { OnLoop validator.old.value validator.new.value result (Unit {0}) (λ before after.
+        Concludes before result after kind proposal.now list.now verdicts.now) }
+{
+    let Some(validator) = validator.as_mut() else {
+        return NONE;
+    };
+    loops::conclude(validator, alloc, kind, proposal, list, verdicts)
+}
+
+/// Casts a vote of its own, by the caller's verdict on it: one that was to be signed, or to be cast
+/// again.
+#[unsafe(no_mangle)]
+pub extern "C" fn batcher_loop_cast(
+    validator: &mut LoopHandle,
+    vote: &FlatVote,
+    attests: bool,
+) -> u8
+    requires { IsVerifiedFor validator.old.value vote.now attests }
+    ensures { OnLoop validator.old.value validator.new.value result (Unit {0}) (λ before after.
+        CastsOwn before result after vote.now attests) }
+{
+    let Some(validator) = validator.as_mut() else {
+        return NONE;
+    };
+    loops::cast(validator, vote, attests)
+}
+
+/// Enters a view with its leader.
+#[unsafe(no_mangle)]
+pub extern "C" fn batcher_loop_enter(validator: &mut LoopHandle, view: u64, leader: u32) -> u8
+    ensures { OnLoop validator.old.value validator.new.value result (Unit {0}) (λ before after.
+        EntersNext before result after view leader) }
+{
+    let Some(validator) = validator.as_mut() else {
+        return NONE;
+    };
+    loops::enter(validator, view, leader)
+}
+
+/// A proposal is valid, or it isn't, and its view is given up. One of its own is valid.
+#[unsafe(no_mangle)]
+pub extern "C" fn batcher_loop_judge(
+    validator: &mut LoopHandle,
+    proposal: &FlatProposal,
+    valid: bool,
+) -> u8
+    ensures { OnLoop validator.old.value validator.new.value result (Unit {0}) (λ before after.
+        Judges before result after proposal.now valid) }
+{
+    let Some(validator) = validator.as_mut() else {
+        return NONE;
+    };
+    loops::judge(validator, proposal, valid)
+}
+
+/// The time of a view is over, now or again: it is given up, unless its proposal is notarized. All
+/// that is to be sent is given again.
+#[unsafe(no_mangle)]
+pub extern "C" fn batcher_loop_expire(validator: &mut LoopHandle, view: u64) -> u8
+    ensures { OnLoop validator.old.value validator.new.value result (Unit {0}) (λ before after.
+        Expires before result after view) }
+{
+    let Some(validator) = validator.as_mut() else {
+        return NONE;
+    };
+    loops::expire(validator, view)
+}
+
+/// The certificate of this kind and of the round of the proposal, if one is kept: its bytes, and
+/// the whole proposal.
+#[unsafe(no_mangle)]
+pub extern "C" fn batcher_loop_kept(
+    validator: &mut LoopHandle,
+    kind: u8,
+    proposal: &mut FlatProposal,
+    room: &mut [u8],
+    count: &mut u64,
+) -> u8
+    ensures { OnLoop validator.old.value validator.new.value result ((proposal.new ≡ proposal.old)
+        × ((room.new ≡ room.old) × (count.new ≡ count.old))) (λ before after.
+        (after ≡ before)
+        × AsksKept before result kind proposal.old proposal.new room.old room.new count.new) }
+{
+    let Some(validator) = validator.as_mut() else {
+        return NONE;
+    };
+    loops::kept(validator, kind, proposal, room, count)
+}

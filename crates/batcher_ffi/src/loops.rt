@@ -1,0 +1,484 @@
+//! The calls of a validator, over flat values. Each answers a code.
+
+ghost use Rattle.std.specs.Prelude.{◌≡◌, ◌≢◌, ◌≤◌, ◌⊎◌, [], IfErr, IfOk, Some, false, length, map, true};
+ghost use Rattle.batcher_types.specs.Votes.{attestation_of, round_in, subject_certified, subject_of};
+ghost use Rattle.batcher_node.specs.Windows.{is_of};
+ghost use Rattle.batcher_validator.specs.Histories.{answered};
+ghost use Rattle.batcher_validator.specs.Running.{Constructs};
+ghost use Rattle.batcher_ffi.specs.Loops.{AnswersPoll, AreVerifiedBy, AsksKept, AsksOwed, CastsOwn, Concludes, EntersNext, Expires, HearsCertificate, HearsVote, IsConcluded};
+ghost use Rattle.batcher_ffi.specs.Loops.{IsFromAhead, IsLent, IsMade, IsOfPeer, IsVerifiedFor, Judges, Lends, Notes, Polls, Rests, VoteCast, WhyNotMade, Wrote, loop_config};
+ghost use Rattle.batcher_ffi.specs.Loops.{GoesOnFrom, IsOf, start_code, start_codes};
+ghost use Rattle.batcher_ffi.specs.Rounds.{is_one_of};
+ghost use Rattle.batcher_journal.specs.Text.{fields_of};
+ghost use Rattle.batcher_ffi.specs.Tasks.{IsProposedIn};
+
+use crate::answers::{enter_code_of, verdict_code_of, write_receipt};
+use crate::caller::Caller;
+use crate::codes::{
+    BEGUN, CLOSED, DAMAGED, DONE, ELSEWHERE, FORGED, FULL, IDLE, KNOWN, MALFORMED, NOT_BEGUN,
+    NOT_OWN, NOT_VERIFIED, OTHER_OWNER, OTHER_VERSION, OUT_OF_MEMORY, REFUSED, SHORT, SIGNED,
+    STALE, VERIFY, WRITE,
+};
+use crate::flat::{
+    FlatAdmission, FlatAttestation, FlatProposal, FlatStep, FlatVote, fault_code, flat_subject,
+    kind_of, subject_of,
+};
+use crate::rounds::{is_verified, take_part};
+use crate::tasks::FlatTask;
+use crate::writing::{attestations_of, copied, write_all, write_wanted};
+use batcher_bytes::{Keys, Proof, Signature, Signed, WIDTH};
+use batcher_journal::{OpenFault, Owner};
+use batcher_loop::{Loop, LoopFault, Next};
+use batcher_node::Cast;
+use batcher_types::messages::{Attestation, Certificate, Sha256Digest, Subject, Vote};
+use batcher_types::positions::{Epoch, Participant, Round, View};
+use batcher_types::scheme::{Counter, Name, names};
+use batcher_validator::PollFault;
+use batcher_voter::{CastFault, StartFault};
+use std::alloc::Global;
+use std::rc::Rc;
+
+/// A validator as C has it.
+pub type Looping = Loop<Caller>;
+
+/// What a validator is made of.
+#[repr(C)]
+#[derive(Clone, Copy)]
+pub struct LoopOptions {
+    pub epoch: u64,
+    /// How many views beyond the current one are of its window.
+    pub ahead: u64,
+    /// How many participants there are, whose names are 0, 1, .. in this order.
+    pub participants: u32,
+    /// Which of them it is.
+    pub participant: u32,
+    /// Bytes that distinguish their list of keys from other lists, as its hash does.
+    pub keys: [u8; 32],
+    /// Whether a view keeps its votes in full to the end.
+    pub track_historical_votes: bool,
+    /// Whether this participant never signed anything in the epoch, so that its disk has no bytes.
+    pub begins: bool,
+}
+
+/// A validator that begins, or goes on by what its disk has. Else the code says why there is none.
+pub fn made(
+    alloc: Global,
+    options: &LoopOptions,
+    namespace: &[u8],
+    disk: &[u8],
+) -> Result<Looping, u8>
+    ensures made { IfOk result (IsMade options.now namespace.now disk.now) }
+    ensures refused { IfErr result (WhyNotMade options.now disk.now) }
+{
+    if options.participant >= options.participants {
+        return Err(MALFORMED);
+    }
+    if options.begins && !disk.is_empty() {
+        return Err(BEGUN);
+    }
+    let Ok(names) = names(alloc, options.participants) else {
+        return Err(OUT_OF_MEMORY);
+    };
+    let Ok(scheme) = Rc::new(alloc, Signed::new(names, Keys(options.keys))) else {
+        return Err(OUT_OF_MEMORY);
+    };
+    let keys = options.keys;
+    let owner = Owner {
+        namespace,
+        keys: &keys,
+        participant: Participant(options.participant),
+        digest_len: 32,
+        signature_len: WIDTH as u32,
+    };
+    if options.begins {
+        return begun(alloc, scheme, options, &owner);
+    }
+    started(alloc, scheme, options, &owner, disk)
+}
+
+fn begun(
+    alloc: Global,
+    scheme: Rc<Signed<Caller, true>>,
+    options: &LoopOptions,
+    owner: &Owner,
+) -> Result<Looping, u8>
+    requires { 1 ≤ length scheme.value.participants }
+    ensures is_of { IfOk result (IsOf options.now scheme.value (fields_of owner.now)) }
+    ensures goes_on { IfOk result (GoesOnFrom true []) }
+    ensures on_disk { IfOk result (λ it. it.on_disk.items ≡ []) }
+    ensures refused { IfErr result (λ code. is_one_of start_codes code ≡ true) }
+    ensures begins { IfErr result (λ code. code ≢ NOT_BEGUN) }
+{
+    match Loop::begin(
+        alloc,
+        scheme,
+        options.ahead,
+        options.track_historical_votes,
+        owner,
+        Epoch(options.epoch),
+    ) {
+        Ok(it) => {
+            if is_of_epoch(&it, Epoch(options.epoch)) {
+                return Ok(it);
+            }
+            drop(it);
+            Err(OTHER_OWNER)
+        }
+        Err(_) => Err(OUT_OF_MEMORY),
+    }
+}
+
+fn started(
+    alloc: Global,
+    scheme: Rc<Signed<Caller, true>>,
+    options: &LoopOptions,
+    owner: &Owner,
+    disk: &[u8],
+) -> Result<Looping, u8>
+    requires { 1 ≤ length scheme.value.participants }
+    ensures is_of { IfOk result (IsOf options.now scheme.value (fields_of owner.now)) }
+    ensures goes_on { IfOk result (GoesOnFrom false disk.now) }
+    ensures on_disk { IfOk result (λ it. it.on_disk.items ≡ disk.now) }
+    ensures refused { IfErr result (λ code. is_one_of start_codes code ≡ true) }
+    ensures not_begun { IfErr result (λ code. code ≡ NOT_BEGUN → disk.now ≡ []) }
+{
+    let Ok(bytes) = copied(alloc, disk) else {
+        return Err(OUT_OF_MEMORY);
+    };
+    match Loop::start(
+        alloc,
+        scheme,
+        options.ahead,
+        options.track_historical_votes,
+        owner,
+        bytes,
+    ) {
+        Ok(it) => {
+            if is_of_epoch(&it, Epoch(options.epoch)) {
+                return Ok(it);
+            }
+            drop(it);
+            Err(OTHER_OWNER)
+        }
+        Err(fault) => Err(start_code_of(fault)),
+    }
+}
+
+fn is_of_epoch(it: &Looping, epoch: Epoch) -> bool
+    ensures { result ≡ true → it.now.validator.voter.node.epoch ≡ epoch }
+{
+    it.validator.voter().epoch() == epoch
+}
+
+fn start_code_of(fault: LoopFault) -> u8
+    ensures code { result ≡ start_code fault }
+    ensures codes { is_one_of start_codes result ≡ true }
+{
+    match fault {
+        LoopFault::OutOfMemory => OUT_OF_MEMORY,
+        LoopFault::NotOpened(OpenFault::OutOfMemory) => OUT_OF_MEMORY,
+        LoopFault::NotOpened(OpenFault::NotBegun) => NOT_BEGUN,
+        LoopFault::NotOpened(OpenFault::OtherVersion) => OTHER_VERSION,
+        LoopFault::NotOpened(
+            OpenFault::OtherLengths
+            | OpenFault::OtherParticipant
+            | OpenFault::OtherKeys
+            | OpenFault::OtherNamespace,
+        ) => OTHER_OWNER,
+        LoopFault::NotOpened(OpenFault::Malformed | OpenFault::Contradiction) => DAMAGED,
+        LoopFault::NotStarted(StartFault::OutOfMemory) => OUT_OF_MEMORY,
+        LoopFault::NotStarted(StartFault::NotFinal | StartFault::Malformed | StartFault::Forged) =>
+            DAMAGED,
+    }
+}
+
+/// What is to be done next.
+pub fn poll(it: &mut Looping, out: &mut FlatTask) -> u8
+    ensures { Polls it.old result it.new out.old out.new }
+{
+    let epoch = it.validator.voter().epoch();
+    let answer = it.poll();
+    write_next(&answer, epoch, out)
+}
+
+fn write_next(answer: &Result<Option<Next>, PollFault>, epoch: Epoch, out: &mut FlatTask) -> u8
+    ensures answer { AnswersPoll answer.now result out.old out.new }
+    ensures proposed { IsProposedIn epoch out.new ⊎ (result ≢ DONE) }
+{
+    match answer {
+        Ok(Some(Next::Do(task))) => {
+            out.write(task, epoch);
+            DONE
+        }
+        Ok(Some(Next::Write)) => WRITE,
+        Ok(None) => IDLE,
+        Err(PollFault::OutOfMemory) => OUT_OF_MEMORY,
+        Err(PollFault::Full) => FULL,
+        Err(PollFault::Closed) => CLOSED,
+    }
+}
+
+/// What is to be written to the disk, behind what is there or in its place.
+pub fn owed(it: &Looping, room: &mut [u8], count: &mut u64, replaces: &mut bool) -> u8
+    ensures { AsksOwed it.now result room.old room.new count.new replaces.new }
+{
+    match it.owed() {
+        Some(owed) => {
+            *replaces = owed.replaces;
+            write_all(owed.bytes, room, count)
+        }
+        None => IDLE,
+    }
+}
+
+/// What is owed is written.
+pub fn wrote(it: &mut Looping) -> u8
+    ensures { Wrote it.old result it.new }
+{
+    match it.wrote() {
+        Ok(()) => DONE,
+        Err(_) => OUT_OF_MEMORY,
+    }
+}
+
+/// Takes in a vote of the peer whose key is the number.
+pub fn receive_vote(it: &mut Looping, peer: u64, vote: &FlatVote, out: &mut FlatAdmission) -> u8
+    ensures { HearsVote it.old result it.new peer vote.now out.old out.new }
+{
+    let Some(typed) = vote.vote() else {
+        return MALFORMED;
+    };
+    let answer = it.validator.receive_vote(Name(peer), typed);
+    write_receipt(&answer, out)
+}
+
+/// Takes in a certificate that a peer sent, with the caller's verdict on it.
+pub fn receive_certificate(
+    it: &mut Looping,
+    alloc: Global,
+    peer: u64,
+    kind: u8,
+    proposal: &FlatProposal,
+    bytes: &[u8],
+    certifies: bool,
+) -> u8
+    ensures { HearsCertificate it.old result it.new peer kind proposal.now bytes.now certifies }
+{
+    let Some(subject) = subject_of(kind, proposal) else {
+        return MALFORMED;
+    };
+    let Ok(copied) = copied(alloc, bytes) else {
+        return OUT_OF_MEMORY;
+    };
+    let certificate = Certificate::new(subject, Proof::new(subject, certifies, copied));
+    if is_ahead(it, proposal.round()) {
+        return catch_up(it, certificate);
+    }
+    hear_certificate(it, peer, certificate)
+}
+
+// Whether a round is of a view beyond the window.
+fn is_ahead(it: &Looping, round: Round) -> bool
+    ensures { result ≡ true → is_of it.now.validator.voter.node.epoch
+        it.now.validator.voter.node.window round ≡ false }
+{
+    let voter = it.validator.voter();
+    let window = voter.node().window();
+    round.epoch == voter.epoch()
+        && round.view.0 >= window.finalized
+        && !window.contains(round.view.0)
+}
+
+fn catch_up(it: &mut Looping, certificate: Certificate<Proof, Sha256Digest>) -> u8
+    requires { is_of it.old.validator.voter.node.epoch it.old.validator.voter.node.window
+        (round_in (subject_certified certificate)) ≡ false }
+    ensures came { IsFromAhead it.old result it.new certificate }
+    ensures on_disk { it.new.on_disk ≡ it.old.on_disk }
+{
+    match it.validator.catch_up(certificate) {
+        Ok(true) => DONE,
+        Ok(false) => FORGED,
+        Err(_) => OUT_OF_MEMORY,
+    }
+}
+
+fn hear_certificate(
+    it: &mut Looping,
+    peer: u64,
+    certificate: Certificate<Proof, Sha256Digest>,
+) -> u8
+    ensures came { IsOfPeer it.old result it.new peer certificate }
+    ensures on_disk { it.new.on_disk ≡ it.old.on_disk }
+{
+    let answer = it.validator.receive_certificate(Name(peer), certificate);
+    verdict_code_of(&answer)
+}
+
+/// The attestations on which verdicts are wanted. Where no kind is ready, its view rests.
+pub fn lend(it: &mut Looping, out: &mut FlatStep, list: &mut [FlatAttestation]) -> u8
+    ensures { Lends it.old result it.new out.old out.new list.old list.new }
+{
+    if list.len() < it.validator.participants() {
+        return SHORT;
+    }
+    if write_next_attempt(it, out, list) {
+        return VERIFY;
+    }
+    rest(it)
+}
+
+// Writes what the next construction looks at, if it looks at anything.
+fn write_next_attempt(it: &Looping, out: &mut FlatStep, list: &mut [FlatAttestation]) -> bool
+    ensures lent { result ≡ true → IsLent it.now out.new list.old list.new }
+    ensures stays { result ≡ false → (out.new ≡ out.old) × (list.new ≡ list.old) }
+{
+    match it.validator.next_attempt() {
+        Some(wanted) => {
+            write_wanted(&wanted, out, &mut [], list);
+            true
+        }
+        None => false,
+    }
+}
+
+// A construction without verdicts.
+fn rest(it: &mut Looping) -> u8
+    ensures codes { (result ≡ IDLE) ⊎ (result ≡ OUT_OF_MEMORY) }
+    ensures rests { result ≡ IDLE → Constructs (loop_config it.old) it.old.validator
+        it.new.validator ⊎ Notes it.old result it.new answered }
+    ensures refused { result ≡ OUT_OF_MEMORY → Rests it.old result it.new }
+    ensures on_disk { it.new.on_disk ≡ it.old.on_disk }
+{
+    match it.validator.try_construct(&mut Counter::new(0)) {
+        Ok(_) => IDLE,
+        Err(_) => OUT_OF_MEMORY,
+    }
+}
+
+/// Makes the next construction by verdicts on what was lent.
+pub fn conclude(
+    it: &mut Looping,
+    alloc: Global,
+    kind: u8,
+    proposal: &FlatProposal,
+    list: &[FlatAttestation],
+    verdicts: &[bool],
+) -> u8
+    requires { AreVerifiedBy (Some it.old) kind proposal.now list.now verdicts.now }
+    ensures { Concludes it.old result it.new kind proposal.now list.now verdicts.now }
+{
+    let Some(subject) = subject_of(kind, proposal) else {
+        return MALFORMED;
+    };
+    if verdicts.len() != list.len() {
+        return MALFORMED;
+    }
+    let all = match attestations_of(alloc, list) {
+        Ok(Some(all)) => all,
+        Ok(None) => return MALFORMED,
+        Err(_) => return OUT_OF_MEMORY,
+    };
+    if !take_part(&all, it.validator.participants()) {
+        return MALFORMED;
+    }
+    conclude_by(it, subject, &all, verdicts)
+}
+
+fn conclude_by(
+    it: &mut Looping,
+    subject: Subject<Sha256Digest>,
+    all: &[Attestation<Signature>],
+    verdicts: &[bool],
+) -> u8
+    requires { verdicts.now ≡ map ((loop_config it.old).meaning.attests subject) all.now }
+    ensures { IsConcluded it.old result it.new subject all.now }
+{
+    match it.validator.conclude(subject, all, verdicts) {
+        Ok(true) => DONE,
+        Ok(false) => STALE,
+        Err(_) => OUT_OF_MEMORY,
+    }
+}
+
+/// Casts a vote of its own, by the caller's verdict on it.
+pub fn cast(it: &mut Looping, vote: &FlatVote, attests: bool) -> u8
+    requires { IsVerifiedFor (Some it.old) vote.now attests }
+    ensures { CastsOwn it.old result it.new vote.now attests }
+{
+    let Some(typed) = vote.vote() else {
+        return MALFORMED;
+    };
+    if !is_verified(&typed, attests, it.validator.participants()) {
+        return NOT_VERIFIED;
+    }
+    cast_verified(it, typed)
+}
+
+fn cast_verified(it: &mut Looping, vote: Vote<Signature, Sha256Digest>) -> u8
+    requires { (loop_config it.old).meaning.attests (subject_of vote) (attestation_of vote)
+        ≡ true }
+    ensures { VoteCast it.old result it.new vote }
+{
+    match it.validator.cast(vote) {
+        Ok(Cast::ToSend(_)) => DONE,
+        Ok(Cast::Known) => KNOWN,
+        Ok(Cast::Outside) => ELSEWHERE,
+        Err(CastFault::OutOfMemory) => OUT_OF_MEMORY,
+        Err(CastFault::Full) => FULL,
+        Err(CastFault::NotOwn) => NOT_OWN,
+        Err(CastFault::Signed(_)) => SIGNED,
+        Err(CastFault::Refused(_)) => REFUSED,
+        Err(CastFault::Closed) => CLOSED,
+        Err(CastFault::Excluded(fault)) => fault_code(fault),
+    }
+}
+
+/// Enters a view with its leader.
+pub fn enter(it: &mut Looping, view: u64, leader: u32) -> u8
+    ensures { EntersNext it.old result it.new view leader }
+{
+    enter_code_of(it.validator.enter(View(view), Participant(leader)))
+}
+
+/// The proposal is valid, as one of its own is, or it isn't, and its view is given up.
+pub fn judge(it: &mut Looping, proposal: &FlatProposal, valid: bool) -> u8
+    ensures { Judges it.old result it.new proposal.now valid }
+{
+    it.validator.judge(&proposal.proposal(), valid);
+    DONE
+}
+
+/// The time of a view is over. All that is to be sent is given again.
+pub fn expire(it: &mut Looping, view: u64) -> u8
+    ensures { Expires it.old result it.new view }
+{
+    it.validator.expire(View(view));
+    it.validator.send_again();
+    DONE
+}
+
+/// The certificate of this kind and of the round of the proposal, if one is kept.
+pub fn kept(
+    it: &Looping,
+    kind: u8,
+    proposal: &mut FlatProposal,
+    room: &mut [u8],
+    count: &mut u64,
+) -> u8
+    ensures { AsksKept it.now result kind proposal.old proposal.new room.old room.new count.new }
+{
+    let Some(typed) = kind_of(kind) else {
+        return MALFORMED;
+    };
+    match it.validator.certificate(typed, proposal.round()) {
+        Some(certificate) => {
+            let code = write_all(certificate.content().bytes(), room, count);
+            if code == DONE {
+                let (_, whole) = flat_subject(&certificate.subject());
+                *proposal = whole;
+            }
+            code
+        }
+        None => IDLE,
+    }
+}

@@ -1,0 +1,247 @@
+//! What is declared of validators. `tools/header` compares these declarations with the header too.
+
+use super::{Admission, Attestation, Proposal, Step, Vote, code};
+use std::ffi::c_void;
+use std::ptr;
+
+/// `struct batcher_task`
+#[repr(C)]
+#[derive(Clone, Copy, Default)]
+pub(crate) struct Task {
+    pub(crate) vote: Vote,
+    pub(crate) proposal: Proposal,
+    pub(crate) participant: u32,
+    pub(crate) task: u8,
+    pub(crate) kind: u8,
+    pub(crate) cause: u8,
+}
+
+/// `struct batcher_loop_options`
+#[repr(C)]
+pub(crate) struct LoopOptions {
+    pub(crate) epoch: u64,
+    pub(crate) ahead: u64,
+    pub(crate) participants: u32,
+    pub(crate) participant: u32,
+    pub(crate) keys: [u8; 32],
+    pub(crate) track_historical_votes: bool,
+    pub(crate) begins: bool,
+}
+
+/// `struct batcher_loop`
+#[repr(C)]
+struct LoopHandle {
+    at: *mut c_void,
+}
+
+/// A validator in the library's memory, of which the same holds as of a round.
+pub(crate) struct Loop {
+    handle: LoopHandle,
+}
+
+unsafe extern "C" {
+    fn batcher_loop_start(
+        validator: *mut LoopHandle,
+        options: *const LoopOptions,
+        namespace: *const u8,
+        namespace_length: usize,
+        disk: *const u8,
+        disk_length: usize,
+    ) -> u8;
+    fn batcher_loop_free(validator: *mut LoopHandle);
+    fn batcher_loop_poll(validator: *mut LoopHandle, task: *mut Task) -> u8;
+    fn batcher_loop_owed(
+        validator: *const LoopHandle,
+        room: *mut u8,
+        room_length: usize,
+        count: *mut u64,
+        replaces: *mut bool,
+    ) -> u8;
+    fn batcher_loop_wrote(validator: *mut LoopHandle) -> u8;
+    fn batcher_loop_vote(
+        validator: *mut LoopHandle,
+        peer: u64,
+        vote: *const Vote,
+        admission: *mut Admission,
+    ) -> u8;
+    fn batcher_loop_certificate(
+        validator: *mut LoopHandle,
+        peer: u64,
+        kind: u8,
+        proposal: *const Proposal,
+        bytes: *const u8,
+        bytes_length: usize,
+        certifies: bool,
+    ) -> u8;
+    fn batcher_loop_lend(
+        validator: *mut LoopHandle,
+        step: *mut Step,
+        list: *mut Attestation,
+        list_length: usize,
+    ) -> u8;
+    fn batcher_loop_conclude(
+        validator: *mut LoopHandle,
+        kind: u8,
+        proposal: *const Proposal,
+        list: *const Attestation,
+        list_length: usize,
+        verdicts: *const bool,
+        verdicts_length: usize,
+    ) -> u8;
+    fn batcher_loop_cast(validator: *mut LoopHandle, vote: *const Vote, attests: bool) -> u8;
+    fn batcher_loop_enter(validator: *mut LoopHandle, view: u64, leader: u32) -> u8;
+    fn batcher_loop_judge(validator: *mut LoopHandle, proposal: *const Proposal, valid: bool)
+    -> u8;
+    fn batcher_loop_expire(validator: *mut LoopHandle, view: u64) -> u8;
+    fn batcher_loop_kept(
+        validator: *const LoopHandle,
+        kind: u8,
+        proposal: *mut Proposal,
+        room: *mut u8,
+        room_length: usize,
+        count: *mut u64,
+    ) -> u8;
+}
+
+impl Drop for Loop {
+    fn drop(&mut self) {
+        // SAFETY: the handle is empty, or is one that `batcher_loop_start` filled and nobody else
+        // has.
+        unsafe { batcher_loop_free(&mut self.handle) }
+    }
+}
+
+// As of the calls of a round.
+impl Loop {
+    /// A validator, or the code that was answered.
+    pub(crate) fn start(options: &LoopOptions, namespace: &[u8], disk: &[u8]) -> Result<Self, u8> {
+        let handle = LoopHandle {
+            at: ptr::null_mut(),
+        };
+        let mut made = Loop { handle };
+        super::batcher_abi_3();
+        // SAFETY: as above; an empty handle is a null pointer.
+        let answer = unsafe {
+            batcher_loop_start(
+                &mut made.handle,
+                options,
+                namespace.as_ptr(),
+                namespace.len(),
+                disk.as_ptr(),
+                disk.len(),
+            )
+        };
+        match answer {
+            code::DONE => Ok(made),
+            answer => Err(answer),
+        }
+    }
+
+    pub(crate) fn poll(&mut self, task: &mut Task) -> u8 {
+        // SAFETY: as above.
+        unsafe { batcher_loop_poll(&mut self.handle, task) }
+    }
+
+    pub(crate) fn owed(&self, room: &mut [u8], count: &mut u64, replaces: &mut bool) -> u8 {
+        // SAFETY: as above.
+        unsafe { batcher_loop_owed(&self.handle, room.as_mut_ptr(), room.len(), count, replaces) }
+    }
+
+    pub(crate) fn wrote(&mut self) -> u8 {
+        // SAFETY: as above.
+        unsafe { batcher_loop_wrote(&mut self.handle) }
+    }
+
+    pub(crate) fn vote(&mut self, peer: u64, vote: &Vote, admission: &mut Admission) -> u8 {
+        // SAFETY: as above.
+        unsafe { batcher_loop_vote(&mut self.handle, peer, vote, admission) }
+    }
+
+    pub(crate) fn certificate(
+        &mut self,
+        peer: u64,
+        kind: u8,
+        proposal: &Proposal,
+        bytes: &[u8],
+        certifies: bool,
+    ) -> u8 {
+        // SAFETY: as above.
+        unsafe {
+            batcher_loop_certificate(
+                &mut self.handle,
+                peer,
+                kind,
+                proposal,
+                bytes.as_ptr(),
+                bytes.len(),
+                certifies,
+            )
+        }
+    }
+
+    pub(crate) fn lend(&mut self, step: &mut Step, list: &mut [Attestation]) -> u8 {
+        // SAFETY: as above.
+        unsafe { batcher_loop_lend(&mut self.handle, step, list.as_mut_ptr(), list.len()) }
+    }
+
+    pub(crate) fn conclude(
+        &mut self,
+        kind: u8,
+        proposal: &Proposal,
+        list: &[Attestation],
+        verdicts: &[bool],
+    ) -> u8 {
+        // SAFETY: as above.
+        unsafe {
+            batcher_loop_conclude(
+                &mut self.handle,
+                kind,
+                proposal,
+                list.as_ptr(),
+                list.len(),
+                verdicts.as_ptr(),
+                verdicts.len(),
+            )
+        }
+    }
+
+    pub(crate) fn cast(&mut self, vote: &Vote, attests: bool) -> u8 {
+        // SAFETY: as above.
+        unsafe { batcher_loop_cast(&mut self.handle, vote, attests) }
+    }
+
+    pub(crate) fn enter(&mut self, view: u64, leader: u32) -> u8 {
+        // SAFETY: as above.
+        unsafe { batcher_loop_enter(&mut self.handle, view, leader) }
+    }
+
+    pub(crate) fn judge(&mut self, proposal: &Proposal, valid: bool) -> u8 {
+        // SAFETY: as above.
+        unsafe { batcher_loop_judge(&mut self.handle, proposal, valid) }
+    }
+
+    pub(crate) fn expire(&mut self, view: u64) -> u8 {
+        // SAFETY: as above.
+        unsafe { batcher_loop_expire(&mut self.handle, view) }
+    }
+
+    pub(crate) fn kept(
+        &self,
+        kind: u8,
+        proposal: &mut Proposal,
+        room: &mut [u8],
+        count: &mut u64,
+    ) -> u8 {
+        // SAFETY: as above.
+        unsafe {
+            batcher_loop_kept(
+                &self.handle,
+                kind,
+                proposal,
+                room.as_mut_ptr(),
+                room.len(),
+                count,
+            )
+        }
+    }
+}

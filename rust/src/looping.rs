@@ -1,0 +1,716 @@
+//! A validator: it takes in what comes, votes by the rules, and says what is to be done next.
+//!
+//! A [`Loop`] has no I/O. What a peer sends goes in by [`Loop::vote`] and [`Loop::certificate`], and
+//! [`Loop::poll`] says what is to be done, one [`Task`] after the other, until nothing is: to write
+//! to the disk, to send, to verify, to sign. Each task is given once, and only where all is written
+//! that it rests on. So what is sent was written before, and a validator that is killed goes on by
+//! its disk.
+//!
+//! Here one is alone, so that its own vote is a quorum:
+//!
+//! ```
+//! # include!(concat!(env!("CARGO_MANIFEST_DIR"), "/tests/toy/mod.rs"));
+//! use batcher::looping::{Loop, Options, Task};
+//! use batcher::{Epoch, Participant, Sha256Digest, View};
+//! # fn main() -> Result<(), Box<dyn std::error::Error>> {
+//! let options = Options {
+//!     epoch: Epoch::zero(),
+//!     me: Participant::new(0),
+//!     participants: 1,
+//!     keys: [1; 32],
+//!     namespace: b"example",
+//!     ahead: 16,
+//!     track_historical_votes: false,
+//! };
+//! let leader = |_: View| Participant::new(0);
+//! let mut validator = Loop::<Signature>::begin(&options, leader)?;
+//! let mut disk = Vec::new();
+//! let mut last = View::zero();
+//! while last < View::new(3) {
+//!     match validator.poll()?.expect("it is alone, and goes on") {
+//!         Task::Write(write) => {
+//!             if write.replaces {
+//!                 disk.clear();
+//!             }
+//!             disk.extend_from_slice(&write.bytes);
+//!             validator.wrote()?;
+//!         }
+//!         Task::Propose { view, parent } => {
+//!             validator.propose(view, parent, Sha256Digest([view.get() as u8; 32]))?;
+//!         }
+//!         Task::Sign(subject) => validator.signed(subject, &sign(&subject, 0))?,
+//!         Task::Verify(wanted) => {
+//!             let attests = |it: &_| attests(wanted.subject(), it);
+//!             let verdicts: Vec<bool> = wanted.attestations().iter().map(attests).collect();
+//!             validator.conclude(&wanted, &verdicts)?;
+//!         }
+//!         Task::Final(proposal) => last = proposal.round.view,
+//!         // Nobody else is there, and no view takes too long.
+//!         Task::SendVote(_) | Task::SendCertificate(_) | Task::Enter(_) => {}
+//!         Task::Judge(_) | Task::Block(..) => unreachable!("nobody else is there"),
+//!     }
+//! }
+//! // What is on its disk is all that it takes to go on.
+//! let mut again = Loop::<Signature>::start(&options, leader, &disk)?;
+//! assert!(again.poll()?.is_some());
+//! # Ok(())
+//! # }
+//! ```
+
+use crate::answers::{Admission, BlockReason, Error};
+use crate::construct::{ONE_EACH, attestations_of, reserve, reserve_each};
+use crate::ffi::{self, code, loops};
+use crate::flat::{
+    block_of, done, error_of, flat_attestation, flat_proposal, flat_round, flat_subject, flat_vote,
+    kind_code, kind_of, proposal_of, report_of, round_of, subject_of, vote_of,
+};
+use crate::messages::{Attestation, Certificate, Kind, Proposal, Sha256Digest, Subject, Vote};
+use crate::positions::{Epoch, Participant, Round, View, quorum};
+use std::fmt;
+use std::marker::PhantomData;
+
+/// What a validator is made of.
+#[derive(Clone, Copy, Debug)]
+pub struct Options<'a> {
+    /// The epoch in which it votes.
+    pub epoch: Epoch,
+    /// Which participant it is.
+    pub me: Participant,
+    /// How many participants there are.
+    pub participants: u32,
+    /// Bytes that distinguish the list of their keys from other lists, as its hash does.
+    pub keys: [u8; 32],
+    /// Keeps its votes apart from those of other uses of the keys.
+    pub namespace: &'a [u8],
+    /// How many views beyond the current one it looks at: as many as others may be ahead of it in a
+    /// short while, such as 16. A participant makes it keep at most one round for each.
+    pub ahead: u64,
+    /// Whether votes are kept in full until their view is passed, as evidence. Else they are until
+    /// their kind is certified.
+    pub track_historical_votes: bool,
+}
+
+/// Why there is no validator.
+#[derive(Clone, Copy, Debug, PartialEq, Eq, Hash)]
+pub enum StartError {
+    /// Memory was refused.
+    OutOfMemory,
+    /// No participant has this index.
+    UnknownParticipant,
+    /// The disk has no bytes. Where this participant never signed anything in the epoch, begin.
+    NotBegun,
+    /// What is on the disk is of another version of the library.
+    OtherVersion,
+    /// What is on the disk is of another participant, another epoch, other keys or another
+    /// namespace.
+    OtherOwner,
+    /// What is on the disk is no journal, or has what no validator wrote.
+    Damaged,
+    /// The library answered a code that the call doesn't have.
+    Unknown(u8),
+}
+
+impl fmt::Display for StartError {
+    fn fmt(&self, f: &mut fmt::Formatter<'_>) -> fmt::Result {
+        match self {
+            StartError::OutOfMemory => f.write_str("out of memory"),
+            StartError::UnknownParticipant => f.write_str("no participant has this index"),
+            StartError::NotBegun => f.write_str("the disk has no bytes"),
+            StartError::OtherVersion => f.write_str("the journal is of another version"),
+            StartError::OtherOwner => f.write_str("the journal is somebody else's"),
+            StartError::Damaged => f.write_str("the disk has no journal"),
+            StartError::Unknown(code) => {
+                write!(f, "the library answered {code}, which isn't known")
+            }
+        }
+    }
+}
+
+impl std::error::Error for StartError {}
+
+/// Why a validator doesn't say what is to be done.
+#[derive(Clone, Copy, Debug, PartialEq, Eq, Hash)]
+pub enum PollError {
+    /// Memory was refused. The same call may succeed later.
+    OutOfMemory,
+    /// The journal has no room left, which 2^64 bytes are.
+    Full,
+    /// The journal is closed, since memory was refused while it was written. Start again by the
+    /// disk.
+    Closed,
+    /// The scheme doesn't make the same signature of its bytes again.
+    SignatureBytes,
+    /// The library answered a code that the call doesn't have.
+    Unknown(u8),
+}
+
+impl fmt::Display for PollError {
+    fn fmt(&self, f: &mut fmt::Formatter<'_>) -> fmt::Result {
+        match self {
+            PollError::OutOfMemory => f.write_str("out of memory"),
+            PollError::Full => f.write_str("the journal is full"),
+            PollError::Closed => f.write_str("the journal is closed"),
+            PollError::SignatureBytes => f.write_str("signature isn't its bytes"),
+            PollError::Unknown(code) => write!(f, "the library answered {code}, which isn't known"),
+        }
+    }
+}
+
+impl std::error::Error for PollError {}
+
+impl From<Error> for PollError {
+    fn from(error: Error) -> Self {
+        match error {
+            Error::SignatureBytes => PollError::SignatureBytes,
+            Error::Unknown(code) => PollError::Unknown(code),
+            _ => PollError::OutOfMemory,
+        }
+    }
+}
+
+/// Why a participant is to be blocked.
+#[derive(Clone, Copy, Debug, PartialEq, Eq, Hash)]
+pub enum Cause {
+    /// For a vote that it sent.
+    Vote(BlockReason),
+    /// It sent a certificate that doesn't certify what it names.
+    Certificate,
+    /// It sent a vote that doesn't attest.
+    Signature,
+}
+
+impl fmt::Display for Cause {
+    fn fmt(&self, f: &mut fmt::Formatter<'_>) -> fmt::Result {
+        match self {
+            Cause::Vote(reason) => reason.fmt(f),
+            Cause::Certificate => f.write_str("a certificate that doesn't certify"),
+            Cause::Signature => f.write_str("a vote that doesn't attest"),
+        }
+    }
+}
+
+/// What became of a peer's message, where `A` is what it is answered.
+#[derive(Clone, Copy, Debug, PartialEq, Eq, Hash)]
+pub enum Receipt<A> {
+    /// It was looked at.
+    Answered(A),
+    /// It is of a view outside of the window, or of another epoch. That blocks nobody.
+    Outside,
+    /// The peer was blocked before, so the message wasn't looked at.
+    Dropped,
+    /// The peer takes no part, so the message wasn't looked at.
+    Unknown,
+}
+
+/// What became of a peer's certificate.
+#[derive(Clone, Copy, Debug, PartialEq, Eq, Hash)]
+pub enum Verdict {
+    /// It certifies what it names, and is kept.
+    Recorded,
+    /// It doesn't. Drop its peer: one that sent it of a view in the window is given to be blocked.
+    Forged,
+    /// There was one of its kind and view.
+    Known,
+}
+
+/// What is to be written to the disk.
+#[derive(Clone, Debug, PartialEq, Eq, Hash)]
+pub struct Write {
+    /// Whether the bytes take the place of all that are there. Else they come behind them.
+    pub replaces: bool,
+    /// The bytes. A crash leaves all of them, or none.
+    pub bytes: Vec<u8>,
+}
+
+/// Attestations of one subject, on each of which a verdict is wanted. It is plain data: it may go
+/// to another thread, and the validator goes on meanwhile.
+#[derive(Clone, Debug)]
+pub struct Wanted<G> {
+    subject: Subject,
+    attestations: Vec<Attestation<G>>,
+}
+
+impl<G> Wanted<G> {
+    /// What they are to attest to.
+    pub fn subject(&self) -> &Subject {
+        &self.subject
+    }
+
+    /// The attestations, each of another participant.
+    pub fn attestations(&self) -> &[Attestation<G>] {
+        &self.attestations
+    }
+}
+
+/// A certificate as a validator sends it: the bytes are the list of its attestations.
+pub type Listed = Certificate<Vec<u8>>;
+
+/// What is to be done. Each is given once.
+#[must_use = "it isn't given again"]
+#[derive(Clone, Debug)]
+pub enum Task<G> {
+    /// Write this to the disk, and say so by [`Loop::wrote`]. Nothing else is given before.
+    Write(Write),
+    /// Block this participant: drop what it sends, and close its connection.
+    Block(Participant, Cause),
+    /// This proposal is final, and so are those that it builds on.
+    Final(Proposal),
+    /// Send this vote to all others.
+    SendVote(Vote<G>),
+    /// Send this certificate to all others.
+    SendCertificate(Listed),
+    /// This view is entered: start its timer. Once it is over, say so by [`Loop::expire`].
+    Enter(View),
+    /// Find out which of these attest, and say so by [`Loop::conclude`].
+    Verify(Wanted<G>),
+    /// Sign this with the key of the validator, and say so by [`Loop::signed`].
+    Sign(Subject),
+    /// Make the payload of a proposal, and say so by [`Loop::propose`].
+    Propose {
+        /// The view that it is for.
+        view: View,
+        /// The view of the proposal that it builds on.
+        parent: View,
+    },
+    /// Find out whether this proposal is valid, and say so by [`Loop::judge`].
+    Judge(Proposal),
+}
+
+/// A validator, which votes for one participant in one epoch.
+///
+/// What it does is the proved library's. It stays on the thread on which it was made.
+pub struct Loop<G> {
+    library: loops::Loop,
+    leader: Box<dyn Fn(View) -> Participant>,
+    epoch: Epoch,
+    me: Participant,
+    participants: u32,
+    namespace: Vec<u8>,
+    // The library's last task, and whether it isn't handed out yet.
+    task: loops::Task,
+    waits: bool,
+    // Where the library lists attestations.
+    list: Vec<ffi::Attestation>,
+    // Where the library answers to a vote.
+    answer: ffi::Admission,
+    signatures: PhantomData<G>,
+}
+
+impl<G: Clone + AsRef<[u8]> + for<'b> TryFrom<&'b [u8]>> Loop<G> {
+    /// A validator of whose participant nothing was ever signed in the epoch. Its disk has no
+    /// bytes. `leader` says who leads each view, and always says the same.
+    ///
+    /// Who lost the disk of a validator doesn't begin it again in the same epoch: it could sign what
+    /// contradicts what it signed before.
+    ///
+    /// # Errors
+    ///
+    /// `UnknownParticipant` and `OutOfMemory`.
+    pub fn begin(
+        options: &Options,
+        leader: impl Fn(View) -> Participant + 'static,
+    ) -> Result<Self, StartError> {
+        Loop::of(options, leader, true, &[])
+    }
+
+    /// The validator whose disk has these bytes, all that it had written. It goes on from there.
+    ///
+    /// # Errors
+    ///
+    /// What is on the disk isn't this validator's, or memory is refused.
+    pub fn start(
+        options: &Options,
+        leader: impl Fn(View) -> Participant + 'static,
+        disk: &[u8],
+    ) -> Result<Self, StartError> {
+        Loop::of(options, leader, false, disk)
+    }
+
+    fn of(
+        options: &Options,
+        leader: impl Fn(View) -> Participant + 'static,
+        begins: bool,
+        disk: &[u8],
+    ) -> Result<Self, StartError> {
+        let flat = loops::LoopOptions {
+            epoch: options.epoch.get(),
+            ahead: options.ahead,
+            participants: options.participants,
+            participant: options.me.get(),
+            keys: options.keys,
+            track_historical_votes: options.track_historical_votes,
+            begins,
+        };
+        let library = loops::Loop::start(&flat, options.namespace, disk).map_err(start_error)?;
+        let mut list = Vec::new();
+        let none = ffi::Attestation::default();
+        reserve_each(&mut list, options.participants, none).map_err(|_| StartError::OutOfMemory)?;
+        Ok(Loop {
+            library,
+            leader: Box::new(leader),
+            epoch: options.epoch,
+            me: options.me,
+            participants: options.participants,
+            namespace: options.namespace.to_vec(),
+            task: loops::Task::default(),
+            waits: false,
+            list,
+            answer: ffi::Admission::default(),
+            signatures: PhantomData,
+        })
+    }
+
+    /// What is to be done next. None where nothing is, until something comes.
+    ///
+    /// # Errors
+    ///
+    /// `Closed`, after which the validator is started again by its disk. After `OutOfMemory` the
+    /// same call can be made again.
+    pub fn poll(&mut self) -> Result<Option<Task<G>>, PollError> {
+        loop {
+            if !self.waits {
+                match self.library.poll(&mut self.task) {
+                    code::DONE => self.waits = true,
+                    code::WRITE => return Ok(Some(Task::Write(self.owed()?))),
+                    code::IDLE => return Ok(None),
+                    code::OUT_OF_MEMORY => return Err(PollError::OutOfMemory),
+                    code::FULL => return Err(PollError::Full),
+                    code::CLOSED => return Err(PollError::Closed),
+                    other => return Err(PollError::Unknown(other)),
+                }
+            }
+            let task = self.handed_out()?;
+            self.waits = false;
+            if let Some(task) = task {
+                return Ok(Some(task));
+            }
+        }
+    }
+
+    /// The task that waits, unless it is done here.
+    fn handed_out(&mut self) -> Result<Option<Task<G>>, PollError> {
+        let flat = &self.task;
+        Ok(Some(match flat.task {
+            code::TASK_BLOCK => {
+                let cause = cause_of(flat.cause).ok_or(PollError::Unknown(flat.cause))?;
+                Task::Block(Participant::new(flat.participant), cause)
+            }
+            code::TASK_FINAL => Task::Final(proposal_of(&flat.proposal)),
+            // It is on the disk since it was cast, so it attests.
+            code::TASK_CAST => match self.library.cast(&flat.vote, true) {
+                code::OUT_OF_MEMORY => return Err(PollError::OutOfMemory),
+                _ => return Ok(None),
+            },
+            code::TASK_SEND_VOTE => Task::SendVote(vote_of(&flat.vote)?),
+            code::TASK_SEND_CERTIFICATE => {
+                let kind = kind_of(flat.kind)?;
+                match self.kept(kind, round_of(&flat.proposal))? {
+                    Some(certificate) => Task::SendCertificate(certificate),
+                    None => return Ok(None),
+                }
+            }
+            code::TASK_ENTER => {
+                let view = View::new(flat.proposal.view);
+                let leader = (self.leader)(view);
+                match self.library.enter(view.get(), leader.get()) {
+                    code::OUT_OF_MEMORY => return Err(PollError::OutOfMemory),
+                    _ => Task::Enter(view),
+                }
+            }
+            code::TASK_VERIFY => match self.lend()? {
+                Some(wanted) => Task::Verify(wanted),
+                None => return Ok(None),
+            },
+            code::TASK_SIGN => Task::Sign(subject_of(kind_of(flat.kind)?, &flat.proposal)),
+            code::TASK_PROPOSE => Task::Propose {
+                view: View::new(flat.proposal.view),
+                parent: View::new(flat.proposal.parent),
+            },
+            code::TASK_JUDGE => Task::Judge(proposal_of(&flat.proposal)),
+            other => return Err(PollError::Unknown(other)),
+        }))
+    }
+
+    fn owed(&self) -> Result<Write, PollError> {
+        let (mut count, mut replaces) = (0, false);
+        let mut bytes = Vec::new();
+        loop {
+            match self.library.owed(&mut bytes, &mut count, &mut replaces) {
+                code::DONE => return Ok(Write { replaces, bytes }),
+                code::SHORT => make_room(&mut bytes, count)?,
+                other => return Err(PollError::Unknown(other)),
+            }
+        }
+    }
+
+    fn lend(&mut self) -> Result<Option<Wanted<G>>, PollError> {
+        let mut step = ffi::Step::default();
+        match self.library.lend(&mut step, &mut self.list) {
+            code::VERIFY => Ok(Some(Wanted {
+                subject: subject_of(kind_of(step.kind)?, &step.proposal),
+                attestations: attestations_of(&self.list[..step.listed as usize])?,
+            })),
+            code::IDLE => Ok(None),
+            code::OUT_OF_MEMORY => Err(PollError::OutOfMemory),
+            other => Err(PollError::Unknown(other)),
+        }
+    }
+
+    /// What was given to be written is written, so that a crash leaves it.
+    ///
+    /// # Errors
+    ///
+    /// `OutOfMemory`, after which the same call can be made again.
+    pub fn wrote(&mut self) -> Result<(), Error> {
+        done(self.library.wrote())
+    }
+
+    /// Takes in a vote that this participant sent, as the transport has authenticated it. Then
+    /// poll.
+    ///
+    /// # Errors
+    ///
+    /// `OutOfMemory`, after which the same call can be made again.
+    pub fn vote(
+        &mut self,
+        sender: Participant,
+        vote: &Vote<G>,
+    ) -> Result<Receipt<Admission<G>>, Error> {
+        let flat = flat_vote(vote)?;
+        match self
+            .library
+            .vote(u64::from(sender.get()), &flat, &mut self.answer)
+        {
+            code::DONE => Ok(Receipt::Answered(Admission {
+                added: self.answer.added,
+                block: block_of(self.answer.block)?,
+                report: report_of(&self.answer, vote)?,
+            })),
+            code::ELSEWHERE => Ok(Receipt::Outside),
+            code::DROPPED => Ok(Receipt::Dropped),
+            code::UNKNOWN => Ok(Receipt::Unknown),
+            other => Err(error_of(other)),
+        }
+    }
+
+    /// The attestations that a certificate is made of: of a quorum of different participants. It
+    /// certifies where each attests its subject. None where it is no such list.
+    pub fn attestations(&self, certificate: &Listed) -> Option<Vec<Attestation<G>>> {
+        let all = listed::<G>(certificate.content())?;
+        let mut signers: Vec<u32> = all.iter().map(|it| it.signer.get()).collect();
+        signers.sort_unstable();
+        let differ = signers.windows(2).all(|pair| pair[0] < pair[1]);
+        let last = signers.last()?;
+        let is_quorum = signers.len() >= quorum(self.participants) as usize;
+        (differ && is_quorum && *last < self.participants).then_some(all)
+    }
+
+    /// Takes in a certificate that this participant sent, and whether it certifies: whether it has
+    /// [attestations](Loop::attestations), and each attests. Then poll.
+    ///
+    /// One from beyond the window is taken in too: by it a validator that fell behind goes on. Where
+    /// that is forged, drop who sent it.
+    ///
+    /// # Errors
+    ///
+    /// `OutOfMemory`, after which the same call can be made again.
+    pub fn certificate(
+        &mut self,
+        sender: Participant,
+        certificate: &Listed,
+        certifies: bool,
+    ) -> Result<Receipt<Verdict>, Error> {
+        match self.library.certificate(
+            u64::from(sender.get()),
+            kind_code(certificate.kind()),
+            &flat_subject(&certificate.subject()),
+            certificate.content(),
+            certifies,
+        ) {
+            code::DONE => Ok(Receipt::Answered(Verdict::Recorded)),
+            code::KNOWN => Ok(Receipt::Answered(Verdict::Known)),
+            code::FORGED => Ok(Receipt::Answered(Verdict::Forged)),
+            code::ELSEWHERE => Ok(Receipt::Outside),
+            code::DROPPED => Ok(Receipt::Dropped),
+            code::UNKNOWN => Ok(Receipt::Unknown),
+            other => Err(error_of(other)),
+        }
+    }
+
+    /// Which of the attestations attest, one verdict for each. False where others are wanted by now,
+    /// which come again. Then poll.
+    ///
+    /// # Errors
+    ///
+    /// `OutOfMemory`, after which the same call can be made again.
+    ///
+    /// # Panics
+    ///
+    /// Where there isn't one verdict for each.
+    pub fn conclude(&mut self, wanted: &Wanted<G>, verdicts: &[bool]) -> Result<bool, Error> {
+        assert_eq!(wanted.attestations.len(), verdicts.len(), "{ONE_EACH}");
+        let mut list = Vec::new();
+        reserve(&mut list, verdicts.len())?;
+        for attestation in &wanted.attestations {
+            list.push(flat_attestation(attestation)?);
+        }
+        let (kind, subject) = (kind_code(wanted.subject.kind()), &wanted.subject);
+        match self
+            .library
+            .conclude(kind, &flat_subject(subject), &list, verdicts)
+        {
+            code::DONE => Ok(true),
+            code::STALE => Ok(false),
+            other => Err(error_of(other)),
+        }
+    }
+
+    /// The signature of what was given to be signed. The vote is given to be sent once it is
+    /// written. Where a rule refuses it by now, nothing is.
+    ///
+    /// # Errors
+    ///
+    /// `OutOfMemory`, after which the same call can be made again.
+    pub fn signed(&mut self, subject: Subject, signature: &G) -> Result<(), Error> {
+        let vote = Vote::new(subject, Attestation::new(self.me, signature.clone()));
+        match self.library.cast(&flat_vote(&vote)?, true) {
+            code::OUT_OF_MEMORY => Err(Error::OutOfMemory),
+            code::NOT_VERIFIED => Err(Error::NotVerified),
+            _ => Ok(()),
+        }
+    }
+
+    /// The bytes to sign for a subject, and to verify a signature on it: no other subject has the
+    /// same ones, and none in another namespace.
+    pub fn message(&self, subject: &Subject) -> Vec<u8> {
+        let mut bytes = (self.namespace.len() as u64).to_be_bytes().to_vec();
+        bytes.extend_from_slice(&self.namespace);
+        bytes.push(kind_code(subject.kind()));
+        bytes.extend(subject.round().epoch.get().to_be_bytes());
+        bytes.extend(subject.round().view.get().to_be_bytes());
+        if let Some(proposal) = subject.proposal() {
+            bytes.extend(proposal.parent.get().to_be_bytes());
+            bytes.extend(proposal.payload.0);
+        }
+        bytes
+    }
+
+    /// Proposes this payload in a view, on the proposal of the view `parent`.
+    ///
+    /// # Errors
+    ///
+    /// None but that the library isn't the one that this crate was written for.
+    pub fn propose(
+        &mut self,
+        view: View,
+        parent: View,
+        payload: Sha256Digest,
+    ) -> Result<(), Error> {
+        let round = Round::new(self.epoch, view);
+        self.judge(&Proposal::new(round, parent, payload), true)
+    }
+
+    /// Whether a proposal is valid. Of one that isn't, the view is given up.
+    ///
+    /// # Errors
+    ///
+    /// As of [`Loop::propose`].
+    pub fn judge(&mut self, proposal: &Proposal, valid: bool) -> Result<(), Error> {
+        done(self.library.judge(&flat_proposal(proposal), valid))
+    }
+
+    /// The time of a view is over, for the first time or again. It is given up, unless its proposal
+    /// is notarized, and all votes and certificates from the final view on are given to be sent
+    /// again. Then poll.
+    ///
+    /// # Errors
+    ///
+    /// As of [`Loop::propose`].
+    pub fn expire(&mut self, view: View) -> Result<(), Error> {
+        done(self.library.expire(view.get()))
+    }
+
+    /// Whether a certificate of this kind and round is kept, so that another one needn't be verified.
+    pub fn has_certificate(&self, kind: Kind, round: Round) -> bool {
+        let (mut flat, mut count) = (flat_round(&round), 0);
+        let answer = self
+            .library
+            .kept(kind_code(kind), &mut flat, &mut [], &mut count);
+        answer != code::IDLE
+    }
+
+    /// The certificate of this kind and round, if it is kept: those are from the final view on. Send
+    /// them to who fell behind.
+    ///
+    /// # Errors
+    ///
+    /// `OutOfMemory`.
+    pub fn kept(&self, kind: Kind, round: Round) -> Result<Option<Listed>, Error> {
+        let (mut flat, mut count) = (flat_round(&round), 0);
+        let mut bytes = Vec::new();
+        loop {
+            match self
+                .library
+                .kept(kind_code(kind), &mut flat, &mut bytes, &mut count)
+            {
+                code::DONE => {
+                    return Ok(Some(Certificate::new(subject_of(kind, &flat), bytes)));
+                }
+                code::IDLE => return Ok(None),
+                code::SHORT => make_room(&mut bytes, count)?,
+                other => return Err(error_of(other)),
+            }
+        }
+    }
+}
+
+fn start_error(answer: u8) -> StartError {
+    match answer {
+        code::OUT_OF_MEMORY => StartError::OutOfMemory,
+        code::MALFORMED => StartError::UnknownParticipant,
+        code::NOT_BEGUN => StartError::NotBegun,
+        code::OTHER_VERSION => StartError::OtherVersion,
+        code::OTHER_OWNER => StartError::OtherOwner,
+        code::DAMAGED => StartError::Damaged,
+        other => StartError::Unknown(other),
+    }
+}
+
+/// Makes a list of bytes as long as is wanted.
+pub(crate) fn make_room(bytes: &mut Vec<u8>, count: u64) -> Result<(), Error> {
+    let count = usize::try_from(count).map_err(|_| Error::OutOfMemory)?;
+    reserve(bytes, count.saturating_sub(bytes.len()))?;
+    bytes.resize(count, 0);
+    Ok(())
+}
+
+/// The attestations of a list: how many there are, and of each its signer, how long its signature
+/// is, and that with zeros behind it.
+fn listed<G: for<'b> TryFrom<&'b [u8]>>(bytes: &[u8]) -> Option<Vec<Attestation<G>>> {
+    const EACH: usize = 4 + 1 + ffi::WIDTH;
+    let (count, rest) = bytes.split_first_chunk::<8>()?;
+    if rest.len() % EACH != 0 || u64::from_be_bytes(*count) != (rest.len() / EACH) as u64 {
+        return None;
+    }
+    let mut all = Vec::new();
+    all.try_reserve_exact(rest.len() / EACH).ok()?;
+    for one in rest.chunks_exact(EACH) {
+        let (signer, signature) = one.split_first_chunk::<4>()?;
+        let (length, signature) = signature.split_first()?;
+        let (used, zeros) = signature.split_at_checked(usize::from(*length))?;
+        if zeros.iter().any(|byte| *byte != 0) {
+            return None;
+        }
+        let signer = Participant::new(u32::from_be_bytes(*signer));
+        all.push(Attestation::new(signer, G::try_from(used).ok()?));
+    }
+    Some(all)
+}
+
+fn cause_of(flat: u8) -> Option<Cause> {
+    match flat {
+        code::CAUSE_CERTIFICATE => Some(Cause::Certificate),
+        code::CAUSE_SIGNATURE => Some(Cause::Signature),
+        other => block_of(other).ok()?.map(Cause::Vote),
+    }
+}

@@ -1,0 +1,371 @@
+//! Validators of the crate: four of them, which are stopped and go on by their disks, and what a
+//! caller may do wrong.
+
+mod toy;
+
+use batcher::looping::{Cause, Listed, Loop, Options, Receipt, StartError, Task, Verdict};
+use batcher::positions::Round;
+use batcher::{
+    Attestation, Certificate, Epoch, Kind, Participant, Proposal, Sha256Digest, Subject, View, Vote,
+};
+use std::collections::BTreeMap;
+use toy::{Signature, attests, sign};
+
+const VALIDATORS: u32 = 4;
+
+fn options(me: u32) -> Options<'static> {
+    Options {
+        epoch: Epoch::zero(),
+        me: Participant::new(me),
+        participants: VALIDATORS,
+        keys: [4; 32],
+        namespace: b"tests",
+        ahead: 8,
+        track_historical_votes: false,
+    }
+}
+
+fn leader(view: View) -> Participant {
+    Participant::new((view.get() % u64::from(VALIDATORS)) as u32)
+}
+
+#[derive(Clone)]
+enum Message {
+    Vote(Vote<Signature>),
+    Certificate(Listed),
+}
+
+/// What a validator has written, and what it said in all of its lives.
+struct Station {
+    me: u32,
+    running: Loop<Signature>,
+    disk: Vec<u8>,
+    view: View,
+    finals: BTreeMap<View, Proposal>,
+    sent: Vec<Subject>,
+    blocked: Vec<Participant>,
+}
+
+impl Station {
+    fn new(me: u32) -> Self {
+        Station {
+            me,
+            running: Loop::begin(&options(me), leader).unwrap(),
+            disk: Vec::new(),
+            view: View::zero(),
+            finals: BTreeMap::new(),
+            sent: Vec::new(),
+            blocked: Vec::new(),
+        }
+    }
+
+    fn restart(&mut self) {
+        self.running = match Loop::start(&options(self.me), leader, &self.disk) {
+            Ok(running) => running,
+            // It was stopped before anything was written.
+            Err(StartError::NotBegun) => Loop::begin(&options(self.me), leader).unwrap(),
+            Err(error) => panic!("{error}"),
+        };
+    }
+
+    fn certifies(&self, certificate: &Listed) -> bool {
+        let subject = certificate.subject();
+        let all = self.running.attestations(certificate);
+        all.is_some_and(|all| all.iter().all(|it| attests(&subject, it)))
+    }
+
+    fn hear(&mut self, sender: u32, message: &Message) {
+        let sender = Participant::new(sender);
+        match message {
+            Message::Vote(vote) => {
+                self.running.vote(sender, vote).unwrap();
+            }
+            Message::Certificate(certificate) => {
+                let certifies = self.certifies(certificate);
+                assert!(certifies);
+                self.running
+                    .certificate(sender, certificate, certifies)
+                    .unwrap();
+            }
+        }
+    }
+
+    /// Does so many things that are to be done, and gives what is to be sent.
+    fn go_on(&mut self, times: u64) -> Vec<Message> {
+        let mut messages = Vec::new();
+        for _ in 0..times {
+            let Some(task) = self.running.poll().unwrap() else {
+                break;
+            };
+            match task {
+                Task::Write(write) => {
+                    if write.replaces {
+                        self.disk.clear();
+                    }
+                    self.disk.extend_from_slice(&write.bytes);
+                    self.running.wrote().unwrap();
+                }
+                Task::Block(peer, _) => self.blocked.push(peer),
+                Task::Final(proposal) => {
+                    self.finals.insert(proposal.round.view, proposal);
+                }
+                Task::SendVote(vote) => {
+                    self.sent.push(vote.subject());
+                    messages.push(Message::Vote(vote));
+                }
+                Task::SendCertificate(made) => messages.push(Message::Certificate(made)),
+                Task::Enter(view) => self.view = view,
+                Task::Verify(wanted) => {
+                    let subject = wanted.subject();
+                    let all = wanted.attestations().iter();
+                    let verdicts: Vec<_> = all.map(|it| attests(subject, it)).collect();
+                    assert!(self.running.conclude(&wanted, &verdicts).unwrap());
+                }
+                Task::Sign(subject) => {
+                    let signature = sign(&subject, self.me);
+                    self.running.signed(subject, &signature).unwrap();
+                }
+                Task::Propose { view, parent } => {
+                    let payload = Sha256Digest([view.get() as u8; 32]);
+                    self.running.propose(view, parent, payload).unwrap();
+                }
+                Task::Judge(proposal) => self.running.judge(&proposal, true).unwrap(),
+            }
+        }
+        messages
+    }
+
+    /// No two votes that it sent contradict each other.
+    fn keeps_its_word(&self) -> bool {
+        let contradict = |one: &Subject, other: &Subject| {
+            let kinds = (one.kind(), other.kind());
+            let is_both = kinds == (Kind::Nullification, Kind::Finalization);
+            one.round() == other.round()
+                && (is_both || kinds.0 == kinds.1 && one.proposal() != other.proposal())
+        };
+        let all = || self.sent.iter();
+        all().all(|one| all().all(|other| !contradict(one, other)))
+    }
+}
+
+struct Numbers(u64);
+
+impl Numbers {
+    fn below(&mut self, bound: u64) -> u64 {
+        self.0 = self
+            .0
+            .wrapping_mul(6364136223846793005)
+            .wrapping_add(1442695040888963407);
+        (self.0 >> 33) % bound
+    }
+}
+
+#[test]
+fn four_go_on_whenever_they_are_stopped() {
+    for seed in 0..20 {
+        let mut numbers = Numbers(seed);
+        let mut stations: Vec<_> = (0..VALIDATORS).map(Station::new).collect();
+        let mut inbox: Vec<(u32, u32, Message)> = Vec::new();
+        for _ in 0..4000 {
+            let me = numbers.below(u64::from(VALIDATORS)) as u32;
+            let station = &mut stations[me as usize];
+            match numbers.below(100) {
+                0 => station.restart(),
+                1..5 => station.running.expire(station.view).unwrap(),
+                _ => {}
+            }
+            for message in station.go_on(numbers.below(8)) {
+                let others = (0..VALIDATORS).filter(|it| *it != me);
+                inbox.extend(others.map(|it| (me, it, message.clone())));
+            }
+            for _ in 0..3.min(inbox.len()) {
+                let place = numbers.below(inbox.len() as u64) as usize;
+                let (from, to, message) = inbox.swap_remove(place);
+                // One in twenty is lost.
+                if numbers.below(20) != 0 {
+                    stations[to as usize].hear(from, &message);
+                }
+            }
+        }
+        let mut chain = BTreeMap::new();
+        for station in &stations {
+            assert!(station.keeps_its_word(), "seed {seed} {:?}", station.sent);
+            assert!(station.blocked.is_empty(), "{:?}", station.blocked);
+            assert!(station.finals.len() > 2, "seed {seed}");
+            for (view, proposal) in &station.finals {
+                assert_eq!(chain.entry(*view).or_insert(*proposal), proposal);
+            }
+        }
+    }
+}
+
+/// One that has written what it begins with, and has entered its first view.
+fn begun(me: u32) -> Station {
+    let mut station = Station::new(me);
+    station.go_on(2);
+    assert_eq!(station.view, View::new(1));
+    station
+}
+
+fn nullification(view: u64, signers: &[u32]) -> Listed {
+    let round = Round::new(Epoch::zero(), View::new(view));
+    let subject = Subject::Nullify { round };
+    let mut bytes = (signers.len() as u64).to_be_bytes().to_vec();
+    for signer in signers {
+        let signature = sign(&subject, *signer);
+        bytes.extend(signer.to_be_bytes());
+        bytes.push(signature.len() as u8);
+        bytes.extend(signature);
+        bytes.extend(vec![0; 96 - signature.len()]);
+    }
+    Certificate::new(subject, bytes)
+}
+
+#[test]
+fn a_certificate_is_a_list_of_a_quorum() {
+    let station = begun(0);
+    let list = |made: &Listed| station.running.attestations(made);
+    let all = list(&nullification(1, &[3, 0, 2])).unwrap();
+    let signers: Vec<u32> = all.iter().map(|it| it.signer.get()).collect();
+    assert_eq!(signers, [3, 0, 2]);
+    assert!(station.certifies(&nullification(1, &[3, 0, 2])));
+    // Too few, one of them twice, and one that takes no part.
+    for signers in [&[0, 1][..], &[0, 1, 1], &[0, 1, 4]] {
+        assert!(list(&nullification(1, signers)).is_none());
+    }
+    // Cut short, longer, and with something else in the place of a zero.
+    let whole = nullification(1, &[0, 1, 2]);
+    let (subject, bytes) = (whole.subject(), whole.content());
+    let mut changed = bytes.clone();
+    *changed.last_mut().unwrap() = 1;
+    let longer = [&bytes[..], &[0]].concat();
+    for bytes in [bytes[..bytes.len() - 1].to_vec(), longer, changed] {
+        assert!(list(&Certificate::new(subject, bytes)).is_none());
+    }
+}
+
+#[test]
+fn who_forges_is_blocked() {
+    let mut station = begun(0);
+    let forged = nullification(1, &[1, 1, 2]);
+    let peer = Participant::new(3);
+    let certifies = station.certifies(&forged);
+    let heard = station.running.certificate(peer, &forged, certifies);
+    assert_eq!(heard, Ok(Receipt::Answered(Verdict::Forged)));
+    let task = station.running.poll().unwrap();
+    assert!(matches!(task, Some(Task::Block(it, Cause::Certificate)) if it == peer));
+    let heard = station.running.certificate(peer, &forged, certifies);
+    assert_eq!(heard, Ok(Receipt::Dropped));
+    let good = nullification(1, &[1, 3, 2]);
+    let heard = station
+        .running
+        .certificate(Participant::new(2), &good, true);
+    assert_eq!(heard, Ok(Receipt::Answered(Verdict::Recorded)));
+    let round = good.round();
+    let kept = station.running.kept(Kind::Nullification, round).unwrap();
+    assert_eq!(kept, Some(good));
+    assert_eq!(station.running.kept(Kind::Notarization, round), Ok(None));
+}
+
+#[test]
+fn who_fell_behind_goes_on_by_a_finalization() {
+    let mut station = begun(0);
+    let round = Round::new(Epoch::zero(), View::new(70));
+    let proposal = Proposal::new(round, View::new(69), Sha256Digest([7; 32]));
+    let subject = Subject::Finalize { proposal };
+    let mut bytes = 3_u64.to_be_bytes().to_vec();
+    for signer in 1..VALIDATORS {
+        let signature = sign(&subject, signer);
+        bytes.extend(signer.to_be_bytes());
+        bytes.push(signature.len() as u8);
+        bytes.extend(signature);
+        bytes.extend(vec![0; 96 - signature.len()]);
+    }
+    station.hear(1, &Message::Certificate(Certificate::new(subject, bytes)));
+    station.go_on(10);
+    assert_eq!(
+        station.finals.keys().copied().collect::<Vec<_>>(),
+        [round.view]
+    );
+    assert_eq!(station.view, View::new(71));
+}
+
+#[test]
+fn a_disk_is_of_one_validator() {
+    let station = begun(1);
+    let started =
+        |options: &Options, disk: &[u8]| Loop::<Signature>::start(options, leader, disk).err();
+    assert_eq!(started(&options(1), &station.disk), None);
+    assert_eq!(
+        started(&options(2), &station.disk),
+        Some(StartError::OtherOwner)
+    );
+    assert_eq!(
+        started(&options(9), &station.disk),
+        Some(StartError::UnknownParticipant)
+    );
+    assert_eq!(started(&options(1), &[]), Some(StartError::NotBegun));
+    let short = &station.disk[..station.disk.len() - 1];
+    assert_eq!(started(&options(1), short), Some(StartError::Damaged));
+    for other in [
+        Options {
+            epoch: Epoch::new(1),
+            ..options(1)
+        },
+        Options {
+            keys: [5; 32],
+            ..options(1)
+        },
+        Options {
+            namespace: b"test",
+            ..options(1)
+        },
+    ] {
+        assert_eq!(started(&other, &station.disk), Some(StartError::OtherOwner));
+    }
+}
+
+#[test]
+fn subjects_have_messages_of_their_own() {
+    let one = begun(1).running;
+    let options = Options {
+        namespace: b"test",
+        ..options(1)
+    };
+    let other = Loop::<Signature>::begin(&options, leader).unwrap();
+    let round = Round::new(Epoch::zero(), View::new(1));
+    let proposal = Proposal::new(round, View::zero(), Sha256Digest([7; 32]));
+    let subjects = [
+        Subject::Notarize { proposal },
+        Subject::Finalize { proposal },
+        Subject::Nullify { round },
+    ];
+    let messages = subjects
+        .iter()
+        .flat_map(|it| [one.message(it), other.message(it)]);
+    let mut messages: Vec<_> = messages.collect();
+    messages.sort();
+    messages.dedup();
+    assert_eq!(messages.len(), 6);
+}
+
+#[test]
+#[should_panic = "there isn't one verdict for each"]
+fn each_attestation_has_a_verdict() {
+    let mut station = begun(0);
+    let round = Round::new(Epoch::zero(), View::new(1));
+    let subject = Subject::Nullify { round };
+    for signer in 1..VALIDATORS {
+        let attestation = Attestation::new(Participant::new(signer), sign(&subject, signer));
+        let vote = Vote::new(subject, attestation);
+        station
+            .running
+            .vote(Participant::new(signer), &vote)
+            .unwrap();
+    }
+    loop {
+        if let Some(Task::Verify(wanted)) = station.running.poll().unwrap() {
+            let _ = station.running.conclude(&wanted, &[]);
+        }
+    }
+}

@@ -1,0 +1,59 @@
+//! What validators do wrong, where they do.
+
+use crate::transport::Message;
+use crate::validator::Validator;
+use batcher::{Certificate, Participant, Proposal, Sha256Digest, Subject};
+use std::thread::sleep;
+use std::time::Duration;
+
+#[derive(Clone, Copy, Debug, PartialEq, Eq)]
+pub enum Fault {
+    None,
+    /// It takes its time, which is no fault.
+    Slow,
+    /// It notarizes two proposals.
+    Equivocates,
+    /// It sends certificates that certify nothing.
+    Forges,
+}
+
+impl Fault {
+    pub fn of(participant: Participant) -> Self {
+        match participant.get() {
+            2 => Fault::Equivocates,
+            4 => Fault::Slow,
+            5 => Fault::Forges,
+            _ => Fault::None,
+        }
+    }
+
+    /// Whether it keeps to the rules.
+    pub fn is_honest(self) -> bool {
+        matches!(self, Fault::None | Fault::Slow)
+    }
+
+    /// Sends a message as who has this fault does.
+    pub fn send(self, validator: &Validator, message: Message) {
+        match (self, &message) {
+            (Fault::Slow, _) => sleep(Duration::from_millis(5)),
+            (Fault::Equivocates, Message::Vote(Subject::Notarize { proposal }, _)) => {
+                let payload = Sha256Digest([7; 32]);
+                let proposal = Proposal::new(proposal.round, proposal.parent, payload);
+                let subject = Subject::Notarize { proposal };
+                let other = Message::Vote(subject, validator.sign(&subject));
+                validator.station.peers.send(&other);
+            }
+            (Fault::Forges, Message::Certificate(made)) => {
+                let mut bytes = made.content().clone();
+                if let Some(last) = bytes.get_mut(20) {
+                    *last ^= 1;
+                }
+                let forged = Certificate::new(made.subject(), bytes);
+                validator.station.peers.send(&Message::Certificate(forged));
+                return;
+            }
+            _ => {}
+        }
+        validator.station.peers.send(&message);
+    }
+}
