@@ -1,6 +1,6 @@
 //! What rounds answer.
 
-use crate::messages::{Activity, Certificate};
+use crate::messages::{Activity, Certificate, Kind};
 use crate::positions::Participant;
 use std::fmt;
 
@@ -40,9 +40,10 @@ pub enum BlockReason {
     FinalizeAfterNullify,
 }
 
-impl fmt::Display for BlockReason {
-    fn fmt(&self, f: &mut fmt::Formatter<'_>) -> fmt::Result {
-        f.write_str(match self {
+impl BlockReason {
+    /// Its text, which is the original's.
+    pub const fn as_str(&self) -> &'static str {
+        match self {
             BlockReason::UnknownParticipant => "unknown participant",
             BlockReason::NotarizeSignerMismatch => "notarize signer mismatch",
             BlockReason::NullifySignerMismatch => "nullify signer mismatch",
@@ -53,7 +54,13 @@ impl fmt::Display for BlockReason {
             BlockReason::InvalidSignature => "invalid signature",
             BlockReason::NullifyAfterFinalize => "nullify after finalize",
             BlockReason::FinalizeAfterNullify => "finalize after nullify",
-        })
+        }
+    }
+}
+
+impl fmt::Display for BlockReason {
+    fn fmt(&self, f: &mut fmt::Formatter<'_>) -> fmt::Result {
+        f.write_str(self.as_str())
     }
 }
 
@@ -109,15 +116,22 @@ pub enum OwnFault {
     FinalizeAfterNullify,
 }
 
-impl fmt::Display for OwnFault {
-    fn fmt(&self, f: &mut fmt::Formatter<'_>) -> fmt::Result {
-        f.write_str(match self {
+impl OwnFault {
+    /// Its text.
+    pub const fn as_str(&self) -> &'static str {
+        match self {
             OwnFault::DuplicateNotarize => "duplicate notarize",
             OwnFault::DuplicateFinalize => "duplicate finalize",
             OwnFault::Conflicting => "conflicting constructed vote",
             OwnFault::NullifyAfterFinalize => "nullify after finalize",
             OwnFault::FinalizeAfterNullify => "finalize after nullify",
-        })
+        }
+    }
+}
+
+impl fmt::Display for OwnFault {
+    fn fmt(&self, f: &mut fmt::Formatter<'_>) -> fmt::Result {
+        f.write_str(self.as_str())
     }
 }
 
@@ -137,6 +151,13 @@ pub struct Batch<C> {
     pub certificate: Option<Certificate<C>>,
     /// Whether the votes could have been a quorum, but had to be sorted one by one.
     pub fallback: bool,
+}
+
+impl<C> Batch<C> {
+    /// The kind of its certificate, if one was made.
+    pub fn kind(&self) -> Option<Kind> {
+        self.certificate.as_ref().map(Certificate::kind)
+    }
 }
 
 /// Why a call was refused. The round or validator is as it was, but where it is `Gone`.

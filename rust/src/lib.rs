@@ -21,7 +21,7 @@
 //!
 //! ```
 //! # include!(concat!(env!("CARGO_MANIFEST_DIR"), "/tests/toy/mod.rs"));
-//! use batcher::{BlockReason, Outcome, Participant, Round};
+//! use batcher::{BlockReason, Kind, Outcome, Participant, Round};
 //! # fn main() -> Result<(), batcher::Error> {
 //! let mut round = Round::new(ROUND, Toy::new(4), true)?;
 //! round.set_leader(Participant::new(2))?;
@@ -43,7 +43,7 @@
 //! }
 //! // Nothing is verified twice.
 //! let batch = round.try_construct()?.expect("three votes that attest");
-//! assert!(batch.certificate.is_some());
+//! assert_eq!(batch.kind(), Some(Kind::Notarization));
 //! // Who votes for something else is to be blocked.
 //! let admission = round.add_network(&KEYS[1], notarize(1, 8))?;
 //! assert_eq!(admission.block, Some(BlockReason::ConflictingNotarize));

@@ -54,13 +54,20 @@ pub enum Kind {
     Finalization,
 }
 
-impl fmt::Display for Kind {
-    fn fmt(&self, f: &mut fmt::Formatter<'_>) -> fmt::Result {
-        f.write_str(match self {
+impl Kind {
+    /// Its name.
+    pub const fn as_str(&self) -> &'static str {
+        match self {
             Kind::Notarization => "notarization",
             Kind::Nullification => "nullification",
             Kind::Finalization => "finalization",
-        })
+        }
+    }
+}
+
+impl fmt::Display for Kind {
+    fn fmt(&self, f: &mut fmt::Formatter<'_>) -> fmt::Result {
+        f.write_str(self.as_str())
     }
 }
 
@@ -309,6 +316,15 @@ impl<C> Certificate<C> {
             Certificate::Notarization(made) => &made.certificate,
             Certificate::Nullification(made) => &made.certificate,
             Certificate::Finalization(made) => &made.certificate,
+        }
+    }
+
+    /// The same, taken out.
+    pub fn into_content(self) -> C {
+        match self {
+            Certificate::Notarization(made) => made.certificate,
+            Certificate::Nullification(made) => made.certificate,
+            Certificate::Finalization(made) => made.certificate,
         }
     }
 

@@ -127,6 +127,7 @@ pub const fn quorum(n: u32) -> u32 {
 /// let set = Set::new(vec!["eve", "ada"])?;
 /// assert_eq!(set.index(&"eve"), Some(Participant(1)));
 /// assert_eq!(set.key(Participant(0)), Some(&"ada"));
+/// assert!(set.iter().eq([(Participant(0), &"ada"), (Participant(1), &"eve")]));
 /// assert_eq!(Set::new(vec!["ada", "ada"]), Err(SetFault::Duplicate));
 /// # Ok::<(), SetFault>(())
 /// ```
@@ -186,6 +187,12 @@ impl<K> Set<K> {
     /// The keys in the order of their participants.
     pub fn as_slice(&self) -> &[K] {
         &self.keys
+    }
+
+    /// Each participant with its key.
+    pub fn iter(&self) -> impl ExactSizeIterator<Item = (Participant, &K)> {
+        let each = self.keys.iter().enumerate();
+        each.map(|(index, key)| (Participant(index as u32), key))
     }
 }
 

@@ -239,6 +239,7 @@ fn a_certificate_is_a_list_of_a_quorum() {
     let mut changed = bytes.clone();
     *changed.last_mut().unwrap() = 1;
     let longer = [&bytes[..], &[0]].concat();
+    assert_eq!(whole.clone().into_content(), *bytes);
     for bytes in [bytes[..bytes.len() - 1].to_vec(), longer, changed] {
         assert!(list(&Certificate::new(subject, bytes)).is_none());
     }

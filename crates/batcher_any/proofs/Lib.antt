@@ -1,3 +1,2 @@
 mod Plain
 mod Wholes
-mod Assembled
