@@ -56,8 +56,13 @@ impl Network {
         self.folder.join(index.to_string())
     }
 
+    /// Where there is a program in C that does the same, two of them are its.
     fn spawn(&self, index: u32) -> Result<Child> {
-        Command::new(std::env::current_exe()?)
+        let program = match (std::env::var_os("VALIDATOR_IN_C"), index) {
+            (Some(program), 1 | 6) => PathBuf::from(program),
+            _ => std::env::current_exe()?,
+        };
+        Command::new(program)
             .args(["run", &index.to_string()])
             .arg(self.folder_of(index))
             .args(&self.ports)
