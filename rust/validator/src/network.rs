@@ -28,14 +28,12 @@ pub struct Network {
 impl Network {
     pub fn start(seed: u64) -> Result<Self> {
         let folder = std::env::temp_dir().join(format!("validators-{}", std::process::id()));
-        // All ports are free at once, so they differ.
-        let free: Result<Vec<_>> = (0..VALIDATORS)
-            .map(|_| TcpListener::bind("127.0.0.1:0"))
-            .collect();
-        let mut ports = Vec::new();
-        for listener in &free? {
-            ports.push(listener.local_addr()?.port().to_string());
-        }
+        // Below those that the system gives to who connects, which could have that of one that is
+        // stopped.
+        let first = 10_000 + (std::process::id() % 20_000) as u16;
+        let is_free = |port: &u16| TcpListener::bind(("127.0.0.1", *port)).is_ok();
+        let free = (first..32_000).filter(is_free).take(VALIDATORS as usize);
+        let ports: Vec<String> = free.map(|port| port.to_string()).collect();
         let mut network = Network {
             folder,
             ports,
