@@ -44,6 +44,8 @@ struct Station {
     finals: BTreeMap<View, Proposal>,
     sent: Vec<Subject>,
     blocked: Vec<Participant>,
+    /// Whether it has a key.
+    signs: bool,
 }
 
 impl Station {
@@ -56,6 +58,7 @@ impl Station {
             finals: BTreeMap::new(),
             sent: Vec::new(),
             blocked: Vec::new(),
+            signs: true,
         }
     }
 
@@ -121,6 +124,7 @@ impl Station {
                     let verdicts: Vec<_> = all.map(|it| attests(subject, it)).collect();
                     assert!(self.running.conclude(&wanted, &verdicts).unwrap());
                 }
+                Task::Sign(_) if !self.signs => {}
                 Task::Sign(subject) => {
                     let signature = sign(&subject, self.me);
                     self.running.signed(subject, &signature).unwrap();
@@ -289,6 +293,68 @@ fn who_fell_behind_goes_on_by_a_finalization() {
         [round.view]
     );
     assert_eq!(station.view, View::new(71));
+}
+
+// Who has no key takes somebody's index, signs nothing, and follows all, that one too.
+#[test]
+fn who_signs_nothing_follows() {
+    let mut stations: Vec<_> = (0..VALIDATORS).map(Station::new).collect();
+    let mut observer = Station::new(3);
+    observer.signs = false;
+    for turn in 0..2000 {
+        let me = turn % VALIDATORS;
+        for message in stations[me as usize].go_on(8) {
+            for to in (0..VALIDATORS).filter(|it| *it != me) {
+                stations[to as usize].hear(me, &message);
+            }
+            observer.hear(me, &message);
+        }
+        observer.go_on(8);
+    }
+    assert!(observer.finals.len() > 20 && observer.sent.is_empty());
+    assert!(observer.blocked.is_empty());
+    for (view, proposal) in &observer.finals {
+        assert_eq!(stations[0].finals.get(view).unwrap_or(proposal), proposal);
+    }
+}
+
+#[test]
+fn verdicts_may_come_late() {
+    let mut station = begun(0);
+    let round = Round::new(Epoch::zero(), View::new(1));
+    let subject = Subject::Nullify { round };
+    let hear = |station: &mut Station, signer: u32| {
+        let attestation = Attestation::new(Participant::new(signer), sign(&subject, signer));
+        station.hear(signer, &Message::Vote(Vote::new(subject, attestation)));
+    };
+    let asked = |station: &mut Station| match station.running.poll().unwrap() {
+        Some(Task::Verify(wanted)) => wanted,
+        other => panic!("{other:?}"),
+    };
+    // A quorum of 4 is 3, and its own vote isn't there.
+    for signer in [1, 2, 3] {
+        hear(&mut station, signer);
+    }
+    let early = asked(&mut station);
+    assert_eq!(early.attestations().len(), 3);
+    // It isn't asked twice, until it answers.
+    assert!(station.running.poll().unwrap().is_none());
+    let late = std::thread::spawn(move || {
+        let subject = early.subject();
+        let all = early.attestations().iter();
+        let verdicts: Vec<bool> = all.map(|it| attests(subject, it)).collect();
+        (early, verdicts)
+    });
+    let (wanted, verdicts) = late.join().unwrap();
+    assert_eq!(station.running.conclude(&wanted, &verdicts), Ok(true));
+    // They were of that construction, and change nothing any more.
+    assert_eq!(station.running.conclude(&wanted, &verdicts), Ok(false));
+    assert!(station.running.has_certificate(Kind::Nullification, round));
+    let task = station.running.poll().unwrap();
+    assert!(matches!(
+        task,
+        Some(Task::Write(_) | Task::SendCertificate(_) | Task::Enter(_))
+    ));
 }
 
 #[test]
