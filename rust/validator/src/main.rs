@@ -7,6 +7,7 @@
 
 mod faults;
 mod network;
+mod record;
 mod sodium;
 mod transport;
 mod validator;
@@ -14,9 +15,9 @@ mod validator;
 use batcher::{Files, Participant};
 use faults::Fault;
 use network::{Network, VALIDATORS};
+use record::Record;
 use sodium::KeyPair;
 use std::error::Error;
-use std::fs::OpenOptions;
 use std::path::Path;
 use std::process::ExitCode;
 use transport::Peers;
@@ -60,10 +61,7 @@ fn one(index: &str, folder: &Path, ports: &[String]) -> Result<(), Box<dyn Error
     let keys = pairs.swap_remove(usize::from(me));
     let ports: Result<Vec<u16>, _> = ports.iter().map(|port| port.parse()).collect();
     let disk = Files::open(folder)?;
-    let record = OpenOptions::new()
-        .append(true)
-        .create(true)
-        .open(folder.join("record"))?;
+    let record = Record::open(folder)?;
     let (peers, inbox) = Peers::start(me, &keys, &participants, &ports?)?;
     let station = Station {
         me,

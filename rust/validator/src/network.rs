@@ -1,12 +1,13 @@
 //! Seven validators, each a process of its own, that are killed and started again.
 
 use crate::faults::Fault;
+use crate::record::Noted;
 use batcher::{Files, Participant};
 use std::collections::{BTreeMap, BTreeSet};
-use std::fs::{create_dir_all, read_to_string, remove_dir_all};
+use std::fs::{create_dir_all, remove_dir_all};
 use std::io::Result;
 use std::net::TcpListener;
-use std::path::{Path, PathBuf};
+use std::path::PathBuf;
 use std::process::{Child, Command};
 use std::thread::sleep;
 use std::time::{Duration, Instant};
@@ -117,7 +118,7 @@ impl Network {
     /// Of each honest validator the last view that is final.
     fn lowest(&self) -> Vec<u64> {
         let last = |index| {
-            Record::of(&self.folder_of(index))
+            Noted::of(&self.folder_of(index))
                 .finals
                 .keys()
                 .next_back()
@@ -135,7 +136,7 @@ impl Network {
             if !Fault::of(Participant::new(index)).is_honest() {
                 continue;
             }
-            let record = Record::of(&self.folder_of(index));
+            let record = Noted::of(&self.folder_of(index));
             let last = record.finals.keys().next_back().copied().unwrap_or(0);
             println!(
                 "validator {index}: view {last} is final, blocks {:?}",
@@ -160,49 +161,5 @@ impl Network {
             }
         );
         is_fine
-    }
-}
-
-/// What a validator has noted in all of its lives.
-#[derive(Default)]
-struct Record {
-    finals: BTreeMap<u64, String>,
-    blocked: BTreeSet<u32>,
-    /// Whether it sent two votes that contradict each other.
-    contradicts: bool,
-}
-
-impl Record {
-    fn of(folder: &Path) -> Self {
-        let text = read_to_string(folder.join("record")).unwrap_or_default();
-        let mut record = Record::default();
-        let mut sent: BTreeMap<(String, u64), String> = BTreeMap::new();
-        for line in text.lines() {
-            let words: Vec<&str> = line.split(' ').collect();
-            match words[..] {
-                ["final", view, parent, payload] => {
-                    let known = format!("{parent} {payload}");
-                    if let Ok(view) = view.parse() {
-                        record.finals.insert(view, known);
-                    }
-                }
-                ["blocks", peer, ..] => record.blocked.extend(peer.parse::<u32>()),
-                ["sends", kind, view, payload] => {
-                    let view = view.parse().unwrap_or(0);
-                    let known = sent
-                        .entry((kind.into(), view))
-                        .or_insert_with(|| payload.into());
-                    record.contradicts |= known != payload;
-                    let other = match kind {
-                        "nullification" => "finalization",
-                        "finalization" => "nullification",
-                        _ => continue,
-                    };
-                    record.contradicts |= sent.contains_key(&(other.into(), view));
-                }
-                _ => {}
-            }
-        }
-        record
     }
 }

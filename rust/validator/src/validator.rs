@@ -1,15 +1,12 @@
 //! One validator: what comes goes into its loop, and what that gives is done.
 
 use crate::faults::Fault;
+use crate::record::Record;
 use crate::sodium::{KeyPair, PublicKey, Signature, sha256, verify};
 use crate::transport::{Message, Peers};
-use batcher::looping::{Listed, Loop, Options, Task, Wanted};
-use batcher::{
-    Attestation, Epoch, Files, Participant, Proposal, Sha256Digest, Subject, View, Vote,
-};
+use batcher::looping::{Listed, Loop, Options, Task};
+use batcher::{Attestation, Epoch, Files, Participant, Sha256Digest, Subject, View, Vote};
 use std::error::Error;
-use std::fs::File;
-use std::io::Write;
 use std::sync::mpsc::{Receiver, RecvTimeoutError};
 use std::time::{Duration, Instant};
 
@@ -27,7 +24,7 @@ pub struct Station {
     pub peers: Peers,
     pub disk: Files,
     /// Where it notes what is final, whom it blocks and what it sends.
-    pub record: File,
+    pub record: Record,
 }
 
 pub struct Validator {
@@ -133,40 +130,39 @@ impl Validator {
                 self.running.wrote()?;
             }
             Task::Block(peer, cause) => {
-                self.note(&format!("blocks {peer} {cause}\n"))?;
+                self.station.record.blocks(peer, cause)?;
                 self.station.peers.block(peer);
             }
             Task::Final(proposal) => {
                 self.last = proposal.round.view;
-                let Proposal {
-                    parent, payload, ..
-                } = proposal;
-                self.note(&format!("final {} {parent} {payload}\n", self.last))?;
+                self.station.record.is_final(&proposal)?;
             }
             Task::SendVote(vote) => {
                 let subject = vote.subject();
-                self.note(&format!("{}\n", shown(&subject)))?;
+                self.station.record.sends(&subject)?;
                 let message = Message::Vote(subject, vote.attestation().signature);
                 self.station.fault.send(self, message);
             }
             Task::SendCertificate(certificate) => {
-                self.station
-                    .fault
-                    .send(self, Message::Certificate(certificate));
+                let message = Message::Certificate(certificate);
+                self.station.fault.send(self, message);
             }
             Task::Enter(view) => {
                 self.view = view;
                 self.deadline = Instant::now() + self.patience();
             }
-            Task::Verify(wanted) => self.verify(&wanted)?,
+            Task::Verify(wanted) => {
+                let verdicts = self.verdicts(wanted.subject(), wanted.attestations());
+                self.running.conclude(&wanted, &verdicts)?;
+            }
             Task::Sign(subject) => {
                 let signature = self.sign(&subject);
                 self.running.signed(subject, &signature)?;
             }
             Task::Propose { view, parent } => {
-                let payload =
-                    sha256(&[view.get().to_be_bytes(), parent.get().to_be_bytes()].concat());
-                self.running.propose(view, parent, Sha256Digest(payload))?;
+                let numbers = [view, parent].map(|it| it.get().to_be_bytes());
+                let payload = Sha256Digest(sha256(&numbers.concat()));
+                self.running.propose(view, parent, payload)?;
             }
             // There is nothing in a payload here.
             Task::Judge(proposal) => self.running.judge(&proposal, true)?,
@@ -174,30 +170,8 @@ impl Validator {
         Ok(())
     }
 
-    /// A line of the record is written at once, so that none is torn where it is killed.
-    fn note(&mut self, line: &str) -> Outcome<()> {
-        Ok(self.station.record.write_all(line.as_bytes())?)
-    }
-
-    fn verify(&mut self, wanted: &Wanted<Signature>) -> Outcome<()> {
-        let verdicts = self.verdicts(wanted.subject(), wanted.attestations());
-        self.running.conclude(wanted, &verdicts)?;
-        Ok(())
-    }
-
     /// Its signature, for whatever it is.
     pub fn sign(&self, subject: &Subject) -> Signature {
         self.station.keys.sign(&self.running.message(subject))
     }
-}
-
-/// A vote in the record: its kind, its view and what it is for.
-fn shown(subject: &Subject) -> String {
-    let payload = subject.proposal().map(|it| it.payload.to_string());
-    let view = subject.round().view;
-    format!(
-        "sends {} {view} {}",
-        subject.kind(),
-        payload.unwrap_or_default()
-    )
 }
