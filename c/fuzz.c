@@ -1,4 +1,4 @@
-/* Rounds and validators under any order of calls, sizes and bytes, by seeds 0, 1, .. up to the one that is named, while memory is refused
+/* Rounds, validators and files under any order of calls, sizes and bytes, by seeds 0, 1, .. up to the one that is named, while memory is refused
  * now and then. What is answered is compared with what holds of every call, and each certificate with the votes that were
  * handed in. It ends with 0, or with 1 where a check fails, and names its line and the seed. */
 #include "batcher.h"
@@ -423,12 +423,97 @@ static int one_loop(uint64_t seed) {
     return 0;
 }
 
+/* Two files, with what is to have been written to them. */
+struct pair {
+    uint8_t file[2][DISK], wanted[DISK];
+    size_t length[2], count;
+    int in_use;
+};
+
+/* Does what is to be done to the files. */
+static int carry_out(struct batcher_files *files, struct pair *it) {
+    static uint8_t frame[DISK];
+    struct batcher_change change;
+    uint64_t count = 0, number = 0;
+    CHECK(batcher_files_frame(files, frame, sizeof frame, &count) == BATCHER_DONE);
+    for (; batcher_files_change(files, number, &change) == BATCHER_DONE; number++) {
+        int file = change.in_other ? 1 - it->in_use : it->in_use;
+        if (change.change == BATCHER_CHANGE_LENGTH) {
+            it->length[file] = change.at;
+            continue;
+        }
+        const uint8_t *bytes = change.change == BATCHER_CHANGE_FRAME ? frame : &change.byte;
+        size_t length = change.change == BATCHER_CHANGE_FRAME ? count : 1;
+        CHECK(change.at <= it->length[file] && change.at + length <= DISK);
+        memcpy(it->file[file] + change.at, bytes, length);
+        if (it->length[file] < change.at + length) it->length[file] = change.at + length;
+    }
+    CHECK(number >= 2 && batcher_files_carried_out(files) == BATCHER_DONE);
+    return 0;
+}
+
+/* Bytes are written, or memory is refused and nothing is to be done. */
+static int write_some(struct batcher_files *files, struct pair *it) {
+    uint8_t bytes[64];
+    size_t length = below(sizeof bytes);
+    bool replaces = below(3) == 0;
+    memset(bytes, (int)below(256), sizeof bytes);
+    may_refuse = below(2) == 0;
+    refused = false;
+    uint8_t code = replaces ? batcher_files_replace(files, bytes, length) : batcher_files_append(files, bytes, length);
+    may_refuse = false;
+    MADE(code);
+    CHECK(code == BATCHER_DONE && batcher_files_append(files, bytes, length) == BATCHER_UNFINISHED);
+    if (replaces) it->count = 0;
+    memcpy(it->wanted + it->count, bytes, length);
+    it->count += length;
+    int line = carry_out(files, it);
+    if (replaces) it->in_use = 1 - it->in_use;
+    return line;
+}
+
+static int one_pair(uint64_t seed) {
+    static struct pair it;
+    static uint8_t found[DISK];
+    struct batcher_files files = {0};
+    uint64_t count = 0;
+    bool turned = false;
+    state = seed;
+    may_refuse = false;
+    memset(&it, 0, sizeof it);
+    /* Any bytes are opened, or aren't. */
+    for (int file = 0; file < 2; file++) {
+        it.length[file] = below(4) == 0 ? 0 : below(80);
+        for (size_t i = 0; i < it.length[file]; i++) it.file[file][i] = below(3) != 0 ? 0xff : (uint8_t)below(256);
+    }
+    uint8_t code = batcher_files_open(&files, it.file[0], it.length[0], it.file[1], it.length[1], &turned);
+    CHECK(code == BATCHER_DONE || code == BATCHER_NOT_BEGUN || code == BATCHER_DAMAGED);
+    CHECK(code == BATCHER_DONE || (files.at == NULL && batcher_files_append(&files, found, 1) == BATCHER_NONE));
+    it.length[0] = it.length[1] = 0;
+    CHECK(batcher_files_create(&files, it.file[0], 0, it.file[1], 0, found, 0) == BATCHER_DONE);
+    int line = carry_out(&files, &it);
+    for (int calls = 0; line == 0 && calls < 20; calls++) {
+        line = write_some(&files, &it);
+        if (line == 0 && below(3) == 0) {
+            code = batcher_files_open(&files, it.file[0], it.length[0], it.file[1], it.length[1], &turned);
+            CHECK(code == BATCHER_DONE && turned == it.in_use);
+            line = carry_out(&files, &it);
+        }
+        CHECK(batcher_files_bytes(&files, found, sizeof found, &count) == BATCHER_DONE);
+        CHECK(count == it.count && memcmp(found, it.wanted, count) == 0);
+    }
+    batcher_files_free(&files);
+    CHECK(files.at == NULL);
+    return line;
+}
+
 int main(int count, char **words) {
     unsigned long long seeds = 0;
     if (count != 2 || sscanf(words[1], "%llu", &seeds) != 1) return 2;
     for (uint64_t seed = 0; seed < seeds; seed++) {
         int line = one_round(seed);
         if (line == 0) line = one_loop(seed);
+        if (line == 0) line = one_pair(seed);
         if (line != 0) {
             fprintf(stderr, "fuzz.c:%d: not so with seed %llu\n", line, (unsigned long long)seed);
             return 1;
