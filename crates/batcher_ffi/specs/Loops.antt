@@ -9,6 +9,7 @@ use Rattle.batcher.specs.RoundContracts.{round_config}
 use Rattle.batcher.specs.RoundState.{RoundView}
 use Rattle.batcher.specs.Config.{Config}
 use Rattle.batcher.specs.Verifiers.{certifies_itself}
+use Rattle.batcher.specs.calls.Call.TheVariants.{Network as NetworkCall}
 use Rattle.batcher.specs.answers.Admission.{Admission}
 use Rattle.batcher_types.specs.Votes.{attestation_of, round_in as round_signed, subject_certified, content_of, subject_of}
 use Rattle.batcher_types.specs.declared.messages.Attestation.{Attestation}
@@ -41,7 +42,7 @@ use Rattle.batcher_loop.specs.declared.starting.LoopFault.{LoopFault}
 use Rattle.batcher_loop.specs.declared.starting.LoopFault.TheVariants.{NotOpened, NotStarted, OutOfMemory as NoMemoryToStart}
 use Rattle.batcher_node.specs.Events.{certificate_came, view_entered, vote_came}
 use Rattle.batcher_node.specs.Nodes.{IsLedByAnother, IsNext, NodeConfig, NodeView, node_config, slot_at}
-use Rattle.batcher_node.specs.Represents.{IsHeard}
+use Rattle.batcher_node.specs.Represents.{IsHeard, MayNeedIn}
 use Rattle.batcher_node.specs.Windows.{is_of}
 use Rattle.batcher_node.specs.Verdicts.{LooksAtThere}
 use Rattle.batcher_node.specs.declared.answers.Cast.{Cast}
@@ -57,6 +58,7 @@ use Rattle.batcher_validator.specs.Tasks.{NothingIsDue}
 use Rattle.batcher_validator.specs.declared.task.PollFault.{PollFault}
 use Rattle.batcher_validator.specs.declared.task.PollFault.TheVariants.{Closed, Full, OutOfMemory as NoMemoryToPoll}
 use Rattle.batcher_validator.specs.declared.task.Task.{Task}
+use Rattle.batcher_voter.specs.Needing.{CertificateNeeds, ConstructionNeeds}
 use Rattle.batcher_voter.specs.Remembering.{IsLeft}
 use Rattle.batcher_voter.specs.Voting.{WhyNotCast}
 use Rattle.batcher_voter.specs.declared.answers.CastFault.{CastFault}
@@ -327,6 +329,8 @@ module _ (before : CLoop) (code : ℕ) (after : CLoop) where
         Notes (did (called (vote_came (record { 0 = peer }) vote receipt))))
     pub heard : OnErr answer (IsHeard (loop_config before) before.validator.voter.node
         (record { 0 = peer }) (round_signed (subject_of vote)))
+    pub needed : OnErr answer (MayNeedIn (loop_config before) before.validator.voter.node
+        (round_signed (subject_of vote)).view.0 (NetworkCall (record { 0 = peer }) vote))
     pub refused : OnErr answer (after ≡ before)
     pub on_disk : after.on_disk ≡ before.on_disk
 
@@ -334,12 +338,18 @@ module _ (before : CLoop) (code : ℕ) (after : CLoop) where
   HearsVote peer vote old out =
       IfRead (vote_in vote) (out ≡ old) (λ typed. VoteCame peer typed old out)
 
+  -- There is no room for another certificate.
+  abbrev pub IsShelfFull : Type 0
+  IsShelfFull = before.validator.shelf.room ≡ 0
+
   -- A certificate is taken in as one that a peer sent,
   pub record IsOfPeer (peer : ℕ) (certificate : Certificate ProofView Sha256Digest) : Type 0 where
     pub answer : Result (Receipt Verdict) AllocError
     pub code_is : code ≡ receipt_code verdict_code answer
     pub meets : IfOk answer (λ receipt.
         Notes (did (called (certificate_came (record { 0 = peer }) certificate receipt))))
+    pub needed : OnErr answer (IsShelfFull ⊎ CertificateNeeds (loop_config before)
+        before.validator.voter (record { 0 = peer }) certificate)
     pub refused : OnErr answer Rests
 
   -- or from beyond the window, where who fell behind goes on by it.
@@ -351,6 +361,7 @@ module _ (before : CLoop) (code : ℕ) (after : CLoop) where
     pub forged : code ≡ FORGED
         → certifies_itself (loop_config before).meaning certificate ≡ false
     pub forged_stays : code ≡ FORGED → after ≡ before
+    pub needed : code ≡ OUT_OF_MEMORY → IsShelfFull
     pub refused : code ≡ OUT_OF_MEMORY → Rests
 
   -- memory is refused for the copy of its bytes
@@ -386,6 +397,8 @@ module _ (before : CLoop) (code : ℕ) (after : CLoop) where
     pub same : (code ≡ VERIFY) ⊎ (code ≡ SHORT) → after ≡ before
     pub rests : code ≡ IDLE
         → Constructs (loop_config before) before.validator after.validator ⊎ Notes answered
+    pub needed : code ≡ OUT_OF_MEMORY
+        → IsShelfFull ⊎ ConstructionNeeds (loop_config before) before.validator.voter
     pub refused : code ≡ OUT_OF_MEMORY → Rests
     pub stays : code ≢ VERIFY → (out ≡ old) × (list ≡ room)
     pub on_disk : after.on_disk ≡ before.on_disk
@@ -399,6 +412,8 @@ module _ (before : CLoop) (code : ℕ) (after : CLoop) where
     pub not_stale : (view : ℕ) → IsNext before.validator.voter.node.rounds view
         → LooksAtThere loop_round_config (slot_at before.validator.voter.node.rounds view) subject
         all → code ≢ STALE
+    pub needed : code ≡ OUT_OF_MEMORY
+        → IsShelfFull ⊎ ConstructionNeeds (loop_config before) before.validator.voter
     pub refused : code ≡ OUT_OF_MEMORY → Rests
     pub on_disk : after.on_disk ≡ before.on_disk
 
@@ -413,6 +428,8 @@ module _ (before : CLoop) (code : ℕ) (after : CLoop) where
     pub concluded : code ≢ MALFORMED → code ≢ OUT_OF_MEMORY → (subject : Subject Sha256Digest)
         × ((all : List (Attestation Signature)) × ((subject_in kind proposal ≡ Some subject)
         × (AreIn list all × IsConcluded subject all)))
+    pub needed : code ≡ OUT_OF_MEMORY → (1 ≤ length list)
+        ⊎ (IsShelfFull ⊎ ConstructionNeeds (loop_config before) before.validator.voter)
     pub refused : code ≡ OUT_OF_MEMORY → Rests
     pub stays : code ≡ MALFORMED → after ≡ before
     pub on_disk : after.on_disk ≡ before.on_disk

@@ -5,6 +5,7 @@ ghost use Rattle.batcher_types.specs.Votes.{attestation_of, round_in, subject_ce
 ghost use Rattle.batcher_node.specs.Windows.{is_of};
 ghost use Rattle.batcher_validator.specs.Histories.{answered};
 ghost use Rattle.batcher_validator.specs.Running.{Constructs};
+ghost use Rattle.batcher_voter.specs.Needing.{ConstructionNeeds};
 ghost use Rattle.batcher_ffi.specs.Loops.{AnswersPoll, AreVerifiedBy, AsksKept, AsksOwed, CastsOwn, Concludes, EntersNext, Expires, HearsCertificate, HearsVote, IsConcluded};
 ghost use Rattle.batcher_ffi.specs.Loops.{IsFromAhead, IsLent, IsMade, IsOfPeer, IsVerifiedFor, Judges, Lends, Notes, Polls, Rests, VoteCast, WhyNotMade, Wrote, loop_config};
 ghost use Rattle.batcher_ffi.specs.Loops.{GoesOnFrom, IsOf, start_code, start_codes};
@@ -346,6 +347,8 @@ fn rest(it: &mut Looping) -> u8
     ensures codes { (result ≡ IDLE) ⊎ (result ≡ OUT_OF_MEMORY) }
     ensures rests { result ≡ IDLE → Constructs (loop_config it.old) it.old.validator
         it.new.validator ⊎ Notes it.old result it.new answered }
+    ensures needed { result ≡ OUT_OF_MEMORY → (it.old.validator.shelf.room ≡ 0)
+        ⊎ ConstructionNeeds (loop_config it.old) it.old.validator.voter }
     ensures refused { result ≡ OUT_OF_MEMORY → Rests it.old result it.new }
     ensures on_disk { it.new.on_disk ≡ it.old.on_disk }
 {

@@ -136,7 +136,11 @@ pub fn attestations_of(
     ensures read { IfOk result (λ read. IfSome read (λ all. AreIn list.now all.items)) }
     ensures none { result ≡ Ok None
         → list_any (λ flat. is_none (attestation_in flat)) list.now ≡ true }
+    ensures needed { OnErr result (1 ≤ length list.now) }
 {
+    if list.is_empty() {
+        return Ok(Some(Vec::new(alloc)));
+    }
     let mut all = Vec::with_capacity(alloc, list.len())?;
     for flat in list {
         let Some(attestation) = flat.attestation() else {

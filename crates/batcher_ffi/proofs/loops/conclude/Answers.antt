@@ -25,6 +25,7 @@ returns-in-Ok-None c = record {
   malformed = λ is some parts alike. none_missing c.args.list.now parts.0 parts.1.0
       (c.in-Ok-None.ensures.none (ap Ok c.in-Ok-None.field-0-is));
   concluded = search rules;
+  needed = search rules;
   refused = search rules;
   stays = search rules;
   on_disk = search rules;
@@ -43,6 +44,7 @@ returns-then-not-take_part c = record {
       (sym c.take_part.ensures ∙ c.if-not-take_part.true) in
       true≢false (sym (rw items at parts.1.1) ∙ part);
   concluded = search rules;
+  needed = search rules;
   refused = search rules;
   stays = search rules;
   on_disk = search rules;
