@@ -43,14 +43,10 @@ impl Fault {
                 let other = Message::Vote(subject, validator.sign(&subject));
                 validator.station.peers.send(&other);
             }
-            (Fault::Forges, Message::Certificate(made)) => {
-                let mut bytes = made.content().clone();
-                if let Some(last) = bytes.get_mut(20) {
-                    *last ^= 1;
-                }
-                let forged = Certificate::new(made.subject(), bytes);
+            // Nobody has one of what is voted for yet, so the others look at it.
+            (Fault::Forges, Message::Vote(subject, signature)) => {
+                let forged = Certificate::new(*subject, signature.to_vec());
                 validator.station.peers.send(&Message::Certificate(forged));
-                return;
             }
             _ => {}
         }
