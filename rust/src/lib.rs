@@ -16,6 +16,9 @@
 //! `view` and `mailbox` of this crate are whole programs, and `rust/validator` is one with real
 //! signatures.
 //!
+//! To run a copy of an example, enable the feature `test` of this crate, and begin with
+//! `use batcher::test::*;`, which has its scheme and its votes.
+//!
 //! The number of a round has the name of what happens in it, so import it by another one:
 //! `use batcher::positions::Round as Number;`
 //!
@@ -70,7 +73,16 @@ pub mod messages;
 pub mod positions;
 pub mod round;
 mod scheme;
+/// The toy scheme of the examples, whose signatures protect nothing. It is there with the feature
+/// `test` alone.
+#[cfg(feature = "test")]
+#[allow(missing_docs)]
+#[path = "../tests/toy/mod.rs"]
+pub mod test;
 pub mod thread;
+
+#[cfg(feature = "test")]
+extern crate self as batcher;
 
 pub use answers::{Admission, Batch, BlockReason, Error, Mode, Outcome, OwnFault};
 pub use evidence::convicted;
