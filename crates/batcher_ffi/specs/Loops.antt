@@ -1,7 +1,7 @@
 -- What the calls of a validator do whose caller verifies signatures and writes to the disk, and how
 -- its answers are written. What is said of it are the words of `batcher_validator`.
-use Rattle.std.specs.Prelude.{◌≡◌, ◌≢◌, ◌<◌, ◌≤◌, ◌++◌, ◌⊎◌, ◌&&◌, ⊤, ℕ, Bool, true, false, List, [], ◌∷◌, length, map}
-use Rattle.std.specs.Prelude.{nat_lt, Contains, MatchBool, MatchOption, Option, Some, None, Result, Ok, Err, IfErr, IfOk, IfSome, IsSomeAnd, OnErr, OnOk, is_some}
+use Rattle.std.specs.Prelude.{◌≡◌, ◌≢◌, ◌==◌, ◌<◌, ◌≤◌, ◌++◌, ◌⊎◌, ◌&&◌, ⊤, ℕ, Bool, true, false, List, [], ◌∷◌, length, map}
+use Rattle.std.specs.Prelude.{nat_le, not, nat_lt, Contains, MatchBool, MatchOption, Option, Some, None, Result, Ok, Err, IfErr, IfOk, IfSome, IsSomeAnd, OnErr, OnOk, is_some}
 use Rattle.std.specs.Ordering.{nat_cmp}
 use Rattle.std.specs.declared.alloc.AllocError.{AllocError}
 use Rattle.batcher.specs.Meaning.{Meaning}
@@ -43,7 +43,7 @@ use Rattle.batcher_loop.specs.declared.starting.LoopFault.TheVariants.{NotOpened
 use Rattle.batcher_node.specs.Events.{certificate_came, view_entered, vote_came}
 use Rattle.batcher_node.specs.Nodes.{IsLedByAnother, IsNext, NodeConfig, NodeView, node_config, slot_at}
 use Rattle.batcher_node.specs.Represents.{IsHeard, MayNeedIn}
-use Rattle.batcher_node.specs.Windows.{is_of}
+use Rattle.batcher_node.specs.Windows.{contains}
 use Rattle.batcher_node.specs.Verdicts.{LooksAtThere}
 use Rattle.batcher_node.specs.declared.answers.Cast.{Cast}
 use Rattle.batcher_node.specs.declared.answers.Cast.TheVariants.{ToSend, Known as KnownVote, Outside as OutsideVote}
@@ -238,6 +238,20 @@ CastCode (Err (Refused rule)) code = code ≡ REFUSED
 CastCode (Err NotOpen) code = code ≡ CLOSED
 CastCode (Err (Excluded fault)) code = fault_in code ≡ Some fault
 
+-- The next construction looks at no attestations.
+abbrev pub LendsNone : CLoop → Type 0
+LendsNone l =
+    (view : ℕ) (subject : Subject Sha256Digest) (all : List (Attestation Signature))
+    → IsNext l.validator.voter.node.rounds view
+    → LooksAtThere loop_round_config (slot_at l.validator.voter.node.rounds view) subject all → ⊥
+
+-- Whether a round is of a view beyond the window.
+abbrev pub is_ahead : CLoop → Round → Bool
+is_ahead l round =
+    (round.epoch.0 == l.validator.voter.node.epoch.0)
+    && (nat_le l.validator.voter.node.window.finalized round.view.0
+    && not (contains l.validator.voter.node.window round.view.0))
+
 -- Attestations are lent, on which verdicts are wanted.
 pub record IsLent (l : CLoop) (out : FlatStep) (room list : List FlatAttestation) : Type 0 where
   pub subject : Subject Sha256Digest
@@ -355,8 +369,6 @@ module _ (before : CLoop) (code : ℕ) (after : CLoop) where
   -- or from beyond the window, where who fell behind goes on by it.
   pub record IsFromAhead (certificate : Certificate ProofView Sha256Digest) : Type 0 where
     pub codes : is_one_of (DONE ∷ FORGED ∷ OUT_OF_MEMORY ∷ []) code ≡ true
-    pub outside : is_of before.validator.voter.node.epoch before.validator.voter.node.window
-        (round_signed (subject_certified certificate)) ≡ false
     pub took_in : code ≡ DONE → Notes (took certificate)
     pub forged : code ≡ FORGED
         → certifies_itself (loop_config before).meaning certificate ≡ false
@@ -380,7 +392,8 @@ module _ (before : CLoop) (code : ℕ) (after : CLoop) where
       certifies = certifies;
       bytes = bytes;
     }
-    pub came : IsOfPeer peer certificate ⊎ IsFromAhead certificate
+    pub came : MatchBool (is_ahead before (round_signed subject)) (IsFromAhead certificate)
+        (IsOfPeer peer certificate)
     pub on_disk : after.on_disk ≡ before.on_disk
 
   abbrev pub HearsCertificate : ℕ → ℕ → FlatProposal → List ℕ → Bool → Type 0
@@ -399,6 +412,7 @@ module _ (before : CLoop) (code : ℕ) (after : CLoop) where
         → Constructs (loop_config before) before.validator after.validator ⊎ Notes answered
     pub needed : code ≡ OUT_OF_MEMORY
         → IsShelfFull ⊎ ConstructionNeeds (loop_config before) before.validator.voter
+    pub none : code ≡ IDLE → LendsNone before
     pub refused : code ≡ OUT_OF_MEMORY → Rests
     pub stays : code ≢ VERIFY → (out ≡ old) × (list ≡ room)
     pub on_disk : after.on_disk ≡ before.on_disk

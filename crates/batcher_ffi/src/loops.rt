@@ -1,14 +1,13 @@
 //! The calls of a validator, over flat values. Each answers a code.
 
-ghost use Rattle.std.specs.Prelude.{◌≡◌, ◌≢◌, ◌≤◌, ◌⊎◌, [], IfErr, IfOk, Some, false, length, map, true};
+ghost use Rattle.std.specs.Prelude.{◌≡◌, ◌≢◌, ◌≤◌, ◌⊎◌, [], IfErr, IfOk, MatchBool, Some, false, length, map, true};
 ghost use Rattle.batcher_types.specs.Votes.{attestation_of, round_in, subject_certified, subject_of};
-ghost use Rattle.batcher_node.specs.Windows.{is_of};
 ghost use Rattle.batcher_validator.specs.Histories.{answered};
 ghost use Rattle.batcher_validator.specs.Running.{Constructs};
 ghost use Rattle.batcher_voter.specs.Needing.{ConstructionNeeds};
 ghost use Rattle.batcher_ffi.specs.Loops.{AnswersPoll, AreVerifiedBy, AsksKept, AsksOwed, CastsOwn, Concludes, EntersNext, Expires, HearsCertificate, HearsVote, IsConcluded};
 ghost use Rattle.batcher_ffi.specs.Loops.{IsFromAhead, IsLent, IsMade, IsOfPeer, IsVerifiedFor, Judges, Lends, Notes, Polls, Rests, VoteCast, WhyNotMade, Wrote, loop_config};
-ghost use Rattle.batcher_ffi.specs.Loops.{GoesOnFrom, IsOf, start_code, start_codes};
+ghost use Rattle.batcher_ffi.specs.Loops.{GoesOnFrom, IsOf, LendsNone, is_ahead, start_code, start_codes};
 ghost use Rattle.batcher_ffi.specs.Rounds.{is_one_of};
 ghost use Rattle.batcher_journal.specs.Text.{fields_of};
 ghost use Rattle.batcher_ffi.specs.Tasks.{IsProposedIn};
@@ -166,7 +165,8 @@ fn started(
 }
 
 fn is_of_epoch(it: &Looping, epoch: Epoch) -> bool
-    ensures { result ≡ true → it.now.validator.voter.node.epoch ≡ epoch }
+    ensures { MatchBool result (it.now.validator.voter.node.epoch ≡ epoch)
+        (it.now.validator.voter.node.epoch ≢ epoch) }
 {
     it.validator.voter().epoch() == epoch
 }
@@ -272,7 +272,7 @@ pub fn receive_certificate(
         return OUT_OF_MEMORY;
     };
     let certificate = Certificate::new(subject, Proof::new(subject, certifies, copied));
-    if is_ahead(it, proposal.round()) {
+    if is_ahead(it, subject.round()) {
         return catch_up(it, certificate);
     }
     hear_certificate(it, peer, certificate)
@@ -280,19 +280,16 @@ pub fn receive_certificate(
 
 // Whether a round is of a view beyond the window.
 fn is_ahead(it: &Looping, round: Round) -> bool
-    ensures { result ≡ true → is_of it.now.validator.voter.node.epoch
-        it.now.validator.voter.node.window round ≡ false }
+    ensures { result ≡ is_ahead it.now round }
 {
     let voter = it.validator.voter();
     let window = voter.node().window();
     round.epoch == voter.epoch()
-        && round.view.0 >= window.finalized
+        && window.finalized <= round.view.0
         && !window.contains(round.view.0)
 }
 
 fn catch_up(it: &mut Looping, certificate: Certificate<Proof, Sha256Digest>) -> u8
-    requires { is_of it.old.validator.voter.node.epoch it.old.validator.voter.node.window
-        (round_in (subject_certified certificate)) ≡ false }
     ensures came { IsFromAhead it.old result it.new certificate }
     ensures on_disk { it.new.on_disk ≡ it.old.on_disk }
 {
@@ -331,6 +328,7 @@ pub fn lend(it: &mut Looping, out: &mut FlatStep, list: &mut [FlatAttestation]) 
 // Writes what the next construction looks at, if it looks at anything.
 fn write_next_attempt(it: &Looping, out: &mut FlatStep, list: &mut [FlatAttestation]) -> bool
     ensures lent { result ≡ true → IsLent it.now out.new list.old list.new }
+    ensures none { result ≡ false → LendsNone it.now }
     ensures stays { result ≡ false → (out.new ≡ out.old) × (list.new ≡ list.old) }
 {
     match it.validator.next_attempt() {

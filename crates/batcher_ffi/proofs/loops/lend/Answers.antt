@@ -1,0 +1,18 @@
+use Rattle.std.proofs.Common.{arith, rules}
+use Rattle.std.proofs.lemmas.Grind.{common_steps}
+use Rattle.batcher_ffi.proofs.loops.lend.Goals as goal
+
+pub returns : goal.returns
+returns c = record {
+  codes = grind (arith, common_steps, c.rest.ensures.codes);
+  short = search rules;
+  fits = search rules;
+  lent = search rules;
+  same = search rules;
+  rests = search rules;
+  needed = search rules;
+  none = λ idle. c.write_next_attempt.ensures.none c.if-write_next_attempt.false;
+  refused = search rules;
+  stays = search rules;
+  on_disk = search rules;
+}
