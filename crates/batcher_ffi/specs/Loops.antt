@@ -80,9 +80,8 @@ use Rattle.batcher_ffi.specs.declared.tasks.FlatTask.{FlatTask}
 use Rattle.batcher_ffi.specs.Flat.{AreIn, fault_in, kind_in, proposal_in, raw_in, round_in, subject_in, vote_in}
 use Rattle.batcher_ffi.specs.Answers.{AnswersVote, enter_code, receipt_code, verdict_code}
 use Rattle.batcher_ffi.specs.Output.{IsWritten, WritesAll}
-use Rattle.batcher_ffi.specs.Rounds.{AreOfParticipants, is_one_of}
+use Rattle.batcher_ffi.specs.Rounds.{AreOfParticipants, AreVerifiedBy, IsVerifiedBy, is_one_of}
 use Rattle.batcher_ffi.specs.Tasks.{IsProposedIn, task_in}
-use Rattle.batcher_ffi.specs.Truths.{is_attested}
 
 -- a validator as C has it
 abbrev pub CLoop : Type 0
@@ -137,14 +136,11 @@ kept_in l = l.validator.shelf.certificates
 -- What a caller has verified, by the keys of the validator: a vote, or a list one by one.
 module _ (handle : Option CLoop) where
   abbrev pub IsVerifiedFor : FlatVote → Bool → Type 0
-  IsVerifiedFor vote attests = IfSome handle (λ l. IfSome (vote_in vote) (λ typed.
-      is_attested (loop_keys l) (subject_of typed) (attestation_of typed) ≡ attests))
+  IsVerifiedFor vote attests = IfSome handle (λ l. IsVerifiedBy (loop_keys l) vote attests)
 
-  abbrev pub AreVerifiedBy : ℕ → FlatProposal → List FlatAttestation → List Bool → Type 0
-  AreVerifiedBy kind proposal list verdicts = IfSome handle (λ l.
-      IfSome (subject_in kind proposal) (λ subject. (all : List (Attestation Signature))
-      → AreIn list all → length verdicts ≡ length all
-      → verdicts ≡ map (is_attested (loop_keys l) subject) all))
+  abbrev pub AreVerifiedFor : ℕ → FlatProposal → List FlatAttestation → List Bool → Type 0
+  AreVerifiedFor kind proposal list verdicts =
+      IfSome handle (λ l. AreVerifiedBy (loop_keys l) kind proposal list verdicts)
 
 -- why there is no validator of what a disk has
 abbrev pub open_code : OpenFault → ℕ

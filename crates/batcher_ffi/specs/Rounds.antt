@@ -73,18 +73,26 @@ AfterAny r holds = ForEach (config_of r) (held_in r) holds
 abbrev pub MayNeed : CRound → Call Name Signature (Content Caller) Sha256Digest → Type 0
 MayNeed r call = AfterAny r (λ past. needs_memory (config_of r) past call ≡ true)
 
+-- What a caller has verified, by some keys: a vote, and a list one by one.
+abbrev pub IsVerifiedBy : Keys → FlatVote → Bool → Type 0
+IsVerifiedBy keys vote attests = IfSome (vote_in vote) (λ typed.
+    is_attested keys (subject_of typed) (attestation_of typed) ≡ attests)
+
+abbrev pub AreVerifiedBy : Keys → ℕ → FlatProposal → List FlatAttestation → List Bool → Type 0
+AreVerifiedBy keys kind proposal list verdicts =
+    IfSome (subject_in kind proposal) (λ subject. (all : List (Attestation Signature))
+    → AreIn list all → length verdicts ≡ length all
+    → verdicts ≡ map (is_attested keys subject) all)
+
 -- What a caller has verified, by the keys of the round: a vote, a list one by one or as a whole,
 -- and a certificate.
 module _ (handle : Option CRound) where
   abbrev pub IsVerified : FlatVote → Bool → Type 0
-  IsVerified vote attests = IfSome handle (λ r. IfSome (vote_in vote) (λ typed.
-      is_attested (keys_in r) (subject_of typed) (attestation_of typed) ≡ attests))
+  IsVerified vote attests = IfSome handle (λ r. IsVerifiedBy (keys_in r) vote attests)
 
   abbrev pub AreVerified : ℕ → FlatProposal → List FlatAttestation → List Bool → Type 0
-  AreVerified kind proposal list verdicts = IfSome handle (λ r.
-      IfSome (subject_in kind proposal) (λ subject. (all : List (Attestation Signature))
-      → AreIn list all → length verdicts ≡ length all
-      → verdicts ≡ map (is_attested (keys_in r) subject) all))
+  AreVerified kind proposal list verdicts =
+      IfSome handle (λ r. AreVerifiedBy (keys_in r) kind proposal list verdicts)
 
   abbrev pub PassTogether : ℕ → FlatProposal → List FlatAttestation → Type 0
   PassTogether kind proposal list = IfSome handle (λ r.

@@ -2,7 +2,7 @@
 
 ghost use Rattle.std.specs.Prelude.{◌≡◌, ⊤, None};
 ghost use Rattle.batcher_ffi.specs.Handles.{OnLoop};
-ghost use Rattle.batcher_ffi.specs.Loops.{AreVerifiedBy, AsksKept, AsksOwed, CastsOwn, Concludes, EntersNext, Expires, HearsCertificate, HearsVote, IsVerifiedFor, Judges, Lends};
+ghost use Rattle.batcher_ffi.specs.Loops.{AreVerifiedFor, AsksKept, AsksOwed, CastsOwn, Concludes, EntersNext, Expires, HearsCertificate, HearsVote, IsVerifiedFor, Judges, Lends};
 ghost use Rattle.batcher_ffi.specs.Loops.{MakesLoop, Polls, Wrote};
 
 use crate::codes::{DONE, NONE, OUT_OF_MEMORY};
@@ -154,7 +154,7 @@ pub extern "C" fn batcher_loop_conclude(
     list: &[FlatAttestation],
     verdicts: &[bool],
 ) -> u8
-    requires { AreVerifiedBy validator.old.value kind proposal.now list.now verdicts.now }
+    requires { AreVerifiedFor validator.old.value kind proposal.now list.now verdicts.now }
     ensures { OnLoop validator.old.value validator.new.value result (Unit {0}) (λ before after.
         Concludes before result after kind proposal.now list.now verdicts.now) }
 {

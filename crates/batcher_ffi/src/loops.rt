@@ -5,7 +5,7 @@ ghost use Rattle.batcher_types.specs.Votes.{attestation_of, round_in, subject_ce
 ghost use Rattle.batcher_validator.specs.Histories.{answered};
 ghost use Rattle.batcher_validator.specs.Running.{Constructs};
 ghost use Rattle.batcher_voter.specs.Needing.{ConstructionNeeds};
-ghost use Rattle.batcher_ffi.specs.Loops.{AnswersPoll, AreVerifiedBy, AsksKept, AsksOwed, CastsOwn, Concludes, EntersNext, Expires, HearsCertificate, HearsVote, IsConcluded};
+ghost use Rattle.batcher_ffi.specs.Loops.{AnswersPoll, AreVerifiedFor, AsksKept, AsksOwed, CastsOwn, Concludes, EntersNext, Expires, HearsCertificate, HearsVote, IsConcluded};
 ghost use Rattle.batcher_ffi.specs.Loops.{IsFromAhead, IsLent, IsMade, IsOfPeer, IsVerifiedFor, Judges, Lends, Notes, Polls, Rests, VoteCast, WhyNotMade, Wrote, loop_config};
 ghost use Rattle.batcher_ffi.specs.Loops.{GoesOnFrom, IsOf, LendsNone, is_ahead, start_code, start_codes};
 ghost use Rattle.batcher_ffi.specs.Rounds.{is_one_of};
@@ -365,7 +365,7 @@ pub fn conclude(
     list: &[FlatAttestation],
     verdicts: &[bool],
 ) -> u8
-    requires { AreVerifiedBy (Some it.old) kind proposal.now list.now verdicts.now }
+    requires { AreVerifiedFor (Some it.old) kind proposal.now list.now verdicts.now }
     ensures { Concludes it.old result it.new kind proposal.now list.now verdicts.now }
 {
     let Some(subject) = subject_of(kind, proposal) else {
