@@ -55,7 +55,7 @@ module _ (old new : Option Files) (code : ℕ) (first second : List ℕ) where
   pub record OpensFiles (was turned : Bool) : Type 0 where
     pub done : code ≡ DONE → IsSomeAnd new (IsOpenedAs first second turned)
     pub refused : code ≢ DONE → (code ≡ OUT_OF_MEMORY) ⊎ WhyNotOpened first second code
-    pub stays : code ≢ DONE → new ≡ old
+    pub stays : code ≢ DONE → (new ≡ old) × (turned ≡ was)
 
   pub record CreatesFiles (bytes : List ℕ) : Type 0 where
     pub done : code ≡ DONE → IsSomeAnd new (IsCreated first second bytes)

@@ -24,9 +24,11 @@ pub extern "C" fn batcher_files_open(
     ensures { OpensFiles files.old.value files.new.value result first.now second.now turned.old
         turned.new }
 {
-    match files::opened(alloc, first, second, turned) {
+    let mut second_is_used = false;
+    match files::opened(alloc, first, second, &mut second_is_used) {
         Ok(made) => match Box::new(alloc, made) {
             Ok(made) => {
+                *turned = second_is_used;
                 files.put(made);
                 DONE
             }
