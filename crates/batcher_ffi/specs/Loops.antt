@@ -1,6 +1,6 @@
 -- What the calls of a validator do whose caller verifies signatures and writes to the disk, and how
 -- its answers are written. What is said of it are the words of `batcher_validator`.
-use Rattle.std.specs.Prelude.{◌≡◌, ◌≢◌, ◌==◌, ◌<◌, ◌≤◌, ◌++◌, ◌⊎◌, ◌&&◌, ⊤, ℕ, Bool, true, false, List, [], ◌∷◌, length, map}
+use Rattle.std.specs.Prelude.{◌≡◌, ◌≢◌, ◌==◌, ◌<◌, ◌≤◌, ◌++◌, ◌⊎◌, ◌&&◌, ⊤, ℕ, Bool, true, false, List, [], ◌∷◌, length}
 use Rattle.std.specs.Prelude.{nat_le, not, nat_lt, Contains, MatchBool, MatchOption, Option, Some, None, Result, Ok, Err, IfErr, IfOk, IfSome, IsSomeAnd, OnErr, OnOk, is_some}
 use Rattle.std.specs.Ordering.{nat_cmp}
 use Rattle.std.specs.declared.alloc.AllocError.{AllocError}
