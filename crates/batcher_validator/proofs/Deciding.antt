@@ -4,22 +4,24 @@ use Rattle.std.proofs.lemmas.Bool.{cases_lt}
 use Rattle.batcher.specs.Votes.{same_proposal}
 use Rattle.batcher.specs.messages.Proposal.{Proposal}
 use Rattle.batcher.specs.messages.Subject.{Subject}
-use Rattle.batcher.specs.messages.Subject.TheVariants.{Notarize, Finalize}
+use Rattle.batcher.specs.messages.Subject.TheVariants.{Notarize, Nullify, Finalize}
 use Rattle.batcher_agreement.specs.Lives.{conduct_of}
 use Rattle.batcher_agreement.specs.Policy.{Conduct, Knows}
 use Rattle.batcher_node.specs.Nodes.{NodeConfig, NodeView}
-use Rattle.batcher_node.specs.Windows.{numbered}
+use Rattle.batcher_node.specs.Windows.{is_of, numbered}
 use Rattle.batcher_types.proofs.VoteLemmas.{same_proposal-true, same_round-refl}
 use Rattle.batcher_validator.specs.Histories.{ValidatorHistory, conduct_in, voter_history, window_by}
+use Rattle.batcher_validator.specs.Ending.{IsChosen}
 use Rattle.batcher_validator.specs.Posing.{CannotVote, IsNotToSign}
-use Rattle.batcher_validator.specs.Running.{IsRunning, ValidatorView}
+use Rattle.batcher_validator.specs.Running.{ForEachRun, IsRunning, ValidatorView}
 use Rattle.batcher_validator.specs.Tasks.{IsContested, MayVote}
 use Rattle.batcher_validator.proofs.Refusing.{refused_is_contested}
 use Rattle.batcher_voter.proofs.Appending.{knows_before}
 use Rattle.batcher_voter.proofs.Windowed.{from_first, same_epoch}
 use Rattle.batcher_voter.specs.Refusals.{RestsOnLearned}
-use Rattle.batcher_voter.specs.Voting.{BeginWithOneView, ForEachLife, Permits}
-use Rattle.batcher_voter.specs.declared.answers.Permission.TheVariants.{Refused}
+use Rattle.batcher_voter.specs.Voting.{BeginWithOneView, ForEachLife, IsFinalizable, Permits}
+use Rattle.batcher_voter.specs.declared.answers.Permission.{Permission}
+use Rattle.batcher_voter.specs.declared.answers.Permission.TheVariants.{Refused, Sign}
 use Rattle.batcher_voter.specs.declared.answers.Rule.{Rule}
 
 wrong : true ≡ false → ⊥
@@ -69,6 +71,35 @@ module _ {S D K G C L : Type 0} (config : NodeView S G D → NodeConfig D K G C)
         refused_is_contested same itself (conduct_of (voter_history past)) earlier is.voting.keeps_policy
         old.voter.knowledge.floor s rule (permits (voter_history past) earlier is.voting) may.cleared
         (rests_then begins past earlier is s may.rests)
+
+  -- What is chosen isn't refused, where it may be voted for.
+  module _ (same : D → D → Bool) (itself : (p : Proposal D) → same_proposal same p p ≡ true)
+      (begins : BeginWithOneView old.voter) (epoch : x.epoch ≡ old.voter.node.epoch)
+      (opened : old.voter.journal.is_open ≡ true) (answer : Permission G D) where
+    abbrev pub Finalizes : Subject D → Type 0
+    Finalizes s =
+        (p : Proposal D) → s ≡ Finalize p → old.voter.journal.is_open ≡ true
+        → is_of old.voter.node.epoch old.voter.node.window p.round ≡ true
+        → IsFinalizable same old.voter p → answer ≡ Sign
+
+    pub refused_unchosen :
+        (s : Subject D) (rule : Rule G D) → answer ≡ Refused rule
+        → ForEachLife x old.voter (Permits x same old.voter s (Refused rule)) → Finalizes s
+        → IsChosen same old.voter s → ForEachRun x old (λ past earlier. MayVote x earlier past s → ⊥)
+    refused_unchosen (Notarize p) rule refused permits finalizes chosen past earlier is may =
+        refused_by same itself begins (Notarize p) rule permits past earlier is may
+    refused_unchosen (Nullify r) rule refused permits finalizes chosen past earlier is may =
+        refused_by same itself begins (Nullify r) rule permits past earlier is may
+    refused_unchosen (Finalize p) rule refused permits finalizes chosen past earlier is may =
+        other (sym refused ∙ finalizes p refl opened within chosen)
+      where
+        within : is_of old.voter.node.epoch old.voter.node.window p.round ≡ true
+        within =
+            subst (λ e. is_of e old.voter.node.window p.round ≡ true) epoch
+            (subst (λ w. is_of x.epoch w p.round ≡ true) (sym is.voting.represents.window_is) may.within)
+
+        other : Refused rule ≡ Sign → ⊥
+        other e = absurd cc
 
   -- of a view: what is known to be notarized there may not be finalized
   module _ (same : D → D → Bool) (identical : (a b : D) → same a b ≡ true → a ≡ b)

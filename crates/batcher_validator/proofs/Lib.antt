@@ -15,3 +15,4 @@ pub mod Refusing
 pub mod Choosing
 pub mod Deciding
 pub mod Leading
+pub mod Ending

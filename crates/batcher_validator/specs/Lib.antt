@@ -5,3 +5,4 @@ pub mod Shelves
 pub mod Running
 pub mod Posing
 pub mod Recalling
+pub mod Ending

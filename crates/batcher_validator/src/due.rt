@@ -4,6 +4,7 @@ ghost use Rattle.std.specs.Prelude.{◌≡◌, ◌≤◌, ◌<◌, ◌+◌, ◌�
 ghost use Rattle.std.specs.List.{slice_get};
 ghost use Rattle.batcher_journal.specs.Answers.{MayFollow};
 ghost use Rattle.batcher_node.specs.Nodes.{IsAtRest, IsNext};
+ghost use Rattle.batcher_validator.specs.Ending.{LeavesLess};
 ghost use Rattle.batcher_validator.specs.Posing.{BlocksNobody, CastsNone, EntersNone};
 ghost use Rattle.batcher_validator.specs.Queues.{AreDistinct};
 ghost use Rattle.batcher_validator.specs.Running.{ForEachRun, Gives, IsReady, RunStays};
@@ -43,6 +44,8 @@ where
         ensures rests { result ≡ None
             → RunStays (⟦<S as NodeConfigs<D>>⟧.of self.old.voter.node) self.old self.new }
         ensures voter { self.new.voter ≡ self.old.voter }
+        ensures less { IfSome result
+            (LeavesLess (⟦<S as NodeConfigs<D>>⟧.of self.old.voter.node) self.old self.new) }
     {
         match self.next_view() {
             Some(view) => {
@@ -84,6 +87,8 @@ where
         ensures rests { result ≡ None
             → RunStays (⟦<S as NodeConfigs<D>>⟧.of self.old.voter.node) self.old self.new }
         ensures voter { self.new.voter ≡ self.old.voter }
+        ensures less { IfSome result
+            (LeavesLess (⟦<S as NodeConfigs<D>>⟧.of self.old.voter.node) self.old self.new) }
     {
         match self.next_certificate() {
             Some((kind, round)) => {
@@ -200,6 +205,8 @@ where
         ensures next { IfSome result (λ view. ForEachLife
             (⟦<S as NodeConfigs<D>>⟧.of self.now.voter.node) self.now.voter
             (λ past earlier. IsNextView self.now.voter past view.0)) }
+        ensures is_next { IfSome result (λ view.
+            view.0 ≡ self.now.voter.knowledge.highest + 1) }
         ensures none { result ≡ None → EntersNone self.now }
     {
         match self.voter.next_view() {

@@ -17,5 +17,6 @@ mod task;
 mod tests;
 mod validator;
 
+pub use polling::poll_comes_to_an_end;
 pub use task::{PollFault, Task};
 pub use validator::Validator;

@@ -4,12 +4,15 @@ ghost use Rattle.std.specs.Prelude.{◌≡◌, ◌≤◌, ◌<◌, ◌+◌, ◌�
 ghost use Rattle.std.specs.List.{slice_get};
 ghost use Rattle.batcher_codec.specs.Messages.{vote_format};
 ghost use Rattle.batcher_journal.specs.Answers.{MayFollow};
-ghost use Rattle.batcher_node.specs.Nodes.{IsAtRest, IsNext, SameNode, cause_at};
+ghost use Rattle.batcher_node.specs.Nodes.{IsAtRest, IsNext, NodeConfig, SameNode, cause_at};
+ghost use Rattle.batcher_agreement.specs.Policy.{Conduct};
+ghost use Rattle.batcher_validator.specs.Ending.{GivesOnAndOn, LeavesLess};
 ghost use Rattle.batcher_validator.specs.Posing.{BlocksNobody};
-ghost use Rattle.batcher_validator.specs.Running.{ForEachRun, Gives, IsReady, RunLeaves, RunMeets, RunStays};
+ghost use Rattle.batcher_validator.specs.Running.{ForEachRun, Gives, IsReady, RunLeaves, RunMeets, RunStays, ValidatorView};
 ghost use Rattle.batcher_validator.specs.Shelves.{HaveNoFinal, IsAt, IsFinalAt, IsToAnnounce, key_of};
 ghost use Rattle.batcher_validator.specs.declared.task.PollFault.{PollFault};
-ghost use Rattle.batcher_validator.specs.Histories.{again};
+ghost use Rattle.batcher_validator.specs.Histories.{ValidatorHistory, again};
+ghost use Rattle.batcher_validator.specs.declared.task.Task.{Task as TheTask};
 ghost use Rattle.batcher_validator.specs.Tasks.{NothingIsDue};
 ghost use Rattle.batcher_voter.specs.Voting.{BeginWithOneView, ForEachLife, IsNextView};
 
@@ -49,6 +52,9 @@ where
         ensures closed { result ≡ Err PollFault.Closed
             → self.new.voter.journal.is_open ≡ false }
         ensures full { result ≡ Err PollFault.Full → self.new.voter.journal.is_open ≡ true }
+        // So it comes to an end: see `poll_comes_to_an_end`.
+        ensures less { IfOk result (λ given. IfSome given
+            (LeavesLess (⟦<S as NodeConfigs<D>>⟧.of self.old.voter.node) self.old self.new)) }
         ensures leaves { RunLeaves (⟦<S as NodeConfigs<D>>⟧.of self.old.voter.node)
             (vote_format S.Signature.format D.format) L.is_honest L.may_leave self.old self.new }
         ensures same { SameNode self.old.voter.node self.new.voter.node }
@@ -216,3 +222,16 @@ fn cause_of(causes: &[Option<Cause>], i: usize) -> Option<Cause>
         None => None,
     }
 }
+
+/// Does nothing. Where nothing comes meanwhile, no validator gives one task after the other for
+/// ever: polled again and again, each comes to have nothing to give.
+pub fn poll_comes_to_an_end<S: Scheme<D>, D: Digest + Codec, L: Log>()
+where
+    S::Signature: Codec + Identical,
+    S::Certificate: OwnedCodec,
+    ensures { (x : NodeConfig D S.PublicKey S.Signature S.Certificate) (earlier : Conduct D)
+        (validator : ℕ → ValidatorView S S.Signature D L S.Certificate)
+        (past : ℕ → ValidatorHistory D S.PublicKey S.Signature S.Certificate)
+        (task : ℕ → TheTask S.Signature D)
+        → GivesOnAndOn x earlier validator past task → ⊥ }
+{}

@@ -9,12 +9,16 @@ ghost use Rattle.batcher.specs.messages.Subject.{Subject as TheSubject};
 ghost use Rattle.batcher.specs.messages.Subject.TheVariants.{Finalize, Notarize, Nullify};
 ghost use Rattle.batcher_agreement.specs.Lives.{conduct_of};
 ghost use Rattle.batcher_agreement.specs.Policy.{IsGrounded, Knows};
-ghost use Rattle.batcher_node.specs.Windows.{numbered};
+ghost use Rattle.batcher_journal.specs.Contradictions.{IsFree};
+ghost use Rattle.batcher_node.specs.Windows.{is_of, numbered};
+ghost use Rattle.batcher_validator.specs.Ending.{IsChosen, LeavesLess, WaitsForVote};
 ghost use Rattle.batcher_validator.specs.Posing.{CanLead, CanPose, CanVote, CannotLead, CannotPose, CannotVote, Grounds};
 ghost use Rattle.batcher_validator.specs.Posing.{HasCast, HasNotCast, IsLeader, IsNotToJudge, IsNotToPropose, IsNotToSign, IsProposalNow, IsProposed, IsToSign, Signs, SignsNothing};
 ghost use Rattle.batcher_validator.specs.Running.{ForEachRun, Gives, IsReady};
-ghost use Rattle.batcher_validator.specs.Tasks.{NothingIsPosed};
-ghost use Rattle.batcher_voter.specs.Voting.{ForEachLife, Permits, Says};
+ghost use Rattle.batcher_validator.specs.Tasks.{MayVote, NothingIsPosed};
+ghost use Rattle.batcher_voter.specs.Knowledge.{learned_at};
+ghost use Rattle.batcher_voter.specs.Voting.{ForEachLife, IsFinalizable, Permits, Says};
+ghost use Rattle.batcher_voter.specs.declared.answers.Permission.TheVariants.{Sign};
 
 use crate::task::Task;
 use crate::validator::Validator;
@@ -42,6 +46,8 @@ where
             NothingIsPosed (⟦<S as NodeConfigs<D>>⟧.of self.old.voter.node) earlier past) }
         ensures same { result ≡ None → self.new ≡ self.old }
         ensures voter { self.new.voter ≡ self.old.voter }
+        ensures less { IfSome result
+            (LeavesLess (⟦<S as NodeConfigs<D>>⟧.of self.old.voter.node) self.old self.new) }
     {
         match self.next_to_sign() {
             Some(subject) => {
@@ -89,6 +95,12 @@ where
         requires { self.now.voter.journal.is_open ≡ true }
         ensures some { IfSome result (λ s. IsToSign ⟦<S as NodeConfigs<D>>⟧.of self.now s) }
         ensures alone { IfSome result (λ s. SignsNothing ⟦<S as NodeConfigs<D>>⟧.of self.now) }
+        ensures waits { IfSome result (λ s. ForEachRun
+            (⟦<S as NodeConfigs<D>>⟧.of self.now.voter.node) self.now (λ past earlier. WaitsForVote
+            (⟦<S as NodeConfigs<D>>⟧.of self.now.voter.node) past earlier self.now → ⊥)) }
+        ensures chosen { IfSome result (λ s. ForEachRun
+            (⟦<S as NodeConfigs<D>>⟧.of self.now.voter.node) self.now
+            (λ past earlier. IsChosen D.eq self.now.voter s)) }
         ensures none { result ≡ None → Signs ⟦<S as NodeConfigs<D>>⟧.of self.now
             ⊎ ((s : TheSubject D) → IsNotToSign ⟦<S as NodeConfigs<D>>⟧.of self.now s) }
     {
@@ -110,8 +122,11 @@ where
     // Whether what was given to be signed may still be voted for.
     fn is_signing(&self) -> bool
         requires { self.now.voter.journal.is_open ≡ true }
-        ensures { MatchBool result (Signs ⟦<S as NodeConfigs<D>>⟧.of self.now)
+        ensures signs { MatchBool result (Signs ⟦<S as NodeConfigs<D>>⟧.of self.now)
             (SignsNothing ⟦<S as NodeConfigs<D>>⟧.of self.now) }
+        ensures waits { result ≡ false → ForEachRun
+            (⟦<S as NodeConfigs<D>>⟧.of self.now.voter.node) self.now (λ past earlier. WaitsForVote
+            (⟦<S as NodeConfigs<D>>⟧.of self.now.voter.node) past earlier self.now → ⊥) }
     {
         match self.signing() {
             Some(subject) => self.may_vote(&subject),
@@ -128,8 +143,13 @@ where
     // Whether a subject may be voted for.
     fn may_vote(&self, subject: &Subject<D>) -> bool
         requires { self.now.voter.journal.is_open ≡ true }
-        ensures { MatchBool result (CanVote ⟦<S as NodeConfigs<D>>⟧.of self.now subject.now)
+        ensures votes { MatchBool result (CanVote ⟦<S as NodeConfigs<D>>⟧.of self.now subject.now)
             (CannotVote ⟦<S as NodeConfigs<D>>⟧.of self.now subject.now) }
+        ensures free { result ≡ true → IsFree D.eq self.now.voter.journal.contents.votes
+            subject.now }
+        ensures chosen { result ≡ false → IsChosen D.eq self.now.voter subject.now → ForEachRun
+            (⟦<S as NodeConfigs<D>>⟧.of self.now.voter.node) self.now (λ past earlier. MayVote
+            (⟦<S as NodeConfigs<D>>⟧.of self.now.voter.node) earlier past subject.now → ⊥) }
     {
         self.begins();
         match self.ask(subject) {
@@ -148,6 +168,10 @@ where
             self.now.voter subject.now result) }
         ensures says { Says (⟦<S as NodeConfigs<D>>⟧.of self.now.voter.node) D.eq self.now.voter
             subject.now result }
+        ensures finalizes { (p : TheProposal D) → subject.now ≡ Finalize p
+            → self.now.voter.journal.is_open ≡ true
+            → is_of self.now.voter.node.epoch self.now.voter.node.window p.round ≡ true
+            → IsFinalizable D.eq self.now.voter p → result ≡ Sign }
     {
         self.voter.ask(subject)
     }
@@ -157,6 +181,9 @@ where
         requires { self.now.voter.journal.is_open ≡ true }
         ensures some { IfSome result (λ p.
             IsToSign ⟦<S as NodeConfigs<D>>⟧.of self.now (Finalize p)) }
+        ensures chosen { IfSome result (λ p. ForEachRun
+            (⟦<S as NodeConfigs<D>>⟧.of self.now.voter.node) self.now
+            (λ past earlier. IsFinalizable D.eq self.now.voter p)) }
         ensures none { result ≡ None → (p : TheProposal D)
             → IsNotToSign ⟦<S as NodeConfigs<D>>⟧.of self.now (Finalize p) }
     {
@@ -176,6 +203,9 @@ where
         requires from { self.now.voter.node.window.finalized ≤ view.0 }
         ensures some { IfSome result (λ p.
             IsToSign ⟦<S as NodeConfigs<D>>⟧.of self.now (Finalize p)) }
+        ensures chosen { IfSome result (λ p. ForEachRun
+            (⟦<S as NodeConfigs<D>>⟧.of self.now.voter.node) self.now
+            (λ past earlier. IsFinalizable D.eq self.now.voter p)) }
         ensures none { result ≡ None → (p : TheProposal D) → p.round.view.0 ≡ view.0
             → IsNotToSign ⟦<S as NodeConfigs<D>>⟧.of self.now (Finalize p) }
     {
@@ -193,6 +223,7 @@ where
 
     // The proposal of a view that the voter knows to be notarized.
     fn notarized(&self, view: View) -> Option<Proposal<D>>
+        ensures held { result ≡ (learned_at self.now.voter.knowledge view.0).notarized }
         ensures some { IfSome result (λ p. ForEachLife
             (⟦<S as NodeConfigs<D>>⟧.of self.now.voter.node) self.now.voter
             (λ past earlier. self.now.voter.node.window.finalized ≤ view.0
@@ -290,6 +321,9 @@ where
             HasNotCast ⟦<S as NodeConfigs<D>>⟧.of self.now it.0.0) }
         ensures grounds { IfSome result (λ it.
             Grounds ⟦<S as NodeConfigs<D>>⟧.of self.now it.0.0 it.1) }
+        ensures unposed { IfSome result (λ it.
+            (self.now.given.intent.posed < self.now.voter.node.window.current)
+            × (it.0.0 ≡ self.now.voter.node.window.current)) }
         ensures none { result ≡ None → IsNotToPropose ⟦<S as NodeConfigs<D>>⟧.of self.now }
     {
         if !self.may_pose() {
@@ -345,6 +379,9 @@ where
         ensures proposed { IfSome result (λ p. IsProposed ⟦<S as NodeConfigs<D>>⟧.of self.now p) }
         ensures may_vote { IfSome result (λ p.
             CanVote ⟦<S as NodeConfigs<D>>⟧.of self.now (Notarize p)) }
+        ensures unposed { IfSome result (λ p.
+            (self.now.given.intent.posed < self.now.voter.node.window.current)
+            × (p.round.view.0 ≡ self.now.voter.node.window.current)) }
         ensures none { result ≡ None → IsNotToJudge ⟦<S as NodeConfigs<D>>⟧.of self.now }
     {
         if !self.may_pose() {
@@ -375,6 +412,8 @@ where
             (CanPose ⟦<S as NodeConfigs<D>>⟧.of self.now self.now.voter.node.window.current)
             (CannotPose ⟦<S as NodeConfigs<D>>⟧.of self.now
             self.now.voter.node.window.current) }
+        ensures unposed { IsTrue result
+            → self.now.given.intent.posed < self.now.voter.node.window.current }
     {
         let current = self.current();
         if current <= self.final_view() {

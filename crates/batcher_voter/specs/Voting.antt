@@ -6,6 +6,7 @@ use Rattle.batcher.specs.positions.Epoch.{Epoch}
 use Rattle.batcher.specs.positions.Participant.{Participant}
 use Rattle.batcher_node.specs.declared.node.Construction.{Construction}
 use Rattle.batcher.specs.messages.Subject.{Subject}
+use Rattle.batcher.specs.messages.Subject.TheVariants.{Finalize}
 use Rattle.batcher.specs.messages.Vote.{Vote}
 use Rattle.batcher.specs.votes.Outcome.{Outcome}
 use Rattle.batcher_agreement.specs.Lives.{AreVerified, VoterHistory, called, conduct_of, node_history, written}
@@ -25,7 +26,7 @@ use Rattle.batcher_node.specs.declared.answers.Verdict.{Verdict}
 use Rattle.batcher_node.specs.declared.answers.Verdict.TheVariants.{Recorded}
 use Rattle.batcher_node.specs.declared.answers.Cast.{Cast}
 use Rattle.batcher_node.specs.declared.answers.Cast.TheVariants.{ToSend, Known as KnownVote, Outside as OutsideVote}
-use Rattle.batcher_voter.specs.Knowledge.{HasLearned, IsHighest, KnowledgeView, KnowsOf}
+use Rattle.batcher_voter.specs.Knowledge.{HasLearned, IsHighest, KnowledgeView, KnowsOf, learned_at}
 use Rattle.batcher_voter.specs.Refusals.{IsRefused, RestsOnLearned}
 use Rattle.batcher_voter.specs.Remembering.{IsLeft, Remembers}
 use Rattle.batcher_voter.specs.declared.answers.CastFault.{CastFault}
@@ -86,6 +87,13 @@ module _ {D K G C : Type 0} (vote : Vote G D) (past : VoterHistory D K G C) (ear
       ⊎ (after ≡ written vote ∷ past)
 
 module _ {S G D L : Type 0} where
+  -- A proposal is the one that its view is known to have notarized, or the last such, and no vote is
+  -- for its finalize, or contradicts that.
+  abbrev pub IsFinalizable : (D → D → Bool) → VoterView S G D L → Proposal D → Type 0
+  IsFinalizable same voter p =
+      IsFree same voter.journal.contents.votes (Finalize p)
+      × ((learned_at voter.knowledge p.round.view.0).notarized ≡ Some p)
+
   -- What the node was shown is in the journal, which is open, and so on the disk.
   abbrev pub IsInJournal : Vote G D → VoterView S G D L → Cast G D → Type 0
   IsInJournal vote voter OutsideVote = ⊤

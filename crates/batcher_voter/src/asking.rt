@@ -1,6 +1,6 @@
 //! Which votes a voter may cast, which view it enters, and on which view it proposes.
 
-ghost use Rattle.std.specs.Prelude.{◌≡◌, ◌<◌, ◌≤◌, ◌+◌, ◌-◌, ◌^◌, ◌++◌, IfSome, MatchBool, MatchOption, None, ℕ, true, false};
+ghost use Rattle.std.specs.Prelude.{◌≡◌, ◌<◌, ◌≤◌, ◌+◌, ◌-◌, ◌^◌, ◌++◌, IfSome, MatchBool, MatchOption, None, Some, ℕ, true, false};
 ghost use Rattle.batcher.specs.Votes.{round_in};
 ghost use Rattle.batcher_agreement.specs.Lives.{conduct_of, written};
 ghost use Rattle.batcher_agreement.specs.Policy.{Conduct, HasVoted, IsGrounded, Knows};
@@ -13,7 +13,7 @@ ghost use Rattle.batcher_voter.specs.declared.answers.Permission.TheVariants.{Kn
 ghost use Rattle.batcher_voter.specs.Knowledge.{AreNullified, HasLearned, HaveNoParent, IsParent, learned_at};
 ghost use Rattle.batcher_voter.specs.Refusals.{HasGround, HasNoGround, IsNotNotarized};
 ghost use Rattle.batcher_voter.specs.Voting.{ForEachLife, IsNextView};
-ghost use Rattle.batcher_voter.specs.Voting.{Permits, Says};
+ghost use Rattle.batcher_voter.specs.Voting.{IsFinalizable, Permits, Says};
 
 use crate::answers::{Permission, Rule};
 use crate::voter::Voter;
@@ -35,6 +35,10 @@ where
             (Permits (⟦<S as NodeConfigs<D>>⟧.of self.now.node) D.eq self.now subject.now result) }
         ensures says { Says (⟦<S as NodeConfigs<D>>⟧.of self.now.node) D.eq self.now
             subject.now result }
+        ensures finalizes { (p : TheProposal D) → subject.now ≡ Finalize p
+            → self.now.journal.is_open ≡ true
+            → is_of self.now.node.epoch self.now.node.window p.round ≡ true
+            → IsFinalizable D.eq self.now p → result ≡ Sign }
     {
         self.begins();
         if !self.is_within(subject.round()) {
@@ -122,6 +126,9 @@ where
             (Permits (⟦<S as NodeConfigs<D>>⟧.of self.now.node) D.eq self.now subject.now result) }
         ensures says { Says (⟦<S as NodeConfigs<D>>⟧.of self.now.node) D.eq self.now
             subject.now result }
+        ensures finalizes { (p : TheProposal D) → subject.now ≡ Finalize p
+            → (learned_at self.now.knowledge p.round.view.0).notarized ≡ Some p
+            → result ≡ Sign }
     {
         match subject {
             Subject::Notarize { proposal } => self.may_notarize(proposal),
@@ -172,6 +179,8 @@ where
             (Finalize proposal.now) result) }
         ensures says { Says (⟦<S as NodeConfigs<D>>⟧.of self.now.node) D.eq self.now
             (Finalize proposal.now) result }
+        ensures finalizes { (learned_at self.now.knowledge proposal.now.round.view.0).notarized
+            ≡ Some proposal.now → result ≡ Sign }
     {
         self.begins();
         if self.is_notarized(proposal) {
@@ -194,8 +203,10 @@ where
     // Whether this proposal is known to be notarized.
     fn is_notarized(&self, proposal: &Proposal<D>) -> bool
         requires within { is_of self.now.node.epoch self.now.node.window proposal.now.round ≡ true }
-        ensures { (past : Conduct D) → HasLearned self.now.knowledge past → MatchBool result
+        ensures known { (past : Conduct D) → HasLearned self.now.knowledge past → MatchBool result
             (Knows past (Notarize proposal.now)) (IsNotNotarized past proposal.now) }
+        ensures held { (learned_at self.now.knowledge proposal.now.round.view.0).notarized
+            ≡ Some proposal.now → result ≡ true }
     {
         self.begins();
         self.knowledge.is_notarized(proposal)

@@ -1,6 +1,6 @@
 //! What a voter knows to be certified.
 
-ghost use Rattle.std.specs.Prelude.{◌≡◌, ◌≤◌, ◌<◌, [], IfSome, MatchBool, MatchOption, None, OnErr, OnOk, false, true, ℕ};
+ghost use Rattle.std.specs.Prelude.{◌≡◌, ◌≤◌, ◌<◌, [], IfSome, MatchBool, MatchOption, None, OnErr, OnOk, Some, false, true, ℕ};
 ghost use Rattle.std.specs.BTreeMap.{get};
 ghost use Rattle.std.specs.Ordering.{nat_cmp};
 ghost use Rattle.batcher.specs.Votes.{round_in, same_proposal};
@@ -161,8 +161,10 @@ impl<D: Digest> Knowledge<D> {
     pub(crate) fn is_notarized(&self, proposal: &Proposal<D>) -> bool
         requires epoch { proposal.now.round.epoch ≡ self.now.epoch }
         requires kept { self.now.floor ≤ proposal.now.round.view.0 }
-        ensures { (past : Conduct D) → HasLearned self.now past → MatchBool result
+        ensures known { (past : Conduct D) → HasLearned self.now past → MatchBool result
             (Knows past (Notarize proposal.now)) (IsNotNotarized past proposal.now) }
+        ensures held { (learned_at self.now proposal.now.round.view.0).notarized
+            ≡ Some proposal.now → result ≡ true }
     {
         match self.at(proposal.round.view.0).notarized {
             Some(known) => are_same(&known, proposal),

@@ -1,5 +1,6 @@
 use Rattle.std.proofs.Common.{◌∙◌, ap, refl, subst, sym}
 use Rattle.batcher_node.specs.Nodes.{node_config}
+use Rattle.batcher_validator.proofs.Ending.{final_less}
 use Rattle.batcher_validator.proofs.Finalizing.{gives_final, moves, not_announced, not_forged, not_passed, noted, of_this_epoch}
 use Rattle.batcher_validator.proofs.Giving.{contained}
 use Rattle.std.proofs.Common.{take}
@@ -67,3 +68,12 @@ returns-in-Err-Forged-clause-nothing g c = λ none.
     g.D.PartialEq.eq old.voter.node) old refl old.given.announced c.args.i c.args.proposal c.requires
     (subst (WhyNotFinal (node_config g.S.Scheme.meaning g.S.PublicKey.Ord.cmp g.S.Signature.PartialEq.eq
     g.D.PartialEq.eq old.voter.node) old c.args.i) c.in-Err-Forged.field-0-is c.in-Err-Forged.ensures.why)
+
+pub returns-in-Ok-clause-less : goal.returns-in-Ok-clause-less
+returns-in-Ok-clause-less g c =
+    let old = c.args.self.now in
+    final_less (node_config g.S.Scheme.meaning g.S.PublicKey.Ord.cmp g.S.Signature.PartialEq.eq
+    g.D.PartialEq.eq old.voter.node) old c.note_final.new.self c.args.proposal c.args.i c.requires
+    (ap (λ given. given.announced) c.note_final.ensures.given)
+    (c.note_final.ensures.certificates ∙ ap (λ s. filter (is_from c.args.proposal.round.view.0) s.certificates)
+    c.finalize_at.ensures.shelf)

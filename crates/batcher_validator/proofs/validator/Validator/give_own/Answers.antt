@@ -1,6 +1,8 @@
 use Rattle.std.proofs.Common.{◌∙◌, refl, sym}
+use Rattle.std.proofs.lemmas.Option.{slice_get_within}
 use Rattle.batcher_node.specs.Nodes.{node_config}
 use Rattle.batcher_types.proofs.VoteLemmas.{same_subject-refl}
+use Rattle.batcher_validator.proofs.Ending.{vote_less}
 use Rattle.batcher_validator.proofs.Giving.{contained, gives_cast, gives_enter, gives_vote, no_enter_due}
 use Rattle.batcher_validator.specs.Histories.{voter_history}
 use Rattle.batcher_validator.proofs.validator.Validator.give_own.Goals as goal
@@ -51,3 +53,13 @@ returns-in-Some-next_vote-clause-ready g c =
       contained old.voter.journal.contents.votes old.given.tally.sent c.in-Some-next_vote.vote
           (sym c.next_vote.ensures ∙ c.in-Some-next_vote.is),
     )
+
+pub returns-in-Some-next_vote-clause-less : goal.returns-in-Some-next_vote-clause-less
+returns-in-Some-next_vote-clause-less g c =
+    let old = c.args.self.now in
+    vote_less (node_config g.S.Scheme.meaning g.S.PublicKey.Ord.cmp g.S.Signature.PartialEq.eq
+    g.D.PartialEq.eq old.voter.node) old c.note_vote.new.self c.note_vote.ensures.voter
+    c.note_vote.ensures.shelf c.in-Some-next_vote.vote
+    (slice_get_within old.voter.journal.contents.votes old.given.tally.sent c.in-Some-next_vote.vote
+    (sym c.next_vote.ensures ∙ c.in-Some-next_vote.is))
+    c.note_vote.ensures.given

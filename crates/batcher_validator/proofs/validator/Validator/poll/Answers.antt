@@ -1,4 +1,5 @@
 use Rattle.batcher_node.specs.Nodes.{node_config}
+use Rattle.batcher_validator.proofs.Ending.{block_less}
 use Rattle.batcher_validator.proofs.Giving.{gives_block}
 use Rattle.batcher_validator.proofs.validator.Validator.poll.Goals as goal
 
@@ -9,3 +10,11 @@ returns-in-Some-clause-gives g c =
     g.D.PartialEq.eq old.voter.node) old c.note_block.new.self c.note_block.ensures.voter
     c.note_block.ensures.shelf c.in-Some.who c.in-Some.cause c.in-Some.ensures.within c.note_block.ensures.same
     c.in-Some.ensures.cause c.in-Some.ensures.not_yet c.note_block.ensures.given
+
+pub returns-in-Some-clause-less : goal.returns-in-Some-clause-less
+returns-in-Some-clause-less g c =
+    let old = c.args.self.now in
+    block_less (node_config g.S.Scheme.meaning g.S.PublicKey.Ord.cmp g.S.Signature.PartialEq.eq
+    g.D.PartialEq.eq old.voter.node) old c.note_block.new.self c.note_block.ensures.voter
+    c.note_block.ensures.shelf c.in-Some.who c.in-Some.cause c.in-Some.ensures.not_yet
+    c.note_block.ensures.given

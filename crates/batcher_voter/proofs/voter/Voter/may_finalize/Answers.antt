@@ -17,16 +17,16 @@ returns-then-is_notarized-clause-permits g c = λ past earlier is.
     (c.begins.ensures.begins.floor_is c.requires.open) in (
       record {
         notarized = knows_before (conduct_of past) earlier (Notarize p)
-            (c.if-is_notarized.ensures (conduct_of past) is.has_learned);
+            (c.if-is_notarized.ensures.known (conduct_of past) is.has_learned);
         not_nullified = no_nullify_beside g.D.PartialEq.eq g.met.D.Digest.identical
             g.met.D.Eq.laws.refl all votes floor it.are_there it.no_others p above c.requires.free;
       },
       (
         free_is_new g.D.PartialEq.eq g.met.D.Digest.identical g.met.D.Eq.laws.refl all votes floor
             it.are_there it.no_others (Finalize p) above c.requires.free,
-        c.if-is_notarized.ensures (conduct_of past) is.has_learned,
+        c.if-is_notarized.ensures.known (conduct_of past) is.has_learned,
       ),
     )
 
 pub returns-clause-permits : goal.returns-clause-permits
-returns-clause-permits g c = λ past earlier is. c.if-is_notarized.ensures (conduct_of past) is.has_learned
+returns-clause-permits g c = λ past earlier is. c.if-is_notarized.ensures.known (conduct_of past) is.has_learned

@@ -1,0 +1,81 @@
+-- `poll` comes to an end: where nothing comes meanwhile, with each task less is left to be given.
+use Rattle.std.specs.Prelude.{◌≡◌, ◌<◌, ◌+◌, ◌-◌, ⊤, ℕ, Bool, cond, false, length, nat_lt, not, ◌∷◌, Some}
+use Rattle.std.specs.List.{count_by}
+use Rattle.batcher.specs.messages.Certificate.{Certificate}
+use Rattle.batcher.specs.messages.Certificate.TheVariants.{Finalization as FinalizationCertificate}
+use Rattle.batcher.specs.messages.Subject.{Subject}
+use Rattle.batcher.specs.messages.Subject.TheVariants.{Finalize}
+use Rattle.batcher_agreement.specs.Lives.{called, verified}
+use Rattle.batcher_agreement.specs.Policy.{Conduct}
+use Rattle.batcher_node.specs.Events.{view_finalized}
+use Rattle.batcher_node.specs.Nodes.{NodeConfig}
+use Rattle.batcher_validator.specs.Histories.{ValidatorHistory, did, gave, last_to_sign}
+use Rattle.batcher_validator.specs.Running.{ForEachRun, IsRunning, ValidatorView}
+use Rattle.batcher_validator.specs.Tasks.{MayVote}
+use Rattle.batcher_validator.specs.declared.task.Task.{Task}
+use Rattle.batcher_validator.specs.declared.task.Task.TheVariants.{Final, Sign}
+use Rattle.batcher_voter.specs.Voting.{IsFinalizable, VoterView}
+
+-- whether it is a finalization of a view after this one
+abbrev pub is_final_after : {C D : Type 0} → ℕ → Certificate C D → Bool
+is_final_after view (FinalizationCertificate f) = nat_lt view f.proposal.round.view.0
+is_final_after view c = false
+
+-- Where two proposals of a view are known to be notarized, one of them is finalized: the last.
+abbrev pub IsChosen : {S G D L : Type 0} → (D → D → Bool) → VoterView S G D L → Subject D → Type 0
+IsChosen same voter (Finalize p) = IsFinalizable same voter p
+IsChosen same voter s = ⊤
+
+-- what happened by then, where a task was given
+abbrev pub IsAfter : {D K G C : Type 0} → Task G D → ValidatorHistory D K G C
+    → ValidatorHistory D K G C → Type 0
+IsAfter {C = C} (Final p) past later =
+    (c : Certificate C _) × (later ≡ gave (Final p)
+    ∷ did (called (view_finalized p.round.view.0)) ∷ did (verified c) ∷ past)
+IsAfter task past later = later ≡ gave task ∷ past
+
+module _ {S G D L C : Type 0} (validator : ValidatorView S G D L C) where
+  -- how many finalizations are kept of views after the last that was given as final
+  abbrev pub finals_left : ℕ
+  finals_left =
+      count_by (is_final_after validator.given.announced) validator.shelf.certificates
+
+  -- How much else may be left, but for a vote that is to be signed: participants to be blocked, the
+  -- next view, own votes to be cast again and to be sent, certificates, a proposal to be made or to
+  -- be judged, and votes to be verified.
+  abbrev pub others_left : ℕ
+  others_left =
+      count_by not validator.given.blocked
+      + ((validator.voter.knowledge.highest + 1 - validator.given.asked)
+      + ((validator.given.tally.begun - validator.given.tally.recast)
+      + ((length validator.voter.journal.contents.votes - validator.given.tally.sent)
+      + ((length validator.shelf.certificates - validator.shelf.handed)
+      + ((validator.voter.node.window.current - validator.given.intent.posed)
+      + cond validator.given.verifying 0 1)))))
+
+module _ {S D K G C L : Type 0} (x : NodeConfig D K G C) where
+  -- What was given to be signed, last of all, may still be voted for. Meanwhile nothing else is
+  -- given to be signed.
+  pub record WaitsForVote (past : ValidatorHistory D K G C) (earlier : Conduct D)
+      (validator : ValidatorView S G D L C) : Type 0 where
+    pub subject : Subject D
+    pub was_last : last_to_sign past ≡ Some subject
+    pub may_vote : MayVote x earlier past subject
+    pub is_chosen : IsChosen x.same_digest validator.voter subject
+
+  -- With each task less is left. Where a proposal is given as final, more else may be left.
+  abbrev pub LeavesLess : ValidatorView S G D L C → ValidatorView S G D L C → Task G D → Type 0
+  LeavesLess old new (Final p) = finals_left new < finals_left old
+  LeavesLess old new (Sign s) =
+      (finals_left new ≡ finals_left old) × ((others_left new ≡ others_left old)
+      × ForEachRun x old (λ past earlier. (WaitsForVote past earlier old → ⊥)
+      × WaitsForVote (gave (Sign s) ∷ past) earlier new))
+  LeavesLess old new task =
+      (finals_left new ≡ finals_left old) × (others_left new < others_left old)
+
+  -- A validator gives one task after the other, and nothing comes meanwhile.
+  pub record GivesOnAndOn (earlier : Conduct D) (validator : ℕ → ValidatorView S G D L C)
+      (past : ℕ → ValidatorHistory D K G C) (task : ℕ → Task G D) : Type 0 where
+    pub running : (n : ℕ) → IsRunning x (past n) earlier (validator n)
+    pub less : (n : ℕ) → LeavesLess (validator n) (validator (n + 1)) (task n)
+    pub after : (n : ℕ) → IsAfter (task n) (past n) (past (n + 1))
