@@ -353,6 +353,7 @@ static int poll_once(struct batcher_loop *loop, uint32_t me, uint8_t *disk, size
 }
 
 static int one_loop_call(struct batcher_loop *loop, uint32_t participants, uint32_t me, uint8_t *disk, size_t *written) {
+    struct batcher_progress progress;
     struct batcher_admission admission;
     struct batcher_vote vote = any_vote(participants);
     uint8_t bytes[8] = {0}, room[8], code;
@@ -387,7 +388,7 @@ static int one_loop_call(struct batcher_loop *loop, uint32_t participants, uint3
         CHECK((code == BATCHER_MALFORMED) == (vote.kind > 2));
         CHECK(code != BATCHER_SHORT || count > sizeof room);
         return 0;
-    case 6: CHECK(batcher_loop_expire(loop, below(8)) == BATCHER_DONE); return 0;
+    case 6: CHECK(batcher_loop_expire(loop, below(8), &progress) == BATCHER_DONE); return 0;
     case 7: return conclude_in(loop, participants);
     default: return poll_once(loop, me, disk, written);
     }

@@ -493,7 +493,8 @@ static void run(void) {
             if ((polled[i].revents & POLLOUT) != 0 && it->socket >= 0 && it->is_ready) send_on(it);
         }
         if (now() >= deadline) {
-            done(batcher_loop_expire(&loop, view));
+            struct batcher_progress progress;
+            done(batcher_loop_expire(&loop, view, &progress));
             wait_for_view();
         }
     }

@@ -57,6 +57,15 @@ static struct validator all[VALIDATORS];
 static struct batcher_proposal chain[VIEWS];
 static bool is_final[VIEWS];
 
+/* Of each kind no more votes wait than there are validators, and none once it is certified. */
+static bool counts_votes(const struct batcher_progress *it) {
+    const struct batcher_counts *kinds[3] = {&it->notarizes, &it->nullifies, &it->finalizes};
+    for (int kind = 0; kind < 3; kind++)
+        if (kinds[kind]->pending + kinds[kind]->verified > (kinds[kind]->certified ? 0 : VALIDATORS))
+            return false;
+    return true;
+}
+
 static uint64_t mixed(uint64_t sum, const void *from, size_t length) {
     const uint8_t *bytes = from;
     for (size_t i = 0; i < length; i++) sum = (sum ^ bytes[i]) * 1099511628211u;
@@ -367,7 +376,9 @@ static int one_network(uint64_t seed) {
         } else if (what < 4) {
             if ((line = restart(me)) != 0) return line;
         } else if (what < 24) {
-            CHECK(batcher_loop_expire(&all[me].loop, all[me].view) == BATCHER_DONE);
+            struct batcher_progress progress;
+            CHECK(batcher_loop_expire(&all[me].loop, all[me].view, &progress) == BATCHER_DONE);
+            CHECK(counts_votes(&progress) && (!progress.has_leader || progress.leader == all[me].view % VALIDATORS));
         } else {
             for (int heard = 0; heard < 8 && all[me].count != 0; heard++)
                 if ((line = hear(me)) != 0) return line;

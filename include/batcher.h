@@ -190,6 +190,23 @@ struct batcher_task {
     uint8_t cause;
 };
 
+/* How far a kind of a view is from its certificate. Once that is there, no vote of it waits. */
+struct batcher_counts {
+    uint64_t pending; /* votes that wait and weren't verified */
+    uint64_t verified; /* votes that wait and attest */
+    bool certified;
+};
+
+/* How far a view is, and so why it hangs. */
+struct batcher_progress {
+    struct batcher_counts notarizes;
+    struct batcher_counts nullifies;
+    struct batcher_counts finalizes;
+    uint32_t leader; /* who leads it, where it has a leader */
+    bool has_leader;
+    bool has_proposal; /* whether a proposal is selected */
+};
+
 /* One thing to do to a file, which is synced before anything else is done. */
 struct batcher_change {
     uint64_t at;
@@ -220,8 +237,8 @@ struct batcher_loop_options {
 };
 
 /* Does nothing. Its name has the version of this header, so a library of another one doesn't link. */
-void batcher_abi_3(void);
-__attribute__((used)) static void (*const batcher_abi)(void) = batcher_abi_3;
+void batcher_abi_4(void);
+__attribute__((used)) static void (*const batcher_abi)(void) = batcher_abi_4;
 
 /* The library takes its memory by these three, which a program defines: c/heap.c does, over malloc. A block
  * is aligned by 16, and `at` is never null, also where the request is refused. */
@@ -406,8 +423,9 @@ uint8_t batcher_loop_judge(struct batcher_loop *validator, const struct batcher_
                            bool valid);
 
 /* The time of the view is over, for the first time or again: it is given up, unless its proposal is
- * notarized. All votes and certificates from the final view on are sent again. */
-uint8_t batcher_loop_expire(struct batcher_loop *validator, uint64_t view);
+ * notarized. All votes and certificates from the final view on are sent again. How far the view is says why
+ * it takes so long. */
+uint8_t batcher_loop_expire(struct batcher_loop *validator, uint64_t view, struct batcher_progress *out);
 
 /* The certificate of this kind and of the round of the proposal: its bytes, and the whole proposal. One that
  * it made is its list of attestations. SHORT: the room is too short for so many bytes. IDLE: none is kept. */

@@ -137,7 +137,7 @@ fn play_loop<const BYTES: usize>(views: u64, participants: u32) {
             }
             Task::Propose { view, parent } => {
                 let payload = Sha256Digest([view.get() as u8; 32]);
-                validator.propose(view, parent, payload).expect("it leads");
+                validator.propose(view, parent, payload);
             }
             Task::SendVote(own) => {
                 for signer in 1..participants {

@@ -1,5 +1,6 @@
 //! What rounds answer.
 
+use crate::ffi::code;
 use crate::messages::{Activity, Certificate, Kind};
 use crate::positions::Participant;
 use std::fmt;
@@ -230,5 +231,73 @@ impl std::error::Error for Error {
 impl From<OwnFault> for Error {
     fn from(fault: OwnFault) -> Self {
         Error::Own(fault)
+    }
+}
+
+/// Why a validator doesn't take in a vote, verdicts or a signature.
+#[derive(Clone, Copy, Debug, PartialEq, Eq, Hash)]
+pub enum VoteError {
+    /// Memory was refused. The same call may succeed later.
+    OutOfMemory,
+    /// The bytes of a signature are more than 96, or the scheme doesn't make the same signature of
+    /// them again.
+    SignatureBytes,
+    /// The library answered a code that the call doesn't have, so it isn't the one that this crate
+    /// was written for.
+    Unknown(u8),
+}
+
+impl fmt::Display for VoteError {
+    fn fmt(&self, f: &mut fmt::Formatter<'_>) -> fmt::Result {
+        Error::from(*self).fmt(f)
+    }
+}
+
+impl std::error::Error for VoteError {}
+
+impl From<VoteError> for Error {
+    fn from(error: VoteError) -> Self {
+        match error {
+            VoteError::OutOfMemory => Error::OutOfMemory,
+            VoteError::SignatureBytes => Error::SignatureBytes,
+            VoteError::Unknown(code) => Error::Unknown(code),
+        }
+    }
+}
+
+/// Why a validator doesn't take in a certificate, lends none, or notes nothing as written.
+#[derive(Clone, Copy, Debug, PartialEq, Eq, Hash)]
+pub enum CallError {
+    /// Memory was refused. The same call may succeed later.
+    OutOfMemory,
+    /// The library answered a code that the call doesn't have, so it isn't the one that this crate
+    /// was written for.
+    Unknown(u8),
+}
+
+impl CallError {
+    /// What a code says that isn't one of the answers of its call.
+    pub(crate) fn of(answer: u8) -> Self {
+        match answer {
+            code::OUT_OF_MEMORY => CallError::OutOfMemory,
+            other => CallError::Unknown(other),
+        }
+    }
+}
+
+impl fmt::Display for CallError {
+    fn fmt(&self, f: &mut fmt::Formatter<'_>) -> fmt::Result {
+        VoteError::from(*self).fmt(f)
+    }
+}
+
+impl std::error::Error for CallError {}
+
+impl From<CallError> for VoteError {
+    fn from(error: CallError) -> Self {
+        match error {
+            CallError::OutOfMemory => VoteError::OutOfMemory,
+            CallError::Unknown(code) => VoteError::Unknown(code),
+        }
     }
 }

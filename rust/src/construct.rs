@@ -1,6 +1,6 @@
 //! Constructions of a round: what they want verified, what was found, and what they give.
 
-use crate::answers::{Batch, Error};
+use crate::answers::{Batch, Error, VoteError};
 use crate::ffi::{self, code};
 use crate::flat::{
     attestation_of, error_of, flat_attestation, flat_subject, kind_code, kind_of, subject_of,
@@ -329,7 +329,7 @@ fn hand_in(
 
 pub(crate) fn attestations_of<G: for<'b> TryFrom<&'b [u8]>>(
     list: &[ffi::Attestation],
-) -> Result<Vec<Attestation<G>>, Error> {
+) -> Result<Vec<Attestation<G>>, VoteError> {
     let mut attestations = Vec::new();
     reserve(&mut attestations, list.len())?;
     for flat in list {
@@ -339,8 +339,9 @@ pub(crate) fn attestations_of<G: for<'b> TryFrom<&'b [u8]>>(
 }
 
 /// Makes room in a list.
-pub(crate) fn reserve<T>(list: &mut Vec<T>, more: usize) -> Result<(), Error> {
-    list.try_reserve_exact(more).map_err(|_| Error::OutOfMemory)
+pub(crate) fn reserve<T>(list: &mut Vec<T>, more: usize) -> Result<(), VoteError> {
+    list.try_reserve_exact(more)
+        .map_err(|_| VoteError::OutOfMemory)
 }
 
 /// Makes a list have as many places as there are participants.
@@ -348,7 +349,7 @@ pub(crate) fn reserve_each<T: Clone>(
     list: &mut Vec<T>,
     participants: u32,
     nothing: T,
-) -> Result<(), Error> {
+) -> Result<(), VoteError> {
     reserve(list, (participants as usize).saturating_sub(list.len()))?;
     list.resize(participants as usize, nothing);
     Ok(())

@@ -1,6 +1,6 @@
 //! The library's flat values, to and from this crate's.
 
-use crate::answers::{BlockReason, Error, Mode, OwnFault};
+use crate::answers::{BlockReason, Error, Mode, OwnFault, VoteError};
 use crate::ffi::{self, code};
 use crate::messages::{
     Activity, Attestation, Finalize, Kind, Notarize, Nullify, Proposal, Sha256Digest, Subject, Vote,
@@ -37,7 +37,7 @@ pub(crate) fn flat_round(round: &Round) -> ffi::Proposal {
 #[inline]
 pub(crate) fn flat_attestation<G: AsRef<[u8]>>(
     attestation: &Attestation<G>,
-) -> Result<ffi::Attestation, Error> {
+) -> Result<ffi::Attestation, VoteError> {
     let signature = attestation.signature.as_ref();
     let mut flat = ffi::Attestation {
         signer: attestation.signer.get(),
@@ -45,7 +45,7 @@ pub(crate) fn flat_attestation<G: AsRef<[u8]>>(
     };
     flat.bytes
         .get_mut(..signature.len())
-        .ok_or(Error::SignatureBytes)?
+        .ok_or(VoteError::SignatureBytes)?
         .copy_from_slice(signature);
     flat.length = signature.len() as u8;
     Ok(flat)
@@ -54,15 +54,15 @@ pub(crate) fn flat_attestation<G: AsRef<[u8]>>(
 /// The attestation of these bytes.
 pub(crate) fn attestation_of<G: for<'b> TryFrom<&'b [u8]>>(
     flat: &ffi::Attestation,
-) -> Result<Attestation<G>, Error> {
+) -> Result<Attestation<G>, VoteError> {
     let signature = flat.bytes.get(..usize::from(flat.length));
     let signature = signature.and_then(|bytes| G::try_from(bytes).ok());
-    let signature = signature.ok_or(Error::SignatureBytes)?;
+    let signature = signature.ok_or(VoteError::SignatureBytes)?;
     Ok(Attestation::new(Participant::new(flat.signer), signature))
 }
 
 #[inline]
-pub(crate) fn flat_vote<G: AsRef<[u8]>>(vote: &Vote<G>) -> Result<ffi::Vote, Error> {
+pub(crate) fn flat_vote<G: AsRef<[u8]>>(vote: &Vote<G>) -> Result<ffi::Vote, VoteError> {
     let (kind, proposal) = match vote {
         Vote::Notarize(vote) => (Kind::Notarization, flat_proposal(&vote.proposal)),
         Vote::Nullify(vote) => (Kind::Nullification, flat_round(&vote.round)),
@@ -80,7 +80,7 @@ pub(crate) fn flat_vote<G: AsRef<[u8]>>(vote: &Vote<G>) -> Result<ffi::Vote, Err
 pub(crate) fn report_of<G: Clone + for<'b> TryFrom<&'b [u8]>>(
     answer: &ffi::Admission,
     vote: &Vote<G>,
-) -> Result<Option<Activity<G>>, Error> {
+) -> Result<Option<Activity<G>>, VoteError> {
     Ok(match answer.report {
         code::REPORT_NONE => None,
         // Of one vote it is this one, which is new.
@@ -97,7 +97,7 @@ pub(crate) fn report_of<G: Clone + for<'b> TryFrom<&'b [u8]>>(
 #[cold]
 fn contradiction_of<G: for<'b> TryFrom<&'b [u8]>>(
     answer: &ffi::Admission,
-) -> Result<Activity<G>, Error> {
+) -> Result<Activity<G>, VoteError> {
     let (first, second) = (&answer.first, &answer.second);
     Ok(match answer.report {
         code::REPORT_CONFLICTING_NOTARIZE => {
@@ -109,31 +109,33 @@ fn contradiction_of<G: for<'b> TryFrom<&'b [u8]>>(
         code::REPORT_NULLIFY_FINALIZE => {
             Activity::NullifyFinalize(nullify_of(first)?, finalize_of(second)?)
         }
-        other => return Err(Error::Unknown(other)),
+        other => return Err(VoteError::Unknown(other)),
     })
 }
 
 /// A vote of any kind.
-pub(crate) fn vote_of<G: for<'b> TryFrom<&'b [u8]>>(flat: &ffi::Vote) -> Result<Vote<G>, Error> {
+pub(crate) fn vote_of<G: for<'b> TryFrom<&'b [u8]>>(
+    flat: &ffi::Vote,
+) -> Result<Vote<G>, VoteError> {
     let subject = subject_of(kind_of(flat.kind)?, &flat.proposal);
     Ok(Vote::new(subject, attestation_of(&flat.attestation)?))
 }
 
-fn notarize_of<G: for<'b> TryFrom<&'b [u8]>>(flat: &ffi::Vote) -> Result<Notarize<G>, Error> {
+fn notarize_of<G: for<'b> TryFrom<&'b [u8]>>(flat: &ffi::Vote) -> Result<Notarize<G>, VoteError> {
     Ok(Notarize {
         proposal: proposal_of(&flat.proposal),
         attestation: attestation_of(&flat.attestation)?,
     })
 }
 
-fn nullify_of<G: for<'b> TryFrom<&'b [u8]>>(flat: &ffi::Vote) -> Result<Nullify<G>, Error> {
+fn nullify_of<G: for<'b> TryFrom<&'b [u8]>>(flat: &ffi::Vote) -> Result<Nullify<G>, VoteError> {
     Ok(Nullify {
         round: round_of(&flat.proposal),
         attestation: attestation_of(&flat.attestation)?,
     })
 }
 
-fn finalize_of<G: for<'b> TryFrom<&'b [u8]>>(flat: &ffi::Vote) -> Result<Finalize<G>, Error> {
+fn finalize_of<G: for<'b> TryFrom<&'b [u8]>>(flat: &ffi::Vote) -> Result<Finalize<G>, VoteError> {
     Ok(Finalize {
         proposal: proposal_of(&flat.proposal),
         attestation: attestation_of(&flat.attestation)?,
@@ -168,12 +170,12 @@ pub(crate) fn mode_code(mode: Mode) -> u8 {
     }
 }
 
-pub(crate) fn kind_of(flat: u8) -> Result<Kind, Error> {
+pub(crate) fn kind_of(flat: u8) -> Result<Kind, VoteError> {
     match flat {
         code::NOTARIZATION => Ok(Kind::Notarization),
         code::NULLIFICATION => Ok(Kind::Nullification),
         code::FINALIZATION => Ok(Kind::Finalization),
-        other => Err(Error::Unknown(other)),
+        other => Err(VoteError::Unknown(other)),
     }
 }
 
@@ -193,7 +195,7 @@ pub(crate) fn subject_of(kind: Kind, flat: &ffi::Proposal) -> Subject {
 }
 
 #[inline]
-pub(crate) fn block_of(flat: u8) -> Result<Option<BlockReason>, Error> {
+pub(crate) fn block_of(flat: u8) -> Result<Option<BlockReason>, VoteError> {
     Ok(Some(match flat {
         code::BLOCK_NONE => return Ok(None),
         code::BLOCK_UNKNOWN_PARTICIPANT => BlockReason::UnknownParticipant,
@@ -206,7 +208,7 @@ pub(crate) fn block_of(flat: u8) -> Result<Option<BlockReason>, Error> {
         code::BLOCK_INVALID_SIGNATURE => BlockReason::InvalidSignature,
         code::BLOCK_NULLIFY_AFTER_FINALIZE => BlockReason::NullifyAfterFinalize,
         code::BLOCK_FINALIZE_AFTER_NULLIFY => BlockReason::FinalizeAfterNullify,
-        other => return Err(Error::Unknown(other)),
+        other => return Err(VoteError::Unknown(other)),
     }))
 }
 

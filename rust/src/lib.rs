@@ -84,7 +84,9 @@ pub mod thread;
 #[cfg(feature = "test")]
 extern crate self as batcher;
 
-pub use answers::{Admission, Batch, BlockReason, Error, Mode, Outcome, OwnFault};
+pub use answers::{
+    Admission, Batch, BlockReason, CallError, Error, Mode, Outcome, OwnFault, VoteError,
+};
 pub use evidence::convicted;
 pub use files::Files;
 pub use looping::Loop;

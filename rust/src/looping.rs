@@ -36,7 +36,7 @@
 //!             validator.wrote()?;
 //!         }
 //!         Task::Propose { view, parent } => {
-//!             validator.propose(view, parent, Sha256Digest([view.get() as u8; 32]))?;
+//!             validator.propose(view, parent, Sha256Digest([view.get() as u8; 32]));
 //!         }
 //!         Task::Sign(subject) => validator.signed(subject, &sign(&subject, 0))?,
 //!         Task::Verify(wanted) => {
@@ -57,12 +57,12 @@
 //! # }
 //! ```
 
-use crate::answers::{Admission, BlockReason, Error};
+use crate::answers::{Admission, BlockReason, CallError, VoteError};
 use crate::construct::{ONE_EACH, attestations_of, reserve, reserve_each};
 use crate::ffi::{self, code, loops};
 use crate::flat::{
-    block_of, done, error_of, flat_attestation, flat_proposal, flat_round, flat_subject, flat_vote,
-    kind_code, kind_of, proposal_of, report_of, round_of, subject_of, vote_of,
+    block_of, flat_attestation, flat_proposal, flat_round, flat_subject, flat_vote, kind_code,
+    kind_of, proposal_of, report_of, round_of, subject_of, vote_of,
 };
 use crate::messages::{Attestation, Certificate, Kind, Proposal, Sha256Digest, Subject, Vote};
 use crate::positions::{Epoch, Participant, Round, View, quorum};
@@ -158,13 +158,19 @@ impl fmt::Display for PollError {
 
 impl std::error::Error for PollError {}
 
-impl From<Error> for PollError {
-    fn from(error: Error) -> Self {
+impl From<VoteError> for PollError {
+    fn from(error: VoteError) -> Self {
         match error {
-            Error::SignatureBytes => PollError::SignatureBytes,
-            Error::Unknown(code) => PollError::Unknown(code),
-            _ => PollError::OutOfMemory,
+            VoteError::OutOfMemory => PollError::OutOfMemory,
+            VoteError::SignatureBytes => PollError::SignatureBytes,
+            VoteError::Unknown(code) => PollError::Unknown(code),
         }
+    }
+}
+
+impl From<CallError> for PollError {
+    fn from(error: CallError) -> Self {
+        PollError::from(VoteError::from(error))
     }
 }
 
@@ -211,6 +217,58 @@ pub enum Verdict {
     Forged,
     /// There was one of its kind and view.
     Known,
+}
+
+/// How far a kind of a view is from its certificate. Once that is there, no vote of it waits.
+#[derive(Clone, Copy, Debug, Default, PartialEq, Eq, Hash)]
+pub struct Counts {
+    /// How many votes wait that weren't verified.
+    pub pending: u64,
+    /// How many votes wait that attest.
+    pub verified: u64,
+    /// Whether there is a certificate.
+    pub certified: bool,
+}
+
+impl fmt::Display for Counts {
+    fn fmt(&self, f: &mut fmt::Formatter<'_>) -> fmt::Result {
+        if self.certified {
+            return f.write_str("certified");
+        }
+        write!(f, "{} and {} unverified", self.verified, self.pending)
+    }
+}
+
+/// How far a view is, and so why it hangs: nobody leads it, nothing is proposed, or votes are
+/// missing.
+#[derive(Clone, Copy, Debug, PartialEq, Eq, Hash)]
+pub struct Progress {
+    /// Who leads it.
+    pub leader: Option<Participant>,
+    /// Whether a proposal is selected.
+    pub has_proposal: bool,
+    /// How many notarizes there are.
+    pub notarizes: Counts,
+    /// How many nullifies.
+    pub nullifies: Counts,
+    /// How many finalizes.
+    pub finalizes: Counts,
+    /// How many votes make a certificate.
+    pub quorum: u32,
+}
+
+impl fmt::Display for Progress {
+    fn fmt(&self, f: &mut fmt::Formatter<'_>) -> fmt::Result {
+        match self.leader {
+            Some(leader) => write!(f, "led by {leader}, ")?,
+            None => f.write_str("led by nobody, ")?,
+        }
+        let proposal = if self.has_proposal { "a" } else { "no" };
+        write!(f, "{proposal} proposal, of {} votes: ", self.quorum)?;
+        let (notarizes, nullifies) = (self.notarizes, self.nullifies);
+        write!(f, "notarizes {notarizes}, nullifies {nullifies}, ")?;
+        write!(f, "finalizes {}", self.finalizes)
+    }
 }
 
 /// What is to be written to the disk.
@@ -461,8 +519,11 @@ impl<G: Clone + AsRef<[u8]> + for<'b> TryFrom<&'b [u8]>> Loop<G> {
     /// # Errors
     ///
     /// `OutOfMemory`, after which the same call can be made again.
-    pub fn wrote(&mut self) -> Result<(), Error> {
-        done(self.library.wrote())
+    pub fn wrote(&mut self) -> Result<(), CallError> {
+        match self.library.wrote() {
+            code::DONE => Ok(()),
+            other => Err(CallError::of(other)),
+        }
     }
 
     /// Takes in a vote that this participant sent, as the transport has authenticated it. Then
@@ -470,12 +531,13 @@ impl<G: Clone + AsRef<[u8]> + for<'b> TryFrom<&'b [u8]>> Loop<G> {
     ///
     /// # Errors
     ///
-    /// `OutOfMemory`, after which the same call can be made again.
+    /// `OutOfMemory`, after which the same call can be made again. `SignatureBytes`, where a
+    /// signature has more than 96 bytes.
     pub fn vote(
         &mut self,
         sender: Participant,
         vote: &Vote<G>,
-    ) -> Result<Receipt<Admission<G>>, Error> {
+    ) -> Result<Receipt<Admission<G>>, VoteError> {
         let flat = flat_vote(vote)?;
         match self
             .library
@@ -489,7 +551,7 @@ impl<G: Clone + AsRef<[u8]> + for<'b> TryFrom<&'b [u8]>> Loop<G> {
             code::ELSEWHERE => Ok(Receipt::Outside),
             code::DROPPED => Ok(Receipt::Dropped),
             code::UNKNOWN => Ok(Receipt::Unknown),
-            other => Err(error_of(other)),
+            other => Err(CallError::of(other).into()),
         }
     }
 
@@ -519,7 +581,7 @@ impl<G: Clone + AsRef<[u8]> + for<'b> TryFrom<&'b [u8]>> Loop<G> {
         sender: Participant,
         certificate: &Listed,
         certifies: bool,
-    ) -> Result<Receipt<Verdict>, Error> {
+    ) -> Result<Receipt<Verdict>, CallError> {
         match self.library.certificate(
             u64::from(sender.get()),
             kind_code(certificate.kind()),
@@ -533,7 +595,7 @@ impl<G: Clone + AsRef<[u8]> + for<'b> TryFrom<&'b [u8]>> Loop<G> {
             code::ELSEWHERE => Ok(Receipt::Outside),
             code::DROPPED => Ok(Receipt::Dropped),
             code::UNKNOWN => Ok(Receipt::Unknown),
-            other => Err(error_of(other)),
+            other => Err(CallError::of(other)),
         }
     }
 
@@ -542,12 +604,13 @@ impl<G: Clone + AsRef<[u8]> + for<'b> TryFrom<&'b [u8]>> Loop<G> {
     ///
     /// # Errors
     ///
-    /// `OutOfMemory`, after which the same call can be made again.
+    /// `OutOfMemory`, after which the same call can be made again. `SignatureBytes`, where a
+    /// signature has more than 96 bytes.
     ///
     /// # Panics
     ///
     /// Where there isn't one verdict for each.
-    pub fn conclude(&mut self, wanted: &Wanted<G>, verdicts: &[bool]) -> Result<bool, Error> {
+    pub fn conclude(&mut self, wanted: &Wanted<G>, verdicts: &[bool]) -> Result<bool, VoteError> {
         assert_eq!(wanted.attestations.len(), verdicts.len(), "{ONE_EACH}");
         let mut list = Vec::new();
         reserve(&mut list, verdicts.len())?;
@@ -561,7 +624,7 @@ impl<G: Clone + AsRef<[u8]> + for<'b> TryFrom<&'b [u8]>> Loop<G> {
         {
             code::DONE => Ok(true),
             code::STALE => Ok(false),
-            other => Err(error_of(other)),
+            other => Err(CallError::of(other).into()),
         }
     }
 
@@ -570,12 +633,12 @@ impl<G: Clone + AsRef<[u8]> + for<'b> TryFrom<&'b [u8]>> Loop<G> {
     ///
     /// # Errors
     ///
-    /// `OutOfMemory`, after which the same call can be made again.
-    pub fn signed(&mut self, subject: Subject, signature: &G) -> Result<(), Error> {
+    /// `OutOfMemory`, after which the same call can be made again. `SignatureBytes`, where a
+    /// signature has more than 96 bytes.
+    pub fn signed(&mut self, subject: Subject, signature: &G) -> Result<(), VoteError> {
         let vote = Vote::new(subject, Attestation::new(self.me, signature.clone()));
         match self.library.cast(&flat_vote(&vote)?, true) {
-            code::OUT_OF_MEMORY => Err(Error::OutOfMemory),
-            code::NOT_VERIFIED => Err(Error::NotVerified),
+            code::OUT_OF_MEMORY => Err(VoteError::OutOfMemory),
             _ => Ok(()),
         }
     }
@@ -595,39 +658,34 @@ impl<G: Clone + AsRef<[u8]> + for<'b> TryFrom<&'b [u8]>> Loop<G> {
         bytes
     }
 
-    /// Proposes this payload in a view, on the proposal of the view `parent`.
-    ///
-    /// # Errors
-    ///
-    /// None but that the library isn't the one that this crate was written for.
-    pub fn propose(
-        &mut self,
-        view: View,
-        parent: View,
-        payload: Sha256Digest,
-    ) -> Result<(), Error> {
+    /// Proposes this payload in a view, on the proposal of the view `parent`. Then poll.
+    pub fn propose(&mut self, view: View, parent: View, payload: Sha256Digest) {
         let round = Round::new(self.epoch, view);
-        self.judge(&Proposal::new(round, parent, payload), true)
+        self.judge(&Proposal::new(round, parent, payload), true);
     }
 
-    /// Whether a proposal is valid. Of one that isn't, the view is given up.
-    ///
-    /// # Errors
-    ///
-    /// As of [`Loop::propose`].
-    pub fn judge(&mut self, proposal: &Proposal, valid: bool) -> Result<(), Error> {
-        done(self.library.judge(&flat_proposal(proposal), valid))
+    /// Whether a proposal is valid. Of one that isn't, the view is given up. Then poll.
+    pub fn judge(&mut self, proposal: &Proposal, valid: bool) {
+        // By its contract the library answers nothing else.
+        let answer = self.library.judge(&flat_proposal(proposal), valid);
+        debug_assert_eq!(answer, code::DONE);
     }
 
     /// The time of a view is over, for the first time or again. It is given up, unless its proposal
     /// is notarized, and all votes and certificates from the final view on are given to be sent
-    /// again. Then poll.
-    ///
-    /// # Errors
-    ///
-    /// As of [`Loop::propose`].
-    pub fn expire(&mut self, view: View) -> Result<(), Error> {
-        done(self.library.expire(view.get()))
+    /// again. Then poll. How far the view is says why it takes so long.
+    pub fn expire(&mut self, view: View) -> Progress {
+        let mut flat = loops::Progress::default();
+        let answer = self.library.expire(view.get(), &mut flat);
+        debug_assert_eq!(answer, code::DONE);
+        Progress {
+            leader: flat.has_leader.then(|| Participant::new(flat.leader)),
+            has_proposal: flat.has_proposal,
+            notarizes: counts_of(&flat.notarizes),
+            nullifies: counts_of(&flat.nullifies),
+            finalizes: counts_of(&flat.finalizes),
+            quorum: quorum(self.participants),
+        }
     }
 
     /// Whether a certificate of this kind and round is kept, so that another one needn't be verified.
@@ -645,7 +703,7 @@ impl<G: Clone + AsRef<[u8]> + for<'b> TryFrom<&'b [u8]>> Loop<G> {
     /// # Errors
     ///
     /// `OutOfMemory`.
-    pub fn kept(&self, kind: Kind, round: Round) -> Result<Option<Listed>, Error> {
+    pub fn kept(&self, kind: Kind, round: Round) -> Result<Option<Listed>, CallError> {
         let (mut flat, mut count) = (flat_round(&round), 0);
         let mut bytes = Vec::new();
         loop {
@@ -658,9 +716,17 @@ impl<G: Clone + AsRef<[u8]> + for<'b> TryFrom<&'b [u8]>> Loop<G> {
                 }
                 code::IDLE => return Ok(None),
                 code::SHORT => make_room(&mut bytes, count)?,
-                other => return Err(error_of(other)),
+                other => return Err(CallError::of(other)),
             }
         }
+    }
+}
+
+fn counts_of(flat: &loops::Counts) -> Counts {
+    Counts {
+        pending: flat.pending,
+        verified: flat.verified,
+        certified: flat.certified,
     }
 }
 
@@ -677,9 +743,10 @@ fn start_error(answer: u8) -> StartError {
 }
 
 /// Makes a list of bytes as long as is wanted.
-pub(crate) fn make_room(bytes: &mut Vec<u8>, count: u64) -> Result<(), Error> {
-    let count = usize::try_from(count).map_err(|_| Error::OutOfMemory)?;
-    reserve(bytes, count.saturating_sub(bytes.len()))?;
+pub(crate) fn make_room(bytes: &mut Vec<u8>, count: u64) -> Result<(), CallError> {
+    let count = usize::try_from(count).map_err(|_| CallError::OutOfMemory)?;
+    let more = count.saturating_sub(bytes.len());
+    reserve(bytes, more).map_err(|_| CallError::OutOfMemory)?;
     bytes.resize(count, 0);
     Ok(())
 }

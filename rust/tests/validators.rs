@@ -131,9 +131,9 @@ impl Station {
                 }
                 Task::Propose { view, parent } => {
                     let payload = Sha256Digest([view.get() as u8; 32]);
-                    self.running.propose(view, parent, payload).unwrap();
+                    self.running.propose(view, parent, payload);
                 }
-                Task::Judge(proposal) => self.running.judge(&proposal, true).unwrap(),
+                Task::Judge(proposal) => self.running.judge(&proposal, true),
             }
         }
         messages
@@ -175,7 +175,13 @@ fn four_go_on_whenever_they_are_stopped() {
             let station = &mut stations[me as usize];
             match numbers.below(100) {
                 0 => station.restart(),
-                1..5 => station.running.expire(station.view).unwrap(),
+                1..5 => {
+                    let progress = station.running.expire(station.view);
+                    for it in [progress.notarizes, progress.nullifies, progress.finalizes] {
+                        let most = if it.certified { 0 } else { VALIDATORS.into() };
+                        assert!(it.pending + it.verified <= most, "{progress}");
+                    }
+                }
                 _ => {}
             }
             for message in station.go_on(numbers.below(8)) {
@@ -355,6 +361,35 @@ fn verdicts_may_come_late() {
         task,
         Some(Task::Write(_) | Task::SendCertificate(_) | Task::Enter(_))
     ));
+}
+
+#[test]
+fn a_view_says_why_it_hangs() {
+    let mut station = begun(2);
+    station.go_on(100);
+    let view = View::new(1);
+    let round = Round::new(Epoch::zero(), view);
+    assert_eq!(
+        station.running.expire(View::new(2)).to_string(),
+        "led by nobody, no proposal, of 3 votes: notarizes 0 and 0 unverified, \
+         nullifies 0 and 0 unverified, finalizes 0 and 0 unverified"
+    );
+    let proposal = Proposal::new(round, View::zero(), Sha256Digest([1; 32]));
+    for (signer, subject) in [
+        (1, Subject::Notarize { proposal }),
+        (0, Subject::Nullify { round }),
+        (3, Subject::Nullify { round }),
+    ] {
+        let signer = Participant::new(signer);
+        let attestation = Attestation::new(signer, sign(&subject, signer.get()));
+        let vote = Vote::new(subject, attestation);
+        station.running.vote(signer, &vote).unwrap();
+    }
+    assert_eq!(
+        station.running.expire(view).to_string(),
+        "led by 1, a proposal, of 3 votes: notarizes 0 and 1 unverified, \
+         nullifies 0 and 2 unverified, finalizes 0 and 0 unverified"
+    );
 }
 
 #[test]

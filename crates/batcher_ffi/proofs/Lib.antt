@@ -1,3 +1,4 @@
 mod Pointers
 mod Verified
 mod Quorums
+mod Others

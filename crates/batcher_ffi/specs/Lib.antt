@@ -7,6 +7,7 @@ pub mod Rounds
 pub mod Answers
 pub mod Tasks
 pub mod Loops
+pub mod Progress
 pub mod Files
 pub mod Handles
 pub mod Lending

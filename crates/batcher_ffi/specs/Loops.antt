@@ -32,7 +32,8 @@ use Rattle.batcher_bytes.specs.declared.signature.Signature.{Signature}
 use Rattle.batcher_bytes.specs.declared.signature.TheConstants.{WIDTH}
 use Rattle.batcher_bytes.specs.declared.signed.Signed.{Signed}
 use Rattle.batcher_codec.specs.Messages.{certificate_format, sha256_format, vote_format}
-use Rattle.batcher_journal.specs.Text.{OwnerFields}
+use Rattle.batcher_journal.specs.Causes.{IsAnothers}
+use Rattle.batcher_journal.specs.Text.{Contents, IsText, OwnerFields}
 use Rattle.batcher_journal.specs.declared.journal.OpenFault.{OpenFault}
 use Rattle.batcher_journal.specs.declared.journal.OpenFault.TheVariants.{NotBegun, OtherVersion, OtherLengths, OtherParticipant, OtherKeys, OtherNamespace, OutOfMemory as NoMemoryToOpen, Malformed as NoJournal, Contradiction}
 use Rattle.batcher_loop.specs.declared.looping.Loop.{Loop}
@@ -167,6 +168,10 @@ abbrev pub start_codes : List ℕ
 start_codes =
     OUT_OF_MEMORY ∷ NOT_BEGUN ∷ OTHER_VERSION ∷ OTHER_OWNER ∷ DAMAGED ∷ []
 
+-- whose journal it is
+abbrev pub owner_in : LoopOptions → List ℕ → OwnerFields
+owner_in options namespace = (32, (WIDTH, (options.participant, (options.keys, namespace))))
+
 -- A validator is of this scheme and this owner, and looks so many views ahead.
 pub record IsOf (options : LoopOptions) (scheme : Signed Caller 1) (owner : OwnerFields)
     (l : CLoop) : Type 0 where
@@ -191,24 +196,32 @@ pub record IsMade (options : LoopOptions) (namespace disk : List ℕ) (l : CLoop
   pub participants_are : loop_participants l ≡ options.participants
   pub keys_are : loop_keys l ≡ record { 0 = options.keys }
   pub epoch_is : l.validator.voter.node.epoch ≡ record { 0 = options.epoch }
-  pub owner_is : l.validator.voter.journal.contents.owner
-      ≡ (32, (WIDTH, (options.participant, (options.keys, namespace))))
+  pub owner_is : l.validator.voter.journal.contents.owner ≡ owner_in options namespace
   pub ahead_is : l.validator.voter.node.window.ahead ≡ options.ahead
   pub retains_is : l.validator.voter.node.retains ≡ options.track_historical_votes
   pub goes_on : GoesOnFrom options.begins disk l
   pub on_disk : l.on_disk.items ≡ disk
 
-pub record WhyNotMade (options : LoopOptions) (disk : List ℕ) (code : ℕ) : Type 0 where
+-- The journal on the disk is of another owner, or of another epoch.
+abbrev pub IsOthers : LoopOptions → OwnerFields → List ℕ → Type 0
+IsOthers options owner disk =
+    ((fault : OpenFault) × IsAnothers disk owner fault)
+    ⊎ ((contents : Contents Signature Sha256Digest)
+    × (IsText (vote_format signature_format sha256_format) disk contents
+    × (contents.floor.epoch ≢ record { 0 = options.epoch })))
+
+pub record WhyNotMade (options : LoopOptions) (namespace disk : List ℕ) (code : ℕ) : Type 0 where
   pub codes : is_one_of (MALFORMED ∷ BEGUN ∷ start_codes) code ≡ true
   pub malformed : code ≡ MALFORMED → options.participants ≤ options.participant
   pub begun : code ≡ BEGUN → (options.begins ≡ true) × (disk ≢ [])
   pub not_begun : code ≡ NOT_BEGUN → disk ≡ []
+  pub others : code ≡ OTHER_OWNER → IsOthers options (owner_in options namespace) disk
 
 -- What a call that makes a validator does to a handle: where it fails, the handle stays as it was.
 pub record MakesLoop (old new : Option CLoop) (code : ℕ) (options : LoopOptions)
     (namespace disk : List ℕ) : Type 0 where
   pub done : code ≡ DONE → IsSomeAnd new (IsMade options namespace disk)
-  pub refused : code ≢ DONE → WhyNotMade options disk code
+  pub refused : code ≢ DONE → WhyNotMade options namespace disk code
   pub stays : code ≢ DONE → new ≡ old
 
 -- what is to be done next, or why that isn't said

@@ -13,6 +13,7 @@ mod handle;
 mod lending;
 mod loop_exports;
 mod loops;
+mod progress;
 mod rounds;
 mod tasks;
 mod unboxed;

@@ -4,11 +4,13 @@ ghost use Rattle.std.specs.Prelude.{◌≡◌, ⊤, None};
 ghost use Rattle.batcher_ffi.specs.Handles.{OnLoop};
 ghost use Rattle.batcher_ffi.specs.Loops.{AreVerifiedFor, AsksKept, AsksOwed, CastsOwn, Concludes, EntersNext, Expires, HearsCertificate, HearsVote, IsVerifiedFor, Judges, Lends};
 ghost use Rattle.batcher_ffi.specs.Loops.{MakesLoop, Polls, Wrote};
+ghost use Rattle.batcher_ffi.specs.Progress.{AsksProgress};
 
 use crate::codes::{DONE, NONE, OUT_OF_MEMORY};
 use crate::flat::{FlatAdmission, FlatAttestation, FlatProposal, FlatStep, FlatVote};
 use crate::handle::LoopHandle;
 use crate::loops::{self, LoopOptions};
+use crate::progress::FlatProgress;
 use crate::tasks::FlatTask;
 use std::alloc::Global;
 
@@ -211,16 +213,20 @@ pub extern "C" fn batcher_loop_judge(
 }
 
 /// The time of a view is over, now or again: it is given up, unless its proposal is notarized. All
-/// that is to be sent is given again.
+/// that is to be sent is given again. How far the view is says why its time is over.
 #[unsafe(no_mangle)]
-pub extern "C" fn batcher_loop_expire(validator: &mut LoopHandle, view: u64) -> u8
-    ensures { OnLoop validator.old.value validator.new.value result (Unit {0}) (λ before after.
-        Expires before result after view) }
+pub extern "C" fn batcher_loop_expire(
+    validator: &mut LoopHandle,
+    view: u64,
+    out: &mut FlatProgress,
+) -> u8
+    ensures { OnLoop validator.old.value validator.new.value result (out.new ≡ out.old)
+        (λ before after. Expires before result after view × AsksProgress before view out.new) }
 {
     let Some(validator) = validator.as_mut() else {
         return NONE;
     };
-    loops::expire(validator, view)
+    loops::expire(validator, view, out)
 }
 
 /// The certificate of this kind and of the round of the proposal, if one is kept: its bytes, and

@@ -7,7 +7,8 @@ ghost use Rattle.batcher_validator.specs.Running.{Constructs};
 ghost use Rattle.batcher_voter.specs.Needing.{ConstructionNeeds};
 ghost use Rattle.batcher_ffi.specs.Loops.{AnswersPoll, AreVerifiedFor, AsksKept, AsksOwed, CastsOwn, Concludes, EntersNext, Expires, HearsCertificate, HearsVote, IsConcluded};
 ghost use Rattle.batcher_ffi.specs.Loops.{IsFromAhead, IsLent, IsMade, IsOfPeer, IsVerifiedFor, Judges, Lends, Notes, Polls, Rests, VoteCast, WhyNotMade, Wrote, loop_config};
-ghost use Rattle.batcher_ffi.specs.Loops.{GoesOnFrom, IsOf, LendsNone, is_ahead, start_code, start_codes};
+ghost use Rattle.batcher_ffi.specs.Loops.{GoesOnFrom, IsOf, IsOthers, LendsNone, is_ahead, start_code, start_codes};
+ghost use Rattle.batcher_ffi.specs.Progress.{AsksProgress};
 ghost use Rattle.batcher_ffi.specs.Rounds.{is_one_of};
 ghost use Rattle.batcher_journal.specs.Text.{fields_of};
 ghost use Rattle.batcher_ffi.specs.Tasks.{IsProposedIn};
@@ -23,6 +24,7 @@ use crate::flat::{
     FlatAdmission, FlatAttestation, FlatProposal, FlatStep, FlatVote, fault_code, flat_subject,
     kind_of, subject_of,
 };
+use crate::progress::{FlatProgress, progress};
 use crate::rounds::{is_verified, take_part};
 use crate::tasks::FlatTask;
 use crate::writing::{attestations_of, copied, write_all, write_wanted};
@@ -68,7 +70,7 @@ pub fn made(
     disk: &[u8],
 ) -> Result<Looping, u8>
     ensures made { IfOk result (IsMade options.now namespace.now disk.now) }
-    ensures refused { IfErr result (WhyNotMade options.now disk.now) }
+    ensures refused { IfErr result (WhyNotMade options.now namespace.now disk.now) }
 {
     if options.participant >= options.participants {
         return Err(MALFORMED);
@@ -106,8 +108,7 @@ fn begun(
     ensures is_of { IfOk result (IsOf options.now scheme.value (fields_of owner.now)) }
     ensures goes_on { IfOk result (GoesOnFrom true []) }
     ensures on_disk { IfOk result (λ it. it.on_disk.items ≡ []) }
-    ensures refused { IfErr result (λ code. is_one_of start_codes code ≡ true) }
-    ensures begins { IfErr result (λ code. code ≢ NOT_BEGUN) }
+    ensures refused { IfErr result (λ code. code ≡ OUT_OF_MEMORY) }
 {
     match Loop::begin(
         alloc,
@@ -117,13 +118,8 @@ fn begun(
         owner,
         Epoch(options.epoch),
     ) {
-        Ok(it) => {
-            if is_of_epoch(&it, Epoch(options.epoch)) {
-                return Ok(it);
-            }
-            drop(it);
-            Err(OTHER_OWNER)
-        }
+        Ok(it) => Ok(it),
+        // Its journal is its own, and in memory.
         Err(_) => Err(OUT_OF_MEMORY),
     }
 }
@@ -141,6 +137,8 @@ fn started(
     ensures on_disk { IfOk result (λ it. it.on_disk.items ≡ disk.now) }
     ensures refused { IfErr result (λ code. is_one_of start_codes code ≡ true) }
     ensures not_begun { IfErr result (λ code. code ≡ NOT_BEGUN → disk.now ≡ []) }
+    ensures others { IfErr result (λ code. code ≡ OTHER_OWNER
+        → IsOthers options.now (fields_of owner.now) disk.now) }
 {
     let Ok(bytes) = copied(alloc, disk) else {
         return Err(OUT_OF_MEMORY);
@@ -449,10 +447,12 @@ pub fn judge(it: &mut Looping, proposal: &FlatProposal, valid: bool) -> u8
     DONE
 }
 
-/// The time of a view is over. All that is to be sent is given again.
-pub fn expire(it: &mut Looping, view: u64) -> u8
-    ensures { Expires it.old result it.new view }
+/// The time of a view is over. All that is to be sent is given again. How far the view is says why.
+pub fn expire(it: &mut Looping, view: u64, out: &mut FlatProgress) -> u8
+    ensures expires { Expires it.old result it.new view }
+    ensures progress { AsksProgress it.old view out.new }
 {
+    *out = progress(it, view);
     it.validator.expire(View(view));
     it.validator.send_again();
     DONE

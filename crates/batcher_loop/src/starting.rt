@@ -55,6 +55,7 @@ impl<T: Truth> Loop<T> {
         ensures journal { IfOk result (λ it. it.validator.voter.journal.contents
             ≡ begun (fields_of owner.now) (numbered epoch 0) []) }
         ensures scheme { IfOk result (λ it. it.validator.voter.node.scheme ≡ scheme.value) }
+        ensures epoch { IfOk result (λ it. it.validator.voter.node.epoch ≡ epoch) }
         ensures retains { IfOk result (λ it.
             it.validator.voter.node.retains ≡ track_historical_votes) }
         ensures ahead { IfOk result (λ it. it.validator.voter.node.window.ahead ≡ ahead) }
@@ -105,6 +106,10 @@ impl<T: Truth> Loop<T> {
             same_digest fault }
         ensures on_disk { IfOk result (λ it. it.on_disk.items ≡ bytes.items) }
         ensures scheme { IfOk result (λ it. it.validator.voter.node.scheme ≡ scheme.value) }
+        ensures text { IfOk result (λ it. IsText (vote_format signature_format sha256_format)
+            bytes.items it.validator.voter.journal.contents) }
+        ensures epoch { IfOk result (λ it. it.validator.voter.node.epoch
+            ≡ it.validator.voter.journal.contents.floor.epoch) }
         ensures owner { IfOk result (λ it.
             it.validator.voter.journal.contents.owner ≡ fields_of owner.now) }
         ensures retains { IfOk result (λ it.
@@ -150,6 +155,8 @@ impl<T: Truth> Loop<T> {
             same_digest fault }
         ensures on_disk { IfOk result (λ it. it.on_disk ≡ on_disk) }
         ensures scheme { IfOk result (λ it. it.validator.voter.node.scheme ≡ scheme.value) }
+        ensures epoch { IfOk result (λ it. it.validator.voter.node.epoch
+            ≡ it.validator.voter.journal.contents.floor.epoch) }
         ensures owner { IfOk result (λ it.
             it.validator.voter.journal.contents.owner ≡ fields_of owner.now) }
         ensures retains { IfOk result (λ it.

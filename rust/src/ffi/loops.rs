@@ -16,6 +16,27 @@ pub(crate) struct Task {
     pub(crate) cause: u8,
 }
 
+/// `struct batcher_counts`
+#[derive(Clone, Copy, Default)]
+#[repr(C)]
+pub(crate) struct Counts {
+    pub(crate) pending: u64,
+    pub(crate) verified: u64,
+    pub(crate) certified: bool,
+}
+
+/// `struct batcher_progress`
+#[derive(Clone, Copy, Default)]
+#[repr(C)]
+pub(crate) struct Progress {
+    pub(crate) notarizes: Counts,
+    pub(crate) nullifies: Counts,
+    pub(crate) finalizes: Counts,
+    pub(crate) leader: u32,
+    pub(crate) has_leader: bool,
+    pub(crate) has_proposal: bool,
+}
+
 /// `struct batcher_loop_options`
 #[repr(C)]
 pub(crate) struct LoopOptions {
@@ -92,7 +113,7 @@ unsafe extern "C" {
     fn batcher_loop_enter(validator: *mut LoopHandle, view: u64, leader: u32) -> u8;
     fn batcher_loop_judge(validator: *mut LoopHandle, proposal: *const Proposal, valid: bool)
     -> u8;
-    fn batcher_loop_expire(validator: *mut LoopHandle, view: u64) -> u8;
+    fn batcher_loop_expire(validator: *mut LoopHandle, view: u64, progress: *mut Progress) -> u8;
     fn batcher_loop_kept(
         validator: *const LoopHandle,
         kind: u8,
@@ -119,7 +140,7 @@ impl Loop {
             at: ptr::null_mut(),
         };
         let mut made = Loop { handle };
-        super::batcher_abi_3();
+        super::batcher_abi_4();
         // SAFETY: as above; an empty handle is a null pointer.
         let answer = unsafe {
             batcher_loop_start(
@@ -220,9 +241,9 @@ impl Loop {
         unsafe { batcher_loop_judge(&mut self.handle, proposal, valid) }
     }
 
-    pub(crate) fn expire(&mut self, view: u64) -> u8 {
+    pub(crate) fn expire(&mut self, view: u64, progress: &mut Progress) -> u8 {
         // SAFETY: as above.
-        unsafe { batcher_loop_expire(&mut self.handle, view) }
+        unsafe { batcher_loop_expire(&mut self.handle, view, progress) }
     }
 
     pub(crate) fn kept(

@@ -73,7 +73,7 @@ impl Validator {
             match inbox.recv_timeout(left) {
                 Ok((sender, message)) => self.hear(sender, message)?,
                 Err(RecvTimeoutError::Timeout) => {
-                    self.running.expire(self.view)?;
+                    self.running.expire(self.view);
                     self.deadline = Instant::now() + self.patience();
                 }
                 Err(RecvTimeoutError::Disconnected) => return Ok(()),
@@ -162,10 +162,10 @@ impl Validator {
             Task::Propose { view, parent } => {
                 let numbers = [view, parent].map(|it| it.get().to_be_bytes());
                 let payload = Sha256Digest(sha256(&numbers.concat()));
-                self.running.propose(view, parent, payload)?;
+                self.running.propose(view, parent, payload);
             }
             // There is nothing in a payload here.
-            Task::Judge(proposal) => self.running.judge(&proposal, true)?,
+            Task::Judge(proposal) => self.running.judge(&proposal, true),
         }
         Ok(())
     }

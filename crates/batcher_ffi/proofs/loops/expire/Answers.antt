@@ -4,8 +4,8 @@ use Rattle.batcher_validator.specs.Running.{RunMeets}
 use Rattle.batcher_ffi.specs.Loops.{config_by}
 use Rattle.batcher_ffi.proofs.loops.expire.Goals as goal
 
-pub returns : goal.returns
-returns c =
+pub returns-clause-expires : goal.returns-clause-expires
+returns-clause-expires c =
     let meets = subst (λ v. RunMeets (config_by v.node) c.expire.new.self c.send_again.new.self again)
     c.expire.ensures.voter c.send_again.ensures.meets in
     record {

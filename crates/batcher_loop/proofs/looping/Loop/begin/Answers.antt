@@ -32,3 +32,7 @@ returns-in-Ok-of-clause-running g c =
     c.in-Ok.ensures.begun.1 in
     c.in-Ok-of.ensures.running [] tt
     (nothing_done c.in-Ok-of.it.validator.voter.journal.contents (ap (λ x. x.votes) journal))
+
+pub returns-in-Ok-of-clause-epoch : goal.returns-in-Ok-of-clause-epoch
+returns-in-Ok-of-clause-epoch g c =
+    c.in-Ok-of.ensures.epoch ∙ ap (λ x. x.floor.epoch) (returns-in-Ok-of-clause-journal g c)
