@@ -265,7 +265,7 @@ impl From<VoteError> for Error {
     }
 }
 
-/// Why a validator doesn't take in a certificate, lends none, or notes nothing as written.
+/// Why a validator doesn't take in a certificate, or lends none.
 #[derive(Clone, Copy, Debug, PartialEq, Eq, Hash)]
 pub enum CallError {
     /// Memory was refused. The same call may succeed later.

@@ -5,7 +5,7 @@
 
 use crate::answers::Error;
 use crate::ffi::{code, files};
-use crate::looping::make_room;
+use crate::looping::reserve_bytes;
 use std::fs::{File, OpenOptions};
 use std::io::{self, ErrorKind, Read, Seek, SeekFrom, Write};
 use std::path::Path;
@@ -169,7 +169,10 @@ fn whole(write: impl Fn(&mut [u8], &mut u64) -> u8) -> io::Result<Vec<u8>> {
     loop {
         match write(&mut room, &mut count) {
             code::DONE => return Ok(room),
-            code::SHORT => make_room(&mut room, count).map_err(|_| ErrorKind::OutOfMemory)?,
+            code::SHORT => {
+                reserve_bytes(&mut room, count).map_err(|_| ErrorKind::OutOfMemory)?;
+                room.resize(count as usize, 0);
+            }
             answer => return Err(fault_of(answer)),
         }
     }

@@ -33,7 +33,7 @@
 //!                 disk.clear();
 //!             }
 //!             disk.extend_from_slice(&write.bytes);
-//!             validator.wrote()?;
+//!             validator.wrote();
 //!         }
 //!         Task::Propose { view, parent } => {
 //!             validator.propose(view, parent, Sha256Digest([view.get() as u8; 32]));
@@ -495,7 +495,7 @@ impl<G: Clone + AsRef<[u8]> + for<'b> TryFrom<&'b [u8]>> Loop<G> {
         loop {
             match self.library.owed(&mut bytes, &mut count, &mut replaces) {
                 code::DONE => return Ok(Write { replaces, bytes }),
-                code::SHORT => make_room(&mut bytes, count)?,
+                code::SHORT => reserve_bytes(&mut bytes, count)?,
                 other => return Err(PollError::Unknown(other)),
             }
         }
@@ -515,15 +515,9 @@ impl<G: Clone + AsRef<[u8]> + for<'b> TryFrom<&'b [u8]>> Loop<G> {
     }
 
     /// What was given to be written is written, so that a crash leaves it.
-    ///
-    /// # Errors
-    ///
-    /// `OutOfMemory`, after which the same call can be made again.
-    pub fn wrote(&mut self) -> Result<(), CallError> {
-        match self.library.wrote() {
-            code::DONE => Ok(()),
-            other => Err(CallError::of(other)),
-        }
+    pub fn wrote(&mut self) {
+        let answer = self.library.wrote();
+        debug_assert_eq!(answer, code::DONE);
     }
 
     /// Takes in a vote that this participant sent, as the transport has authenticated it. Then
@@ -693,7 +687,7 @@ impl<G: Clone + AsRef<[u8]> + for<'b> TryFrom<&'b [u8]>> Loop<G> {
         let (mut flat, mut count) = (flat_round(&round), 0);
         let answer = self
             .library
-            .kept(kind_code(kind), &mut flat, &mut [], &mut count);
+            .kept(kind_code(kind), &mut flat, &mut Vec::new(), &mut count);
         answer != code::IDLE
     }
 
@@ -715,7 +709,7 @@ impl<G: Clone + AsRef<[u8]> + for<'b> TryFrom<&'b [u8]>> Loop<G> {
                     return Ok(Some(Certificate::new(subject_of(kind, &flat), bytes)));
                 }
                 code::IDLE => return Ok(None),
-                code::SHORT => make_room(&mut bytes, count)?,
+                code::SHORT => reserve_bytes(&mut bytes, count)?,
                 other => return Err(CallError::of(other)),
             }
         }
@@ -742,13 +736,11 @@ fn start_error(answer: u8) -> StartError {
     }
 }
 
-/// Makes a list of bytes as long as is wanted.
-pub(crate) fn make_room(bytes: &mut Vec<u8>, count: u64) -> Result<(), CallError> {
+/// Makes room for as many bytes as are wanted.
+pub(crate) fn reserve_bytes(bytes: &mut Vec<u8>, count: u64) -> Result<(), CallError> {
     let count = usize::try_from(count).map_err(|_| CallError::OutOfMemory)?;
     let more = count.saturating_sub(bytes.len());
-    reserve(bytes, more).map_err(|_| CallError::OutOfMemory)?;
-    bytes.resize(count, 0);
-    Ok(())
+    reserve(bytes, more).map_err(|_| CallError::OutOfMemory)
 }
 
 /// The attestations of a list: how many there are, and of each its signer, how long its signature

@@ -106,7 +106,7 @@ impl Station {
                         self.disk.clear();
                     }
                     self.disk.extend_from_slice(&write.bytes);
-                    self.running.wrote().unwrap();
+                    self.running.wrote();
                 }
                 Task::Block(peer, _) => self.blocked.push(peer),
                 Task::Final(proposal) => {

@@ -36,6 +36,7 @@ use Rattle.batcher_journal.specs.Causes.{IsAnothers}
 use Rattle.batcher_journal.specs.Text.{Contents, IsText, OwnerFields}
 use Rattle.batcher_journal.specs.declared.journal.OpenFault.{OpenFault}
 use Rattle.batcher_journal.specs.declared.journal.OpenFault.TheVariants.{NotBegun, OtherVersion, OtherLengths, OtherParticipant, OtherKeys, OtherNamespace, OutOfMemory as NoMemoryToOpen, Malformed as NoJournal, Contradiction}
+use Rattle.batcher_loop.specs.Disks.{noted}
 use Rattle.batcher_loop.specs.declared.looping.Loop.{Loop}
 use Rattle.batcher_loop.specs.declared.looping.Next.{Next}
 use Rattle.batcher_loop.specs.declared.looping.Next.TheVariants.{Do, Write}
@@ -126,9 +127,12 @@ loop_keys l = l.validator.voter.node.scheme.keys
 abbrev pub loop_participants : CLoop → ℕ
 loop_participants l = length l.validator.voter.node.scheme.participants
 
--- what its disk is to have
+-- what its disk is to have, and what the caller has written there
 abbrev pub log_of : CLoop → List ℕ
-log_of l = l.validator.voter.journal.log.bytes.items
+log_of l = l.validator.voter.journal.log.bytes
+
+abbrev pub disk_of : CLoop → List ℕ
+disk_of l = l.validator.voter.journal.log.copy
 
 -- the certificates that it keeps
 abbrev pub kept_in : CLoop → List (Certificate ProofView Sha256Digest)
@@ -200,7 +204,7 @@ pub record IsMade (options : LoopOptions) (namespace disk : List ℕ) (l : CLoop
   pub ahead_is : l.validator.voter.node.window.ahead ≡ options.ahead
   pub retains_is : l.validator.voter.node.retains ≡ options.track_historical_votes
   pub goes_on : GoesOnFrom options.begins disk l
-  pub on_disk : l.on_disk.items ≡ disk
+  pub on_disk : disk_of l ≡ disk
 
 -- The journal on the disk is of another owner, or of another epoch.
 abbrev pub IsOthers : LoopOptions → OwnerFields → List ℕ → Type 0
@@ -276,10 +280,10 @@ module _ (l : CLoop) (code : ℕ) where
   -- What is to be written, behind what is there or in its place.
   pub record AsksOwed (room list : List ℕ) (count : ℕ) (replaces : Bool) : Type 0 where
     pub codes : is_one_of (DONE ∷ IDLE ∷ SHORT ∷ []) code ≡ true
-    pub none : code ≡ IDLE → (l.on_disk.items ≡ log_of l) × (list ≡ room)
+    pub none : code ≡ IDLE → (disk_of l ≡ log_of l) × (list ≡ room)
     pub owed : List ℕ
     pub has_all : code ≢ IDLE
-        → MatchBool replaces (owed ≡ log_of l) (l.on_disk.items ++ owed ≡ log_of l)
+        → MatchBool replaces (owed ≡ log_of l) (disk_of l ++ owed ≡ log_of l)
     pub written : code ≢ IDLE → WritesAll owed room list count code
 
   -- A certificate is kept, and its bytes and its proposal are written.
@@ -320,8 +324,8 @@ module _ (before : CLoop) (code : ℕ) (after : CLoop) where
     pub answer : Result (Option Next) PollFault
     pub written : AnswersPoll answer code old out
     pub proposed : IsProposedIn before.validator.voter.node.epoch out ⊎ (code ≢ DONE)
-    pub writes : code ≡ WRITE → (after ≡ before) × (before.on_disk.items ≢ log_of before)
-    pub is_written : code ≡ DONE → before.on_disk.items ≡ log_of before
+    pub writes : code ≡ WRITE → (after ≡ before) × (disk_of before ≢ log_of before)
+    pub is_written : code ≡ DONE → disk_of before ≡ log_of before
     pub gives : (task : Task Signature Sha256Digest) → answer ≡ Ok (Some (Do task))
         → Gives (loop_config before) before.validator after.validator task
     pub ready : (task : Task Signature Sha256Digest) → answer ≡ Ok (Some (Do task))
@@ -334,14 +338,14 @@ module _ (before : CLoop) (code : ℕ) (after : CLoop) where
     pub refused : OnErr answer Rests
     pub closed : code ≡ CLOSED → after.validator.voter.journal.is_open ≡ false
     pub full : code ≡ FULL → after.validator.voter.journal.is_open ≡ true
-    pub on_disk : after.on_disk ≡ before.on_disk
+    pub on_disk : disk_of after ≡ disk_of before
 
-  -- what is owed is written
+  -- What is owed is written, and nothing else changes.
   pub record Wrote : Type 0 where
-    pub codes : is_one_of (DONE ∷ OUT_OF_MEMORY ∷ []) code ≡ true
-    pub written : code ≡ DONE → after.on_disk.items ≡ log_of after
-    pub validator : after.validator ≡ before.validator
-    pub refused : code ≡ OUT_OF_MEMORY → after.on_disk.items ≡ before.on_disk.items
+    pub codes : code ≡ DONE
+    pub written : disk_of after ≡ log_of after
+    pub validator : after.validator ≡ noted before.validator
+    pub rests : Rests
 
   -- a vote of a peer, whose key is the number
   pub record VoteCame (peer : ℕ) (vote : Vote Signature Sha256Digest) (old out : FlatAdmission)
@@ -355,7 +359,7 @@ module _ (before : CLoop) (code : ℕ) (after : CLoop) where
     pub needed : OnErr answer (MayNeedIn (loop_config before) before.validator.voter.node
         (round_signed (subject_of vote)).view.0 (NetworkCall (record { 0 = peer }) vote))
     pub refused : OnErr answer (after ≡ before)
-    pub on_disk : after.on_disk ≡ before.on_disk
+    pub on_disk : disk_of after ≡ disk_of before
 
   abbrev pub HearsVote : ℕ → FlatVote → FlatAdmission → FlatAdmission → Type 0
   HearsVote peer vote old out =
@@ -403,7 +407,7 @@ module _ (before : CLoop) (code : ℕ) (after : CLoop) where
     }
     pub came : MatchBool (is_ahead before (round_signed subject)) (IsFromAhead certificate)
         (IsOfPeer peer certificate)
-    pub on_disk : after.on_disk ≡ before.on_disk
+    pub on_disk : disk_of after ≡ disk_of before
 
   abbrev pub HearsCertificate : ℕ → ℕ → FlatProposal → List ℕ → Bool → Type 0
   HearsCertificate peer kind proposal bytes certifies =
@@ -424,7 +428,7 @@ module _ (before : CLoop) (code : ℕ) (after : CLoop) where
     pub none : code ≡ IDLE → LendsNone before
     pub refused : code ≡ OUT_OF_MEMORY → Rests
     pub stays : code ≢ VERIFY → (out ≡ old) × (list ≡ room)
-    pub on_disk : after.on_disk ≡ before.on_disk
+    pub on_disk : disk_of after ≡ disk_of before
 
   -- A construction is made by verdicts, or they are of something else.
   pub record IsConcluded (subject : Subject Sha256Digest) (all : List (Attestation Signature))
@@ -438,7 +442,7 @@ module _ (before : CLoop) (code : ℕ) (after : CLoop) where
     pub needed : code ≡ OUT_OF_MEMORY
         → IsShelfFull ⊎ ConstructionNeeds (loop_config before) before.validator.voter
     pub refused : code ≡ OUT_OF_MEMORY → Rests
-    pub on_disk : after.on_disk ≡ before.on_disk
+    pub on_disk : disk_of after ≡ disk_of before
 
   -- Verdicts on what was lent.
   pub record Concludes (kind : ℕ) (proposal : FlatProposal) (list : List FlatAttestation)
@@ -455,7 +459,7 @@ module _ (before : CLoop) (code : ℕ) (after : CLoop) where
         ⊎ (IsShelfFull ⊎ ConstructionNeeds (loop_config before) before.validator.voter)
     pub refused : code ≡ OUT_OF_MEMORY → Rests
     pub stays : code ≡ MALFORMED → after ≡ before
-    pub on_disk : after.on_disk ≡ before.on_disk
+    pub on_disk : disk_of after ≡ disk_of before
 
   -- a vote of its own that attests
   pub record VoteCast (vote : Vote Signature Sha256Digest) : Type 0 where
@@ -467,7 +471,7 @@ module _ (before : CLoop) (code : ℕ) (after : CLoop) where
         RunMayWrite (loop_config before) vote past earlier after.validator))
     pub why : IfErr answer (λ fault. WhyNotCast (loop_config before) same_digest
         before.validator.voter vote fault after.validator.voter)
-    pub on_disk : after.on_disk ≡ before.on_disk
+    pub on_disk : disk_of after ≡ disk_of before
 
   -- one that doesn't attest, or whose signer takes no part
   pub record IsNotVerified (vote : Vote Signature Sha256Digest) (attests : Bool) : Type 0 where
@@ -489,7 +493,7 @@ module _ (before : CLoop) (code : ℕ) (after : CLoop) where
         → IsLedByAnother (slot_at before.validator.voter.node.rounds view) (participant leader)
     pub needed : code ≡ OUT_OF_MEMORY → slot_at before.validator.voter.node.rounds view ≡ None
     pub refused : OnErr answer (after ≡ before)
-    pub on_disk : after.on_disk ≡ before.on_disk
+    pub on_disk : disk_of after ≡ disk_of before
 
   -- Whether a proposal is valid. Of a view that it isn't in yet nothing is noted.
   pub record Judges (proposal : FlatProposal) (valid : Bool) : Type 0 where
@@ -499,7 +503,7 @@ module _ (before : CLoop) (code : ℕ) (after : CLoop) where
     pub gives_up : valid ≡ false → proposal.view ≤ before.validator.voter.node.window.current
         → Notes (expired proposal.view)
     pub ahead : before.validator.voter.node.window.current < proposal.view → after ≡ before
-    pub on_disk : after.on_disk ≡ before.on_disk
+    pub on_disk : disk_of after ≡ disk_of before
 
   -- The time of a view is over, and all that is to be sent is given again.
   pub record Expires (view : ℕ) : Type 0 where
@@ -508,4 +512,4 @@ module _ (before : CLoop) (code : ℕ) (after : CLoop) where
         → ForEachRun (loop_config before) before.validator (λ past earlier.
         IsRunning (loop_config before) (again ∷ expired view ∷ past) earlier after.validator)
     pub ahead : before.validator.voter.node.window.current < view → Notes again
-    pub on_disk : after.on_disk ≡ before.on_disk
+    pub on_disk : disk_of after ≡ disk_of before

@@ -7,7 +7,7 @@ ghost use Rattle.batcher_validator.specs.Running.{Constructs};
 ghost use Rattle.batcher_voter.specs.Needing.{ConstructionNeeds};
 ghost use Rattle.batcher_ffi.specs.Loops.{AnswersPoll, AreVerifiedFor, AsksKept, AsksOwed, CastsOwn, Concludes, EntersNext, Expires, HearsCertificate, HearsVote, IsConcluded};
 ghost use Rattle.batcher_ffi.specs.Loops.{IsFromAhead, IsLent, IsMade, IsOfPeer, IsVerifiedFor, Judges, Lends, Notes, Polls, Rests, VoteCast, WhyNotMade, Wrote, loop_config};
-ghost use Rattle.batcher_ffi.specs.Loops.{GoesOnFrom, IsOf, IsOthers, LendsNone, is_ahead, start_code, start_codes};
+ghost use Rattle.batcher_ffi.specs.Loops.{GoesOnFrom, IsOf, IsOthers, LendsNone, disk_of, is_ahead, start_code, start_codes};
 ghost use Rattle.batcher_ffi.specs.Progress.{AsksProgress};
 ghost use Rattle.batcher_ffi.specs.Rounds.{is_one_of};
 ghost use Rattle.batcher_journal.specs.Text.{fields_of};
@@ -107,7 +107,7 @@ fn begun(
     requires { 1 ≤ length scheme.value.participants }
     ensures is_of { IfOk result (IsOf options.now scheme.value (fields_of owner.now)) }
     ensures goes_on { IfOk result (GoesOnFrom true []) }
-    ensures on_disk { IfOk result (λ it. it.on_disk.items ≡ []) }
+    ensures on_disk { IfOk result (λ it. disk_of it ≡ []) }
     ensures refused { IfErr result (λ code. code ≡ OUT_OF_MEMORY) }
 {
     match Loop::begin(
@@ -134,7 +134,7 @@ fn started(
     requires { 1 ≤ length scheme.value.participants }
     ensures is_of { IfOk result (IsOf options.now scheme.value (fields_of owner.now)) }
     ensures goes_on { IfOk result (GoesOnFrom false disk.now) }
-    ensures on_disk { IfOk result (λ it. it.on_disk.items ≡ disk.now) }
+    ensures on_disk { IfOk result (λ it. disk_of it ≡ disk.now) }
     ensures refused { IfErr result (λ code. is_one_of start_codes code ≡ true) }
     ensures not_begun { IfErr result (λ code. code ≡ NOT_BEGUN → disk.now ≡ []) }
     ensures others { IfErr result (λ code. code ≡ OTHER_OWNER
@@ -234,10 +234,8 @@ pub fn owed(it: &Looping, room: &mut [u8], count: &mut u64, replaces: &mut bool)
 pub fn wrote(it: &mut Looping) -> u8
     ensures { Wrote it.old result it.new }
 {
-    match it.wrote() {
-        Ok(()) => DONE,
-        Err(_) => OUT_OF_MEMORY,
-    }
+    it.wrote();
+    DONE
 }
 
 /// Takes in a vote of the peer whose key is the number.
@@ -289,7 +287,7 @@ fn is_ahead(it: &Looping, round: Round) -> bool
 
 fn catch_up(it: &mut Looping, certificate: Certificate<Proof, Sha256Digest>) -> u8
     ensures came { IsFromAhead it.old result it.new certificate }
-    ensures on_disk { it.new.on_disk ≡ it.old.on_disk }
+    ensures on_disk { disk_of it.new ≡ disk_of it.old }
 {
     match it.validator.catch_up(certificate) {
         Ok(true) => DONE,
@@ -304,7 +302,7 @@ fn hear_certificate(
     certificate: Certificate<Proof, Sha256Digest>,
 ) -> u8
     ensures came { IsOfPeer it.old result it.new peer certificate }
-    ensures on_disk { it.new.on_disk ≡ it.old.on_disk }
+    ensures on_disk { disk_of it.new ≡ disk_of it.old }
 {
     let answer = it.validator.receive_certificate(Name(peer), certificate);
     verdict_code_of(&answer)
@@ -346,7 +344,7 @@ fn rest(it: &mut Looping) -> u8
     ensures needed { result ≡ OUT_OF_MEMORY → (it.old.validator.shelf.room ≡ 0)
         ⊎ ConstructionNeeds (loop_config it.old) it.old.validator.voter }
     ensures refused { result ≡ OUT_OF_MEMORY → Rests it.old result it.new }
-    ensures on_disk { it.new.on_disk ≡ it.old.on_disk }
+    ensures on_disk { disk_of it.new ≡ disk_of it.old }
 {
     match it.validator.try_construct(&mut Counter::new(0)) {
         Ok(_) => IDLE,

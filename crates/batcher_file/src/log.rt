@@ -59,6 +59,8 @@ impl<K: Disk + Drop> Log for FileLog<K> {
 
     ghost has_failed = { HasFailed K.seen K.may_leave K.is_usable K.is_clean K.faults };
 
+    ghost is_copied_as = { λ log copy. Unit {0} };
+
     ghost settled = { rest_settled K.seen K.may_leave K.is_usable K.is_clean };
 
     ghost kept = { rest_opens K.seen K.may_leave K.is_usable K.is_clean K.is_mixing };

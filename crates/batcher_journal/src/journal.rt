@@ -13,6 +13,7 @@ ghost use Rattle.batcher_journal.specs.declared.journal.BeginFault.TheVariants.{
 ghost use Rattle.batcher_journal.specs.declared.journal.RaiseFault.TheVariants.{Closed as RaiseClosed, Full as RaiseFull, Lower, OutOfMemory as RaiseMemory};
 ghost use Rattle.batcher_journal.specs.declared.journal.WriteFault.TheVariants.{Closed as WriteClosed, Full as NoRoom, NotFree, OutOfMemory as NoMemory};
 ghost use Rattle.batcher_log.specs.declared.LogFault.TheVariants.{Failed as LogFailed, Full as LogFull, OutOfMemory as LogMemory};
+ghost use Rattle.batcher_log.specs.Copies.{KeepsCopy, all_copied};
 
 use crate::asking::{answer_of, is_before, may_follow};
 use crate::contents::{Kept, Raised, first_text, kept_in, raise};
@@ -20,7 +21,7 @@ use crate::indexed::IndexedVotes;
 use crate::owner::{Owner, Whose};
 use crate::records::{Certified, put_records};
 use batcher_codec::Codec;
-use batcher_log::{Log, LogFault};
+use batcher_log::{CopiedLog, Log, LogFault};
 use batcher_types::messages::{Digest, Subject, Vote};
 use batcher_types::positions::{Participant, Round};
 use std::alloc::{AllocError, Global};
@@ -173,6 +174,7 @@ impl<G: Codec, D: Digest + Codec, L: Log> Journal<G, D, L> {
             (begun (fields_of owner.now) floor finalization.now) }
         ensures opens { L.is_honest log.new → L.may_lose log.new → ⊥ }
         ensures honest { L.is_honest log.new → L.is_honest log.old }
+        ensures copied { KeepsCopy L.is_copied_as log.old log.new }
     {
         if !log.bytes().is_empty() {
             return Err(BeginFault::Taken);
@@ -277,6 +279,7 @@ impl<G: Codec, D: Digest + Codec, L: Log> Journal<G, D, L> {
     pub fn keep(&mut self, round: Round, certificate: &[u8]) -> Result<(), AllocError>
         ensures kept { OnOk result (Keeps self.old self.new (round, certificate.now)) }
         ensures memory { OnErr result (self.new ≡ self.old) }
+        ensures copied { KeepsCopy L.is_copied_as self.old.log self.new.log }
     {
         let alloc = *self.kept.certificates.allocator();
         let it = Certified::new(alloc, round, certificate)?;
@@ -321,6 +324,7 @@ impl<G: Codec, D: Digest + Codec, L: Log> Journal<G, D, L> {
         ensures opens { self.old.is_open ≡ true → L.is_honest self.new.log
             → L.may_lose self.new.log → ⊥ }
         ensures honest { L.is_honest self.new.log → L.is_honest self.old.log }
+        ensures copied { KeepsCopy L.is_copied_as self.old.log self.new.log }
     {
         if !self.is_open {
             return Err(WriteFault::Closed);
@@ -369,6 +373,7 @@ impl<G: Codec, D: Digest + Codec, L: Log> Journal<G, D, L> {
         ensures opens { self.old.is_open ≡ true → L.is_honest self.new.log
             → L.may_lose self.new.log → ⊥ }
         ensures honest { L.is_honest self.new.log → L.is_honest self.old.log }
+        ensures copied { KeepsCopy L.is_copied_as self.old.log self.new.log }
     {
         if !self.is_open {
             return Err(RaiseFault::Closed);
@@ -407,6 +412,7 @@ impl<G: Codec, D: Digest + Codec, L: Log> Journal<G, D, L> {
         ensures opens { self.old.is_open ≡ true → L.is_honest self.new.log
             → L.may_lose self.new.log → ⊥ }
         ensures honest { L.is_honest self.new.log → L.is_honest self.old.log }
+        ensures copied { KeepsCopy L.is_copied_as self.old.log self.new.log }
     {
         if !self.is_open {
             return Err(RaiseFault::Closed);
@@ -437,6 +443,15 @@ impl<G: Codec, D: Digest + Codec, L: Log> Journal<G, D, L> {
     }
 }
 
+impl<G: Codec, D: Digest + Codec> Journal<G, D, CopiedLog> {
+    /// The copy of its log lacks nothing any more.
+    pub fn note_copied(&mut self)
+        ensures { self.new ≡ record self.old { log = all_copied self.old.log } }
+    {
+        self.log.note_copied();
+    }
+}
+
 // Writes votes and certificates to the log, and then keeps the votes.
 fn write_to<G: Codec, D: Digest + Codec, L: Log>(
     log: &mut L,
@@ -460,6 +475,7 @@ fn write_to<G: Codec, D: Digest + Codec, L: Log>(
         × AreRecords (vote_format G.format D.format) (records_of more.now certificates.now)) }
     ensures opens { L.is_honest log.new → L.may_lose log.new → ⊥ }
     ensures honest { L.is_honest log.new → L.is_honest log.old }
+    ensures copied { KeepsCopy L.is_copied_as log.old log.new }
 {
     let mut bytes = Vec::new(votes.allocator());
     // As the record of a vote has with a digest of 32 bytes and a signature of 64.

@@ -1,6 +1,10 @@
 //! Bytes that outlive a crash, to which more are added.
 #![tactic(auto)]
 
+mod copied;
+
+pub use copied::{CopiedLog, Owed};
+
 ghost use Rattle.std.specs.Prelude.{◌≡◌, ◌≤◌, ◌⊎◌, ◌++◌, [], Err, List, OnOk, ℕ};
 ghost use Rattle.batcher_log.specs.declared.LogFault.TheVariants.{Failed, Full, OutOfMemory};
 
@@ -38,6 +42,9 @@ pub trait Log: Drop {
     /// Whether the disk has failed.
     ghost has_failed: { Self → Type 0 };
 
+    /// Whether these bytes are the copy of it that somebody else keeps. Where nobody does, any are.
+    ghost is_copied_as: { Self → List ℕ → Type 0 };
+
     /// Adds bytes at the end. At `Ok` they are on the disk.
     fn append(&mut self, bytes: &[u8]) -> Result<(), LogFault>
         requires { is_settled self.old }
@@ -51,7 +58,8 @@ pub trait Log: Drop {
             → (left ≡ written self.old) ⊎ (left ≡ written self.old ++ bytes.now) }
         // And that opens.
         ensures opens { is_honest self.new → may_lose self.new → ⊥ }
-        ensures honest { is_honest self.new → is_honest self.old };
+        ensures honest { is_honest self.new → is_honest self.old }
+        ensures copied { (copy : List ℕ) → is_copied_as self.old copy → is_copied_as self.new copy };
 
     /// Puts these bytes in the place of all others. At `Ok` they are on the disk.
     fn replace(&mut self, bytes: &[u8]) -> Result<(), LogFault>
@@ -64,7 +72,8 @@ pub trait Log: Drop {
         ensures leaves { (left : List ℕ) → is_honest self.new → may_leave self.new left
             → (left ≡ written self.old) ⊎ (left ≡ bytes.now) }
         ensures opens { is_honest self.new → may_lose self.new → ⊥ }
-        ensures honest { is_honest self.new → is_honest self.old };
+        ensures honest { is_honest self.new → is_honest self.old }
+        ensures copied { (copy : List ℕ) → is_copied_as self.old copy → is_copied_as self.new copy };
 
     /// The bytes that are on the disk.
     fn bytes(&self) -> &[u8]
@@ -82,8 +91,7 @@ pub trait Log: Drop {
     ghost stays: { (log : Self) → is_honest log → is_settled log → may_leave log (written log) };
 }
 
-/// Bytes in memory that are taken to outlive a crash: for tests, or where whoever calls writes them
-/// down before it does anything else.
+/// Bytes in memory that are taken to outlive a crash, for tests.
 #[derive(Drop)]
 pub struct MemoryLog {
     bytes: Vec<u8>,
@@ -120,6 +128,8 @@ impl Log for MemoryLog {
     ghost is_honest = { λ log. Unit {0} };
 
     ghost has_failed = { λ log. ⊥ };
+
+    ghost is_copied_as = { λ log copy. Unit {0} };
 
     ghost settled = { λ log left honest settled may. may };
 

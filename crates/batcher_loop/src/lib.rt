@@ -6,5 +6,5 @@ mod starting;
 #[cfg(test)]
 mod tests;
 
-pub use looping::{Loop, Next, Owed};
+pub use looping::{Loop, Next};
 pub use starting::LoopFault;

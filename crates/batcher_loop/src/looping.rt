@@ -5,6 +5,7 @@ ghost use Rattle.batcher_loop.specs.declared.looping.Next.TheVariants.{Do, Write
 ghost use Rattle.batcher_node.specs.Nodes.{SameNode};
 ghost use Rattle.batcher_bytes.specs.Encodings.{signature_format};
 ghost use Rattle.batcher_codec.specs.Messages.{sha256_format, vote_format};
+ghost use Rattle.batcher_loop.specs.Disks.{disk_of, log_of, noted};
 ghost use Rattle.batcher_validator.specs.Histories.{conduct_in};
 ghost use Rattle.batcher_voter.specs.Remembering.{IsLeft};
 ghost use Rattle.batcher_validator.specs.Running.{ForEachRun, Gives, IsReady, RunStays};
@@ -15,10 +16,9 @@ ghost use Rattle.batcher_validator.specs.declared.task.Task.{Task as TheTask};
 
 use batcher::messages::Sha256Digest;
 use batcher_bytes::{Signature, Signed, Truth};
-use batcher_log::{Log, MemoryLog};
+use batcher_log::{CopiedLog, Owed};
 use batcher_node::NodeConfigs;
 use batcher_validator::{PollFault, Task, Validator};
-use std::alloc::AllocError;
 
 /// What is to be done next.
 #[derive(Clone, Copy, Debug, PartialEq, Eq)]
@@ -29,31 +29,21 @@ pub enum Next {
     Do(Task<Signature, Sha256Digest>),
 }
 
-/// What is to be written to the disk.
-#[derive(Clone, Copy, Debug)]
-pub struct Owed<'a> {
-    /// Whether the bytes take the place of all that are there. Else they come behind them.
-    pub replaces: bool,
-    pub bytes: &'a [u8],
-}
-
 /// A validator whose caller verifies signatures and writes to the disk.
 #[derive(Drop)]
 pub struct Loop<T: Truth> {
     /// Messages, verdicts and answers are handed to it. Poll the loop, and not it: it doesn't know
     /// what is written.
-    pub validator: Validator<Signed<T, true>, Sha256Digest, MemoryLog>,
-    // What the caller has written.
-    pub(crate) on_disk: Vec<u8>,
+    pub validator: Validator<Signed<T, true>, Sha256Digest, CopiedLog>,
 }
 
 impl<T: Truth> Loop<T> {
     /// What is to be done next. None where nothing is, until something comes.
     pub fn poll(&mut self) -> Result<Option<Next>, PollFault>
         ensures writes { result ≡ Ok (Some Write) → (self.new ≡ self.old)
-            × (self.old.on_disk.items ≢ self.old.validator.voter.journal.log.bytes.items) }
+            × (disk_of self.old.validator ≢ log_of self.old.validator) }
         ensures written { (task : TheTask _ _) → result ≡ Ok (Some (Do task))
-            → self.old.on_disk.items ≡ self.old.validator.voter.journal.log.bytes.items }
+            → disk_of self.old.validator ≡ log_of self.old.validator }
         ensures gives { (task : TheTask _ _) → result ≡ Ok (Some (Do task))
             → Gives (⟦<Signed<T, true> as NodeConfigs<Sha256Digest>>⟧.of
             self.old.validator.voter.node) self.old.validator self.new.validator task }
@@ -77,7 +67,7 @@ impl<T: Truth> Loop<T> {
             → self.new.validator.voter.journal.is_open ≡ false }
         ensures full { result ≡ Err Fault.Full
             → self.new.validator.voter.journal.is_open ≡ true }
-        ensures on_disk { self.new.on_disk ≡ self.old.on_disk }
+        ensures on_disk { disk_of self.new.validator ≡ disk_of self.old.validator }
         ensures same { SameNode self.old.validator.voter.node self.new.validator.voter.node }
     {
         if self.owes() {
@@ -92,23 +82,22 @@ impl<T: Truth> Loop<T> {
 
     /// Does nothing. Where all is written, the disk has what was done, by which `start` goes on.
     pub fn leaves_what_was_done(&self)
-        ensures { self.now.on_disk.items ≡ self.now.validator.voter.journal.log.bytes.items
+        ensures { disk_of self.now.validator ≡ log_of self.now.validator
             → self.now.validator.voter.journal.is_open ≡ true → ForEachRun
             (⟦<Signed<T, true> as NodeConfigs<Sha256Digest>>⟧.of self.now.validator.voter.node)
             self.now.validator (λ past earlier. IsLeft
             (vote_format signature_format sha256_format) (conduct_in earlier past)
-            self.now.on_disk.items) }
+            (disk_of self.now.validator)) }
     {
         self.validator.leaves_what_was_done();
     }
 
     // Whether something is to be written.
     fn owes(&self) -> bool
-        ensures { MatchBool result
-            (self.now.on_disk.items ≢ self.now.validator.voter.journal.log.bytes.items)
-            (self.now.on_disk.items ≡ self.now.validator.voter.journal.log.bytes.items) }
+        ensures { MatchBool result (disk_of self.now.validator ≢ log_of self.now.validator)
+            (disk_of self.now.validator ≡ log_of self.now.validator) }
     {
-        !are_same(self.on_disk.as_slice(), self.log())
+        self.log().owes()
     }
 
     // What is to be done next, where all is written.
@@ -135,7 +124,7 @@ impl<T: Truth> Loop<T> {
             → self.new.validator.voter.journal.is_open ≡ false }
         ensures full { result ≡ Err Fault.Full
             → self.new.validator.voter.journal.is_open ≡ true }
-        ensures on_disk { self.new.on_disk ≡ self.old.on_disk }
+        ensures on_disk { disk_of self.new.validator ≡ disk_of self.old.validator }
         ensures same { SameNode self.old.validator.voter.node self.new.validator.voter.node }
     {
         self.validator.poll()
@@ -144,53 +133,29 @@ impl<T: Truth> Loop<T> {
     /// What is to be written. With it the disk has what the validator takes to be there.
     pub fn owed(&self) -> Option<Owed<'_>>
         ensures some { IfSome result (λ owed. MatchBool owed.replaces
-            (owed.bytes.now ≡ self.now.validator.voter.journal.log.bytes.items)
-            (self.now.on_disk.items ++ owed.bytes.now
-            ≡ self.now.validator.voter.journal.log.bytes.items)) }
+            (owed.bytes.now ≡ log_of self.now.validator)
+            (disk_of self.now.validator ++ owed.bytes.now
+            ≡ log_of self.now.validator)) }
         ensures none { result ≡ None
-            → self.now.on_disk.items ≡ self.now.validator.voter.journal.log.bytes.items }
+            → disk_of self.now.validator ≡ log_of self.now.validator }
     {
-        if !self.owes() {
-            return None;
-        }
-        let bytes = self.log();
-        let written = self.on_disk.len();
-        if written <= bytes.len() && are_same(self.on_disk.as_slice(), &bytes[..written]) {
-            return Some(Owed {
-                replaces: false,
-                bytes: &bytes[written..],
-            });
-        }
-        Some(Owed {
-            replaces: true,
-            bytes,
-        })
+        self.log().owed()
     }
 
-    /// What is owed is written. Where memory is out nothing changes: say it again.
-    pub fn wrote(&mut self) -> Result<(), AllocError>
-        ensures written { OnOk result (self.new.on_disk.items
-            ≡ self.new.validator.voter.journal.log.bytes.items) }
-        ensures validator { self.new.validator ≡ self.old.validator }
-        ensures refused { OnErr result (self.new.on_disk.items ≡ self.old.on_disk.items) }
+    /// What is owed is written. It takes no memory.
+    pub fn wrote(&mut self)
+        ensures written { disk_of self.new.validator ≡ log_of self.new.validator }
+        ensures noted { self.new.validator ≡ noted self.old.validator }
+        ensures rests { RunStays (⟦<Signed<T, true> as NodeConfigs<Sha256Digest>>⟧.of
+            self.old.validator.voter.node) self.old.validator self.new.validator }
     {
-        let mut copy = Vec::new(*self.on_disk.allocator());
-        copy.extend_from_slice(self.log())?;
-        self.on_disk = copy;
-        Ok(())
+        self.validator.note_copied();
     }
 
-    // The bytes that the validator takes to be on the disk.
-    fn log(&self) -> &[u8]
-        ensures { result.now ≡ self.now.validator.voter.journal.log.bytes.items }
+    // The bytes that the validator takes to be on the disk, and what its caller has written.
+    fn log(&self) -> &CopiedLog
+        ensures { result.now ≡ self.now.validator.voter.journal.log }
     {
-        self.validator.voter().journal().log().bytes()
+        self.validator.voter().journal().log()
     }
-}
-
-// Whether these are the same bytes.
-fn are_same(some: &[u8], others: &[u8]) -> bool
-    ensures { MatchBool result (some.now ≡ others.now) (some.now ≢ others.now) }
-{
-    some == others
 }

@@ -6,6 +6,7 @@ ghost use Rattle.batcher_bytes.specs.Encodings.{proof_format, signature_format};
 ghost use Rattle.batcher_bytes.specs.Keys.{same_digest};
 ghost use Rattle.batcher_codec.specs.Messages.{certificate_format, sha256_format, vote_format};
 ghost use Rattle.batcher_journal.specs.Causes.{Cause};
+ghost use Rattle.batcher_loop.specs.Disks.{disk_of};
 ghost use Rattle.batcher_journal.specs.Text.{IsText, fields_of};
 ghost use Rattle.batcher_journal.specs.declared.journal.OpenFault.{OpenFault as TheOpenFault};
 ghost use Rattle.batcher_journal.specs.Ready.{begun};
@@ -18,7 +19,7 @@ use batcher::messages::Sha256Digest;
 use batcher::positions::{Epoch, Round, View};
 use batcher_bytes::{Signature, Signed, Truth};
 use batcher_journal::{Journal, OpenFault, Owner, Unopened, bytes_are_of_one_journal};
-use batcher_log::MemoryLog;
+use batcher_log::CopiedLog;
 use batcher_node::NodeConfigs;
 use batcher_validator::Validator;
 use batcher_voter::{NotStarted, StartFault};
@@ -51,7 +52,7 @@ impl<T: Truth> Loop<T> {
         ensures running { IfOk result (λ it. HasBegun
             (⟦<Signed<T, true> as NodeConfigs<Sha256Digest>>⟧.of it.validator.voter.node)
             (certificate_format proof_format sha256_format) [] it.validator) }
-        ensures on_disk { IfOk result (λ it. it.on_disk.items ≡ []) }
+        ensures on_disk { IfOk result (λ it. disk_of it.validator ≡ []) }
         ensures journal { IfOk result (λ it. it.validator.voter.journal.contents
             ≡ begun (fields_of owner.now) (numbered epoch 0) []) }
         ensures scheme { IfOk result (λ it. it.validator.voter.node.scheme ≡ scheme.value) }
@@ -60,9 +61,9 @@ impl<T: Truth> Loop<T> {
             it.validator.voter.node.retains ≡ track_historical_votes) }
         ensures ahead { IfOk result (λ it. it.validator.voter.node.window.ahead ≡ ahead) }
     {
-        let mut log = MemoryLog::new(alloc);
+        let mut log = CopiedLog::new(alloc);
         let floor = Round::new(epoch, View(0));
-        match Journal::<Signature, Sha256Digest, MemoryLog>::begin(
+        match Journal::<Signature, Sha256Digest, CopiedLog>::begin(
             alloc, &mut log, owner, floor, b"",
         ) {
             Ok(()) => {}
@@ -70,7 +71,6 @@ impl<T: Truth> Loop<T> {
             Err(_) => return Err(LoopFault::OutOfMemory),
         }
         bytes_are_of_one_journal::<Signature, Sha256Digest>();
-        let on_disk = Vec::new(alloc);
         match Loop::of(
             alloc,
             scheme,
@@ -78,7 +78,6 @@ impl<T: Truth> Loop<T> {
             track_historical_votes,
             owner,
             log,
-            on_disk,
         ) {
             Ok(it) => Ok(it),
             Err(fault) => Err(fault),
@@ -104,7 +103,7 @@ impl<T: Truth> Loop<T> {
         ensures cause { (fault : TheOpenFault) → result ≡ Err (LoopFault.NotOpened fault) → Cause
             (vote_format signature_format sha256_format) bytes.items (fields_of owner.now)
             same_digest fault }
-        ensures on_disk { IfOk result (λ it. it.on_disk.items ≡ bytes.items) }
+        ensures on_disk { IfOk result (λ it. disk_of it.validator ≡ bytes.items) }
         ensures scheme { IfOk result (λ it. it.validator.voter.node.scheme ≡ scheme.value) }
         ensures text { IfOk result (λ it. IsText (vote_format signature_format sha256_format)
             bytes.items it.validator.voter.journal.contents) }
@@ -116,31 +115,24 @@ impl<T: Truth> Loop<T> {
             it.validator.voter.node.retains ≡ track_historical_votes) }
         ensures ahead { IfOk result (λ it. it.validator.voter.node.window.ahead ≡ ahead) }
     {
-        let mut on_disk = Vec::new(alloc);
-        match on_disk.extend_from_slice(bytes.as_slice()) {
-            Ok(()) => {}
-            Err(_) => return Err(LoopFault::OutOfMemory),
-        }
         Loop::of(
             alloc,
             scheme,
             ahead,
             track_historical_votes,
             owner,
-            MemoryLog::of(bytes),
-            on_disk,
+            CopiedLog::of(bytes),
         )
     }
 
-    // The validator whose journal is in a log, of which these bytes are on the disk.
+    // The validator whose journal is in a log.
     fn of(
         alloc: Global,
         scheme: Rc<Signed<T, true>>,
         ahead: u64,
         track_historical_votes: bool,
         owner: &Owner,
-        log: MemoryLog,
-        on_disk: Vec<u8>,
+        log: CopiedLog,
     ) -> Result<Self, LoopFault>
         requires { 1 ≤ length scheme.value.participants }
         ensures running { IfOk result (λ it. (earlier : Conduct _) → KeepsPolicy earlier
@@ -149,11 +141,11 @@ impl<T: Truth> Loop<T> {
             it.validator.voter.node) (certificate_format proof_format sha256_format) earlier
             it.validator) }
         ensures text { IfOk result (λ it. IsText (vote_format signature_format sha256_format)
-            log.bytes.items it.validator.voter.journal.contents) }
+            log.bytes it.validator.voter.journal.contents) }
         ensures cause { (fault : TheOpenFault) → result ≡ Err (LoopFault.NotOpened fault) → Cause
-            (vote_format signature_format sha256_format) log.bytes.items (fields_of owner.now)
+            (vote_format signature_format sha256_format) log.bytes (fields_of owner.now)
             same_digest fault }
-        ensures on_disk { IfOk result (λ it. it.on_disk ≡ on_disk) }
+        ensures on_disk { IfOk result (λ it. disk_of it.validator ≡ log.copy) }
         ensures scheme { IfOk result (λ it. it.validator.voter.node.scheme ≡ scheme.value) }
         ensures epoch { IfOk result (λ it. it.validator.voter.node.epoch
             ≡ it.validator.voter.journal.contents.floor.epoch) }
@@ -168,7 +160,7 @@ impl<T: Truth> Loop<T> {
             Err(Unopened { fault, .. }) => return Err(LoopFault::NotOpened(fault)),
         };
         match Validator::start(alloc, scheme, ahead, track_historical_votes, journal) {
-            Ok(validator) => Ok(Loop { validator, on_disk }),
+            Ok(validator) => Ok(Loop { validator }),
             Err(NotStarted { fault, .. }) => Err(LoopFault::NotStarted(fault)),
         }
     }

@@ -15,6 +15,7 @@ ghost use Rattle.batcher_validator.specs.declared.task.PollFault.{PollFault};
 ghost use Rattle.batcher_voter.specs.Journals.{IsRaised};
 ghost use Rattle.batcher_voter.specs.Voting.{ForEachLife, IsVoting, VoterStays};
 ghost use Rattle.batcher_voter.specs.declared.answers.FinalizeFault.{FinalizeFault};
+ghost use Rattle.batcher_log.specs.Copies.{KeepsCopy};
 
 use crate::tally::Tally;
 use crate::task::{PollFault, Task};
@@ -57,6 +58,8 @@ where
         ensures leaves { RunLeaves (⟦<S as NodeConfigs<D>>⟧.of self.old.voter.node)
             (vote_format S.Signature.format D.format) L.is_honest L.may_leave self.old self.new }
         ensures same { SameNode self.old.voter.node self.new.voter.node }
+        ensures copied { KeepsCopy L.is_copied_as self.old.voter.journal.log
+            self.new.voter.journal.log }
     {
         let left = self.tally_from(proposal.round);
         match self.finalize_at(i, &proposal) {
@@ -101,6 +104,8 @@ where
         ensures same { SameNode self.old.voter.node self.new.voter.node }
         ensures given { self.new.given ≡ self.old.given }
         ensures shelf { self.new.shelf ≡ self.old.shelf }
+        ensures copied { KeepsCopy L.is_copied_as self.old.voter.journal.log
+            self.new.voter.journal.log }
     {
         self.voter.finalize(self.shelf.at(i))
     }

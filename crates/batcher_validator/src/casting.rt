@@ -7,6 +7,7 @@ ghost use Rattle.batcher_node.specs.Nodes.{SameNode};
 ghost use Rattle.batcher_validator.specs.Running.{ForEachRun, RunCasts, RunMayWrite};
 ghost use Rattle.batcher_voter.specs.Journals.{MayGain};
 ghost use Rattle.batcher_voter.specs.Voting.{Casts, ForEachLife, IsInJournal, LeavesVote, MayWrite, WhyNotCast};
+ghost use Rattle.batcher_log.specs.Copies.{KeepsCopy};
 
 use crate::validator::Validator;
 use batcher::messages::{Digest, Identical, Vote};
@@ -44,6 +45,8 @@ where
             (λ past earlier. LeavesVote (vote_format S.Signature.format D.format) past earlier vote
             left) }
         ensures same { SameNode self.old.voter.node self.new.voter.node }
+        ensures copied { KeepsCopy L.is_copied_as self.old.voter.journal.log
+            self.new.voter.journal.log }
     {
         match self.call_cast(vote) {
             Ok(cast) => Ok(cast),
@@ -79,6 +82,8 @@ where
         ensures back { self.new.voter ≡ self.old.voter → self.new ≡ self.old }
         ensures given { self.new.given ≡ self.old.given }
         ensures shelf { self.new.shelf ≡ self.old.shelf }
+        ensures copied { KeepsCopy L.is_copied_as self.old.voter.journal.log
+            self.new.voter.journal.log }
     {
         self.voter.cast(vote)
     }

@@ -11,6 +11,7 @@ ghost use Rattle.batcher_validator.specs.Histories.{answered};
 ghost use Rattle.batcher_validator.specs.Running.{Constructs, RunMeets, RunStays};
 ghost use Rattle.batcher_voter.specs.Needing.{ConstructionNeeds};
 ghost use Rattle.batcher_voter.specs.Voting.{VoterMeets, VoterStays};
+ghost use Rattle.batcher_log.specs.Copies.{KeepsCopy};
 
 use crate::inputs::certificate_of;
 use crate::validator::Validator;
@@ -78,6 +79,8 @@ where
         ensures stays { OnErr result
             (RunStays (⟦<S as NodeConfigs<D>>⟧.of self.old.voter.node) self.old self.new) }
         ensures same { SameNode self.old.voter.node self.new.voter.node }
+        ensures copied { KeepsCopy L.is_copied_as self.old.voter.journal.log
+            self.new.voter.journal.log }
     {
         match self.make_room() {
             Ok(()) => match self.conclude_with_room(subject, list, verdicts) {
@@ -114,6 +117,8 @@ where
         ensures stays { OnErr result
             (RunStays (⟦<S as NodeConfigs<D>>⟧.of self.old.voter.node) self.old self.new) }
         ensures same { SameNode self.old.voter.node self.new.voter.node }
+        ensures copied { KeepsCopy L.is_copied_as self.old.voter.journal.log
+            self.new.voter.journal.log }
     {
         senders_of_votes_to_send_are_never_blocked::<S, D>();
         self.begins();
@@ -165,6 +170,8 @@ where
         ensures open { self.new.voter.journal.is_open ≡ self.old.voter.journal.is_open }
         ensures given { self.new.given ≡ self.old.given }
         ensures shelf { self.new.shelf ≡ self.old.shelf }
+        ensures copied { KeepsCopy L.is_copied_as self.old.voter.journal.log
+            self.new.voter.journal.log }
     {
         self.voter.conclude(subject, list, verdicts)
     }

@@ -14,6 +14,7 @@ ghost use Rattle.batcher_validator.specs.Shelves.{Shelves};
 ghost use Rattle.batcher_validator.specs.Histories.{answered, did, took};
 ghost use Rattle.batcher_voter.specs.Needing.{CertificateNeeds, ConstructionNeeds};
 ghost use Rattle.batcher_voter.specs.Voting.{BeginWithOneView, VoterMeets, VoterStays, is_recorded};
+ghost use Rattle.batcher_log.specs.Copies.{KeepsCopy};
 
 use crate::validator::Validator;
 use batcher::messages::{Certificate, Digest, Identical, Vote};
@@ -50,6 +51,8 @@ where
             self.old.voter.node (round_in (subject_of vote)).view.0 (NetworkCall peer vote)) }
         ensures refused { OnErr result (self.new ≡ self.old) }
         ensures same { SameNode self.old.voter.node self.new.voter.node }
+        ensures copied { KeepsCopy L.is_copied_as self.old.voter.journal.log
+            self.new.voter.journal.log }
     {
         match self.call_vote(peer, vote) {
             Ok(receipt) => {
@@ -91,6 +94,8 @@ where
         ensures open { self.new.voter.journal.is_open ≡ self.old.voter.journal.is_open }
         ensures given { self.new.given ≡ self.old.given }
         ensures shelf { self.new.shelf ≡ self.old.shelf }
+        ensures copied { KeepsCopy L.is_copied_as self.old.voter.journal.log
+            self.new.voter.journal.log }
     {
         self.voter.receive_vote(peer, vote)
     }
@@ -110,6 +115,8 @@ where
         ensures stays { OnErr result
             (RunStays (⟦<S as NodeConfigs<D>>⟧.of self.old.voter.node) self.old self.new) }
         ensures same { SameNode self.old.voter.node self.new.voter.node }
+        ensures copied { KeepsCopy L.is_copied_as self.old.voter.journal.log
+            self.new.voter.journal.log }
     {
         match self.make_room() {
             Ok(()) => match self.receive_with_room(peer, certificate) {
@@ -140,6 +147,8 @@ where
         ensures stays { OnErr result
             (RunStays (⟦<S as NodeConfigs<D>>⟧.of self.old.voter.node) self.old self.new) }
         ensures same { SameNode self.old.voter.node self.new.voter.node }
+        ensures copied { KeepsCopy L.is_copied_as self.old.voter.journal.log
+            self.new.voter.journal.log }
     {
         senders_of_votes_to_send_are_never_blocked::<S, D>();
         self.begins();
@@ -213,6 +222,8 @@ where
         ensures open { self.new.voter.journal.is_open ≡ self.old.voter.journal.is_open }
         ensures given { self.new.given ≡ self.old.given }
         ensures shelf { self.new.shelf ≡ self.old.shelf }
+        ensures copied { KeepsCopy L.is_copied_as self.old.voter.journal.log
+            self.new.voter.journal.log }
     {
         self.voter.receive_certificate(peer, certificate)
     }
@@ -276,6 +287,8 @@ where
         ensures stays { OnErr result
             (RunStays (⟦<S as NodeConfigs<D>>⟧.of self.old.voter.node) self.old self.new) }
         ensures same { SameNode self.old.voter.node self.new.voter.node }
+        ensures copied { KeepsCopy L.is_copied_as self.old.voter.journal.log
+            self.new.voter.journal.log }
     {
         match self.make_room() {
             Ok(()) => match self.construct_with_room(rng) {
@@ -302,6 +315,8 @@ where
         ensures stays { OnErr result
             (RunStays (⟦<S as NodeConfigs<D>>⟧.of self.old.voter.node) self.old self.new) }
         ensures same { SameNode self.old.voter.node self.new.voter.node }
+        ensures copied { KeepsCopy L.is_copied_as self.old.voter.journal.log
+            self.new.voter.journal.log }
     {
         senders_of_votes_to_send_are_never_blocked::<S, D>();
         self.begins();
@@ -368,6 +383,8 @@ where
         ensures open { self.new.voter.journal.is_open ≡ self.old.voter.journal.is_open }
         ensures given { self.new.given ≡ self.old.given }
         ensures shelf { self.new.shelf ≡ self.old.shelf }
+        ensures copied { KeepsCopy L.is_copied_as self.old.voter.journal.log
+            self.new.voter.journal.log }
     {
         self.voter.try_construct(rng)
     }
@@ -386,6 +403,8 @@ where
             → slot_at self.old.voter.node.rounds view.0 ≡ None }
         ensures refused { OnErr result (self.new ≡ self.old) }
         ensures same { SameNode self.old.voter.node self.new.voter.node }
+        ensures copied { KeepsCopy L.is_copied_as self.old.voter.journal.log
+            self.new.voter.journal.log }
     {
         match self.call_enter(view, leader) {
             Ok(()) => Ok(()),
@@ -411,6 +430,8 @@ where
         ensures open { self.new.voter.journal.is_open ≡ self.old.voter.journal.is_open }
         ensures given { self.new.given ≡ self.old.given }
         ensures shelf { self.new.shelf ≡ self.old.shelf }
+        ensures copied { KeepsCopy L.is_copied_as self.old.voter.journal.log
+            self.new.voter.journal.log }
     {
         self.voter.enter(view, leader)
     }

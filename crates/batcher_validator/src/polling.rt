@@ -15,6 +15,7 @@ ghost use Rattle.batcher_validator.specs.Histories.{ValidatorHistory, again};
 ghost use Rattle.batcher_validator.specs.declared.task.Task.{Task as TheTask};
 ghost use Rattle.batcher_validator.specs.Tasks.{NothingIsDue};
 ghost use Rattle.batcher_voter.specs.Voting.{BeginWithOneView, ForEachLife, IsNextView};
+ghost use Rattle.batcher_log.specs.Copies.{KeepsCopy, all_copied};
 
 use crate::tally::Tally;
 use crate::task::{PollFault, Task};
@@ -23,7 +24,7 @@ use batcher::messages::{Digest, Identical, Kind, Proposal, Vote};
 use batcher::positions::{Participant, Round, View};
 use batcher::scheme::Scheme;
 use batcher_codec::{Codec, OwnedCodec};
-use batcher_log::Log;
+use batcher_log::{CopiedLog, Log};
 use batcher_node::{Cause, NodeConfigs};
 
 impl<S: Scheme<D>, D: Digest + Codec, L: Log> Validator<S, D, L>
@@ -58,6 +59,8 @@ where
         ensures leaves { RunLeaves (⟦<S as NodeConfigs<D>>⟧.of self.old.voter.node)
             (vote_format S.Signature.format D.format) L.is_honest L.may_leave self.old self.new }
         ensures same { SameNode self.old.voter.node self.new.voter.node }
+        ensures copied { KeepsCopy L.is_copied_as self.old.voter.journal.log
+            self.new.voter.journal.log }
     {
         self.leaves_what_was_done();
         if !self.is_open() {
@@ -210,6 +213,25 @@ where
         ensures { result ≡ self.now.given.announced }
     {
         self.given.announced
+    }
+}
+
+impl<S: Scheme<D>, D: Digest + Codec> Validator<S, D, CopiedLog>
+where
+    S::Signature: Codec + Identical,
+    S::Certificate: OwnedCodec,
+{
+    /// The copy of its journal's log lacks nothing any more.
+    pub fn note_copied(&mut self)
+        ensures noted { self.new ≡ record self.old {
+          voter = record self.old.voter {
+            journal = record self.old.voter.journal { log = all_copied self.old.voter.journal.log };
+          };
+        } }
+        ensures stays { RunStays (⟦<S as NodeConfigs<D>>⟧.of self.old.voter.node) self.old
+            self.new }
+    {
+        self.voter.note_copied();
     }
 }
 

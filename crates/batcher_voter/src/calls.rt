@@ -14,6 +14,7 @@ ghost use Rattle.batcher_voter.specs.Knowledge.{HasRoom, IsSame, Learns};
 ghost use Rattle.batcher_voter.specs.Needing.{CertificateNeeds, ConstructionNeeds};
 ghost use Rattle.batcher_voter.specs.Voting.{IsOfItsView, VoterMeets, VoterStays, is_recorded};
 ghost use Rattle.batcher_voter.specs.Voting.{Forwards};
+ghost use Rattle.batcher_log.specs.Copies.{KeepsCopy};
 
 use crate::voter::Voter;
 use batcher::messages::{Certificate, Digest, Identical, Proposal, Subject, Vote};
@@ -48,6 +49,7 @@ where
         ensures same { SameNode self.old.node self.new.node }
         ensures contents { self.new.journal.contents ≡ self.old.journal.contents }
         ensures open { self.new.journal.is_open ≡ self.old.journal.is_open }
+        ensures copied { KeepsCopy L.is_copied_as self.old.journal.log self.new.journal.log }
     {
         match self.call_vote(peer, vote) {
             Ok(receipt) => Ok(receipt),
@@ -92,6 +94,7 @@ where
         ensures same { SameNode self.old.node self.new.node }
         ensures contents { self.new.journal.contents ≡ self.old.journal.contents }
         ensures open { self.new.journal.is_open ≡ self.old.journal.is_open }
+        ensures copied { KeepsCopy L.is_copied_as self.old.journal.log self.new.journal.log }
     {
         match self.call_enter(view, leader) {
             Ok(()) => Ok(()),
@@ -127,6 +130,7 @@ where
         ensures same { SameNode self.old.node self.new.node }
         ensures contents { self.new.journal.contents ≡ self.old.journal.contents }
         ensures open { self.new.journal.is_open ≡ self.old.journal.is_open }
+        ensures copied { KeepsCopy L.is_copied_as self.old.journal.log self.new.journal.log }
     {
         self.call_forward(view, me)
     }
@@ -161,6 +165,7 @@ where
         ensures same { SameNode self.old.node self.new.node }
         ensures contents { self.new.journal.contents ≡ self.old.journal.contents }
         ensures open { self.new.journal.is_open ≡ self.old.journal.is_open }
+        ensures copied { KeepsCopy L.is_copied_as self.old.journal.log self.new.journal.log }
     {
         let view = certificate.round().view.0;
         if !self.is_within(certificate.round()) {
@@ -198,6 +203,7 @@ where
         ensures same { SameNode self.old.node self.new.node }
         ensures contents { self.new.journal.contents ≡ self.old.journal.contents }
         ensures open { self.new.journal.is_open ≡ self.old.journal.is_open }
+        ensures copied { KeepsCopy L.is_copied_as self.old.journal.log self.new.journal.log }
     {
         self.begins();
         match self.call_certificate(peer, certificate) {
@@ -227,6 +233,7 @@ where
         ensures same { SameNode self.old.node self.new.node }
         ensures contents { self.new.journal.contents ≡ self.old.journal.contents }
         ensures open { self.new.journal.is_open ≡ self.old.journal.is_open }
+        ensures copied { KeepsCopy L.is_copied_as self.old.journal.log self.new.journal.log }
     {
         match self.call_certificate(peer, certificate) {
             Ok(receipt) => Ok(receipt),
@@ -281,6 +288,7 @@ where
         ensures same { SameNode self.old.node self.new.node }
         ensures contents { self.new.journal.contents ≡ self.old.journal.contents }
         ensures open { self.new.journal.is_open ≡ self.old.journal.is_open }
+        ensures copied { KeepsCopy L.is_copied_as self.old.journal.log self.new.journal.log }
     {
         match self.next_construction() {
             Some(view) => match self.make_room(view.0) {
@@ -319,6 +327,7 @@ where
         ensures same { SameNode self.old.node self.new.node }
         ensures contents { self.new.journal.contents ≡ self.old.journal.contents }
         ensures open { self.new.journal.is_open ≡ self.old.journal.is_open }
+        ensures copied { KeepsCopy L.is_copied_as self.old.journal.log self.new.journal.log }
     {
         self.begins();
         match self.call_construct(view, rng) {

@@ -17,6 +17,7 @@ ghost use Rattle.batcher_voter.specs.declared.answers.CastFault.{CastFault};
 ghost use Rattle.batcher_voter.specs.declared.answers.Permission.TheVariants.{Known, Sign};
 ghost use Rattle.batcher_voter.specs.Voting.{ForEachLife, IsVoting, VoterStays};
 ghost use Rattle.batcher_voter.specs.Voting.{Casts, LeavesVote, IsInJournal, MayWrite, Permits, Says, Shows, WhyNotCast, WhyNotShown};
+ghost use Rattle.batcher_log.specs.Copies.{KeepsCopy};
 
 use crate::answers::{CastFault, Permission};
 use crate::voter::Voter;
@@ -55,6 +56,7 @@ where
             LeavesVote (vote_format S.Signature.format D.format) past earlier vote left) }
         ensures same { SameNode self.old.node self.new.node }
         ensures gains { MayGain vote self.old.journal self.new.journal }
+        ensures copied { KeepsCopy L.is_copied_as self.old.journal.log self.new.journal.log }
     {
         self.rests(&vote);
         if vote.signer().0 != self.journal.participant().0 {
@@ -94,6 +96,7 @@ where
             LeavesVote (vote_format S.Signature.format D.format) past earlier vote left) }
         ensures same { SameNode self.old.node self.new.node }
         ensures gains { MayGain vote self.old.journal self.new.journal }
+        ensures copied { KeepsCopy L.is_copied_as self.old.journal.log self.new.journal.log }
     {
         match self.write(vote) {
             Ok(()) => match self.show(vote) {
@@ -129,6 +132,7 @@ where
             LeavesVote (vote_format S.Signature.format D.format) past earlier vote left) }
         ensures same { SameNode self.old.node self.new.node }
         ensures gains { MayGain vote self.old.journal self.new.journal }
+        ensures copied { KeepsCopy L.is_copied_as self.old.journal.log self.new.journal.log }
     {
         self.rests(&vote);
         if !is_one_vote(&vote, known) {
@@ -162,6 +166,7 @@ where
             LeavesVote (vote_format S.Signature.format D.format) past earlier vote left) }
         ensures gains { MayGain vote self.old.journal self.new.journal }
         ensures node { self.new.node ≡ self.old.node }
+        ensures copied { KeepsCopy L.is_copied_as self.old.journal.log self.new.journal.log }
     {
         bytes_are_of_one_journal::<S::Signature, D>();
         self.begins();
@@ -191,6 +196,7 @@ where
             (vote.now ∷ []) left }
         ensures node { self.new.node ≡ self.old.node }
         ensures knowledge { self.new.knowledge ≡ self.old.knowledge }
+        ensures copied { KeepsCopy L.is_copied_as self.old.journal.log self.new.journal.log }
     {
         // What an open journal has is on the disk.
         let _ = self.is_open();
@@ -218,6 +224,7 @@ where
             left }
         ensures node { self.new.node ≡ self.old.node }
         ensures knowledge { self.new.knowledge ≡ self.old.knowledge }
+        ensures copied { KeepsCopy L.is_copied_as self.old.journal.log self.new.journal.log }
     {
         self.journal.write(votes)
     }

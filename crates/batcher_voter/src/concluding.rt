@@ -11,6 +11,7 @@ ghost use Rattle.batcher_node.specs.Verdicts.{LooksAtThere, MayBeQuorumThere};
 ghost use Rattle.batcher_voter.specs.Knowledge.{HasRoom};
 ghost use Rattle.batcher_voter.specs.Needing.{ConstructionNeeds, NeedsRoom};
 ghost use Rattle.batcher_voter.specs.Voting.{IsOfItsView, VoterMeets, VoterStays};
+ghost use Rattle.batcher_log.specs.Copies.{KeepsCopy};
 
 use crate::calls::certificate_in;
 use crate::voter::Voter;
@@ -64,6 +65,7 @@ where
         ensures same { SameNode self.old.node self.new.node }
         ensures contents { self.new.journal.contents ≡ self.old.journal.contents }
         ensures open { self.new.journal.is_open ≡ self.old.journal.is_open }
+        ensures copied { KeepsCopy L.is_copied_as self.old.journal.log self.new.journal.log }
     {
         match self.next_construction() {
             Some(view) => match self.make_room(view.0) {
@@ -108,6 +110,7 @@ where
         ensures same { SameNode self.old.node self.new.node }
         ensures contents { self.new.journal.contents ≡ self.old.journal.contents }
         ensures open { self.new.journal.is_open ≡ self.old.journal.is_open }
+        ensures copied { KeepsCopy L.is_copied_as self.old.journal.log self.new.journal.log }
     {
         self.begins();
         match self.call_conclude(view, subject, list, verdicts) {
@@ -232,6 +235,7 @@ where
         ensures same { SameNode self.old.node self.new.node }
         ensures contents { self.new.journal.contents ≡ self.old.journal.contents }
         ensures open { self.new.journal.is_open ≡ self.old.journal.is_open }
+        ensures copied { KeepsCopy L.is_copied_as self.old.journal.log self.new.journal.log }
     {
         match self.next_construction() {
             Some(view) => match self.make_room(view.0) {
@@ -277,6 +281,7 @@ where
         ensures same { SameNode self.old.node self.new.node }
         ensures contents { self.new.journal.contents ≡ self.old.journal.contents }
         ensures open { self.new.journal.is_open ≡ self.old.journal.is_open }
+        ensures copied { KeepsCopy L.is_copied_as self.old.journal.log self.new.journal.log }
     {
         self.begins();
         match self.call_conclude_with(view, subject, list, certificate) {

@@ -17,6 +17,7 @@ ghost use Rattle.batcher_voter.specs.declared.answers.FinalizeFault.{FinalizeFau
 ghost use Rattle.batcher_voter.specs.Knowledge.{Forgets, HasRoom};
 ghost use Rattle.batcher_voter.specs.Voting.{ForEachLife, IsVoting, VoterStays};
 ghost use Rattle.batcher_voter.specs.Voting.{LeavesWhatWasDone};
+ghost use Rattle.batcher_log.specs.Copies.{KeepsCopy};
 
 use crate::answers::FinalizeFault;
 use crate::voter::Voter;
@@ -70,6 +71,7 @@ where
         ensures unraised { OnErr result (self.new.journal.is_open ≡ true
             → (self.old.journal.is_open ≡ true)
             × (self.new.journal.contents ≡ self.old.journal.contents)) }
+        ensures copied { KeepsCopy L.is_copied_as self.old.journal.log self.new.journal.log }
     {
         self.begins();
         self.leaves_what_was_done();
@@ -130,6 +132,7 @@ where
         ensures unraised { OnErr result (self.new.journal.is_open ≡ true
             → (self.old.journal.is_open ≡ true)
             × (self.new.journal.contents ≡ self.old.journal.contents)) }
+        ensures copied { KeepsCopy L.is_copied_as self.old.journal.log self.new.journal.log }
     {
         self.begins();
         self.leaves_what_was_done();
@@ -176,6 +179,7 @@ where
             → RaiseLeaves (vote_format S.Signature.format D.format) D.eq self.old.journal
             self.old.journal.contents.owner round finalization.now left }
         ensures same { SameNode self.old.node self.new.node }
+        ensures copied { KeepsCopy L.is_copied_as self.old.journal.log self.new.journal.log }
     {
         self.node.promises();
         match self.journal.raise_floor(round, finalization) {

@@ -6,7 +6,8 @@ ghost use Rattle.batcher_journal.specs.Ready.{IsOnDisk};
 ghost use Rattle.batcher_codec.specs.Messages.{vote_format};
 ghost use Rattle.batcher_node.specs.Windows.{is_of};
 ghost use Rattle.batcher_voter.specs.Voting.{BeginWithOneView, ForEachLife, VoterView};
-ghost use Rattle.batcher_voter.specs.Voting.{LeavesWhatWasDone};
+ghost use Rattle.batcher_log.specs.Copies.{all_copied};
+ghost use Rattle.batcher_voter.specs.Voting.{LeavesWhatWasDone, VoterStays};
 
 use crate::knowledge::Knowledge;
 use batcher::messages::{Digest, Identical};
@@ -14,7 +15,7 @@ use batcher::positions::{Epoch, Round};
 use batcher::scheme::Scheme;
 use batcher_codec::Codec;
 use batcher_journal::{Journal, bytes_are_of_one_journal};
-use batcher_log::Log;
+use batcher_log::{CopiedLog, Log};
 use batcher_node::{Node, NodeConfigs};
 use std::alloc::Global;
 use std::marker::Model;
@@ -121,5 +122,20 @@ where
     {
         bytes_are_of_one_journal::<S::Signature, D>();
         let _ = self.is_open();
+    }
+}
+
+impl<S: Scheme<D>, D: Digest + Codec> Voter<S, D, CopiedLog>
+where
+    S::Signature: Codec + Identical,
+{
+    /// The copy of its journal's log lacks nothing any more.
+    pub fn note_copied(&mut self)
+        ensures noted { self.new ≡ record self.old {
+          journal = record self.old.journal { log = all_copied self.old.journal.log };
+        } }
+        ensures stays { VoterStays (⟦<S as NodeConfigs<D>>⟧.of self.old.node) self.old self.new }
+    {
+        self.journal.note_copied();
     }
 }

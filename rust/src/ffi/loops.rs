@@ -163,9 +163,11 @@ impl Loop {
         unsafe { batcher_loop_poll(&mut self.handle, task) }
     }
 
-    pub(crate) fn owed(&self, room: &mut [u8], count: &mut u64, replaces: &mut bool) -> u8 {
-        // SAFETY: as above.
-        unsafe { batcher_loop_owed(&self.handle, room.as_mut_ptr(), room.len(), count, replaces) }
+    pub(crate) fn owed(&self, bytes: &mut Vec<u8>, count: &mut u64, replaces: &mut bool) -> u8 {
+        write_into(bytes, count, |room, length, count| {
+            // SAFETY: as above, and the room is as long as is said.
+            unsafe { batcher_loop_owed(&self.handle, room, length, count, replaces) }
+        })
     }
 
     pub(crate) fn wrote(&mut self) -> u8 {
@@ -250,19 +252,28 @@ impl Loop {
         &self,
         kind: u8,
         proposal: &mut Proposal,
-        room: &mut [u8],
+        bytes: &mut Vec<u8>,
         count: &mut u64,
     ) -> u8 {
-        // SAFETY: as above.
-        unsafe {
-            batcher_loop_kept(
-                &self.handle,
-                kind,
-                proposal,
-                room.as_mut_ptr(),
-                room.len(),
-                count,
-            )
-        }
+        write_into(bytes, count, |room, length, count| {
+            // SAFETY: as above, and the room is as long as is said.
+            unsafe { batcher_loop_kept(&self.handle, kind, proposal, room, length, count) }
+        })
     }
+}
+
+/// Has bytes written into the room of a list, where they fit there. The room isn't set to zero
+/// before.
+fn write_into(
+    bytes: &mut Vec<u8>,
+    count: &mut u64,
+    write: impl FnOnce(*mut u8, usize, &mut u64) -> u8,
+) -> u8 {
+    bytes.clear();
+    let answer = write(bytes.as_mut_ptr(), bytes.capacity(), count);
+    if answer == code::DONE {
+        // SAFETY: they fit into the room, and all of them are written.
+        unsafe { bytes.set_len(*count as usize) }
+    }
+    answer
 }

@@ -127,7 +127,7 @@ impl Validator {
         match task {
             Task::Write(write) => {
                 self.station.disk.write(write.replaces, &write.bytes)?;
-                self.running.wrote()?;
+                self.running.wrote();
             }
             Task::Block(peer, cause) => {
                 self.station.record.blocks(peer, cause)?;

@@ -1,4 +1,4 @@
-use Rattle.std.proofs.Common.{◌∷◌, refl, subst}
+use Rattle.std.proofs.Common.{◌∙◌, ◌∷◌, ap, refl, subst}
 use Rattle.batcher_validator.specs.Histories.{again, expired}
 use Rattle.batcher_validator.specs.Running.{RunMeets}
 use Rattle.batcher_ffi.specs.Loops.{config_by}
@@ -14,5 +14,6 @@ returns-clause-expires c =
           (c.expire.ensures.expired below past earlier running);
       ahead = λ beyond. subst (λ v. RunMeets (config_by c.args.it.now.validator.voter.node) v
           c.send_again.new.self again) (c.expire.ensures.ahead beyond) meets;
-      on_disk = refl;
+      on_disk = ap (λ voter. voter.journal.log.copy)
+          (c.send_again.ensures.voter ∙ c.expire.ensures.voter);
     }

@@ -36,3 +36,7 @@ returns-in-Ok-of-clause-running g c =
 pub returns-in-Ok-of-clause-epoch : goal.returns-in-Ok-of-clause-epoch
 returns-in-Ok-of-clause-epoch g c =
     c.in-Ok-of.ensures.epoch ∙ ap (λ x. x.floor.epoch) (returns-in-Ok-of-clause-journal g c)
+
+pub returns-in-Ok-of-clause-on_disk : goal.returns-in-Ok-of-clause-on_disk
+returns-in-Ok-of-clause-on_disk g c =
+    c.in-Ok-of.ensures.on_disk ∙ c.in-Ok.ensures.copied [] c.new-log.ensures.copy

@@ -1,5 +1,6 @@
+use Rattle.batcher_loop.specs.Disks.{disk_of}
 use Rattle.batcher_loop.proofs.looping.Loop.leaves_what_was_done.Goals as goal
 
 pub returns : goal.returns
 returns g c = λ same opened past earlier is.
-    c.leaves_what_was_done.ensures c.args.self.now.on_disk.items opened tt same past earlier is
+    c.leaves_what_was_done.ensures (disk_of c.args.self.now.validator) opened tt same past earlier is
