@@ -135,8 +135,7 @@ pub enum PollError {
     OutOfMemory,
     /// The journal has no room left, which 2^64 bytes are.
     Full,
-    /// The journal is closed, since memory was refused while it was written. Start again by the
-    /// disk.
+    /// The journal is closed, which no call of a loop does. Start again by the disk.
     Closed,
     /// The scheme doesn't make the same signature of its bytes again.
     SignatureBytes,
@@ -559,6 +558,22 @@ impl<G: Clone + AsRef<[u8]> + for<'b> TryFrom<&'b [u8]>> Loop<G> {
         let last = signers.last()?;
         let is_quorum = signers.len() >= quorum(self.participants) as usize;
         (differ && is_quorum && *last < self.participants).then_some(all)
+    }
+
+    /// The participants whose attestations a certificate doesn't have. Of a notarization they may
+    /// lack the payload: forward it to them. Nobody where it is no list of a quorum.
+    pub fn missing(&self, certificate: &Listed) -> Vec<Participant> {
+        let Some(all) = self.attestations(certificate) else {
+            return Vec::new();
+        };
+        let mut is_missing = vec![true; self.participants as usize];
+        for it in &all {
+            is_missing[usize::from(it.signer)] = false;
+        }
+        let participants = (0..self.participants).map(Participant::new);
+        participants
+            .filter(|it| is_missing[usize::from(*it)])
+            .collect()
     }
 
     /// Takes in a certificate that this participant sent, and whether it certifies: whether it has

@@ -239,6 +239,13 @@ fn a_certificate_is_a_list_of_a_quorum() {
     let signers: Vec<u32> = all.iter().map(|it| it.signer.get()).collect();
     assert_eq!(signers, [3, 0, 2]);
     assert!(station.certifies(&nullification(1, &[3, 0, 2])));
+    let missing = |made: &Listed| station.running.missing(made);
+    assert_eq!(
+        missing(&nullification(1, &[3, 0, 2])),
+        [Participant::new(1)]
+    );
+    assert!(missing(&nullification(1, &[3, 0, 2, 1])).is_empty());
+    assert!(missing(&nullification(1, &[3, 0])).is_empty());
     // Too few, one of them twice, and one that takes no part.
     for signers in [&[0, 1][..], &[0, 1, 1], &[0, 1, 4]] {
         assert!(list(&nullification(1, signers)).is_none());

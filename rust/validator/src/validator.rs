@@ -155,10 +155,7 @@ impl Validator {
                 let verdicts = self.verdicts(wanted.subject(), wanted.attestations());
                 self.running.conclude(&wanted, &verdicts)?;
             }
-            Task::Sign(subject) => {
-                let signature = self.sign(&subject);
-                self.running.signed(subject, &signature)?;
-            }
+            Task::Sign(subject) => self.running.signed(subject, &self.sign(&subject))?,
             Task::Propose { view, parent } => {
                 let numbers = [view, parent].map(|it| it.get().to_be_bytes());
                 let payload = Sha256Digest(sha256(&numbers.concat()));
