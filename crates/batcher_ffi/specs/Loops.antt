@@ -52,6 +52,7 @@ use Rattle.batcher_node.specs.declared.answers.Cast.TheVariants.{ToSend, Known a
 use Rattle.batcher_node.specs.declared.answers.EnterFault.{EnterFault}
 use Rattle.batcher_node.specs.declared.answers.Receipt.{Receipt}
 use Rattle.batcher_node.specs.declared.answers.Verdict.{Verdict}
+use Rattle.batcher_validator.specs.Ending.{HasLessLeft}
 use Rattle.batcher_validator.specs.Histories.{ValidatorEvent, again, answered, chose, did, expired, took}
 use Rattle.batcher_validator.specs.Queues.{HasKey}
 use Rattle.batcher_validator.specs.Running.{Constructs, ForEachRun, Gives, HasBegun, IsReady, IsRunning, RunCasts, RunMayWrite, RunMeets, RunStays}
@@ -284,6 +285,7 @@ module _ (l : CLoop) (code : ℕ) where
     pub owed : List ℕ
     pub has_all : code ≢ IDLE
         → MatchBool replaces (owed ≡ log_of l) (disk_of l ++ owed ≡ log_of l)
+    pub lacks : code ≢ IDLE → disk_of l ≢ log_of l
     pub written : code ≢ IDLE → WritesAll owed room list count code
 
   -- A certificate is kept, and its bytes and its proposal are written.
@@ -330,6 +332,8 @@ module _ (before : CLoop) (code : ℕ) (after : CLoop) where
         → Gives (loop_config before) before.validator after.validator task
     pub ready : (task : Task Signature Sha256Digest) → answer ≡ Ok (Some (Do task))
         → IsReady before.validator task
+    pub less : (task : Task Signature Sha256Digest) → answer ≡ Ok (Some (Do task))
+        → HasLessLeft (loop_config before) before.validator after.validator task
     pub nothing : code ≡ IDLE → ForEachRun (loop_config before) before.validator
         (λ past earlier. NothingIsDue (loop_config before) earlier past)
     pub rests : code ≡ IDLE → Rests

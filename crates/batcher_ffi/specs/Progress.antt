@@ -1,5 +1,5 @@
 -- How far a view is, as it is written to C.
-use Rattle.std.specs.Prelude.{◌≡◌, ℕ, Bool, true, false, List, [], length, Option, Some, None, if◌then◌else◌, is_some}
+use Rattle.std.specs.Prelude.{◌≡◌, ℕ, false, length, Option, Some, None, if◌then◌else◌, is_some}
 use Rattle.std.specs.Option.{option_map}
 use Rattle.batcher.specs.Eligible.{fresh_votes, proven_votes}
 use Rattle.batcher.specs.RoundContracts.{ForEachHistory}

@@ -4,8 +4,8 @@ ghost use Rattle.batcher_ffi.specs.Progress.{AsksProgress, IsCounted, IsProgress
 
 use crate::caller::Caller;
 use crate::loops::Looping;
-use batcher_bytes::Signed;
 use batcher::round::Round;
+use batcher_bytes::Signed;
 use batcher_types::messages::{Kind, Sha256Digest};
 use batcher_types::positions::View;
 

@@ -83,6 +83,7 @@ impl CopiedLog {
         ensures some { IfSome result (λ owed. MatchBool owed.replaces
             (owed.bytes.now ≡ self.now.bytes)
             (self.now.copy ++ owed.bytes.now ≡ self.now.bytes)) }
+        ensures lacks { IfSome result (λ owed. self.now.copy ≢ self.now.bytes) }
         ensures none { result ≡ None → self.now.copy ≡ self.now.bytes }
     {
         if !self.owes() {

@@ -3,11 +3,10 @@
 
 mod copied;
 
-pub use copied::{CopiedLog, Owed};
-
 ghost use Rattle.std.specs.Prelude.{◌≡◌, ◌≤◌, ◌⊎◌, ◌++◌, [], Err, List, OnOk, ℕ};
 ghost use Rattle.batcher_log.specs.declared.LogFault.TheVariants.{Failed, Full, OutOfMemory};
 
+pub use copied::{CopiedLog, Owed};
 use std::alloc::Global;
 
 /// Why nothing was written.
@@ -59,7 +58,8 @@ pub trait Log: Drop {
         // And that opens.
         ensures opens { is_honest self.new → may_lose self.new → ⊥ }
         ensures honest { is_honest self.new → is_honest self.old }
-        ensures copied { (copy : List ℕ) → is_copied_as self.old copy → is_copied_as self.new copy };
+        ensures copied { (copy : List ℕ) → is_copied_as self.old copy
+            → is_copied_as self.new copy };
 
     /// Puts these bytes in the place of all others. At `Ok` they are on the disk.
     fn replace(&mut self, bytes: &[u8]) -> Result<(), LogFault>
@@ -73,7 +73,8 @@ pub trait Log: Drop {
             → (left ≡ written self.old) ⊎ (left ≡ bytes.now) }
         ensures opens { is_honest self.new → may_lose self.new → ⊥ }
         ensures honest { is_honest self.new → is_honest self.old }
-        ensures copied { (copy : List ℕ) → is_copied_as self.old copy → is_copied_as self.new copy };
+        ensures copied { (copy : List ℕ) → is_copied_as self.old copy
+            → is_copied_as self.new copy };
 
     /// The bytes that are on the disk.
     fn bytes(&self) -> &[u8]

@@ -6,6 +6,7 @@ ghost use Rattle.batcher_node.specs.Nodes.{SameNode};
 ghost use Rattle.batcher_bytes.specs.Encodings.{signature_format};
 ghost use Rattle.batcher_codec.specs.Messages.{sha256_format, vote_format};
 ghost use Rattle.batcher_loop.specs.Disks.{disk_of, log_of, noted};
+ghost use Rattle.batcher_validator.specs.Ending.{HasLessLeft};
 ghost use Rattle.batcher_validator.specs.Histories.{conduct_in};
 ghost use Rattle.batcher_voter.specs.Remembering.{IsLeft};
 ghost use Rattle.batcher_validator.specs.Running.{ForEachRun, Gives, IsReady, RunStays};
@@ -32,8 +33,8 @@ pub enum Next {
 /// A validator whose caller verifies signatures and writes to the disk.
 #[derive(Drop)]
 pub struct Loop<T: Truth> {
-    /// Messages, verdicts and answers are handed to it. Poll the loop, and not it: it doesn't know
-    /// what is written.
+    /// Messages, verdicts and answers are handed to it. Poll the loop, and not it: it gives tasks
+    /// also where what they rest on isn't written.
     pub validator: Validator<Signed<T, true>, Sha256Digest, CopiedLog>,
 }
 
@@ -49,6 +50,9 @@ impl<T: Truth> Loop<T> {
             self.old.validator.voter.node) self.old.validator self.new.validator task }
         ensures ready { (task : TheTask _ _) → result ≡ Ok (Some (Do task))
             → IsReady self.old.validator task }
+        ensures less { (task : TheTask _ _) → result ≡ Ok (Some (Do task))
+            → HasLessLeft (⟦<Signed<T, true> as NodeConfigs<Sha256Digest>>⟧.of
+            self.old.validator.voter.node) self.old.validator self.new.validator task }
         ensures nothing { result ≡ Ok None → ForEachRun
             (⟦<Signed<T, true> as NodeConfigs<Sha256Digest>>⟧.of self.old.validator.voter.node)
             self.old.validator (λ past earlier. NothingIsDue
@@ -106,6 +110,9 @@ impl<T: Truth> Loop<T> {
             (Gives (⟦<Signed<T, true> as NodeConfigs<Sha256Digest>>⟧.of
             self.old.validator.voter.node) self.old.validator self.new.validator)) }
         ensures ready { IfOk result (λ given. IfSome given (IsReady self.old.validator)) }
+        ensures less { IfOk result (λ given. IfSome given
+            (HasLessLeft (⟦<Signed<T, true> as NodeConfigs<Sha256Digest>>⟧.of
+            self.old.validator.voter.node) self.old.validator self.new.validator)) }
         ensures nothing { result ≡ Ok None → ForEachRun
             (⟦<Signed<T, true> as NodeConfigs<Sha256Digest>>⟧.of self.old.validator.voter.node)
             self.old.validator (λ past earlier. NothingIsDue
@@ -136,6 +143,8 @@ impl<T: Truth> Loop<T> {
             (owed.bytes.now ≡ log_of self.now.validator)
             (disk_of self.now.validator ++ owed.bytes.now
             ≡ log_of self.now.validator)) }
+        ensures lacks { IfSome result (λ owed.
+            disk_of self.now.validator ≢ log_of self.now.validator) }
         ensures none { result ≡ None
             → disk_of self.now.validator ≡ log_of self.now.validator }
     {

@@ -71,14 +71,7 @@ impl<T: Truth> Loop<T> {
             Err(_) => return Err(LoopFault::OutOfMemory),
         }
         bytes_are_of_one_journal::<Signature, Sha256Digest>();
-        match Loop::of(
-            alloc,
-            scheme,
-            ahead,
-            track_historical_votes,
-            owner,
-            log,
-        ) {
+        match Loop::of(alloc, scheme, ahead, track_historical_votes, owner, log) {
             Ok(it) => Ok(it),
             Err(fault) => Err(fault),
         }

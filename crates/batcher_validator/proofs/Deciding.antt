@@ -11,7 +11,7 @@ use Rattle.batcher_node.specs.Nodes.{NodeConfig, NodeView}
 use Rattle.batcher_node.specs.Windows.{is_of, numbered}
 use Rattle.batcher_types.proofs.VoteLemmas.{same_proposal-true, same_round-refl}
 use Rattle.batcher_validator.specs.Histories.{ValidatorHistory, conduct_in, voter_history, window_by}
-use Rattle.batcher_validator.specs.Ending.{IsChosen}
+use Rattle.batcher_validator.specs.Ending.{IsPreferred}
 use Rattle.batcher_validator.specs.Posing.{CannotVote, IsNotToSign}
 use Rattle.batcher_validator.specs.Running.{ForEachRun, IsRunning, ValidatorView}
 use Rattle.batcher_validator.specs.Tasks.{IsContested, MayVote}
@@ -72,7 +72,7 @@ module _ {S D K G C L : Type 0} (config : NodeView S G D → NodeConfig D K G C)
         old.voter.knowledge.floor s rule (permits (voter_history past) earlier is.voting) may.cleared
         (rests_then begins past earlier is s may.rests)
 
-  -- What is chosen isn't refused, where it may be voted for.
+  -- What is preferred isn't refused, where it may be voted for.
   module _ (same : D → D → Bool) (itself : (p : Proposal D) → same_proposal same p p ≡ true)
       (begins : BeginWithOneView old.voter) (epoch : x.epoch ≡ old.voter.node.epoch)
       (opened : old.voter.journal.is_open ≡ true) (answer : Permission G D) where
@@ -82,16 +82,17 @@ module _ {S D K G C L : Type 0} (config : NodeView S G D → NodeConfig D K G C)
         → is_of old.voter.node.epoch old.voter.node.window p.round ≡ true
         → IsFinalizable same old.voter p → answer ≡ Sign
 
-    pub refused_unchosen :
+    pub refused_unpreferred :
         (s : Subject D) (rule : Rule G D) → answer ≡ Refused rule
         → ForEachLife x old.voter (Permits x same old.voter s (Refused rule)) → Finalizes s
-        → IsChosen same old.voter s → ForEachRun x old (λ past earlier. MayVote x earlier past s → ⊥)
-    refused_unchosen (Notarize p) rule refused permits finalizes chosen past earlier is may =
+        → IsPreferred same old.voter s
+        → ForEachRun x old (λ past earlier. MayVote x earlier past s → ⊥)
+    refused_unpreferred (Notarize p) rule refused permits finalizes preferred past earlier is may =
         refused_by same itself begins (Notarize p) rule permits past earlier is may
-    refused_unchosen (Nullify r) rule refused permits finalizes chosen past earlier is may =
+    refused_unpreferred (Nullify r) rule refused permits finalizes preferred past earlier is may =
         refused_by same itself begins (Nullify r) rule permits past earlier is may
-    refused_unchosen (Finalize p) rule refused permits finalizes chosen past earlier is may =
-        other (sym refused ∙ finalizes p refl opened within chosen)
+    refused_unpreferred (Finalize p) rule refused permits finalizes preferred past earlier is may =
+        other (sym refused ∙ finalizes p refl opened within preferred)
       where
         within : is_of old.voter.node.epoch old.voter.node.window p.round ≡ true
         within =

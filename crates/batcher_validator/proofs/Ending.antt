@@ -1,30 +1,25 @@
 -- With each task less is left to be given, so nothing is given for ever.
-use Rattle.std.proofs.Common.{◌≡◌, ◌<◌, ◌≤◌, ◌+◌, ◌∙◌, ◌⊎◌, ℕ, zero, suc, Bool, true, false, cond, List, [], ◌∷◌, Some, ap, arith, inl, inr, length, refl, set, subst, sym}
-use Rattle.std.specs.Prelude.{◌-◌, nat_lt, not}
+use Rattle.std.proofs.Common.{◌≡◌, ◌<◌, ◌≤◌, ◌+◌, ◌⊎◌, ℕ, zero, suc, Bool, true, false, cond, List, [], ◌∷◌, Some, ap, arith, inl, inr, length, refl, set, subst, sym}
+use Rattle.std.specs.Prelude.{◌-◌, not}
 use Rattle.std.specs.List.{count_by, filter, slice_get}
 use Rattle.std.proofs.lemmas.Bool.{le-ltb, lt-ltb, ltb-true}
 use Rattle.std.proofs.lemmas.List.Sums.{sum_by-cons}
 use Rattle.batcher.specs.Votes.{subject_certified}
 use Rattle.batcher.specs.messages.Certificate.{Certificate}
 use Rattle.batcher.specs.messages.Certificate.TheVariants.{Finalization as FinalizationCertificate, Notarization as NotarizationCertificate, Nullification as NullificationCertificate}
-use Rattle.batcher.specs.messages.Kind.{Kind}
 use Rattle.batcher.specs.messages.Proposal.{Proposal}
-use Rattle.batcher.specs.messages.Subject.{Subject}
 use Rattle.batcher.specs.messages.Subject.TheVariants.{Finalize}
 use Rattle.batcher.specs.messages.Vote.{Vote}
 use Rattle.batcher.specs.positions.Participant.{Participant}
-use Rattle.batcher.specs.positions.Round.{Round}
-use Rattle.batcher.specs.positions.View.{View}
 use Rattle.batcher_agreement.specs.Policy.{Conduct}
 use Rattle.batcher_node.specs.Nodes.{NodeConfig}
 use Rattle.batcher_node.specs.declared.answers.Cause.{Cause}
-use Rattle.batcher_validator.specs.Ending.{GivesOnAndOn, IsAfter, IsChosen, LeavesLess, WaitsForVote, finals_left, is_final_after, others_left}
+use Rattle.batcher_validator.specs.Ending.{GivesOnAndOn, IsAfter, HasLessLeft, WaitsForVote, finals_left, is_final_after, others_left}
 use Rattle.batcher_validator.specs.Histories.{ValidatorHistory}
-use Rattle.batcher_validator.specs.Running.{ForEachRun, IntentView, ValidatorView}
+use Rattle.batcher_validator.specs.Running.{ValidatorView}
 use Rattle.batcher_validator.specs.Shelves.{IsFinalAt, is_from}
-use Rattle.batcher_validator.specs.Tasks.{MayVote}
 use Rattle.batcher_validator.specs.declared.task.Task.{Task}
-use Rattle.batcher_validator.specs.declared.task.Task.TheVariants.{Block, Cast, Enter, Final, Judge, Propose, SendCertificate, SendVote, Sign, Verify}
+use Rattle.batcher_validator.specs.declared.task.Task.TheVariants.{Block, Final, SendVote, Sign}
 
 -- one for what passes a test
 abbrev one_if : Bool → ℕ
@@ -169,7 +164,7 @@ module _ {S D K G C L : Type 0} (x : NodeConfig D K G C) (old new : ValidatorVie
       (p : Proposal D) (i : ℕ) → IsFinalAt old.given.announced old.shelf.certificates i p
       → new.given.announced ≡ p.round.view.0
       → new.shelf.certificates ≡ filter (is_from p.round.view.0) old.shelf.certificates
-      → LeavesLess x old new (Final p)
+      → HasLessLeft x old new (Final p)
   final_less p i at announced certificates =
       rw (announced, certificates)
       (one_fewer (is_final_after old.given.announced) (is_final_after p.round.view.0)
@@ -182,7 +177,7 @@ module _ {S D K G C L : Type 0} (x : NodeConfig D K G C) (old new : ValidatorVie
     pub block_less :
         (who : Participant) (cause : Cause) → slice_get old.given.blocked who.0 ≡ Some false
         → new.given ≡ record old.given { blocked = set old.given.blocked who.0 true }
-        → LeavesLess x old new (Block who cause)
+        → HasLessLeft x old new (Block who cause)
     block_less who cause there given = (
       rw (given, shelf) refl,
       rw (given, voter, shelf) (omega (arith, one_less old.given.blocked who.0 there)),
@@ -194,7 +189,7 @@ module _ {S D K G C L : Type 0} (x : NodeConfig D K G C) (old new : ValidatorVie
         → new.given ≡ record old.given {
           tally = record old.given.tally { sent = old.given.tally.sent + 1 };
         }
-        → LeavesLess x old new (SendVote vote)
+        → HasLessLeft x old new (SendVote vote)
     vote_less vote lt given = (
       rw (given, shelf) refl,
       rw (given, voter, shelf) (omega (arith, lt)),
@@ -211,16 +206,22 @@ module _ {S D K G C L : Type 0} (x : NodeConfig D K G C) (earlier : Conduct D)
   step n = of_task (task n) (it.less n) (it.after n)
     where
       of_task :
-          (t : Task G D) → LeavesLess x (validator n) (validator (n + 1)) t
+          (t : Task G D) → HasLessLeft x (validator n) (validator (n + 1)) t
           → IsAfter t (past n) (past (n + 1))
           → Step (λ m. finals_left (validator m)) (λ m. others_left (validator m)) Waits n
       of_task (Final p) less after = inl less
       of_task (Sign s) less after =
           let waits = less.1.1 (past n) earlier (it.running n) in
-          inr (less.0, inl (less.1.0, (
-            waits.0,
-            subst (λ h. WaitsForVote x h earlier (validator (n + 1))) (sym after) waits.1,
-          )))
+          inr (
+            less.0,
+            inl (
+              less.1.0,
+              (
+                waits.0,
+                subst (λ h. WaitsForVote x h earlier (validator (n + 1))) (sym after) waits.1,
+              ),
+            ),
+          )
       of_task t less after = inr (less.0, inr less.1)
 
   pub comes_to_an_end : ⊥

@@ -21,10 +21,11 @@ abbrev pub is_final_after : {C D : Type 0} → ℕ → Certificate C D → Bool
 is_final_after view (FinalizationCertificate f) = nat_lt view f.proposal.round.view.0
 is_final_after view c = false
 
--- Where two proposals of a view are known to be notarized, one of them is finalized: the last.
-abbrev pub IsChosen : {S G D L : Type 0} → (D → D → Bool) → VoterView S G D L → Subject D → Type 0
-IsChosen same voter (Finalize p) = IsFinalizable same voter p
-IsChosen same voter s = ⊤
+-- Where two proposals of a view are known to be notarized, the last of them is preferred.
+abbrev pub IsPreferred : {S G D L : Type 0} → (D → D → Bool) → VoterView S G D L → Subject D
+    → Type 0
+IsPreferred same voter (Finalize p) = IsFinalizable same voter p
+IsPreferred same voter s = ⊤
 
 -- what happened by then, where a task was given
 abbrev pub IsAfter : {D K G C : Type 0} → Task G D → ValidatorHistory D K G C
@@ -61,21 +62,21 @@ module _ {S D K G C L : Type 0} (x : NodeConfig D K G C) where
     pub subject : Subject D
     pub was_last : last_to_sign past ≡ Some subject
     pub may_vote : MayVote x earlier past subject
-    pub is_chosen : IsChosen x.same_digest validator.voter subject
+    pub is_preferred : IsPreferred x.same_digest validator.voter subject
 
   -- With each task less is left. Where a proposal is given as final, more else may be left.
-  abbrev pub LeavesLess : ValidatorView S G D L C → ValidatorView S G D L C → Task G D → Type 0
-  LeavesLess old new (Final p) = finals_left new < finals_left old
-  LeavesLess old new (Sign s) =
+  abbrev pub HasLessLeft : ValidatorView S G D L C → ValidatorView S G D L C → Task G D → Type 0
+  HasLessLeft old new (Final p) = finals_left new < finals_left old
+  HasLessLeft old new (Sign s) =
       (finals_left new ≡ finals_left old) × ((others_left new ≡ others_left old)
       × ForEachRun x old (λ past earlier. (WaitsForVote past earlier old → ⊥)
       × WaitsForVote (gave (Sign s) ∷ past) earlier new))
-  LeavesLess old new task =
+  HasLessLeft old new task =
       (finals_left new ≡ finals_left old) × (others_left new < others_left old)
 
   -- A validator gives one task after the other, and nothing comes meanwhile.
   pub record GivesOnAndOn (earlier : Conduct D) (validator : ℕ → ValidatorView S G D L C)
       (past : ℕ → ValidatorHistory D K G C) (task : ℕ → Task G D) : Type 0 where
     pub running : (n : ℕ) → IsRunning x (past n) earlier (validator n)
-    pub less : (n : ℕ) → LeavesLess (validator n) (validator (n + 1)) (task n)
+    pub less : (n : ℕ) → HasLessLeft (validator n) (validator (n + 1)) (task n)
     pub after : (n : ℕ) → IsAfter (task n) (past n) (past (n + 1))

@@ -8,7 +8,7 @@ ghost use Rattle.batcher_codec.specs.Messages.{vote_format};
 ghost use Rattle.batcher_journal.specs.Floors.{is_over};
 ghost use Rattle.batcher_node.specs.Events.{view_finalized};
 ghost use Rattle.batcher_node.specs.Nodes.{SameNode};
-ghost use Rattle.batcher_validator.specs.Ending.{LeavesLess};
+ghost use Rattle.batcher_validator.specs.Ending.{HasLessLeft};
 ghost use Rattle.batcher_validator.specs.Running.{ForEachRun, Gives, IsReady, RunLeaves, RunStays, WhyNotFinal, tally_from, left_of};
 ghost use Rattle.batcher_validator.specs.Shelves.{IsFinalAt, IsToAnnounce, is_from};
 ghost use Rattle.batcher_validator.specs.declared.task.PollFault.{PollFault};
@@ -54,7 +54,7 @@ where
         ensures full { result ≡ Err PollFault.Full
             → self.new.voter.journal.is_open ≡ self.old.voter.journal.is_open }
         ensures less { IfOk result (λ given. IfSome given
-            (LeavesLess (⟦<S as NodeConfigs<D>>⟧.of self.old.voter.node) self.old self.new)) }
+            (HasLessLeft (⟦<S as NodeConfigs<D>>⟧.of self.old.voter.node) self.old self.new)) }
         ensures leaves { RunLeaves (⟦<S as NodeConfigs<D>>⟧.of self.old.voter.node)
             (vote_format S.Signature.format D.format) L.is_honest L.may_leave self.old self.new }
         ensures same { SameNode self.old.voter.node self.new.voter.node }

@@ -4,7 +4,7 @@ ghost use Rattle.std.specs.Prelude.{◌≡◌, ◌≤◌, ◌<◌, ◌+◌, ◌�
 ghost use Rattle.std.specs.List.{slice_get};
 ghost use Rattle.batcher_journal.specs.Answers.{MayFollow};
 ghost use Rattle.batcher_node.specs.Nodes.{IsAtRest, IsNext};
-ghost use Rattle.batcher_validator.specs.Ending.{LeavesLess};
+ghost use Rattle.batcher_validator.specs.Ending.{HasLessLeft};
 ghost use Rattle.batcher_validator.specs.Posing.{BlocksNobody, CastsNone, EntersNone};
 ghost use Rattle.batcher_validator.specs.Queues.{AreDistinct};
 ghost use Rattle.batcher_validator.specs.Running.{ForEachRun, Gives, IsReady, RunStays};
@@ -45,7 +45,7 @@ where
             → RunStays (⟦<S as NodeConfigs<D>>⟧.of self.old.voter.node) self.old self.new }
         ensures voter { self.new.voter ≡ self.old.voter }
         ensures less { IfSome result
-            (LeavesLess (⟦<S as NodeConfigs<D>>⟧.of self.old.voter.node) self.old self.new) }
+            (HasLessLeft (⟦<S as NodeConfigs<D>>⟧.of self.old.voter.node) self.old self.new) }
     {
         match self.next_view() {
             Some(view) => {
@@ -88,7 +88,7 @@ where
             → RunStays (⟦<S as NodeConfigs<D>>⟧.of self.old.voter.node) self.old self.new }
         ensures voter { self.new.voter ≡ self.old.voter }
         ensures less { IfSome result
-            (LeavesLess (⟦<S as NodeConfigs<D>>⟧.of self.old.voter.node) self.old self.new) }
+            (HasLessLeft (⟦<S as NodeConfigs<D>>⟧.of self.old.voter.node) self.old self.new) }
     {
         match self.next_certificate() {
             Some((kind, round)) => {

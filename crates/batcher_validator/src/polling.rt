@@ -6,7 +6,7 @@ ghost use Rattle.batcher_codec.specs.Messages.{vote_format};
 ghost use Rattle.batcher_journal.specs.Answers.{MayFollow};
 ghost use Rattle.batcher_node.specs.Nodes.{IsAtRest, IsNext, NodeConfig, SameNode, cause_at};
 ghost use Rattle.batcher_agreement.specs.Policy.{Conduct};
-ghost use Rattle.batcher_validator.specs.Ending.{GivesOnAndOn, LeavesLess};
+ghost use Rattle.batcher_validator.specs.Ending.{GivesOnAndOn, HasLessLeft};
 ghost use Rattle.batcher_validator.specs.Posing.{BlocksNobody};
 ghost use Rattle.batcher_validator.specs.Running.{ForEachRun, Gives, IsReady, RunLeaves, RunMeets, RunStays, ValidatorView};
 ghost use Rattle.batcher_validator.specs.Shelves.{HaveNoFinal, IsAt, IsFinalAt, IsToAnnounce, key_of};
@@ -55,7 +55,7 @@ where
         ensures full { result ≡ Err PollFault.Full → self.new.voter.journal.is_open ≡ true }
         // So it comes to an end: see `poll_comes_to_an_end`.
         ensures less { IfOk result (λ given. IfSome given
-            (LeavesLess (⟦<S as NodeConfigs<D>>⟧.of self.old.voter.node) self.old self.new)) }
+            (HasLessLeft (⟦<S as NodeConfigs<D>>⟧.of self.old.voter.node) self.old self.new)) }
         ensures leaves { RunLeaves (⟦<S as NodeConfigs<D>>⟧.of self.old.voter.node)
             (vote_format S.Signature.format D.format) L.is_honest L.may_leave self.old self.new }
         ensures same { SameNode self.old.voter.node self.new.voter.node }

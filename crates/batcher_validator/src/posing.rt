@@ -11,7 +11,7 @@ ghost use Rattle.batcher_agreement.specs.Lives.{conduct_of};
 ghost use Rattle.batcher_agreement.specs.Policy.{IsGrounded, Knows};
 ghost use Rattle.batcher_journal.specs.Contradictions.{IsFree};
 ghost use Rattle.batcher_node.specs.Windows.{is_of, numbered};
-ghost use Rattle.batcher_validator.specs.Ending.{IsChosen, LeavesLess, WaitsForVote};
+ghost use Rattle.batcher_validator.specs.Ending.{IsPreferred, HasLessLeft, WaitsForVote};
 ghost use Rattle.batcher_validator.specs.Posing.{CanLead, CanPose, CanVote, CannotLead, CannotPose, CannotVote, Grounds};
 ghost use Rattle.batcher_validator.specs.Posing.{HasCast, HasNotCast, IsLeader, IsNotToJudge, IsNotToPropose, IsNotToSign, IsProposalNow, IsProposed, IsToSign, Signs, SignsNothing};
 ghost use Rattle.batcher_validator.specs.Running.{ForEachRun, Gives, IsReady};
@@ -47,7 +47,7 @@ where
         ensures same { result ≡ None → self.new ≡ self.old }
         ensures voter { self.new.voter ≡ self.old.voter }
         ensures less { IfSome result
-            (LeavesLess (⟦<S as NodeConfigs<D>>⟧.of self.old.voter.node) self.old self.new) }
+            (HasLessLeft (⟦<S as NodeConfigs<D>>⟧.of self.old.voter.node) self.old self.new) }
     {
         match self.next_to_sign() {
             Some(subject) => {
@@ -98,9 +98,9 @@ where
         ensures waits { IfSome result (λ s. ForEachRun
             (⟦<S as NodeConfigs<D>>⟧.of self.now.voter.node) self.now (λ past earlier. WaitsForVote
             (⟦<S as NodeConfigs<D>>⟧.of self.now.voter.node) past earlier self.now → ⊥)) }
-        ensures chosen { IfSome result (λ s. ForEachRun
+        ensures preferred { IfSome result (λ s. ForEachRun
             (⟦<S as NodeConfigs<D>>⟧.of self.now.voter.node) self.now
-            (λ past earlier. IsChosen D.eq self.now.voter s)) }
+            (λ past earlier. IsPreferred D.eq self.now.voter s)) }
         ensures none { result ≡ None → Signs ⟦<S as NodeConfigs<D>>⟧.of self.now
             ⊎ ((s : TheSubject D) → IsNotToSign ⟦<S as NodeConfigs<D>>⟧.of self.now s) }
     {
@@ -147,9 +147,10 @@ where
             (CannotVote ⟦<S as NodeConfigs<D>>⟧.of self.now subject.now) }
         ensures free { result ≡ true → IsFree D.eq self.now.voter.journal.contents.votes
             subject.now }
-        ensures chosen { result ≡ false → IsChosen D.eq self.now.voter subject.now → ForEachRun
-            (⟦<S as NodeConfigs<D>>⟧.of self.now.voter.node) self.now (λ past earlier. MayVote
-            (⟦<S as NodeConfigs<D>>⟧.of self.now.voter.node) earlier past subject.now → ⊥) }
+        ensures preferred { result ≡ false → IsPreferred D.eq self.now.voter subject.now
+            → ForEachRun (⟦<S as NodeConfigs<D>>⟧.of self.now.voter.node) self.now
+            (λ past earlier. MayVote (⟦<S as NodeConfigs<D>>⟧.of self.now.voter.node) earlier past
+            subject.now → ⊥) }
     {
         self.begins();
         match self.ask(subject) {
@@ -181,7 +182,7 @@ where
         requires { self.now.voter.journal.is_open ≡ true }
         ensures some { IfSome result (λ p.
             IsToSign ⟦<S as NodeConfigs<D>>⟧.of self.now (Finalize p)) }
-        ensures chosen { IfSome result (λ p. ForEachRun
+        ensures preferred { IfSome result (λ p. ForEachRun
             (⟦<S as NodeConfigs<D>>⟧.of self.now.voter.node) self.now
             (λ past earlier. IsFinalizable D.eq self.now.voter p)) }
         ensures none { result ≡ None → (p : TheProposal D)
@@ -203,7 +204,7 @@ where
         requires from { self.now.voter.node.window.finalized ≤ view.0 }
         ensures some { IfSome result (λ p.
             IsToSign ⟦<S as NodeConfigs<D>>⟧.of self.now (Finalize p)) }
-        ensures chosen { IfSome result (λ p. ForEachRun
+        ensures preferred { IfSome result (λ p. ForEachRun
             (⟦<S as NodeConfigs<D>>⟧.of self.now.voter.node) self.now
             (λ past earlier. IsFinalizable D.eq self.now.voter p)) }
         ensures none { result ≡ None → (p : TheProposal D) → p.round.view.0 ≡ view.0

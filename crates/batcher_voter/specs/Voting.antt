@@ -87,8 +87,8 @@ module _ {D K G C : Type 0} (vote : Vote G D) (past : VoterHistory D K G C) (ear
       ⊎ (after ≡ written vote ∷ past)
 
 module _ {S G D L : Type 0} where
-  -- A proposal is the one that its view is known to have notarized, or the last such, and no vote is
-  -- for its finalize, or contradicts that.
+  -- A proposal is the one that its view is known to have notarized, or the last such, and no vote
+  -- is for its finalize, or contradicts that.
   abbrev pub IsFinalizable : (D → D → Bool) → VoterView S G D L → Proposal D → Type 0
   IsFinalizable same voter p =
       IsFree same voter.journal.contents.votes (Finalize p)
