@@ -4,6 +4,7 @@
 #[path = "../tests/toy/mod.rs"]
 mod toy;
 
+use batcher::errors::RoundError;
 use batcher::thread::{Host, Mailbox};
 use batcher::{Attestation, Batch, Error, Kind, Round, Scheme, Vote};
 use std::sync::mpsc::{Sender, channel};
@@ -70,8 +71,8 @@ fn hear(
                 println!("block {sender}: {reason}");
             }
         }
-        Err(Error::Elsewhere) => {}
-        Err(error) => return Err(error),
+        Err(RoundError::Elsewhere) => {}
+        Err(error) => return Err(error.into()),
     }
     construct(mailbox, scheme, made)
 }
@@ -81,7 +82,7 @@ fn main() -> Result<(), Error> {
         let scheme = Toy::with(4, true, aggregates);
         let host = Host::new()?;
         let own = scheme.clone();
-        let mailbox = host.start(move || Round::new(ROUND, own, false))?;
+        let mailbox = host.start(move || Round::new(ROUND, own, false))??;
         let (made, batches) = channel();
         let votes = [nullify(0), bad(nullify(1)), nullify(2), nullify(3)];
         let threads = votes.map(|vote| {

@@ -123,6 +123,7 @@ fn mailboxes(participants: u32) {
     let start = || {
         let scheme = scheme.clone();
         host.start(move || Round::in_mode(NUMBER, scheme, Mode::Releasing))
+            .expect("a thread")
             .expect("a round")
     };
     let alone = shortest(participants, || {

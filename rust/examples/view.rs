@@ -1,6 +1,7 @@
 //! One view of four validators, as one of them, ada, plays it. It prints what ada sends, and whom
 //! it blocks.
 
+use batcher::errors::{CertificateError, OwnError, RoundError};
 use batcher::positions::Round as Number;
 use batcher::{
     Attestation, Certificate, Epoch, Error, Outcome, Proposal, Round, Scheme, Set, Sha256Digest,
@@ -91,8 +92,8 @@ fn hear(round: &mut Round<Plain>, sender: Key, vote: Vote<Signature>) -> Result<
             }
         }
         // Nobody is blocked for that, since a peer may be a view ahead.
-        Err(Error::Elsewhere) => println!("{sender} sends a vote of another round"),
-        Err(error) => return Err(error),
+        Err(RoundError::Elsewhere) => println!("{sender} sends a vote of another round"),
+        Err(error) => return Err(error.into()),
     }
     construct(round)
 }
@@ -104,9 +105,11 @@ fn learn(
     certificate: &Certificate<Vec<Attestation<Signature>>>,
 ) -> Result<(), Error> {
     match round.record_certificate(certificate) {
-        Ok(_) | Err(Error::Elsewhere) => {}
-        Err(Error::Forged) => println!("block {sender}: its certificate doesn't certify"),
-        Err(error) => return Err(error),
+        Ok(_) | Err(CertificateError::Elsewhere) => {}
+        Err(CertificateError::Forged) => {
+            println!("block {sender}: its certificate doesn't certify")
+        }
+        Err(error) => return Err(error.into()),
     }
     construct(round)
 }
@@ -118,8 +121,8 @@ fn cast(round: &mut Round<Plain>, vote: Vote<Signature>) -> Result<(), Error> {
         Ok(Outcome::ToSend { .. }) => println!("send a vote for a {}", vote.kind()),
         // An earlier vote is there, with which this one might be found to disagree.
         Ok(Outcome::Duplicate { .. }) => println!("send nothing"),
-        Err(Error::Own(fault)) => println!("send nothing: {fault}"),
-        Err(error) => return Err(error),
+        Err(OwnError::Own(fault)) => println!("send nothing: {fault}"),
+        Err(error) => return Err(error.into()),
     }
     construct(round)
 }

@@ -1,10 +1,9 @@
 //! Constructions of a round: what they want verified, what was found, and what they give.
 
-use crate::answers::{Batch, Error, VoteError};
+use crate::answers::Batch;
+use crate::errors::{ConstructError, OutOfMemory, RoundError, VoteError, unknown};
 use crate::ffi::{self, code};
-use crate::flat::{
-    attestation_of, error_of, flat_attestation, flat_subject, kind_code, kind_of, subject_of,
-};
+use crate::flat::{attestation_of, flat_attestation, flat_subject, kind_code, kind_of, subject_of};
 use crate::messages::{Attestation, Certificate, Subject};
 use crate::positions::{Participant, quorum};
 use crate::scheme::Scheme;
@@ -108,7 +107,7 @@ impl Constructions {
         &mut self,
         scheme: &S,
         library: &mut ffi::Round,
-    ) -> Result<Option<Batch<S::Certificate>>, Error> {
+    ) -> Result<Option<Batch<S::Certificate>>, ConstructError> {
         loop {
             match self.step(scheme, library)? {
                 Next::Idle => return Ok(None),
@@ -131,7 +130,7 @@ impl Constructions {
                         ..
                     } = &together.wanted;
                     let passes = scheme.verify_together(subject, attestations, together.verified);
-                    self.record_verdict_together(&together, passes)?;
+                    self.note_together(&together.wanted, passes)?;
                 }
             }
         }
@@ -142,7 +141,7 @@ impl Constructions {
         &mut self,
         scheme: &S,
         library: &mut ffi::Round,
-    ) -> Result<Next<S::Signature, S::Certificate>, Error> {
+    ) -> Result<Next<S::Signature, S::Certificate>, ConstructError> {
         let participants = scheme.participants().len();
         reserve_each(&mut self.known, participants, ffi::Attestation::default())?;
         reserve_each(&mut self.list, participants, ffi::Attestation::default())?;
@@ -160,7 +159,8 @@ impl Constructions {
             code::IDLE => Ok(Next::Idle),
             code::DONE => self.finish(scheme, step),
             code::VERIFY => self.verify(scheme, library, &step),
-            answer => Err(error_of(answer)),
+            code::OUT_OF_MEMORY => Err(ConstructError::OutOfMemory),
+            answer => unknown(answer),
         }
     }
 
@@ -170,8 +170,8 @@ impl Constructions {
         scheme: &S,
         library: &mut ffi::Round,
         step: &ffi::Step,
-    ) -> Result<Next<S::Signature, S::Certificate>, Error> {
-        let subject = subject_of(kind_of(step.kind)?, &step.proposal);
+    ) -> Result<Next<S::Signature, S::Certificate>, ConstructError> {
+        let subject = subject_of(kind_of(step.kind), &step.proposal);
         let (verified, wanted) = (step.verified as usize, step.listed as usize);
         let all = verified + wanted;
         if scheme.aggregates() && all >= quorum(scheme.participants().len()) as usize {
@@ -192,7 +192,8 @@ impl Constructions {
                         }
                         // Verdicts on some of those that wait are recorded, so these aren't all.
                         code::STALE => {}
-                        answer => return Err(error_of(answer)),
+                        code::OUT_OF_MEMORY => return Err(ConstructError::OutOfMemory),
+                        answer => unknown(answer),
                     }
                 }
             }
@@ -210,7 +211,7 @@ impl Constructions {
         &self,
         subject: Subject,
         list: &[ffi::Attestation],
-    ) -> Result<Wanted<G>, Error> {
+    ) -> Result<Wanted<G>, VoteError> {
         Ok(Wanted {
             subject,
             attestations: attestations_of(list)?,
@@ -225,17 +226,22 @@ impl Constructions {
         library: &mut ffi::Round,
         wanted: &Wanted<G>,
         verdicts: &[bool],
-    ) -> Result<bool, Error> {
+    ) -> Result<bool, RoundError> {
         let count = wanted.attestations.len();
         assert_eq!(count, verdicts.len(), "{ONE_EACH}");
         if wanted.owner != self.owner {
-            return Err(Error::Elsewhere);
+            return Err(RoundError::Elsewhere);
         }
         // There was room for each participant when it was handed out.
         for (place, attestation) in self.known.iter_mut().zip(&wanted.attestations) {
             *place = flat_attestation(attestation)?;
         }
-        hand_in(library, &wanted.subject, &self.known[..count], verdicts)
+        Ok(hand_in(
+            library,
+            &wanted.subject,
+            &self.known[..count],
+            verdicts,
+        )?)
     }
 
     /// Notes whether what a step has wanted passes as a whole. Of two verdicts in a row on the same
@@ -244,15 +250,23 @@ impl Constructions {
         &mut self,
         wanted: &WantedTogether<G>,
         passes: bool,
-    ) -> Result<(), Error> {
+    ) -> Result<(), RoundError> {
+        if wanted.wanted.owner != self.owner {
+            return Err(RoundError::Elsewhere);
+        }
+        Ok(self.note_together(&wanted.wanted, passes)?)
+    }
+
+    fn note_together<G: AsRef<[u8]>>(
+        &mut self,
+        wanted: &Wanted<G>,
+        passes: bool,
+    ) -> Result<(), VoteError> {
         let Wanted {
             subject,
             attestations,
-            owner,
-        } = &wanted.wanted;
-        if *owner != self.owner {
-            return Err(Error::Elsewhere);
-        }
+            ..
+        } = wanted;
         let mut list = Vec::new();
         reserve(&mut list, attestations.len())?;
         for attestation in attestations {
@@ -274,10 +288,10 @@ impl Constructions {
         &mut self,
         scheme: &S,
         step: ffi::Step,
-    ) -> Result<Next<S::Signature, S::Certificate>, Error> {
+    ) -> Result<Next<S::Signature, S::Certificate>, ConstructError> {
         self.unfinished = Some(step);
         let made = self.made(scheme, &step);
-        if !matches!(made, Err(Error::OutOfMemory)) {
+        if !matches!(made, Err(ConstructError::OutOfMemory)) {
             self.unfinished = None;
         }
         Ok(Next::Made(made?))
@@ -287,19 +301,19 @@ impl Constructions {
         &self,
         scheme: &S,
         step: &ffi::Step,
-    ) -> Result<Batch<S::Certificate>, Error> {
+    ) -> Result<Batch<S::Certificate>, ConstructError> {
         let signers = &self.signers[..step.invalid as usize];
         let mut invalid = Vec::new();
         reserve(&mut invalid, signers.len())?;
         invalid.extend(signers.iter().map(|index| Participant::new(*index)));
         let mut certificate = None;
         if step.certified {
-            let subject = subject_of(kind_of(step.kind)?, &step.proposal);
+            let subject = subject_of(kind_of(step.kind), &step.proposal);
             let mut quorum = attestations_of(&self.list[..step.listed as usize])?;
             quorum.sort_unstable_by_key(|it: &Attestation<_>| it.signer);
             let content = scheme.assemble(&subject, &quorum);
             if !S::ASSEMBLED_CERTIFIES && !scheme.verify_certificate(&subject, &content) {
-                return Err(Error::BadAssembly);
+                return Err(ConstructError::BadAssembly);
             }
             certificate = Some(Certificate::new(subject, content));
         }
@@ -318,12 +332,13 @@ fn hand_in(
     subject: &Subject,
     list: &[ffi::Attestation],
     verdicts: &[bool],
-) -> Result<bool, Error> {
+) -> Result<bool, OutOfMemory> {
     let (kind, proposal) = (kind_code(subject.kind()), flat_subject(subject));
     match library.record_verdicts(kind, &proposal, list, verdicts) {
         code::DONE => Ok(true),
         code::STALE => Ok(false),
-        answer => Err(error_of(answer)),
+        code::OUT_OF_MEMORY => Err(OutOfMemory),
+        answer => unknown(answer),
     }
 }
 
@@ -339,9 +354,8 @@ pub(crate) fn attestations_of<G: for<'b> TryFrom<&'b [u8]>>(
 }
 
 /// Makes room in a list.
-pub(crate) fn reserve<T>(list: &mut Vec<T>, more: usize) -> Result<(), VoteError> {
-    list.try_reserve_exact(more)
-        .map_err(|_| VoteError::OutOfMemory)
+pub(crate) fn reserve<T>(list: &mut Vec<T>, more: usize) -> Result<(), OutOfMemory> {
+    list.try_reserve_exact(more).map_err(|_| OutOfMemory)
 }
 
 /// Makes a list have as many places as there are participants.
@@ -349,7 +363,7 @@ pub(crate) fn reserve_each<T: Clone>(
     list: &mut Vec<T>,
     participants: u32,
     nothing: T,
-) -> Result<(), VoteError> {
+) -> Result<(), OutOfMemory> {
     reserve(list, (participants as usize).saturating_sub(list.len()))?;
     list.resize(participants as usize, nothing);
     Ok(())

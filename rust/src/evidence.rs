@@ -1,8 +1,8 @@
 //! Whom a report convicts.
 
-use crate::answers::Error;
+use crate::errors::{ConvictError, unknown};
 use crate::ffi::{self, code};
-use crate::flat::{error_of, flat_vote};
+use crate::flat::flat_vote;
 use crate::messages::{Activity, Vote};
 use crate::positions::Participant;
 use crate::scheme::Scheme;
@@ -43,25 +43,26 @@ use std::slice;
 ///
 /// # Errors
 ///
-/// `OutOfMemory`, and `NoParticipants`.
+/// `NoParticipants`, and `SignatureBytes` where a signature has more than 96 bytes.
 pub fn convicted<S: Scheme>(
     scheme: &S,
     report: &Activity<S::Signature>,
-) -> Result<Option<Participant>, Error> {
+) -> Result<Option<Participant>, ConvictError> {
     let Some([first, second]) = votes_of(report) else {
         return Ok(None);
     };
     let participants = scheme.participants().len();
     if participants == 0 {
-        return Err(Error::NoParticipants);
+        return Err(ConvictError::NoParticipants);
     }
+    let flat_vote = |vote| flat_vote(vote).map_err(|_| ConvictError::SignatureBytes);
     let (keys, flat) = (scheme.keys(), [flat_vote(&first)?, flat_vote(&second)?]);
     let ask = |attest: [bool; 2]| {
         let mut convicted = 0;
         match ffi::convicted(participants, &keys, flat.each_ref(), attest, &mut convicted) {
             code::DONE => Ok(Some(Participant::new(convicted))),
             code::IDLE => Ok(None),
-            answer => Err(error_of(answer)),
+            answer => unknown(answer),
         }
     };
     if ask([true; 2])?.is_none() {

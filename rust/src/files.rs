@@ -3,7 +3,7 @@
 //!
 //! What is done to the files is the proved library's; here it is done.
 
-use crate::answers::Error;
+use crate::errors::unknown;
 use crate::ffi::{code, files};
 use crate::looping::reserve_bytes;
 use std::fs::{File, OpenOptions};
@@ -183,6 +183,6 @@ fn fault_of(answer: u8) -> io::Error {
         code::OUT_OF_MEMORY => ErrorKind::OutOfMemory.into(),
         code::FULL => ErrorKind::StorageFull.into(),
         code::DAMAGED => io::Error::new(ErrorKind::InvalidData, "the files are damaged"),
-        other => io::Error::other(Error::Unknown(other)),
+        other => unknown(other),
     }
 }

@@ -1,6 +1,7 @@
 //! The library's flat values, to and from this crate's.
 
-use crate::answers::{BlockReason, Error, Mode, OwnFault, VoteError};
+use crate::answers::{BlockReason, Mode, OwnFault};
+use crate::errors::{VoteError, unknown};
 use crate::ffi::{self, code};
 use crate::messages::{
     Activity, Attestation, Finalize, Kind, Notarize, Nullify, Proposal, Sha256Digest, Subject, Vote,
@@ -109,7 +110,7 @@ fn contradiction_of<G: for<'b> TryFrom<&'b [u8]>>(
         code::REPORT_NULLIFY_FINALIZE => {
             Activity::NullifyFinalize(nullify_of(first)?, finalize_of(second)?)
         }
-        other => return Err(VoteError::Unknown(other)),
+        other => unknown(other),
     })
 }
 
@@ -117,7 +118,7 @@ fn contradiction_of<G: for<'b> TryFrom<&'b [u8]>>(
 pub(crate) fn vote_of<G: for<'b> TryFrom<&'b [u8]>>(
     flat: &ffi::Vote,
 ) -> Result<Vote<G>, VoteError> {
-    let subject = subject_of(kind_of(flat.kind)?, &flat.proposal);
+    let subject = subject_of(kind_of(flat.kind), &flat.proposal);
     Ok(Vote::new(subject, attestation_of(&flat.attestation)?))
 }
 
@@ -170,12 +171,12 @@ pub(crate) fn mode_code(mode: Mode) -> u8 {
     }
 }
 
-pub(crate) fn kind_of(flat: u8) -> Result<Kind, VoteError> {
+pub(crate) fn kind_of(flat: u8) -> Kind {
     match flat {
-        code::NOTARIZATION => Ok(Kind::Notarization),
-        code::NULLIFICATION => Ok(Kind::Nullification),
-        code::FINALIZATION => Ok(Kind::Finalization),
-        other => Err(VoteError::Unknown(other)),
+        code::NOTARIZATION => Kind::Notarization,
+        code::NULLIFICATION => Kind::Nullification,
+        code::FINALIZATION => Kind::Finalization,
+        other => unknown(other),
     }
 }
 
@@ -195,9 +196,9 @@ pub(crate) fn subject_of(kind: Kind, flat: &ffi::Proposal) -> Subject {
 }
 
 #[inline]
-pub(crate) fn block_of(flat: u8) -> Result<Option<BlockReason>, VoteError> {
-    Ok(Some(match flat {
-        code::BLOCK_NONE => return Ok(None),
+pub(crate) fn block_of(flat: u8) -> Option<BlockReason> {
+    Some(match flat {
+        code::BLOCK_NONE => return None,
         code::BLOCK_UNKNOWN_PARTICIPANT => BlockReason::UnknownParticipant,
         code::BLOCK_NOTARIZE_SIGNER_MISMATCH => BlockReason::NotarizeSignerMismatch,
         code::BLOCK_NULLIFY_SIGNER_MISMATCH => BlockReason::NullifySignerMismatch,
@@ -208,40 +209,18 @@ pub(crate) fn block_of(flat: u8) -> Result<Option<BlockReason>, VoteError> {
         code::BLOCK_INVALID_SIGNATURE => BlockReason::InvalidSignature,
         code::BLOCK_NULLIFY_AFTER_FINALIZE => BlockReason::NullifyAfterFinalize,
         code::BLOCK_FINALIZE_AFTER_NULLIFY => BlockReason::FinalizeAfterNullify,
-        other => return Err(VoteError::Unknown(other)),
-    }))
+        other => unknown(other),
+    })
 }
 
-/// What a code says that isn't one of the answers of its call.
-pub(crate) fn error_of(answer: u8) -> Error {
+/// Why the library refuses an own vote.
+pub(crate) fn own_fault(answer: u8) -> OwnFault {
     match answer {
-        code::ELSEWHERE => Error::Elsewhere,
-        code::OUT_OF_MEMORY => Error::OutOfMemory,
-        code::LEADER_CHANGED => Error::LeaderChanged,
-        code::NOT_VERIFIED => Error::NotVerified,
-        code::DUPLICATE_NOTARIZE => Error::Own(OwnFault::DuplicateNotarize),
-        code::DUPLICATE_FINALIZE => Error::Own(OwnFault::DuplicateFinalize),
-        code::CONFLICTING => Error::Own(OwnFault::Conflicting),
-        code::NULLIFY_AFTER_FINALIZE => Error::Own(OwnFault::NullifyAfterFinalize),
-        code::FINALIZE_AFTER_NULLIFY => Error::Own(OwnFault::FinalizeAfterNullify),
-        other => Error::Unknown(other),
-    }
-}
-
-/// An error where the code isn't that all went well.
-#[inline]
-pub(crate) fn done(answer: u8) -> Result<(), Error> {
-    match answer {
-        code::DONE => Ok(()),
-        answer => Err(error_of(answer)),
-    }
-}
-
-/// What an answer is that comes with a value, or with `IDLE` where there is none.
-pub(crate) fn some(answer: u8) -> Result<bool, Error> {
-    match answer {
-        code::DONE => Ok(true),
-        code::IDLE => Ok(false),
-        answer => Err(error_of(answer)),
+        code::DUPLICATE_NOTARIZE => OwnFault::DuplicateNotarize,
+        code::DUPLICATE_FINALIZE => OwnFault::DuplicateFinalize,
+        code::CONFLICTING => OwnFault::Conflicting,
+        code::NULLIFY_AFTER_FINALIZE => OwnFault::NullifyAfterFinalize,
+        code::FINALIZE_AFTER_NULLIFY => OwnFault::FinalizeAfterNullify,
+        other => unknown(other),
     }
 }

@@ -63,6 +63,7 @@ compile_error!("the static library of this crate is built for x86-64 Linux alone
 
 mod answers;
 mod construct;
+pub mod errors;
 mod evidence;
 #[allow(unsafe_code)]
 mod ffi;
@@ -84,9 +85,8 @@ pub mod thread;
 #[cfg(feature = "test")]
 extern crate self as batcher;
 
-pub use answers::{
-    Admission, Batch, BlockReason, CallError, Error, Mode, Outcome, OwnFault, VoteError,
-};
+pub use answers::{Admission, Batch, BlockReason, Mode, Outcome, OwnFault};
+pub use errors::Error;
 pub use evidence::convicted;
 pub use files::Files;
 pub use looping::Loop;

@@ -57,8 +57,9 @@
 //! # }
 //! ```
 
-use crate::answers::{Admission, BlockReason, CallError, VoteError};
+use crate::answers::{Admission, BlockReason};
 use crate::construct::{ONE_EACH, attestations_of, reserve, reserve_each};
+use crate::errors::{OutOfMemory, VoteError, unknown};
 use crate::ffi::{self, code, loops};
 use crate::flat::{
     block_of, flat_attestation, flat_proposal, flat_round, flat_subject, flat_vote, kind_code,
@@ -106,8 +107,6 @@ pub enum StartError {
     OtherOwner,
     /// What is on the disk is no journal, or has what no validator wrote.
     Damaged,
-    /// The library answered a code that the call doesn't have.
-    Unknown(u8),
 }
 
 impl fmt::Display for StartError {
@@ -119,9 +118,6 @@ impl fmt::Display for StartError {
             StartError::OtherVersion => f.write_str("the journal is of another version"),
             StartError::OtherOwner => f.write_str("the journal is somebody else's"),
             StartError::Damaged => f.write_str("the disk has no journal"),
-            StartError::Unknown(code) => {
-                write!(f, "the library answered {code}, which isn't known")
-            }
         }
     }
 }
@@ -139,8 +135,6 @@ pub enum PollError {
     Closed,
     /// The scheme doesn't make the same signature of its bytes again.
     SignatureBytes,
-    /// The library answered a code that the call doesn't have.
-    Unknown(u8),
 }
 
 impl fmt::Display for PollError {
@@ -150,7 +144,6 @@ impl fmt::Display for PollError {
             PollError::Full => f.write_str("the journal is full"),
             PollError::Closed => f.write_str("the journal is closed"),
             PollError::SignatureBytes => f.write_str("signature isn't its bytes"),
-            PollError::Unknown(code) => write!(f, "the library answered {code}, which isn't known"),
         }
     }
 }
@@ -162,14 +155,13 @@ impl From<VoteError> for PollError {
         match error {
             VoteError::OutOfMemory => PollError::OutOfMemory,
             VoteError::SignatureBytes => PollError::SignatureBytes,
-            VoteError::Unknown(code) => PollError::Unknown(code),
         }
     }
 }
 
-impl From<CallError> for PollError {
-    fn from(error: CallError) -> Self {
-        PollError::from(VoteError::from(error))
+impl From<OutOfMemory> for PollError {
+    fn from(_: OutOfMemory) -> Self {
+        PollError::OutOfMemory
     }
 }
 
@@ -433,7 +425,7 @@ impl<G: Clone + AsRef<[u8]> + for<'b> TryFrom<&'b [u8]>> Loop<G> {
                     code::OUT_OF_MEMORY => return Err(PollError::OutOfMemory),
                     code::FULL => return Err(PollError::Full),
                     code::CLOSED => return Err(PollError::Closed),
-                    other => return Err(PollError::Unknown(other)),
+                    other => unknown(other),
                 }
             }
             let task = self.handed_out()?;
@@ -449,8 +441,7 @@ impl<G: Clone + AsRef<[u8]> + for<'b> TryFrom<&'b [u8]>> Loop<G> {
         let flat = &self.task;
         Ok(Some(match flat.task {
             code::TASK_BLOCK => {
-                let cause = cause_of(flat.cause).ok_or(PollError::Unknown(flat.cause))?;
-                Task::Block(Participant::new(flat.participant), cause)
+                Task::Block(Participant::new(flat.participant), cause_of(flat.cause))
             }
             code::TASK_FINAL => Task::Final(proposal_of(&flat.proposal)),
             // It is on the disk since it was cast, so it attests.
@@ -460,7 +451,7 @@ impl<G: Clone + AsRef<[u8]> + for<'b> TryFrom<&'b [u8]>> Loop<G> {
             },
             code::TASK_SEND_VOTE => Task::SendVote(vote_of(&flat.vote)?),
             code::TASK_SEND_CERTIFICATE => {
-                let kind = kind_of(flat.kind)?;
+                let kind = kind_of(flat.kind);
                 match self.kept(kind, round_of(&flat.proposal))? {
                     Some(certificate) => Task::SendCertificate(certificate),
                     None => return Ok(None),
@@ -478,13 +469,13 @@ impl<G: Clone + AsRef<[u8]> + for<'b> TryFrom<&'b [u8]>> Loop<G> {
                 Some(wanted) => Task::Verify(wanted),
                 None => return Ok(None),
             },
-            code::TASK_SIGN => Task::Sign(subject_of(kind_of(flat.kind)?, &flat.proposal)),
+            code::TASK_SIGN => Task::Sign(subject_of(kind_of(flat.kind), &flat.proposal)),
             code::TASK_PROPOSE => Task::Propose {
                 view: View::new(flat.proposal.view),
                 parent: View::new(flat.proposal.parent),
             },
             code::TASK_JUDGE => Task::Judge(proposal_of(&flat.proposal)),
-            other => return Err(PollError::Unknown(other)),
+            other => unknown(other),
         }))
     }
 
@@ -495,7 +486,7 @@ impl<G: Clone + AsRef<[u8]> + for<'b> TryFrom<&'b [u8]>> Loop<G> {
             match self.library.owed(&mut bytes, &mut count, &mut replaces) {
                 code::DONE => return Ok(Write { replaces, bytes }),
                 code::SHORT => reserve_bytes(&mut bytes, count)?,
-                other => return Err(PollError::Unknown(other)),
+                other => unknown(other),
             }
         }
     }
@@ -504,12 +495,12 @@ impl<G: Clone + AsRef<[u8]> + for<'b> TryFrom<&'b [u8]>> Loop<G> {
         let mut step = ffi::Step::default();
         match self.library.lend(&mut step, &mut self.list) {
             code::VERIFY => Ok(Some(Wanted {
-                subject: subject_of(kind_of(step.kind)?, &step.proposal),
+                subject: subject_of(kind_of(step.kind), &step.proposal),
                 attestations: attestations_of(&self.list[..step.listed as usize])?,
             })),
             code::IDLE => Ok(None),
             code::OUT_OF_MEMORY => Err(PollError::OutOfMemory),
-            other => Err(PollError::Unknown(other)),
+            other => unknown(other),
         }
     }
 
@@ -538,13 +529,14 @@ impl<G: Clone + AsRef<[u8]> + for<'b> TryFrom<&'b [u8]>> Loop<G> {
         {
             code::DONE => Ok(Receipt::Answered(Admission {
                 added: self.answer.added,
-                block: block_of(self.answer.block)?,
+                block: block_of(self.answer.block),
                 report: report_of(&self.answer, vote)?,
             })),
             code::ELSEWHERE => Ok(Receipt::Outside),
             code::DROPPED => Ok(Receipt::Dropped),
             code::UNKNOWN => Ok(Receipt::Unknown),
-            other => Err(CallError::of(other).into()),
+            code::OUT_OF_MEMORY => Err(VoteError::OutOfMemory),
+            other => unknown(other),
         }
     }
 
@@ -590,7 +582,7 @@ impl<G: Clone + AsRef<[u8]> + for<'b> TryFrom<&'b [u8]>> Loop<G> {
         sender: Participant,
         certificate: &Listed,
         certifies: bool,
-    ) -> Result<Receipt<Verdict>, CallError> {
+    ) -> Result<Receipt<Verdict>, OutOfMemory> {
         match self.library.certificate(
             u64::from(sender.get()),
             kind_code(certificate.kind()),
@@ -604,7 +596,8 @@ impl<G: Clone + AsRef<[u8]> + for<'b> TryFrom<&'b [u8]>> Loop<G> {
             code::ELSEWHERE => Ok(Receipt::Outside),
             code::DROPPED => Ok(Receipt::Dropped),
             code::UNKNOWN => Ok(Receipt::Unknown),
-            other => Err(CallError::of(other)),
+            code::OUT_OF_MEMORY => Err(OutOfMemory),
+            other => unknown(other),
         }
     }
 
@@ -633,7 +626,8 @@ impl<G: Clone + AsRef<[u8]> + for<'b> TryFrom<&'b [u8]>> Loop<G> {
         {
             code::DONE => Ok(true),
             code::STALE => Ok(false),
-            other => Err(CallError::of(other).into()),
+            code::OUT_OF_MEMORY => Err(VoteError::OutOfMemory),
+            other => unknown(other),
         }
     }
 
@@ -712,7 +706,7 @@ impl<G: Clone + AsRef<[u8]> + for<'b> TryFrom<&'b [u8]>> Loop<G> {
     /// # Errors
     ///
     /// `OutOfMemory`.
-    pub fn kept(&self, kind: Kind, round: Round) -> Result<Option<Listed>, CallError> {
+    pub fn kept(&self, kind: Kind, round: Round) -> Result<Option<Listed>, OutOfMemory> {
         let (mut flat, mut count) = (flat_round(&round), 0);
         let mut bytes = Vec::new();
         loop {
@@ -725,7 +719,8 @@ impl<G: Clone + AsRef<[u8]> + for<'b> TryFrom<&'b [u8]>> Loop<G> {
                 }
                 code::IDLE => return Ok(None),
                 code::SHORT => reserve_bytes(&mut bytes, count)?,
-                other => return Err(CallError::of(other)),
+                code::OUT_OF_MEMORY => return Err(OutOfMemory),
+                other => unknown(other),
             }
         }
     }
@@ -747,15 +742,14 @@ fn start_error(answer: u8) -> StartError {
         code::OTHER_VERSION => StartError::OtherVersion,
         code::OTHER_OWNER => StartError::OtherOwner,
         code::DAMAGED => StartError::Damaged,
-        other => StartError::Unknown(other),
+        other => unknown(other),
     }
 }
 
 /// Makes room for as many bytes as are wanted.
-pub(crate) fn reserve_bytes(bytes: &mut Vec<u8>, count: u64) -> Result<(), CallError> {
-    let count = usize::try_from(count).map_err(|_| CallError::OutOfMemory)?;
-    let more = count.saturating_sub(bytes.len());
-    reserve(bytes, more).map_err(|_| CallError::OutOfMemory)
+pub(crate) fn reserve_bytes(bytes: &mut Vec<u8>, count: u64) -> Result<(), OutOfMemory> {
+    let count = usize::try_from(count).map_err(|_| OutOfMemory)?;
+    reserve(bytes, count.saturating_sub(bytes.len()))
 }
 
 /// The attestations of a list: how many there are, and of each its signer, how long its signature
@@ -781,10 +775,13 @@ fn listed<G: for<'b> TryFrom<&'b [u8]>>(bytes: &[u8]) -> Option<Vec<Attestation<
     Some(all)
 }
 
-fn cause_of(flat: u8) -> Option<Cause> {
+fn cause_of(flat: u8) -> Cause {
     match flat {
-        code::CAUSE_CERTIFICATE => Some(Cause::Certificate),
-        code::CAUSE_SIGNATURE => Some(Cause::Signature),
-        other => block_of(other).ok()?.map(Cause::Vote),
+        code::CAUSE_CERTIFICATE => Cause::Certificate,
+        code::CAUSE_SIGNATURE => Cause::Signature,
+        other => match block_of(other) {
+            Some(reason) => Cause::Vote(reason),
+            None => unknown(other),
+        },
     }
 }

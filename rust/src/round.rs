@@ -1,12 +1,16 @@
 //! One round: what it answers to votes, and the certificates that it makes of them.
 
-use crate::answers::{Admission, Batch, Error, Mode, Outcome};
+use crate::answers::{Admission, Batch, Mode, Outcome};
 use crate::construct::{Constructions, Next, reserve_each};
 pub use crate::construct::{Wanted, WantedTogether};
+use crate::errors::{
+    CertificateError, ConstructError, LeaderError, NewError, OutOfMemory, OwnError, RoundError,
+    unknown,
+};
 use crate::ffi::{self, code};
 use crate::flat::{
-    block_of, done, error_of, flat_proposal, flat_subject, flat_vote, kind_code, mode_code,
-    proposal_of, report_of, some,
+    block_of, flat_proposal, flat_subject, flat_vote, kind_code, mode_code, own_fault, proposal_of,
+    report_of,
 };
 use crate::messages::{Certificate, Kind, Proposal, Vote};
 use crate::positions::{self, Participant};
@@ -84,7 +88,7 @@ impl<S: Scheme> Round<S> {
         round: positions::Round,
         scheme: Arc<S>,
         track_historical_votes: bool,
-    ) -> Result<Self, Error> {
+    ) -> Result<Self, NewError> {
         let mode = if track_historical_votes {
             Mode::Retaining
         } else {
@@ -99,7 +103,7 @@ impl<S: Scheme> Round<S> {
     /// # Errors
     ///
     /// `NoParticipants` and `OutOfMemory`.
-    pub fn skipped(round: positions::Round, scheme: Arc<S>) -> Result<Self, Error> {
+    pub fn skipped(round: positions::Round, scheme: Arc<S>) -> Result<Self, NewError> {
         Round::in_mode(round, scheme, Mode::Skipped)
     }
 
@@ -108,10 +112,10 @@ impl<S: Scheme> Round<S> {
     /// # Errors
     ///
     /// `NoParticipants` and `OutOfMemory`.
-    pub fn in_mode(round: positions::Round, scheme: Arc<S>, mode: Mode) -> Result<Self, Error> {
+    pub fn in_mode(round: positions::Round, scheme: Arc<S>, mode: Mode) -> Result<Self, NewError> {
         let participants = scheme.participants().len();
         if participants == 0 {
-            return Err(Error::NoParticipants);
+            return Err(NewError::NoParticipants);
         }
         let library = ffi::Round::new(&ffi::RoundOptions {
             epoch: round.epoch.get(),
@@ -121,7 +125,10 @@ impl<S: Scheme> Round<S> {
             mode: mode_code(mode),
             batchable: scheme.is_batchable(),
         })
-        .map_err(error_of)?;
+        .map_err(|answer| match answer {
+            code::OUT_OF_MEMORY => NewError::OutOfMemory,
+            answer => unknown(answer),
+        })?;
         Ok(Round {
             library,
             scheme,
@@ -193,16 +200,21 @@ impl<S: Scheme> Round<S> {
         &mut self,
         sender: &S::PublicKey,
         vote: Vote<S::Signature>,
-    ) -> Result<Admission<S::Signature>, Error> {
+    ) -> Result<Admission<S::Signature>, RoundError> {
         let sender = self.scheme.participants().index_near(sender, vote.signer());
         let flat = flat_vote(&vote)?;
-        done(
-            self.library
-                .add_network(name_of(sender), &flat, &mut self.answer),
-        )?;
+        match self
+            .library
+            .add_network(name_of(sender), &flat, &mut self.answer)
+        {
+            code::DONE => {}
+            code::ELSEWHERE => return Err(RoundError::Elsewhere),
+            code::OUT_OF_MEMORY => return Err(RoundError::OutOfMemory),
+            answer => unknown(answer),
+        }
         Ok(Admission {
             added: self.answer.added,
-            block: block_of(self.answer.block)?,
+            block: block_of(self.answer.block),
             report: report_of(&self.answer, &vote)?,
         })
     }
@@ -221,7 +233,7 @@ impl<S: Scheme> Round<S> {
     ///
     /// A round knows the own votes that it was handed, and no others. So keep the bytes of each own
     /// vote before it is handed in, since the next certificate may have it. A round that is made
-    /// again for the same view, as after a restart or after [`Error::Gone`], knows none of them, and
+    /// again for the same view, as after a restart or after [`Gone`](crate::errors::Gone), knows none of them, and
     /// would let another be sent that contradicts them. Hand those in first, as the same bytes and
     /// in the same order. Where that can't be done, cast nothing more in that view. **Where one is
     /// answered `OutOfMemory`, hand in no other until the same one is answered otherwise**: it comes
@@ -257,9 +269,9 @@ impl<S: Scheme> Round<S> {
     pub fn accept_vote(
         &mut self,
         vote: Vote<S::Signature>,
-    ) -> Result<Outcome<S::Signature>, Error> {
+    ) -> Result<Outcome<S::Signature>, OwnError> {
         if !self.belongs(&vote) {
-            return Err(Error::Elsewhere);
+            return Err(OwnError::Elsewhere);
         }
         let attests = attests(&*self.scheme, &vote);
         self.accept(vote, attests)
@@ -274,7 +286,7 @@ impl<S: Scheme> Round<S> {
     pub fn accept_verified_vote(
         &mut self,
         vote: Vote<S::Signature>,
-    ) -> Result<Outcome<S::Signature>, Error> {
+    ) -> Result<Outcome<S::Signature>, OwnError> {
         self.accept(vote, true)
     }
 
@@ -282,16 +294,24 @@ impl<S: Scheme> Round<S> {
         &mut self,
         vote: Vote<S::Signature>,
         attests: bool,
-    ) -> Result<Outcome<S::Signature>, Error> {
+    ) -> Result<Outcome<S::Signature>, OwnError> {
         let flat = flat_vote(&vote)?;
-        done(self.library.accept_vote(&flat, attests, &mut self.answer))?;
+        match self.library.accept_vote(&flat, attests, &mut self.answer) {
+            code::DONE => {}
+            code::ELSEWHERE => return Err(OwnError::Elsewhere),
+            code::NOT_VERIFIED => return Err(OwnError::NotVerified),
+            code::OUT_OF_MEMORY => return Err(OwnError::OutOfMemory),
+            answer => return Err(OwnError::Own(own_fault(answer))),
+        }
         let retained = self.answer.retained;
         if !self.answer.added {
             return Ok(Outcome::Duplicate { retained });
         }
         // A vote that was added is reported.
-        let report = report_of(&self.answer, &vote)?.ok_or(Error::Unknown(code::DONE))?;
-        Ok(Outcome::ToSend { report, retained })
+        match report_of(&self.answer, &vote)? {
+            Some(report) => Ok(Outcome::ToSend { report, retained }),
+            None => unknown(code::DONE),
+        }
     }
 
     /// Takes in a certificate that came from elsewhere, which the scheme is asked to verify. It
@@ -305,7 +325,8 @@ impl<S: Scheme> Round<S> {
     ///
     /// ```
     /// # include!(concat!(env!("CARGO_MANIFEST_DIR"), "/tests/toy/mod.rs"));
-    /// use batcher::{Error, Kind, Round, Subject};
+    /// use batcher::errors::CertificateError;
+    /// use batcher::{Kind, Round, Subject};
     /// # fn main() -> Result<(), batcher::Error> {
     /// let mut round = Round::new(ROUND, Toy::new(4), false)?;
     /// // No leader is named, so the notarizes wait.
@@ -316,7 +337,7 @@ impl<S: Scheme> Round<S> {
     /// let subject = Subject::Finalize { proposal: proposal(7) };
     /// // Two signers are no quorum: who sent that is to be blocked.
     /// let forged = certificate(subject, 0..2);
-    /// assert_eq!(round.record_certificate(&forged), Err(Error::Forged));
+    /// assert_eq!(round.record_certificate(&forged), Err(CertificateError::Forged));
     /// // A finalization selects its proposal, so the notarizes make a certificate.
     /// assert!(!round.record_certificate(&certificate(subject, 1..4))?);
     /// let batch = round.try_construct()?.expect("a quorum is there");
@@ -332,15 +353,15 @@ impl<S: Scheme> Round<S> {
     pub fn record_certificate(
         &mut self,
         certificate: &Certificate<S::Certificate>,
-    ) -> Result<bool, Error> {
+    ) -> Result<bool, CertificateError> {
         if !self.belongs_certificate(certificate) {
-            return Err(Error::Elsewhere);
+            return Err(CertificateError::Elsewhere);
         }
         if !self
             .scheme
             .verify_certificate(&certificate.subject(), certificate.content())
         {
-            return Err(Error::Forged);
+            return Err(CertificateError::Forged);
         }
         self.record_verified_certificate(certificate)
     }
@@ -372,22 +393,24 @@ impl<S: Scheme> Round<S> {
     pub fn record_verified_certificate(
         &mut self,
         certificate: &Certificate<S::Certificate>,
-    ) -> Result<bool, Error> {
+    ) -> Result<bool, CertificateError> {
         if !self.belongs_certificate(certificate) {
-            return Err(Error::Elsewhere);
+            return Err(CertificateError::Elsewhere);
         }
         let mut selected_anew = false;
-        done(
-            self.library.record_certificate(
-                kind_code(certificate.kind()),
-                &flat_subject(&certificate.subject()),
-                self.scheme
-                    .certificate_bytes(certificate.content())
-                    .as_ref(),
-                &mut selected_anew,
-            ),
-        )?;
-        Ok(selected_anew)
+        match self.library.record_certificate(
+            kind_code(certificate.kind()),
+            &flat_subject(&certificate.subject()),
+            self.scheme
+                .certificate_bytes(certificate.content())
+                .as_ref(),
+            &mut selected_anew,
+        ) {
+            code::DONE => Ok(selected_anew),
+            code::ELSEWHERE => Err(CertificateError::Elsewhere),
+            code::OUT_OF_MEMORY => Err(CertificateError::OutOfMemory),
+            answer => unknown(answer),
+        }
     }
 
     /// Names the leader. If its notarize is kept, that selects its proposal where none is selected,
@@ -414,17 +437,21 @@ impl<S: Scheme> Round<S> {
     ///
     /// `UnknownParticipant` where the index is no participant's, and `LeaderChanged` where another
     /// leader was named before.
-    pub fn set_leader(&mut self, leader: Participant) -> Result<(), Error> {
+    pub fn set_leader(&mut self, leader: Participant) -> Result<(), LeaderError> {
         if self.scheme.participants().key(leader).is_none() {
-            return Err(Error::UnknownParticipant);
+            return Err(LeaderError::UnknownParticipant);
         }
         self.set_any_leader(leader)
     }
 
     // As the library has it, which takes each index. Scripts of calls name such leaders too.
     #[doc(hidden)]
-    pub fn set_any_leader(&mut self, leader: Participant) -> Result<(), Error> {
-        done(self.library.set_leader(leader.get()))
+    pub fn set_any_leader(&mut self, leader: Participant) -> Result<(), LeaderError> {
+        match self.library.set_leader(leader.get()) {
+            code::DONE => Ok(()),
+            code::LEADER_CHANGED => Err(LeaderError::LeaderChanged),
+            answer => unknown(answer),
+        }
     }
 
     /// The leader, once it is named.
@@ -441,14 +468,13 @@ impl<S: Scheme> Round<S> {
 
     /// The selected proposal, to hand on: once at most, and not where the leader that was named is
     /// `me`.
-    ///
-    /// # Errors
-    ///
-    /// Only `Unknown`.
-    pub fn try_forward_proposal(&mut self, me: Participant) -> Result<Option<Proposal>, Error> {
+    pub fn try_forward_proposal(&mut self, me: Participant) -> Option<Proposal> {
         let mut proposal = ffi::Proposal::default();
-        let is_some = some(self.library.try_forward_proposal(me.get(), &mut proposal))?;
-        Ok(is_some.then(|| proposal_of(&proposal)))
+        match self.library.try_forward_proposal(me.get(), &mut proposal) {
+            code::DONE => Some(proposal_of(&proposal)),
+            code::IDLE => None,
+            answer => unknown(answer),
+        }
     }
 
     /// Whether a certificate of the kind is there.
@@ -480,14 +506,18 @@ impl<S: Scheme> Round<S> {
     /// # Errors
     ///
     /// `OutOfMemory`.
-    pub fn missing_voters(&self, proposal: &Proposal) -> Result<Vec<Participant>, Error> {
+    pub fn missing_voters(&self, proposal: &Proposal) -> Result<Vec<Participant>, OutOfMemory> {
         let mut list = Vec::new();
         reserve_each(&mut list, self.scheme.participants().len(), 0)?;
         let mut count = 0;
-        done(
-            self.library
-                .missing_voters(&flat_proposal(proposal), &mut list, &mut count),
-        )?;
+        match self
+            .library
+            .missing_voters(&flat_proposal(proposal), &mut list, &mut count)
+        {
+            code::DONE => {}
+            code::OUT_OF_MEMORY => return Err(OutOfMemory),
+            answer => unknown(answer),
+        }
         list.truncate(count as usize);
         Ok(list.into_iter().map(Participant::new).collect())
     }
@@ -534,7 +564,7 @@ impl<S: Scheme> Round<S> {
     /// # Panics
     ///
     /// Where the scheme doesn't give a verdict on each attestation.
-    pub fn try_construct(&mut self) -> Result<Option<Batch<S::Certificate>>, Error> {
+    pub fn try_construct(&mut self) -> Result<Option<Batch<S::Certificate>>, ConstructError> {
         self.constructions
             .construct(&*self.scheme, &mut self.library)
     }
@@ -578,7 +608,7 @@ impl<S: Scheme> Round<S> {
     /// # Errors
     ///
     /// `OutOfMemory`.
-    pub fn step(&mut self) -> Result<Step<S::Signature, S::Certificate>, Error> {
+    pub fn step(&mut self) -> Result<Step<S::Signature, S::Certificate>, ConstructError> {
         Ok(
             match self.constructions.step(&*self.scheme, &mut self.library)? {
                 Next::Idle => Step::Idle,
@@ -612,7 +642,7 @@ impl<S: Scheme> Round<S> {
         &mut self,
         wanted: &Wanted<S::Signature>,
         verdicts: &[bool],
-    ) -> Result<bool, Error> {
+    ) -> Result<bool, RoundError> {
         self.constructions
             .record_verdicts(&mut self.library, wanted, verdicts)
     }
@@ -632,7 +662,7 @@ impl<S: Scheme> Round<S> {
         &mut self,
         wanted: &WantedTogether<S::Signature>,
         passes: bool,
-    ) -> Result<(), Error> {
+    ) -> Result<(), RoundError> {
         self.constructions.record_verdict_together(wanted, passes)
     }
 }

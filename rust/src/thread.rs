@@ -18,7 +18,7 @@
 //! # fn main() -> Result<(), batcher::Error> {
 //! let host = Host::new()?;
 //! let scheme = Toy::new(4);
-//! let mailbox = host.start(move || Round::new(ROUND, scheme, false))?;
+//! let mailbox = host.start(move || Round::new(ROUND, scheme, false))??;
 //! // The second one is in another's name.
 //! let signers = [("ada", 0), ("dot", 2), ("ben", 1), ("cyd", 2)];
 //! let votes = signers.map(|(sender, signer)| (sender, nullify(signer)));
@@ -47,7 +47,7 @@
 //! that isn't to be, use [`Round::step`](crate::Round::step), and verify elsewhere: the example
 //! `mailbox` of this crate does so.
 
-use crate::answers::Error;
+use crate::errors::{Gone, NoThread};
 use std::any::Any;
 use std::collections::HashMap;
 use std::fmt;
@@ -78,8 +78,8 @@ impl Host {
     ///
     /// # Errors
     ///
-    /// `NoThread`.
-    pub fn new() -> Result<Self, Error> {
+    /// The system gives no thread.
+    pub fn new() -> Result<Self, NoThread> {
         let (jobs, inbox) = channel::<Job>();
         std::thread::Builder::new()
             .name("batcher".into())
@@ -91,7 +91,7 @@ impl Host {
                     let _ = catch_unwind(AssertUnwindSafe(|| job(&mut values)));
                 }
             })
-            .map_err(|_| Error::NoThread)?;
+            .map_err(|_| NoThread)?;
         Ok(Host {
             jobs,
             next: Arc::new(AtomicU64::new(0)),
@@ -104,11 +104,11 @@ impl Host {
     ///
     /// # Errors
     ///
-    /// What `make` answers, or `Gone` where it panics.
-    pub fn start<T: 'static>(
+    /// `Gone` where `make` panics. Within that is what it answers.
+    pub fn start<T: 'static, E: Send + 'static>(
         &self,
-        make: impl FnOnce() -> Result<T, Error> + Send + 'static,
-    ) -> Result<Mailbox<T>, Error> {
+        make: impl FnOnce() -> Result<T, E> + Send + 'static,
+    ) -> Result<Result<Mailbox<T>, E>, Gone> {
         let number = self.next.fetch_add(1, Ordering::Relaxed);
         let reply = post(&self.jobs, move |values| {
             let made = catch_unwind(AssertUnwindSafe(make)).ok()?;
@@ -116,15 +116,17 @@ impl Host {
                 values.insert(number, Box::new(value));
             }))
         });
-        reply.wait()??;
+        if let Err(error) = reply.wait()? {
+            return Ok(Err(error));
+        }
         let place = Arc::new(Place {
             jobs: self.jobs.clone(),
             number,
         });
-        Ok(Mailbox {
+        Ok(Ok(Mailbox {
             place,
             of: PhantomData,
-        })
+        }))
     }
 }
 
@@ -170,7 +172,7 @@ impl<T: 'static> Mailbox<T> {
     pub fn call<R: Send + 'static>(
         &self,
         job: impl FnOnce(&mut T) -> R + Send + 'static,
-    ) -> Result<R, Error> {
+    ) -> Result<R, Gone> {
         self.ask(job).wait()
     }
 
@@ -286,11 +288,11 @@ impl<R> Reply<R> {
     /// # Errors
     ///
     /// `Gone` where the job, or an earlier one of its value, has panicked.
-    pub fn wait(self) -> Result<R, Error> {
+    pub fn wait(self) -> Result<R, Gone> {
         let mut state = self.slot.lock();
         loop {
             if let State::Filled(answer) = &mut *state {
-                return answer.take().ok_or(Error::Gone);
+                return answer.take().ok_or(Gone);
             }
             state = self
                 .slot
@@ -302,11 +304,11 @@ impl<R> Reply<R> {
 }
 
 impl<R> Future for Reply<R> {
-    type Output = Result<R, Error>;
+    type Output = Result<R, Gone>;
 
     fn poll(self: Pin<&mut Self>, context: &mut Context<'_>) -> Poll<Self::Output> {
         match &mut *self.slot.lock() {
-            State::Filled(answer) => Poll::Ready(answer.take().ok_or(Error::Gone)),
+            State::Filled(answer) => Poll::Ready(answer.take().ok_or(Gone)),
             State::Waiting(waker) => {
                 *waker = Some(context.waker().clone());
                 Poll::Pending

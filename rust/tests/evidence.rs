@@ -2,7 +2,8 @@
 
 mod toy;
 
-use batcher::{Activity, Error, Mode, Participant, Round, Subject, Vote, convicted};
+use batcher::errors::ConvictError;
+use batcher::{Activity, Mode, Participant, Round, Subject, Vote, convicted};
 use std::sync::Arc;
 use toy::{KEYS, ROUND, Signature, Toy, bad, finalize, notarize, nullify};
 
@@ -84,6 +85,6 @@ fn what_is_no_contradiction_convicts_nobody() {
     assert_eq!(scheme.counted(), [2, 2, 0]);
     assert_eq!(
         convicted(&*Toy::new(0), &report),
-        Err(Error::NoParticipants)
+        Err(ConvictError::NoParticipants)
     );
 }

@@ -3,10 +3,11 @@
 
 mod refusing;
 
+use batcher::errors::RoundError;
 use batcher::positions::Round as Number;
 use batcher::{
-    Certificate, Epoch, Error, Mode, Participant, Proposal, Round, Sha256Digest, Step, Subject,
-    View, Wanted,
+    Certificate, Epoch, Mode, Participant, Proposal, Round, Sha256Digest, Step, Subject, View,
+    Wanted,
 };
 use refusing::{Plain, Signature, again, asks, each_refused_in_turn, once, vote};
 
@@ -182,7 +183,7 @@ fn of_a_refused_list_no_verdict_is_recorded() {
             assert!(refused > 1, "{refused} requests alone");
             return;
         }
-        assert_eq!(answer, Err(Error::OutOfMemory));
+        assert_eq!(answer, Err(RoundError::OutOfMemory));
         let again = wanted(&mut round);
         assert_eq!(again.attestations(), three.attestations());
         assert_eq!(
@@ -219,7 +220,7 @@ fn a_vote_of_another_round_takes_no_memory() {
     let other = Number::new(Epoch::zero(), View::new(9));
     let nullify = vote(Subject::Nullify { round: other }, 1, true);
     let answer = asks(|| round.add_network(&1, nullify));
-    assert_eq!(answer, (Err(Error::Elsewhere), false));
+    assert_eq!(answer, (Err(RoundError::Elsewhere), false));
 }
 
 /// Of two verdicts on the same attestations as a whole the first counts that memory was there for.

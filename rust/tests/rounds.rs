@@ -2,10 +2,11 @@
 
 mod toy;
 
+use batcher::errors::{CertificateError, LeaderError, NewError, OwnError, RoundError};
 use batcher::positions::{self, Round as Number};
 use batcher::{
-    Activity, BlockReason, Epoch, Error, Kind, Mode, Outcome, OwnFault, Participant, Round, Scheme,
-    Set, SetFault, Step, Subject, View, Vote, quorum,
+    Activity, BlockReason, Epoch, Kind, Mode, Outcome, OwnFault, Participant, Round, Scheme, Set,
+    SetFault, Step, Subject, View, Vote, quorum,
 };
 use std::sync::Arc;
 use toy::{KEYS, ROUND, Signature, Toy, bad, certificate, finalize, notarize, nullify, proposal};
@@ -224,18 +225,18 @@ fn the_leaders_proposal_is_notarized_forwarded_and_finalized() {
     let me = Participant::new(0);
     hear(&mut round, notarize(1, 7));
     hear(&mut round, notarize(2, 7));
-    assert_eq!(round.try_forward_proposal(me), Ok(None));
+    assert_eq!(round.try_forward_proposal(me), None);
     assert_eq!((round.leader(), round.proposal()), (None, None));
     round.set_leader(Participant::new(2)).unwrap();
     round.set_leader(Participant::new(2)).unwrap();
     assert_eq!(
         round.set_leader(Participant::new(1)),
-        Err(Error::LeaderChanged)
+        Err(LeaderError::LeaderChanged)
     );
     assert_eq!(round.leader(), Some(Participant::new(2)));
     assert_eq!(round.proposal(), Some(proposal(7)));
-    assert_eq!(round.try_forward_proposal(me), Ok(Some(proposal(7))));
-    assert_eq!(round.try_forward_proposal(me), Ok(None));
+    assert_eq!(round.try_forward_proposal(me), Some(proposal(7)));
+    assert_eq!(round.try_forward_proposal(me), None);
     let Vote::Notarize(own) = notarize(0, 7) else {
         unreachable!()
     };
@@ -244,7 +245,7 @@ fn the_leaders_proposal_is_notarized_forwarded_and_finalized() {
         retained: true,
     };
     assert_eq!(round.accept_vote(notarize(0, 7)), Ok(to_send));
-    let duplicate = Err(Error::Own(OwnFault::DuplicateNotarize));
+    let duplicate = Err(OwnError::Own(OwnFault::DuplicateNotarize));
     assert_eq!(round.accept_vote(notarize(0, 7)), duplicate);
     let batch = round.try_construct().unwrap().unwrap();
     // The own vote is known to attest, so two are pending.
@@ -259,7 +260,7 @@ fn the_leaders_proposal_is_notarized_forwarded_and_finalized() {
     assert_eq!(again, Ok(Outcome::Duplicate { retained: false }));
     assert_eq!(
         round.accept_vote(bad(finalize(0, 7))),
-        Err(Error::NotVerified)
+        Err(OwnError::NotVerified)
     );
     for signer in 1..4 {
         hear(&mut round, finalize(signer, 7));
@@ -273,12 +274,12 @@ fn own_votes_exclude_each_other() {
     let scheme = Toy::new(4);
     let mut round = round(&scheme, Mode::Retaining);
     cast(&mut round, finalize(0, 1));
-    let fault = Err(Error::Own(OwnFault::NullifyAfterFinalize));
+    let fault = Err(OwnError::Own(OwnFault::NullifyAfterFinalize));
     assert_eq!(round.accept_verified_vote(nullify(0)), fault);
     cast(&mut round, nullify(1));
     let again = round.accept_verified_vote(nullify(1));
     assert_eq!(again, Ok(Outcome::Duplicate { retained: true }));
-    let fault = Err(Error::Own(OwnFault::FinalizeAfterNullify));
+    let fault = Err(OwnError::Own(OwnFault::FinalizeAfterNullify));
     assert_eq!(round.accept_verified_vote(finalize(1, 1)), fault);
     assert!(round.has_nullify(Participant::new(1)));
     assert!(!round.has_nullify(Participant::new(0)));
@@ -286,9 +287,9 @@ fn own_votes_exclude_each_other() {
     let stranger = toy::vote(Subject::Nullify { round: ROUND }, 4);
     assert_eq!(
         round.accept_verified_vote(stranger),
-        Err(Error::NotVerified)
+        Err(OwnError::NotVerified)
     );
-    assert_eq!(round.accept_vote(stranger), Err(Error::NotVerified));
+    assert_eq!(round.accept_vote(stranger), Err(OwnError::NotVerified));
 }
 
 // A second one is on nothing that is wanted.
@@ -347,11 +348,11 @@ fn what_is_of_another_round_is_refused() {
     let mut round = round(&scheme, Mode::Releasing);
     let elsewhere = Number::new(Epoch::zero(), View::new(2));
     let vote = toy::vote(Subject::Nullify { round: elsewhere }, 0);
-    assert_eq!(round.add_network(&"ada", vote), Err(Error::Elsewhere));
-    assert_eq!(round.accept_vote(vote), Err(Error::Elsewhere));
+    assert_eq!(round.add_network(&"ada", vote), Err(RoundError::Elsewhere));
+    assert_eq!(round.accept_vote(vote), Err(OwnError::Elsewhere));
     let nullification = certificate(Subject::Nullify { round: elsewhere }, 0..3);
     assert!(!round.belongs_certificate(&nullification));
-    let elsewhere = Err(Error::Elsewhere);
+    let elsewhere = Err(CertificateError::Elsewhere);
     assert_eq!(round.record_certificate(&nullification), elsewhere);
     assert_eq!(round.record_verified_certificate(&nullification), elsewhere);
     // Attestations of one round aren't taken for another's, though their numbers are the same.
@@ -365,7 +366,7 @@ fn what_is_of_another_round_is_refused() {
     };
     assert_eq!(
         other.record_verdicts(&wanted, &[true; 3]),
-        Err(Error::Elsewhere)
+        Err(RoundError::Elsewhere)
     );
     let scheme = Toy::with(4, true, true);
     let (mut one, mut other) = (
@@ -381,10 +382,10 @@ fn what_is_of_another_round_is_refused() {
     };
     assert_eq!(
         other.record_verdict_together(&wanted, true),
-        Err(Error::Elsewhere)
+        Err(RoundError::Elsewhere)
     );
     let none = Round::new(ROUND, Toy::new(0), true);
-    assert_eq!(none.unwrap_err(), Error::NoParticipants);
+    assert_eq!(none.unwrap_err(), NewError::NoParticipants);
 }
 
 // A certificate is verified by the scheme, unless the caller says that it was.
@@ -398,7 +399,10 @@ fn forged_certificates_are_refused() {
     // Too few, and whoever takes no part.
     for signers in [0..2, 2..5] {
         let forged = certificate(subject, signers);
-        assert_eq!(round.record_certificate(&forged), Err(Error::Forged));
+        assert_eq!(
+            round.record_certificate(&forged),
+            Err(CertificateError::Forged)
+        );
     }
     assert_eq!(round.proposal(), None);
     assert!(!round.has_certificate(Kind::Notarization));
@@ -430,7 +434,10 @@ fn a_round_that_is_made_again_is_handed_the_votes_that_were_sent() {
         }
         for vote in contradicts {
             let refused = again.accept_vote(vote);
-            assert!(matches!(refused, Err(Error::Own(_))), "{mode:?}, {vote:?}");
+            assert!(
+                matches!(refused, Err(OwnError::Own(_))),
+                "{mode:?}, {vote:?}"
+            );
         }
     }
 }
@@ -443,7 +450,7 @@ fn a_leader_takes_part() {
     for index in [4, u32::MAX] {
         assert_eq!(
             round.set_leader(Participant::new(index)),
-            Err(Error::UnknownParticipant)
+            Err(LeaderError::UnknownParticipant)
         );
     }
     assert_eq!(round.leader(), None);
@@ -452,7 +459,7 @@ fn a_leader_takes_part() {
     // After that too an index that is no participant's is said to be none.
     assert_eq!(
         round.set_leader(Participant::new(4)),
-        Err(Error::UnknownParticipant)
+        Err(LeaderError::UnknownParticipant)
     );
 }
 

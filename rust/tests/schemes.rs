@@ -4,8 +4,9 @@
 #[allow(dead_code)]
 mod toy;
 
+use batcher::errors::{ConstructError, OwnError, RoundError};
 use batcher::{
-    Attestation, Certificate, Error, Mode, Outcome, Participant, Round, Scheme, Set, Subject, Vote,
+    Attestation, Certificate, Mode, Outcome, Participant, Round, Scheme, Set, Subject, Vote,
 };
 use std::panic::{AssertUnwindSafe, catch_unwind};
 use std::sync::Arc;
@@ -115,7 +116,7 @@ fn what_is_assembled_is_verified() {
         assert!(trusted.add_network(&signer, vote()).unwrap().added);
         assert!(right.add_network(&signer, vote()).unwrap().added);
     }
-    assert_eq!(sloppy.try_construct(), Err(Error::BadAssembly));
+    assert_eq!(sloppy.try_construct(), Err(ConstructError::BadAssembly));
     // It was made, and isn't given again.
     assert_eq!(sloppy.try_construct(), Ok(None));
     let of = |certificate: Option<Certificate<usize>>| certificate.map(|it| *it.content());
@@ -131,9 +132,9 @@ fn signatures_have_96_bytes_at_most() {
     assert!(longest.add_network(&1, nullify(1, 1, 1)).unwrap().added);
     let mut longer = round::<97, true>(0);
     let answer = longer.add_network(&1, nullify(1, 1, 1));
-    assert_eq!(answer, Err(Error::SignatureBytes));
+    assert_eq!(answer, Err(RoundError::SignatureBytes));
     let own = longer.accept_verified_vote(nullify(0, 1, 1));
-    assert_eq!(own, Err(Error::SignatureBytes));
+    assert_eq!(own, Err(OwnError::SignatureBytes));
 }
 
 #[test]
@@ -144,7 +145,7 @@ fn a_signature_that_is_not_made_again_is_an_error() {
         let vote = nullify(signer, 1, last);
         assert!(round.add_network(&signer, vote).unwrap().added);
     }
-    assert_eq!(round.try_construct(), Err(Error::SignatureBytes));
+    assert_eq!(round.try_construct(), Err(ConstructError::SignatureBytes));
 }
 
 // The library has taken the vote in by then, and the crate keeps nothing that could disagree.

@@ -2,8 +2,9 @@
 
 mod toy;
 
+use batcher::errors::{Gone, LeaderError, NewError};
 use batcher::thread::{Host, Mailbox, Reply};
-use batcher::{Error, Participant, Round};
+use batcher::{Participant, Round};
 use std::future::Future;
 use std::pin::pin;
 use std::sync::Arc;
@@ -15,7 +16,9 @@ use toy::{KEYS, ROUND, Toy, nullify};
 fn is_send<T: Send>(_: &T) {}
 
 fn start(host: &Host) -> Mailbox<Round<Toy>> {
-    host.start(|| Round::new(ROUND, Toy::new(4), true)).unwrap()
+    host.start(|| Round::new(ROUND, Toy::new(4), true))
+        .unwrap()
+        .unwrap()
 }
 
 #[test]
@@ -61,7 +64,7 @@ impl Drop for Falls {
 fn a_drop_that_panics_ends_no_other_round() {
     let host = Host::new().unwrap();
     let round = start(&host);
-    let value = host.start(|| Ok(Falls)).unwrap();
+    let value = host.start(|| Ok::<_, NewError>(Falls)).unwrap().unwrap();
     let (sender, receiver) = channel::<()>();
     let waits = value.ask(move |_| receiver.recv().is_ok());
     drop(value.ask(|_| Falls));
@@ -77,13 +80,13 @@ fn rounds_of_a_host_are_apart() {
     let host = Host::new().unwrap();
     let (first, second) = (start(&host), start(&host));
     let panics = first.call(|_| panic!("a job that panics"));
-    assert_eq!(panics, Err::<(), _>(Error::Gone));
-    assert_eq!(first.call(|_| ()), Err(Error::Gone));
+    assert_eq!(panics, Err::<(), _>(Gone));
+    assert_eq!(first.call(|_| ()), Err(Gone));
     assert_eq!(second.call(|round| round.leader()), Ok(None));
     let none = host.start(|| Round::new(ROUND, Toy::new(0), true));
-    assert_eq!(none.unwrap_err(), Error::NoParticipants);
-    let gone = host.start(|| -> Result<Round<Toy>, Error> { panic!("a maker that panics") });
-    assert_eq!(gone.unwrap_err(), Error::Gone);
+    assert_eq!(none.unwrap().unwrap_err(), NewError::NoParticipants);
+    let gone = host.start(|| -> Result<Round<Toy>, NewError> { panic!("a maker that panics") });
+    assert_eq!(gone.unwrap_err(), Gone);
 }
 
 // A value is dropped on its thread, with its last mailbox.
@@ -92,13 +95,16 @@ fn the_last_mailbox_drops_the_value() {
     struct Noted(Arc<()>);
     let (host, note) = (Host::new().unwrap(), Arc::new(()));
     let handed = note.clone();
-    let mailbox = host.start(move || Ok(Noted(handed))).unwrap();
+    let mailbox = host
+        .start(move || Ok::<_, NewError>(Noted(handed)))
+        .unwrap()
+        .unwrap();
     let other = mailbox.clone();
     drop(mailbox);
     assert_eq!(other.call(|noted| Arc::strong_count(&noted.0)), Ok(2));
     drop(other);
     // What comes after it on the thread is made after it is gone.
-    host.start(|| Ok(())).unwrap();
+    host.start(|| Ok::<_, NewError>(())).unwrap().unwrap();
     assert_eq!(Arc::strong_count(&note), 1);
 }
 
@@ -111,7 +117,7 @@ impl Wake for Unpark {
 }
 
 // The smallest executor there is.
-fn block_on<R>(reply: Reply<R>) -> Result<R, Error> {
+fn block_on<R>(reply: Reply<R>) -> Result<R, Gone> {
     let waker = Waker::from(Arc::new(Unpark(thread::current())));
     let mut reply = pin!(reply);
     loop {
@@ -129,12 +135,12 @@ fn a_reply_is_a_future() {
     let slow = mailbox.ask(|_| thread::sleep(std::time::Duration::from_millis(20)));
     let leader = mailbox.ask(|round| {
         round.set_leader(Participant::new(1))?;
-        Ok::<_, Error>(round.leader())
+        Ok::<_, LeaderError>(round.leader())
     });
     assert_eq!(block_on(leader), Ok(Ok(Some(Participant::new(1)))));
     assert_eq!(block_on(slow), Ok(()));
     assert_eq!(
         block_on(mailbox.ask(|_| panic!("a job that panics"))),
-        Err::<(), _>(Error::Gone)
+        Err::<(), _>(Gone)
     );
 }

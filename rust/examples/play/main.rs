@@ -11,6 +11,7 @@ mod scheme;
 mod script;
 mod sha256;
 
+use batcher::errors::{LeaderError, OwnError};
 use batcher::{
     Activity, Admission, Attestation, Batch, Certificate, Error, Outcome, Participant, Proposal,
     Round, Scheme, Sha256Digest, Subject, View, Vote, quorum,
@@ -179,8 +180,10 @@ impl Player {
                         let (outcome, report) = own_outcome(outcome);
                         print(printed, format_args!("own: {outcome}, report {report}"));
                     }
-                    Err(Error::Own(fault)) => print(printed, format_args!("own: refused {fault}")),
-                    Err(error) => return Err(error),
+                    Err(OwnError::Own(fault)) => {
+                        print(printed, format_args!("own: refused {fault}"))
+                    }
+                    Err(error) => return Err(error.into()),
                 }
             }
             Command::Certificate(ballot) => {
@@ -190,17 +193,17 @@ impl Player {
             }
             Command::Leader(index) => match self.round.set_any_leader(Participant::new(index)) {
                 Ok(()) => print(printed, "leader: ok"),
-                Err(fault @ Error::LeaderChanged) => {
+                Err(fault @ LeaderError::LeaderChanged) => {
                     print(printed, format_args!("leader: refused {fault}"));
                 }
-                Err(error) => return Err(error),
+                Err(error) => return Err(error.into()),
             },
             Command::Construct => match self.round.try_construct()? {
                 None => print(printed, "construct: none"),
                 Some(batch) => self.print_batch(&batch, printed),
             },
             Command::Forward(index) => {
-                let proposal = self.round.try_forward_proposal(Participant::new(index))?;
+                let proposal = self.round.try_forward_proposal(Participant::new(index));
                 let payload = OrNone(proposal.map(|proposal| payload(&proposal)));
                 print(printed, format_args!("forward: {payload}"));
             }

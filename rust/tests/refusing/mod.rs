@@ -116,12 +116,12 @@ pub fn once<R>(granted: &mut Option<u32>, call: impl FnOnce() -> R) -> R {
 }
 
 /// The same, with the call made once more where memory was refused.
-pub fn again<R>(
+pub fn again<R, E: Copy + Into<Error>>(
     granted: &mut Option<u32>,
-    mut call: impl FnMut() -> Result<R, Error>,
-) -> Result<R, Error> {
+    mut call: impl FnMut() -> Result<R, E>,
+) -> Result<R, E> {
     match once(granted, &mut call) {
-        Err(Error::OutOfMemory) => call(),
+        Err(error) if error.into() == Error::OutOfMemory => call(),
         answer => answer,
     }
 }
