@@ -279,9 +279,10 @@ pub record IsLent (l : CLoop) (out : FlatStep) (room list : List FlatAttestation
 -- Questions to a validator, and what is answered to them. It stays as it was.
 module _ (l : CLoop) (code : ℕ) where
   -- What is to be written, behind what is there or in its place.
-  pub record AsksOwed (room list : List ℕ) (count : ℕ) (replaces : Bool) : Type 0 where
+  pub record AsksOwed (room list : List ℕ) (old count : ℕ) (was replaces : Bool) : Type 0 where
     pub codes : is_one_of (DONE ∷ IDLE ∷ SHORT ∷ []) code ≡ true
-    pub none : code ≡ IDLE → (disk_of l ≡ log_of l) × (list ≡ room)
+    pub none : code ≡ IDLE → disk_of l ≡ log_of l
+    pub stays : code ≡ IDLE → (list ≡ room) × ((count ≡ old) × (replaces ≡ was))
     pub owed : List ℕ
     pub has_all : code ≢ IDLE
         → MatchBool replaces (owed ≡ log_of l) (disk_of l ++ owed ≡ log_of l)
@@ -299,12 +300,13 @@ module _ (l : CLoop) (code : ℕ) where
     pub short : code ≡ SHORT → out ≡ asked
 
   -- One of a kind and a round, if it is kept.
-  abbrev pub AsksKept : ℕ → FlatProposal → FlatProposal → List ℕ → List ℕ → ℕ → Type 0
-  AsksKept kind asked out room list count =
-      MatchOption (kind_in kind) ((code ≡ MALFORMED) × ((list ≡ room) × (out ≡ asked))) (λ typed.
+  abbrev pub AsksKept : ℕ → FlatProposal → FlatProposal → List ℕ → List ℕ → ℕ → ℕ → Type 0
+  AsksKept kind asked out room list old count =
+      MatchOption (kind_in kind)
+      ((code ≡ MALFORMED) × ((list ≡ room) × ((out ≡ asked) × (count ≡ old)))) (λ typed.
       IsKept (typed, round_in asked) kind asked out room list count
-      ⊎ ((code ≡ IDLE) × ((list ≡ room) × ((out ≡ asked)
-      × (HasKey key_of (kept_in l) (typed, round_in asked) → ⊥)))))
+      ⊎ ((code ≡ IDLE) × ((list ≡ room) × ((out ≡ asked) × ((count ≡ old)
+      × (HasKey key_of (kept_in l) (typed, round_in asked) → ⊥))))))
 
 -- Calls of a validator, and what is answered to them.
 module _ (before : CLoop) (code : ℕ) (after : CLoop) where

@@ -70,7 +70,8 @@ pub extern "C" fn batcher_loop_owed(
 ) -> u8
     ensures { OnLoop validator.old.value validator.new.value result ((room.new ≡ room.old)
         × ((count.new ≡ count.old) × (replaces.new ≡ replaces.old))) (λ before after.
-        (after ≡ before) × AsksOwed before result room.old room.new count.new replaces.new) }
+        (after ≡ before) × AsksOwed before result room.old room.new count.old count.new
+        replaces.old replaces.new) }
 {
     let Some(validator) = validator.as_mut() else {
         return NONE;
@@ -78,7 +79,7 @@ pub extern "C" fn batcher_loop_owed(
     loops::owed(validator, room, count, replaces)
 }
 
-/// What is owed is written. Where memory is refused, say it again.
+/// What is owed is written, and lasts.
 #[unsafe(no_mangle)]
 pub extern "C" fn batcher_loop_wrote(validator: &mut LoopHandle) -> u8
     ensures { OnLoop validator.old.value validator.new.value result (Unit {0}) (λ before after.
@@ -242,7 +243,8 @@ pub extern "C" fn batcher_loop_kept(
     ensures { OnLoop validator.old.value validator.new.value result ((proposal.new ≡ proposal.old)
         × ((room.new ≡ room.old) × (count.new ≡ count.old))) (λ before after.
         (after ≡ before)
-        × AsksKept before result kind proposal.old proposal.new room.old room.new count.new) }
+        × AsksKept before result kind proposal.old proposal.new room.old room.new count.old
+        count.new) }
 {
     let Some(validator) = validator.as_mut() else {
         return NONE;

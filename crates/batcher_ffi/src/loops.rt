@@ -219,7 +219,8 @@ fn write_next(answer: &Result<Option<Next>, PollFault>, epoch: Epoch, out: &mut 
 
 /// What is to be written to the disk, behind what is there or in its place.
 pub fn owed(it: &Looping, room: &mut [u8], count: &mut u64, replaces: &mut bool) -> u8
-    ensures { AsksOwed it.now result room.old room.new count.new replaces.new }
+    ensures { AsksOwed it.now result room.old room.new count.old count.new replaces.old
+        replaces.new }
 {
     match it.owed() {
         Some(owed) => {
@@ -464,7 +465,8 @@ pub fn kept(
     room: &mut [u8],
     count: &mut u64,
 ) -> u8
-    ensures { AsksKept it.now result kind proposal.old proposal.new room.old room.new count.new }
+    ensures { AsksKept it.now result kind proposal.old proposal.new room.old room.new count.old
+        count.new }
 {
     let Some(typed) = kind_of(kind) else {
         return MALFORMED;

@@ -1,6 +1,6 @@
 -- With each task less is left to be given, so nothing is given for ever.
 use Rattle.std.proofs.Common.{◌≡◌, ◌<◌, ◌≤◌, ◌+◌, ◌⊎◌, ℕ, zero, suc, Bool, true, false, cond, List, [], ◌∷◌, Some, ap, arith, inl, inr, length, refl, set, subst, sym}
-use Rattle.std.specs.Prelude.{◌-◌, not}
+use Rattle.std.specs.Prelude.{not}
 use Rattle.std.specs.List.{count_by, filter, slice_get}
 use Rattle.std.proofs.lemmas.Bool.{le-ltb, lt-ltb, ltb-true}
 use Rattle.std.proofs.lemmas.List.Sums.{sum_by-cons}
@@ -37,12 +37,6 @@ one_less (true ∷ flags) zero there = absurd cc
 one_less (false ∷ flags) zero there = omega (arith, count_cons not true flags, count_cons not false flags)
 one_less (b ∷ flags) (suc i) there =
     omega (arith, one_less flags i there, count_cons not b flags, count_cons not b (set flags i true))
-
-monus : (a b : ℕ) → b < a → a - a < a - b
-monus a b lt = omega (arith, lt)
-
-monus_step : (a b : ℕ) → b < a → a - (b + 1) < a - b
-monus_step a b lt = omega (arith, lt)
 
 -- fewer pass a test that fewer pass
 module _ {X : Type 0} (p q r : X → Bool) (fewer : (x : X) → q x ≡ true → p x ≡ true) where
