@@ -14,9 +14,9 @@ use Rattle.batcher.specs.positions.Participant.{Participant}
 use Rattle.batcher_agreement.specs.Policy.{Conduct}
 use Rattle.batcher_node.specs.Nodes.{NodeConfig}
 use Rattle.batcher_node.specs.declared.answers.Cause.{Cause}
-use Rattle.batcher_validator.specs.Ending.{GivesOnAndOn, IsAfter, HasLessLeft, WaitsForVote, finals_left, is_final_after, others_left}
-use Rattle.batcher_validator.specs.Histories.{ValidatorHistory}
-use Rattle.batcher_validator.specs.Running.{ValidatorView}
+use Rattle.batcher_validator.specs.Ending.{GivesOnAndOn, HasLessLeft, WaitsForVote, finals_left, is_final_after, others_left}
+use Rattle.batcher_validator.specs.Histories.{ValidatorHistory, gave}
+use Rattle.batcher_validator.specs.Running.{Gives, IsRunning, ValidatorView}
 use Rattle.batcher_validator.specs.Shelves.{IsFinalAt, is_from}
 use Rattle.batcher_validator.specs.declared.task.Task.{Task}
 use Rattle.batcher_validator.specs.declared.task.Task.TheVariants.{Block, Final, SendVote, Sign}
@@ -84,41 +84,48 @@ module _ {X : Type 0} (p q r : X → Bool) (fewer : (x : X) → q x ≡ true →
           rw (e) (omega (arith, rest, no_more_of x, count_cons p x xs, count_cons q x (filter r xs)))
       of_value rest false e = rw (e) (omega (arith, rest, count_cons p x xs))
 
--- Two numbers that get less, the second while the first is the same, but for a step of which there
--- are no two in turn.
-module _ (F O : ℕ → ℕ) (W : ℕ → Type 0) where
-  abbrev pub Step : ℕ → Type 0
-  Step n =
+-- Two numbers that get less as something goes on, the second while the first is the same, but for a
+-- step of which there are no two in turn.
+module _ (R : ℕ → Type 0) (F O : ℕ → ℕ) (W : (n : ℕ) → R n → Type 0) where
+  abbrev pub Step : (n : ℕ) → R n → R (n + 1) → Type 0
+  Step n r later =
       (F (n + 1) < F n) ⊎ ((F (n + 1) ≡ F n)
-      × (((O (n + 1) ≡ O n) × ((W n → ⊥) × W (n + 1))) ⊎ (O (n + 1) < O n)))
+      × (((O (n + 1) ≡ O n) × ((W n r → ⊥) × W (n + 1) later)) ⊎ (O (n + 1) < O n)))
 
-  module _ (step : (n : ℕ) → Step n) (f : ℕ) (lower : (n : ℕ) → F n < f → ⊥) where
-    module _ (o : ℕ) (fewer : (n : ℕ) → F n < f + 1 → O n < o → ⊥) where
-      waits : (n : ℕ) → F n < f + 1 → O n < o + 1 → W n → ⊥
-      waits n here there waiting = elim (step n) [
-        | inl less ↦ lower (n + 1) (omega (arith, less, here))
+  abbrev pub GoesOn : Type 0
+  GoesOn = (n : ℕ) (r : R n) → (later : R (n + 1)) × Step n r later
+
+  module _ (goes : GoesOn) (f : ℕ) (lower : (n : ℕ) → R n → F n < f → ⊥) where
+    module _ (o : ℕ) (fewer : (n : ℕ) → R n → F n < f + 1 → O n < o → ⊥) where
+      waits : (n : ℕ) (r : R n) → F n < f + 1 → O n < o + 1 → W n r → ⊥
+      waits n r here there waiting = elim ((goes n r).1) [
+        | inl less ↦ lower (n + 1) (goes n r).0 (omega (arith, less, here))
         | inr (same, inl it) ↦ it.1.0 waiting
-        | inr (same, inr less) ↦ fewer (n + 1) (omega (arith, same, here)) (omega (arith, less, there))
+        | inr (same, inr less) ↦ fewer (n + 1) (goes n r).0 (omega (arith, same, here))
+            (omega (arith, less, there))
       ]
 
-      one : (n : ℕ) → F n < f + 1 → O n < o + 1 → ⊥
-      one n here there = elim (step n) [
-        | inl less ↦ lower (n + 1) (omega (arith, less, here))
-        | inr (same, inl it) ↦ waits (n + 1) (omega (arith, same, here)) (omega (arith, it.0, there)) it.1.1
-        | inr (same, inr less) ↦ fewer (n + 1) (omega (arith, same, here)) (omega (arith, less, there))
+      one : (n : ℕ) → R n → F n < f + 1 → O n < o + 1 → ⊥
+      one n r here there = elim ((goes n r).1) [
+        | inl less ↦ lower (n + 1) (goes n r).0 (omega (arith, less, here))
+        | inr (same, inl it) ↦ waits (n + 1) (goes n r).0 (omega (arith, same, here))
+            (omega (arith, it.0, there)) it.1.1
+        | inr (same, inr less) ↦ fewer (n + 1) (goes n r).0 (omega (arith, same, here))
+            (omega (arith, less, there))
       ]
 
-    second : (o n : ℕ) → F n < f + 1 → O n < o → ⊥
-    second zero n here there = absurd (omega (arith, there))
-    second (suc o) n here there = one o (λ m. second o m) n here (omega (arith, there))
+    second : (o n : ℕ) → R n → F n < f + 1 → O n < o → ⊥
+    second zero n r here there = absurd (omega (arith, there))
+    second (suc o) n r here there =
+        one o (λ m later. second o m later) n r here (omega (arith, there))
 
-  first : ((n : ℕ) → Step n) → (f n : ℕ) → F n < f → ⊥
-  first step zero n here = absurd (omega (arith, here))
-  first step (suc f) n here =
-      second step f (λ m. first step f m) (O n + 1) n (omega (arith, here)) (omega arith)
+  first : GoesOn → (f n : ℕ) → R n → F n < f → ⊥
+  first goes zero n r here = absurd (omega (arith, here))
+  first goes (suc f) n r here =
+      second goes f (λ m later. first goes f m later) (O n + 1) n r (omega (arith, here)) (omega arith)
 
-  pub never : ((n : ℕ) → Step n) → ⊥
-  never step = first step (F 0 + 1) 0 (omega arith)
+  pub never : GoesOn → R 0 → ⊥
+  never goes r = first goes (F 0 + 1) 0 r (omega arith)
 
 finalized : {D : Type 0} (q p : Proposal D) → Finalize q ≡ Finalize p → q ≡ p
 finalized q p e = cc e
@@ -189,35 +196,46 @@ module _ {S D K G C L : Type 0} (x : NodeConfig D K G C) (old new : ValidatorVie
       rw (given, voter, shelf) (omega (arith, lt)),
     )
 
--- Nothing is given for ever.
-module _ {S D K G C L : Type 0} (x : NodeConfig D K G C) (earlier : Conduct D)
-    (validator : ℕ → ValidatorView S G D L C) (past : ℕ → ValidatorHistory D K G C)
-    (task : ℕ → Task G D) (it : GivesOnAndOn x earlier validator past task) where
-  abbrev Waits : ℕ → Type 0
-  Waits n = WaitsForVote x (past n) earlier (validator n)
+-- What a validator went through, as it is polled again and again.
+module _ {S D K G C L : Type 0} (x : NodeConfig D K G C) (earlier : Conduct D) where
+  abbrev Run : ValidatorView S G D L C → Type 0
+  Run validator = (past : ValidatorHistory D K G C) × IsRunning x past earlier validator
 
-  step : (n : ℕ) → Step (λ m. finals_left (validator m)) (λ m. others_left (validator m)) Waits n
-  step n = of_task (task n) (it.less n) (it.after n)
-    where
-      of_task :
-          (t : Task G D) → HasLessLeft x (validator n) (validator (n + 1)) t
-          → IsAfter t (past n) (past (n + 1))
-          → Step (λ m. finals_left (validator m)) (λ m. others_left (validator m)) Waits n
-      of_task (Final p) less after = inl less
-      of_task (Sign s) less after =
-          let waits = less.1.1 (past n) earlier (it.running n) in
-          inr (
-            less.0,
-            inl (
-              less.1.0,
-              (
-                waits.0,
-                subst (λ h. WaitsForVote x h earlier (validator (n + 1))) (sym after) waits.1,
-              ),
-            ),
-          )
-      of_task t less after = inr (less.0, inr less.1)
+  abbrev next :
+      (old new : ValidatorView S G D L C) (task : Task G D) → Gives x old new task → Run old
+      → Run new
+  next old new (Final p) gives (past, is) = (_, gives.1.1 past earlier is)
+  next old new task gives (past, is) = (gave task ∷ past, gives past earlier is)
+
+-- Nothing is given for ever.
+module _ {S D K G C L : Type 0} (x : NodeConfig D K G C) (validator : ℕ → ValidatorView S G D L C)
+    (task : ℕ → Task G D) (it : GivesOnAndOn x validator task) where
+  abbrev Runs : ℕ → Type 0
+  Runs n = Run x it.earlier (validator n)
+
+  abbrev Waits : (n : ℕ) → Runs n → Type 0
+  Waits n run = WaitsForVote x run.0 it.earlier (validator n)
+
+  abbrev Goes : (n : ℕ) → Runs n → Runs (n + 1) → Type 0
+  Goes n run later =
+      Step Runs (λ m. finals_left (validator m)) (λ m. others_left (validator m)) Waits n run later
+
+  of_task :
+      (n : ℕ) (run : Runs n) (t : Task G D)
+      (gives : Gives x (validator n) (validator (n + 1)) t)
+      → HasLessLeft x (validator n) (validator (n + 1)) t
+      → Goes n run (next x it.earlier (validator n) (validator (n + 1)) t gives run)
+  of_task n run (Final p) gives less = inl less
+  of_task n (past, is) (Sign s) gives less =
+      let waits = less.1.1 past it.earlier is in
+      inr (less.0, inl (less.1.0, (waits.0, waits.1)))
+  of_task n run t gives less = inr (less.0, inr less.1)
 
   pub comes_to_an_end : ⊥
   comes_to_an_end =
-      never (λ m. finals_left (validator m)) (λ m. others_left (validator m)) Waits step
+      never Runs (λ m. finals_left (validator m)) (λ m. others_left (validator m)) Waits
+      (λ n run. (
+        next x it.earlier (validator n) (validator (n + 1)) (task n) (it.gives n) run,
+        of_task n run (task n) (it.gives n) (it.less n),
+      ))
+      (it.past, it.begins)

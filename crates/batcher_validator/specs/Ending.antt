@@ -5,12 +5,10 @@ use Rattle.batcher.specs.messages.Certificate.{Certificate}
 use Rattle.batcher.specs.messages.Certificate.TheVariants.{Finalization as FinalizationCertificate}
 use Rattle.batcher.specs.messages.Subject.{Subject}
 use Rattle.batcher.specs.messages.Subject.TheVariants.{Finalize}
-use Rattle.batcher_agreement.specs.Lives.{called, verified}
 use Rattle.batcher_agreement.specs.Policy.{Conduct}
-use Rattle.batcher_node.specs.Events.{view_finalized}
 use Rattle.batcher_node.specs.Nodes.{NodeConfig}
-use Rattle.batcher_validator.specs.Histories.{ValidatorHistory, did, gave, last_to_sign}
-use Rattle.batcher_validator.specs.Running.{ForEachRun, IsRunning, ValidatorView}
+use Rattle.batcher_validator.specs.Histories.{ValidatorHistory, gave, last_to_sign}
+use Rattle.batcher_validator.specs.Running.{ForEachRun, Gives, IsRunning, ValidatorView}
 use Rattle.batcher_validator.specs.Tasks.{MayVote}
 use Rattle.batcher_validator.specs.declared.task.Task.{Task}
 use Rattle.batcher_validator.specs.declared.task.Task.TheVariants.{Final, Sign}
@@ -26,14 +24,6 @@ abbrev pub IsPreferred : {S G D L : Type 0} → (D → D → Bool) → VoterView
     → Type 0
 IsPreferred same voter (Finalize p) = IsFinalizable same voter p
 IsPreferred same voter s = ⊤
-
--- what happened by then, where a task was given
-abbrev pub IsAfter : {D K G C : Type 0} → Task G D → ValidatorHistory D K G C
-    → ValidatorHistory D K G C → Type 0
-IsAfter {C = C} (Final p) past later =
-    (c : Certificate C _) × (later ≡ gave (Final p)
-    ∷ did (called (view_finalized p.round.view.0)) ∷ did (verified c) ∷ past)
-IsAfter task past later = later ≡ gave task ∷ past
 
 module _ {S G D L C : Type 0} (validator : ValidatorView S G D L C) where
   -- how many finalizations are kept of views after the last that was given as final
@@ -74,9 +64,11 @@ module _ {S D K G C L : Type 0} (x : NodeConfig D K G C) where
   HasLessLeft old new task =
       (finals_left new ≡ finals_left old) × (others_left new < others_left old)
 
-  -- A validator gives one task after the other, and nothing comes meanwhile.
-  pub record GivesOnAndOn (earlier : Conduct D) (validator : ℕ → ValidatorView S G D L C)
-      (past : ℕ → ValidatorHistory D K G C) (task : ℕ → Task G D) : Type 0 where
-    pub running : (n : ℕ) → IsRunning x (past n) earlier (validator n)
-    pub less : (n : ℕ) → HasLessLeft (validator n) (validator (n + 1)) (task n)
-    pub after : (n : ℕ) → IsAfter (task n) (past n) (past (n + 1))
+  -- A validator is polled again and again, and gives a task each time. Nothing comes meanwhile.
+  pub record GivesOnAndOn (validator : ℕ → ValidatorView S G D L C) (task : ℕ → Task G D) : Type 0
+    where
+      pub past : ValidatorHistory D K G C
+      pub earlier : Conduct D
+      pub begins : IsRunning x past earlier (validator 0)
+      pub gives : (n : ℕ) → Gives x (validator n) (validator (n + 1)) (task n)
+      pub less : (n : ℕ) → HasLessLeft (validator n) (validator (n + 1)) (task n)

@@ -5,13 +5,12 @@ ghost use Rattle.std.specs.List.{slice_get};
 ghost use Rattle.batcher_codec.specs.Messages.{vote_format};
 ghost use Rattle.batcher_journal.specs.Answers.{MayFollow};
 ghost use Rattle.batcher_node.specs.Nodes.{IsAtRest, IsNext, NodeConfig, SameNode, cause_at};
-ghost use Rattle.batcher_agreement.specs.Policy.{Conduct};
 ghost use Rattle.batcher_validator.specs.Ending.{GivesOnAndOn, HasLessLeft};
 ghost use Rattle.batcher_validator.specs.Posing.{BlocksNobody};
 ghost use Rattle.batcher_validator.specs.Running.{ForEachRun, Gives, IsReady, RunLeaves, RunMeets, RunStays, ValidatorView};
 ghost use Rattle.batcher_validator.specs.Shelves.{HaveNoFinal, IsAt, IsFinalAt, IsToAnnounce, key_of};
 ghost use Rattle.batcher_validator.specs.declared.task.PollFault.{PollFault};
-ghost use Rattle.batcher_validator.specs.Histories.{ValidatorHistory, again};
+ghost use Rattle.batcher_validator.specs.Histories.{again};
 ghost use Rattle.batcher_validator.specs.declared.task.Task.{Task as TheTask};
 ghost use Rattle.batcher_validator.specs.Tasks.{NothingIsDue};
 ghost use Rattle.batcher_voter.specs.Voting.{BeginWithOneView, ForEachLife, IsNextView};
@@ -251,9 +250,7 @@ pub fn poll_comes_to_an_end<S: Scheme<D>, D: Digest + Codec, L: Log>()
 where
     S::Signature: Codec + Identical,
     S::Certificate: OwnedCodec,
-    ensures { (x : NodeConfig D S.PublicKey S.Signature S.Certificate) (earlier : Conduct D)
+    ensures { (x : NodeConfig D S.PublicKey S.Signature S.Certificate)
         (validator : ℕ → ValidatorView S S.Signature D L S.Certificate)
-        (past : ℕ → ValidatorHistory D S.PublicKey S.Signature S.Certificate)
-        (task : ℕ → TheTask S.Signature D)
-        → GivesOnAndOn x earlier validator past task → ⊥ }
+        (task : ℕ → TheTask S.Signature D) → GivesOnAndOn x validator task → ⊥ }
 {}
