@@ -67,6 +67,7 @@ use crate::flat::{
 };
 use crate::messages::{Attestation, Certificate, Kind, Proposal, Sha256Digest, Subject, Vote};
 use crate::positions::{Epoch, Participant, Round, View, quorum};
+use std::collections::HashMap;
 use std::fmt;
 use std::marker::PhantomData;
 
@@ -342,6 +343,9 @@ pub struct Loop<G> {
     list: Vec<ffi::Attestation>,
     // Where the library answers to a vote.
     answer: ffi::Admission,
+    // Verdicts that came once more votes were there, by kind, view and signer. They are handed in
+    // with those on the others.
+    known: HashMap<(Kind, View, u32), Known>,
     signatures: PhantomData<G>,
 }
 
@@ -405,6 +409,7 @@ impl<G: Clone + AsRef<[u8]> + for<'b> TryFrom<&'b [u8]>> Loop<G> {
             waits: false,
             list,
             answer: ffi::Admission::default(),
+            known: HashMap::new(),
             signatures: PhantomData,
         })
     }
@@ -443,7 +448,11 @@ impl<G: Clone + AsRef<[u8]> + for<'b> TryFrom<&'b [u8]>> Loop<G> {
             code::TASK_BLOCK => {
                 Task::Block(Participant::new(flat.participant), cause_of(flat.cause))
             }
-            code::TASK_FINAL => Task::Final(proposal_of(&flat.proposal)),
+            code::TASK_FINAL => {
+                let proposal = proposal_of(&flat.proposal);
+                self.known.retain(|key, _| key.1 > proposal.round.view);
+                Task::Final(proposal)
+            }
             // It is on the disk since it was cast, so it attests.
             code::TASK_CAST => match self.library.cast(&flat.vote, true) {
                 code::OUT_OF_MEMORY => return Err(PollError::OutOfMemory),
@@ -494,11 +503,44 @@ impl<G: Clone + AsRef<[u8]> + for<'b> TryFrom<&'b [u8]>> Loop<G> {
     fn lend(&mut self) -> Result<Option<Wanted<G>>, PollError> {
         let mut step = ffi::Step::default();
         match self.library.lend(&mut step, &mut self.list) {
-            code::VERIFY => Ok(Some(Wanted {
-                subject: subject_of(kind_of(step.kind), &step.proposal),
-                attestations: attestations_of(&self.list[..step.listed as usize])?,
-            })),
-            code::IDLE => Ok(None),
+            code::VERIFY => {}
+            code::IDLE => return Ok(None),
+            code::OUT_OF_MEMORY => return Err(PollError::OutOfMemory),
+            other => unknown(other),
+        }
+        let subject = subject_of(kind_of(step.kind), &step.proposal);
+        let all = &self.list[..step.listed as usize];
+        let verdict = |it: &ffi::Attestation| {
+            let known = self.known.get(&key_of(&subject, it))?;
+            (known.subject == subject && known.attestation == *it).then_some(known.attests)
+        };
+        let mut asked = Vec::new();
+        let mut verdicts = Vec::new();
+        reserve(&mut asked, all.len())?;
+        reserve(&mut verdicts, all.len())?;
+        for it in all {
+            match verdict(it) {
+                Some(attests) => verdicts.push(attests),
+                None => asked.push(*it),
+            }
+        }
+        if !asked.is_empty() {
+            let attestations = attestations_of(&asked)?;
+            return Ok(Some(Wanted {
+                subject,
+                attestations,
+            }));
+        }
+        match self
+            .library
+            .conclude(step.kind, &step.proposal, all, &verdicts)
+        {
+            code::DONE => {
+                for it in all {
+                    self.known.remove(&key_of(&subject, it));
+                }
+                Ok(None)
+            }
             code::OUT_OF_MEMORY => Err(PollError::OutOfMemory),
             other => unknown(other),
         }
@@ -601,8 +643,9 @@ impl<G: Clone + AsRef<[u8]> + for<'b> TryFrom<&'b [u8]>> Loop<G> {
         }
     }
 
-    /// Which of the attestations attest, one verdict for each. False where others are wanted by now,
-    /// which come again. Then poll.
+    /// Which of the attestations attest, one verdict for each. Then poll. False where no construction
+    /// is made by these alone, as where a vote came meanwhile: then they are kept, and the others are
+    /// given to be verified. None is asked about twice, unless memory is refused for that.
     ///
     /// # Errors
     ///
@@ -624,11 +667,22 @@ impl<G: Clone + AsRef<[u8]> + for<'b> TryFrom<&'b [u8]>> Loop<G> {
             .library
             .conclude(kind, &flat_subject(subject), &list, verdicts)
         {
-            code::DONE => Ok(true),
-            code::STALE => Ok(false),
-            code::OUT_OF_MEMORY => Err(VoteError::OutOfMemory),
+            code::DONE => return Ok(true),
+            code::STALE => {}
+            code::OUT_OF_MEMORY => return Err(VoteError::OutOfMemory),
             other => unknown(other),
         }
+        if self.known.try_reserve(list.len()).is_ok() {
+            for (attestation, attests) in list.iter().zip(verdicts) {
+                let known = Known {
+                    subject: *subject,
+                    attestation: *attestation,
+                    attests: *attests,
+                };
+                self.known.insert(key_of(subject, attestation), known);
+            }
+        }
+        Ok(false)
     }
 
     /// The signature of what was given to be signed. The vote is given to be sent once it is
@@ -724,6 +778,17 @@ impl<G: Clone + AsRef<[u8]> + for<'b> TryFrom<&'b [u8]>> Loop<G> {
             }
         }
     }
+}
+
+/// A verdict that came once more votes were there.
+struct Known {
+    subject: Subject,
+    attestation: ffi::Attestation,
+    attests: bool,
+}
+
+fn key_of(subject: &Subject, attestation: &ffi::Attestation) -> (Kind, View, u32) {
+    (subject.kind(), subject.round().view, attestation.signer)
 }
 
 fn counts_of(flat: &loops::Counts) -> Counts {

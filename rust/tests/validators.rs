@@ -371,6 +371,54 @@ fn verdicts_may_come_late() {
 }
 
 #[test]
+fn late_verdicts_are_kept() {
+    let options = Options {
+        participants: 7,
+        ..options(0)
+    };
+    let mut running = Loop::<Signature>::begin(&options, leader).unwrap();
+    assert!(matches!(running.poll(), Ok(Some(Task::Write(_)))));
+    running.wrote();
+    let round = Round::new(Epoch::zero(), View::new(1));
+    let subject = Subject::Nullify { round };
+    let hear = |running: &mut Loop<Signature>, signer: u32| {
+        let signer = Participant::new(signer);
+        let attestation = Attestation::new(signer, sign(&subject, signer.get()));
+        let vote = Vote::new(subject, attestation);
+        running.vote(signer, &vote).unwrap();
+    };
+    let asked = |running: &mut Loop<Signature>| match running.poll().unwrap() {
+        Some(Task::Verify(wanted)) => wanted,
+        other => panic!("{other:?}"),
+    };
+    assert!(matches!(running.poll(), Ok(Some(Task::Enter(_)))));
+    // A quorum of 7 is 5.
+    for signer in 1..6 {
+        hear(&mut running, signer);
+    }
+    let five = asked(&mut running);
+    assert_eq!(five.attestations().len(), 5);
+    hear(&mut running, 6);
+    // The sixth wasn't asked about, so no construction is made by the five alone.
+    assert_eq!(running.conclude(&five, &[true; 5]), Ok(false));
+    let one = asked(&mut running);
+    let signers: Vec<u32> = one
+        .attestations()
+        .iter()
+        .map(|it| it.signer.get())
+        .collect();
+    assert_eq!(signers, [6]);
+    assert_eq!(running.conclude(&one, &[false]), Ok(false));
+    assert!(!running.has_certificate(Kind::Nullification, round));
+    // All six are made by what was found. The sixth is blocked for its signature.
+    let blocked = (Participant::new(6), Cause::Signature);
+    let task = running.poll().unwrap();
+    assert!(matches!(task, Some(Task::Block(it, cause)) if (it, cause) == blocked));
+    let certificate = running.kept(Kind::Nullification, round).unwrap().unwrap();
+    assert_eq!(running.missing(&certificate), [0, 6].map(Participant::new));
+}
+
+#[test]
 fn a_view_says_why_it_hangs() {
     let mut station = begun(2);
     station.go_on(100);
