@@ -302,11 +302,13 @@ static int conclude_in(struct batcher_loop *loop, uint32_t participants) {
     bool verdicts[MOST];
     size_t room = below(3) != 0 ? MOST : below(MOST);
     memset(&step, 0, sizeof step);
-    uint8_t code = batcher_loop_lend(loop, &step, list, room);
+    uint64_t view = below(3) != 0 ? 0 : below(6);
+    uint8_t code = batcher_loop_lend(loop, view, &step, list, room);
     CHECK((code == BATCHER_SHORT) == (room < participants));
     if (code == BATCHER_SHORT || code == BATCHER_IDLE) return 0;
     MADE(code);
     CHECK(code == BATCHER_VERIFY && step.listed <= participants && step.kind <= BATCHER_FINALIZATION);
+    CHECK(view == 0 || step.proposal.view == view);
     for (uint64_t i = 0; i < step.listed; i++) verdicts[i] = attests(&list[i]);
     if (below(5) == 0) step.kind = (uint8_t)mostly_below(3);
     size_t given = below(10) != 0 ? step.listed : below(MOST);

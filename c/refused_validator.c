@@ -49,7 +49,7 @@ static bool verify(struct alone *it) {
     struct batcher_attestation list[1];
     struct batcher_step step;
     const bool good[] = {true};
-    uint8_t code = AGAIN(batcher_loop_lend(&it->loop, &step, list, 1));
+    uint8_t code = AGAIN(batcher_loop_lend(&it->loop, 0, &step, list, 1));
     if (code == BATCHER_IDLE) return true;
     return code == BATCHER_VERIFY
         && AGAIN(batcher_loop_conclude(&it->loop, step.kind, &step.proposal, list, step.listed, good, step.listed))

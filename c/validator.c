@@ -249,7 +249,7 @@ static void verify(void) {
     struct batcher_attestation list[MOST];
     struct batcher_step step;
     bool verdicts[MOST];
-    uint8_t code = batcher_loop_lend(&loop, &step, list, MOST);
+    uint8_t code = batcher_loop_lend(&loop, 0, &step, list, MOST);
     if (code == BATCHER_IDLE) return;
     need(code == BATCHER_VERIFY, batcher_code_text(code));
     for (uint64_t i = 0; i < step.listed; i++) verdicts[i] = attests(step.kind, &step.proposal, &list[i]);

@@ -236,8 +236,8 @@ static int verify(uint32_t me) {
     struct batcher_attestation list[VALIDATORS];
     struct batcher_step step;
     bool verdicts[VALIDATORS];
-    CHECK(batcher_loop_lend(&it->loop, &step, list, VALIDATORS - 1) == BATCHER_SHORT);
-    uint8_t code = batcher_loop_lend(&it->loop, &step, list, VALIDATORS);
+    CHECK(batcher_loop_lend(&it->loop, 0, &step, list, VALIDATORS - 1) == BATCHER_SHORT);
+    uint8_t code = batcher_loop_lend(&it->loop, 0, &step, list, VALIDATORS);
     if (code == BATCHER_IDLE) return 0;
     CHECK(code == BATCHER_VERIFY && step.listed <= VALIDATORS);
     for (uint64_t i = 0; i < step.listed; i++) verdicts[i] = attests(step.kind, &step.proposal, &list[i]);
@@ -452,8 +452,8 @@ static int mistakes(void) {
     CHECK(batcher_loop_conclude(&loop, 3, &proposal, list, 0, &verdict, 0) == BATCHER_MALFORMED);
     CHECK(batcher_loop_conclude(&loop, 0, &proposal, list, 0, &verdict, 1) == BATCHER_MALFORMED);
     CHECK(batcher_loop_conclude(&loop, 0, &proposal, list, 0, &verdict, 0) == BATCHER_STALE);
-    CHECK(batcher_loop_lend(&loop, &step, list, VALIDATORS - 1) == BATCHER_SHORT);
-    CHECK(batcher_loop_lend(&loop, &step, list, VALIDATORS) == BATCHER_IDLE);
+    CHECK(batcher_loop_lend(&loop, 0, &step, list, VALIDATORS - 1) == BATCHER_SHORT);
+    CHECK(batcher_loop_lend(&loop, 0, &step, list, VALIDATORS) == BATCHER_IDLE);
     /* A certificate that is forged blocks its peer, and one from beyond the window is taken in. */
     CHECK(batcher_loop_certificate(&loop, 3, BATCHER_NULLIFICATION, &proposal, room, 9, false) == BATCHER_FORGED);
     CHECK(batcher_loop_poll(&loop, &task) == BATCHER_DONE && task.task == BATCHER_TASK_BLOCK);

@@ -399,9 +399,11 @@ uint8_t batcher_loop_certificate(struct batcher_loop *validator, uint64_t peer, 
                                  const struct batcher_proposal *proposal, const uint8_t *bytes,
                                  size_t bytes_length, bool certifies);
 
-/* VERIFY: verdicts are wanted on the attestations of the list. IDLE: on none, and their view rests. SHORT:
- * the list has fewer places than there are participants. */
-uint8_t batcher_loop_lend(struct batcher_loop *validator, struct batcher_step *out,
+/* VERIFY: verdicts are wanted on the attestations of the list. SHORT: the list has fewer places than there
+ * are participants. With view 0 they are of the next construction; IDLE: it wants none, and its view rests.
+ * With a view they are of that one's, which may not be the next yet: verify them early, and keep the
+ * verdicts. Nothing changes then. */
+uint8_t batcher_loop_lend(struct batcher_loop *validator, uint64_t view, struct batcher_step *out,
                           struct batcher_attestation *list, size_t list_length);
 
 /* Whether each attestation that was lent attests. The answer may come late. STALE: others are wanted by

@@ -67,7 +67,7 @@ use crate::flat::{
 };
 use crate::messages::{Attestation, Certificate, Kind, Proposal, Sha256Digest, Subject, Vote};
 use crate::positions::{Epoch, Participant, Round, View, quorum};
-use std::collections::HashMap;
+use std::collections::{HashMap, VecDeque};
 use std::fmt;
 use std::marker::PhantomData;
 
@@ -343,9 +343,14 @@ pub struct Loop<G> {
     list: Vec<ffi::Attestation>,
     // Where the library answers to a vote.
     answer: ffi::Admission,
-    // Verdicts that came once more votes were there, by kind, view and signer. They are handed in
-    // with those on the others.
+    // Verdicts that came early, or late, by kind, view and signer. They are handed in with those on
+    // the other attestations of their construction.
     known: HashMap<(Kind, View, u32), Known>,
+    // What is to be handed out to be verified, and whose attestations were and have no verdict yet.
+    queue: VecDeque<Wanted<G>>,
+    asked: Vec<(Subject, Vec<u32>)>,
+    // The last view that was entered.
+    entered: View,
     signatures: PhantomData<G>,
 }
 
@@ -410,6 +415,9 @@ impl<G: Clone + AsRef<[u8]> + for<'b> TryFrom<&'b [u8]>> Loop<G> {
             list,
             answer: ffi::Admission::default(),
             known: HashMap::new(),
+            queue: VecDeque::new(),
+            asked: Vec::new(),
+            entered: View::zero(),
             signatures: PhantomData,
         })
     }
@@ -422,6 +430,9 @@ impl<G: Clone + AsRef<[u8]> + for<'b> TryFrom<&'b [u8]>> Loop<G> {
     /// same call can be made again.
     pub fn poll(&mut self) -> Result<Option<Task<G>>, PollError> {
         loop {
+            if let Some(wanted) = self.queue.pop_front() {
+                return Ok(Some(Task::Verify(wanted)));
+            }
             if !self.waits {
                 match self.library.poll(&mut self.task) {
                     code::DONE => self.waits = true,
@@ -451,6 +462,8 @@ impl<G: Clone + AsRef<[u8]> + for<'b> TryFrom<&'b [u8]>> Loop<G> {
             code::TASK_FINAL => {
                 let proposal = proposal_of(&flat.proposal);
                 self.known.retain(|key, _| key.1 > proposal.round.view);
+                self.asked
+                    .retain(|asked| asked.0.round().view > proposal.round.view);
                 Task::Final(proposal)
             }
             // It is on the disk since it was cast, so it attests.
@@ -471,13 +484,16 @@ impl<G: Clone + AsRef<[u8]> + for<'b> TryFrom<&'b [u8]>> Loop<G> {
                 let leader = (self.leader)(view);
                 match self.library.enter(view.get(), leader.get()) {
                     code::OUT_OF_MEMORY => return Err(PollError::OutOfMemory),
-                    _ => Task::Enter(view),
+                    _ => {
+                        self.entered = view;
+                        Task::Enter(view)
+                    }
                 }
             }
-            code::TASK_VERIFY => match self.lend()? {
-                Some(wanted) => Task::Verify(wanted),
-                None => return Ok(None),
-            },
+            code::TASK_VERIFY => {
+                self.lend()?;
+                return Ok(None);
+            }
             code::TASK_SIGN => Task::Sign(subject_of(kind_of(flat.kind), &flat.proposal)),
             code::TASK_PROPOSE => Task::Propose {
                 view: View::new(flat.proposal.view),
@@ -500,50 +516,100 @@ impl<G: Clone + AsRef<[u8]> + for<'b> TryFrom<&'b [u8]>> Loop<G> {
         }
     }
 
-    fn lend(&mut self) -> Result<Option<Wanted<G>>, PollError> {
+    /// Queues what is to be verified: for the next construction, and early for those of later views.
+    /// Where all of the next one was verified before, that is made.
+    fn lend(&mut self) -> Result<(), PollError> {
+        let Some(step) = self.listed(0)? else {
+            return Ok(());
+        };
+        if let Some(verdicts) = self.verdicts(&step)? {
+            return self.conclude_listed(&step, &verdicts);
+        }
+        self.ask(&step)?;
+        let first = View::new(step.proposal.view);
+        let last = self.entered.get().saturating_add(1);
+        for view in (first.get()..last).map(|it| it + 1).take(EARLY) {
+            if let Some(step) = self.listed(view)? {
+                self.ask(&step)?;
+            }
+        }
+        Ok(())
+    }
+
+    /// Has the library list what the construction of a view looks at, or the next one where that is 0.
+    fn listed(&mut self, view: u64) -> Result<Option<ffi::Step>, PollError> {
         let mut step = ffi::Step::default();
-        match self.library.lend(&mut step, &mut self.list) {
-            code::VERIFY => {}
-            code::IDLE => return Ok(None),
+        match self.library.lend(view, &mut step, &mut self.list) {
+            code::VERIFY => Ok(Some(step)),
+            code::IDLE => Ok(None),
+            code::OUT_OF_MEMORY => Err(PollError::OutOfMemory),
+            other => unknown(other),
+        }
+    }
+
+    /// The verdicts on what is listed, where there is one on each.
+    fn verdicts(&self, step: &ffi::Step) -> Result<Option<Vec<bool>>, PollError> {
+        if self.known.is_empty() {
+            return Ok(None);
+        }
+        let subject = subject_of(kind_of(step.kind), &step.proposal);
+        let all = &self.list[..step.listed as usize];
+        let mut verdicts = Vec::new();
+        reserve(&mut verdicts, all.len())?;
+        verdicts.extend(all.iter().map_while(|it| self.verdict(&subject, it)));
+        Ok((verdicts.len() == all.len()).then_some(verdicts))
+    }
+
+    fn verdict(&self, subject: &Subject, it: &ffi::Attestation) -> Option<bool> {
+        let known = self.known.get(&key_of(subject, it))?;
+        (known.subject == *subject && known.attestation == *it).then_some(known.attests)
+    }
+
+    fn conclude_listed(&mut self, step: &ffi::Step, verdicts: &[bool]) -> Result<(), PollError> {
+        let all = &self.list[..step.listed as usize];
+        match self
+            .library
+            .conclude(step.kind, &step.proposal, all, verdicts)
+        {
+            code::DONE => {}
             code::OUT_OF_MEMORY => return Err(PollError::OutOfMemory),
             other => unknown(other),
         }
         let subject = subject_of(kind_of(step.kind), &step.proposal);
-        let all = &self.list[..step.listed as usize];
-        let verdict = |it: &ffi::Attestation| {
-            let known = self.known.get(&key_of(&subject, it))?;
-            (known.subject == subject && known.attestation == *it).then_some(known.attests)
-        };
-        let mut asked = Vec::new();
-        let mut verdicts = Vec::new();
-        reserve(&mut asked, all.len())?;
-        reserve(&mut verdicts, all.len())?;
         for it in all {
-            match verdict(it) {
-                Some(attests) => verdicts.push(attests),
-                None => asked.push(*it),
-            }
+            self.known.remove(&key_of(&subject, it));
         }
-        if !asked.is_empty() {
-            let attestations = attestations_of(&asked)?;
-            return Ok(Some(Wanted {
-                subject,
-                attestations,
-            }));
+        Ok(())
+    }
+
+    /// Queues what is listed, but for what has a verdict, or was handed out and has none yet.
+    fn ask(&mut self, step: &ffi::Step) -> Result<(), PollError> {
+        let subject = subject_of(kind_of(step.kind), &step.proposal);
+        let all = &self.list[..step.listed as usize];
+        let was_asked = |it: &ffi::Attestation| {
+            let mut of_subject = self.asked.iter().filter(|asked| asked.0 == subject);
+            of_subject.any(|asked| asked.1.contains(&it.signer))
+        };
+        let mut left = Vec::new();
+        reserve(&mut left, all.len())?;
+        let is_left =
+            |it: &&ffi::Attestation| self.verdict(&subject, it).is_none() && !was_asked(it);
+        left.extend(all.iter().filter(is_left).copied());
+        if left.is_empty() {
+            return Ok(());
         }
-        match self
-            .library
-            .conclude(step.kind, &step.proposal, all, &verdicts)
-        {
-            code::DONE => {
-                for it in all {
-                    self.known.remove(&key_of(&subject, it));
-                }
-                Ok(None)
-            }
-            code::OUT_OF_MEMORY => Err(PollError::OutOfMemory),
-            other => unknown(other),
-        }
+        let attestations = attestations_of(&left)?;
+        let mut signers = Vec::new();
+        reserve(&mut signers, left.len())?;
+        signers.extend(left.iter().map(|it| it.signer));
+        reserve(&mut self.asked, 1)?;
+        self.queue.try_reserve(1).map_err(|_| OutOfMemory)?;
+        self.asked.push((subject, signers));
+        self.queue.push_back(Wanted {
+            subject,
+            attestations,
+        });
+        Ok(())
     }
 
     /// What was given to be written is written, so that a crash leaves it.
@@ -643,9 +709,10 @@ impl<G: Clone + AsRef<[u8]> + for<'b> TryFrom<&'b [u8]>> Loop<G> {
         }
     }
 
-    /// Which of the attestations attest, one verdict for each. Then poll. False where no construction
-    /// is made by these alone, as where a vote came meanwhile: then they are kept, and the others are
-    /// given to be verified. None is asked about twice, unless memory is refused for that.
+    /// Which of the attestations attest, one verdict for each. Then poll. Lists may be answered in any
+    /// order. False where no construction is made by these alone, as where a vote came meanwhile, or
+    /// where another is made first: then they are kept. None is asked about twice, unless memory is
+    /// refused for that.
     ///
     /// # Errors
     ///
@@ -662,6 +729,9 @@ impl<G: Clone + AsRef<[u8]> + for<'b> TryFrom<&'b [u8]>> Loop<G> {
         for attestation in &wanted.attestations {
             list.push(flat_attestation(attestation)?);
         }
+        let signers = || list.iter().map(|it| it.signer);
+        self.asked
+            .retain(|asked| asked.0 != wanted.subject || !signers().eq(asked.1.iter().copied()));
         let (kind, subject) = (kind_code(wanted.subject.kind()), &wanted.subject);
         match self
             .library
@@ -780,7 +850,10 @@ impl<G: Clone + AsRef<[u8]> + for<'b> TryFrom<&'b [u8]>> Loop<G> {
     }
 }
 
-/// A verdict that came once more votes were there.
+/// Of how many views after the next construction's attestations are handed out early.
+const EARLY: usize = 4;
+
+/// A verdict that came before its construction was the next, or once more votes were there.
 struct Known {
     subject: Subject,
     attestation: ffi::Attestation,

@@ -3,7 +3,7 @@
 
 mod toy;
 
-use batcher::looping::{Cause, Listed, Loop, Options, Receipt, StartError, Task, Verdict};
+use batcher::looping::{Cause, Listed, Loop, Options, Receipt, StartError, Task, Verdict, Wanted};
 use batcher::positions::Round;
 use batcher::{
     Attestation, Certificate, Epoch, Kind, Participant, Proposal, Sha256Digest, Subject, View, Vote,
@@ -122,7 +122,7 @@ impl Station {
                     let subject = wanted.subject();
                     let all = wanted.attestations().iter();
                     let verdicts: Vec<_> = all.map(|it| attests(subject, it)).collect();
-                    assert!(self.running.conclude(&wanted, &verdicts).unwrap());
+                    self.running.conclude(&wanted, &verdicts).unwrap();
                 }
                 Task::Sign(_) if !self.signs => {}
                 Task::Sign(subject) => {
@@ -370,8 +370,8 @@ fn verdicts_may_come_late() {
     ));
 }
 
-#[test]
-fn late_verdicts_are_kept() {
+/// A validator of seven that has entered its first view. A quorum is 5.
+fn of_seven() -> Loop<Signature> {
     let options = Options {
         participants: 7,
         ..options(0)
@@ -379,26 +379,66 @@ fn late_verdicts_are_kept() {
     let mut running = Loop::<Signature>::begin(&options, leader).unwrap();
     assert!(matches!(running.poll(), Ok(Some(Task::Write(_)))));
     running.wrote();
-    let round = Round::new(Epoch::zero(), View::new(1));
-    let subject = Subject::Nullify { round };
-    let hear = |running: &mut Loop<Signature>, signer: u32| {
-        let signer = Participant::new(signer);
-        let attestation = Attestation::new(signer, sign(&subject, signer.get()));
-        let vote = Vote::new(subject, attestation);
-        running.vote(signer, &vote).unwrap();
-    };
-    let asked = |running: &mut Loop<Signature>| match running.poll().unwrap() {
+    assert!(matches!(running.poll(), Ok(Some(Task::Enter(_)))));
+    running
+}
+
+fn nullify_of(view: u64) -> Subject {
+    let round = Round::new(Epoch::zero(), View::new(view));
+    Subject::Nullify { round }
+}
+
+fn hear_vote(running: &mut Loop<Signature>, subject: Subject, signer: u32) {
+    let signer = Participant::new(signer);
+    let attestation = Attestation::new(signer, sign(&subject, signer.get()));
+    let vote = Vote::new(subject, attestation);
+    running.vote(signer, &vote).unwrap();
+}
+
+fn asked(running: &mut Loop<Signature>) -> Wanted<Signature> {
+    match running.poll().unwrap() {
         Some(Task::Verify(wanted)) => wanted,
         other => panic!("{other:?}"),
-    };
-    assert!(matches!(running.poll(), Ok(Some(Task::Enter(_)))));
-    // A quorum of 7 is 5.
+    }
+}
+
+#[test]
+fn views_are_verified_at_once() {
+    let mut running = of_seven();
     for signer in 1..6 {
-        hear(&mut running, signer);
+        hear_vote(&mut running, nullify_of(1), signer);
+        hear_vote(&mut running, nullify_of(2), signer);
+    }
+    let (first, second) = (asked(&mut running), asked(&mut running));
+    assert_eq!(*first.subject(), nullify_of(1));
+    assert_eq!(*second.subject(), nullify_of(2));
+    assert!(running.poll().unwrap().is_none());
+    // The second view's are kept until it is next, and none of the first view's is asked again.
+    assert_eq!(running.conclude(&second, &[true; 5]), Ok(false));
+    assert!(running.poll().unwrap().is_none());
+    assert_eq!(running.conclude(&first, &[true; 5]), Ok(true));
+    while let Some(task) = running.poll().unwrap() {
+        match task {
+            Task::Write(_) => running.wrote(),
+            Task::SendCertificate(_) | Task::Enter(_) | Task::Propose { .. } => {}
+            other => panic!("{other:?}"),
+        }
+    }
+    for view in [1, 2] {
+        assert!(running.has_certificate(Kind::Nullification, nullify_of(view).round()));
+    }
+}
+
+#[test]
+fn late_verdicts_are_kept() {
+    let mut running = of_seven();
+    let (round, hear) = (nullify_of(1).round(), hear_vote);
+    for signer in 1..6 {
+        hear(&mut running, nullify_of(1), signer);
     }
     let five = asked(&mut running);
     assert_eq!(five.attestations().len(), 5);
-    hear(&mut running, 6);
+    hear(&mut running, nullify_of(1), 6);
     // The sixth wasn't asked about, so no construction is made by the five alone.
     assert_eq!(running.conclude(&five, &[true; 5]), Ok(false));
     let one = asked(&mut running);

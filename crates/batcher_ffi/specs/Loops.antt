@@ -259,6 +259,12 @@ LendsNone l =
     → IsNext l.validator.voter.node.rounds view
     → LooksAtThere loop_round_config (slot_at l.validator.voter.node.rounds view) subject all → ⊥
 
+-- The construction of a view looks at none.
+abbrev pub LendsNoneOf : CLoop → ℕ → Type 0
+LendsNoneOf l view =
+    (subject : Subject Sha256Digest) (all : List (Attestation Signature))
+    → LooksAtThere loop_round_config (slot_at l.validator.voter.node.rounds view) subject all → ⊥
+
 -- Whether a round is of a view beyond the window.
 abbrev pub is_ahead : CLoop → Round → Bool
 is_ahead l round =
@@ -272,6 +278,17 @@ pub record IsLent (l : CLoop) (out : FlatStep) (room list : List FlatAttestation
   pub asked : List (Attestation Signature)
   pub looks_at : (view : ℕ) → IsNext l.validator.voter.node.rounds view
       → LooksAtThere loop_round_config (slot_at l.validator.voter.node.rounds view) subject asked
+  pub about : subject_in out.kind out.proposal ≡ Some subject
+  pub listed : out.listed ≡ length asked
+  pub written : IsWritten raw_in asked room list
+
+-- Those of a view are, of which no construction is made yet.
+pub record IsLentOf (l : CLoop) (view : ℕ) (out : FlatStep) (room list : List FlatAttestation)
+    : Type 0 where
+  pub subject : Subject Sha256Digest
+  pub asked : List (Attestation Signature)
+  pub looks_at :
+      LooksAtThere loop_round_config (slot_at l.validator.voter.node.rounds view) subject asked
   pub about : subject_in out.kind out.proposal ≡ Some subject
   pub listed : out.listed ≡ length asked
   pub written : IsWritten raw_in asked room list
@@ -435,6 +452,23 @@ module _ (before : CLoop) (code : ℕ) (after : CLoop) where
     pub refused : code ≡ OUT_OF_MEMORY → Rests
     pub stays : code ≢ VERIFY → (out ≡ old) × (list ≡ room)
     pub on_disk : disk_of after ≡ disk_of before
+
+  -- Of a view that is named nothing is made, and nothing changes.
+  pub record LendsOf (view : ℕ) (old out : FlatStep) (room list : List FlatAttestation) : Type 0
+    where
+      pub codes : is_one_of (VERIFY ∷ IDLE ∷ SHORT ∷ []) code ≡ true
+      pub short : code ≡ SHORT → length room < loop_participants before
+      pub fits : code ≡ VERIFY → loop_participants before ≤ length room
+      pub lent : code ≡ VERIFY → IsLentOf before view out room list
+      pub none : code ≡ IDLE → LendsNoneOf before view
+      pub stays : code ≢ VERIFY → (out ≡ old) × (list ≡ room)
+      pub same : after ≡ before
+
+  -- what is lent of a view, or of the next construction where that is 0
+  abbrev pub LendsIn : ℕ → FlatStep → FlatStep → List FlatAttestation → List FlatAttestation
+      → Type 0
+  LendsIn view old out room list =
+      (view ≡ 0 → Lends old out room list) × (view ≢ 0 → LendsOf view old out room list)
 
   -- A construction is made by verdicts, or they are of something else.
   pub record IsConcluded (subject : Subject Sha256Digest) (all : List (Attestation Signature))

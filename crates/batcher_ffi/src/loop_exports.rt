@@ -2,7 +2,7 @@
 
 ghost use Rattle.std.specs.Prelude.{◌≡◌, ⊤, None};
 ghost use Rattle.batcher_ffi.specs.Handles.{OnLoop};
-ghost use Rattle.batcher_ffi.specs.Loops.{AreVerifiedFor, AsksKept, AsksOwed, CastsOwn, Concludes, EntersNext, Expires, HearsCertificate, HearsVote, IsVerifiedFor, Judges, Lends};
+ghost use Rattle.batcher_ffi.specs.Loops.{AreVerifiedFor, AsksKept, AsksOwed, CastsOwn, Concludes, EntersNext, Expires, HearsCertificate, HearsVote, IsVerifiedFor, Judges, LendsIn};
 ghost use Rattle.batcher_ffi.specs.Loops.{MakesLoop, Polls, Wrote};
 ghost use Rattle.batcher_ffi.specs.Progress.{AsksProgress};
 
@@ -129,22 +129,24 @@ pub extern "C" fn batcher_loop_certificate(
     loops::receive_certificate(validator, alloc, peer, kind, proposal, bytes, certifies)
 }
 
-/// Writes the attestations on which verdicts are wanted, and what they are to attest. Where there
-/// are none, the view rests.
+/// Writes the attestations on which verdicts are wanted, and what they are to attest: for the next
+/// construction, which view 0 is, or of a view. Where there are none for the next one, its view
+/// rests.
 #[unsafe(no_mangle)]
 pub extern "C" fn batcher_loop_lend(
     validator: &mut LoopHandle,
+    view: u64,
     out: &mut FlatStep,
     list: &mut [FlatAttestation],
 ) -> u8
     ensures { OnLoop validator.old.value validator.new.value result ((out.new ≡ out.old)
         × (list.new ≡ list.old)) (λ before after.
-        Lends before result after out.old out.new list.old list.new) }
+        LendsIn before result after view out.old out.new list.old list.new) }
 {
     let Some(validator) = validator.as_mut() else {
         return NONE;
     };
-    loops::lend(validator, out, list)
+    loops::lend(validator, view, out, list)
 }
 
 /// Makes the next construction by verdicts on what was lent.

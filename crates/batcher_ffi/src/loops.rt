@@ -1,13 +1,13 @@
 //! The calls of a validator, over flat values. Each answers a code.
 
-ghost use Rattle.std.specs.Prelude.{◌≡◌, ◌≢◌, ◌≤◌, ◌⊎◌, [], IfErr, IfOk, MatchBool, Some, false, length, map, true};
+ghost use Rattle.std.specs.Prelude.{◌≡◌, ◌≢◌, ◌<◌, ◌≤◌, ◌⊎◌, [], IfErr, IfOk, MatchBool, Some, false, length, map, true};
 ghost use Rattle.batcher_types.specs.Votes.{attestation_of, round_in, subject_certified, subject_of};
 ghost use Rattle.batcher_validator.specs.Histories.{answered};
 ghost use Rattle.batcher_validator.specs.Running.{Constructs};
 ghost use Rattle.batcher_voter.specs.Needing.{ConstructionNeeds};
 ghost use Rattle.batcher_ffi.specs.Loops.{AnswersPoll, AreVerifiedFor, AsksKept, AsksOwed, CastsOwn, Concludes, EntersNext, Expires, HearsCertificate, HearsVote, IsConcluded};
 ghost use Rattle.batcher_ffi.specs.Loops.{IsFromAhead, IsLent, IsMade, IsOfPeer, IsVerifiedFor, Judges, Lends, Notes, Polls, Rests, VoteCast, WhyNotMade, Wrote, loop_config};
-ghost use Rattle.batcher_ffi.specs.Loops.{GoesOnFrom, IsOf, IsOthers, LendsNone, disk_of, is_ahead, start_code, start_codes};
+ghost use Rattle.batcher_ffi.specs.Loops.{GoesOnFrom, IsLentOf, IsOf, IsOthers, LendsIn, LendsNone, LendsNoneOf, LendsOf, disk_of, is_ahead, loop_participants, start_code, start_codes};
 ghost use Rattle.batcher_ffi.specs.Progress.{AsksProgress};
 ghost use Rattle.batcher_ffi.specs.Rounds.{is_one_of};
 ghost use Rattle.batcher_journal.specs.Text.{fields_of};
@@ -309,11 +309,63 @@ fn hear_certificate(
     verdict_code_of(&answer)
 }
 
-/// The attestations on which verdicts are wanted. Where no kind is ready, its view rests.
-pub fn lend(it: &mut Looping, out: &mut FlatStep, list: &mut [FlatAttestation]) -> u8
+/// The attestations on which verdicts are wanted for the next construction, which view 0 is, or of
+/// a view.
+pub fn lend(it: &mut Looping, view: u64, out: &mut FlatStep, list: &mut [FlatAttestation]) -> u8
+    ensures { LendsIn it.old result it.new view out.old out.new list.old list.new }
+{
+    if view == 0 {
+        return lend_next(it, out, list);
+    }
+    lend_of(it, view, out, list)
+}
+
+// Whether a list has a place for each participant.
+fn has_room(it: &Looping, list: &[FlatAttestation]) -> bool
+    ensures { MatchBool result (loop_participants it.now ≤ length list.now)
+        (length list.now < loop_participants it.now) }
+{
+    list.len() >= it.validator.participants()
+}
+
+// The attestations of a view on which verdicts will be wanted.
+fn lend_of(it: &Looping, view: u64, out: &mut FlatStep, list: &mut [FlatAttestation]) -> u8
+    ensures { LendsOf it.now result it.now view out.old out.new list.old list.new }
+{
+    if !has_room(it, list) {
+        return SHORT;
+    }
+    if write_attempt_in(it, view, out, list) {
+        return VERIFY;
+    }
+    IDLE
+}
+
+// Writes what the construction of a view looks at, if it looks at anything.
+fn write_attempt_in(
+    it: &Looping,
+    view: u64,
+    out: &mut FlatStep,
+    list: &mut [FlatAttestation],
+) -> bool
+    ensures lent { result ≡ true → IsLentOf it.now view out.new list.old list.new }
+    ensures none { result ≡ false → LendsNoneOf it.now view }
+    ensures stays { result ≡ false → (out.new ≡ out.old) × (list.new ≡ list.old) }
+{
+    match it.validator.attempt_in(View(view)) {
+        Some(wanted) => {
+            write_wanted(&wanted, out, &mut [], list);
+            true
+        }
+        None => false,
+    }
+}
+
+// The attestations on which verdicts are wanted. Where no kind is ready, its view rests.
+fn lend_next(it: &mut Looping, out: &mut FlatStep, list: &mut [FlatAttestation]) -> u8
     ensures { Lends it.old result it.new out.old out.new list.old list.new }
 {
-    if list.len() < it.validator.participants() {
+    if !has_room(it, list) {
         return SHORT;
     }
     if write_next_attempt(it, out, list) {

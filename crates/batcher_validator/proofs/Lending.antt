@@ -13,8 +13,7 @@ use Rattle.batcher_node.specs.Verdicts.{LooksAtThere}
 use Rattle.batcher_node.specs.declared.slot.Slot.{Slot}
 
 module _ {S D K G C : Type 0} (round_config : RoundView S G D → Config D K G C)
-    (rounds : List (ℕ × Slot (RoundView S G D))) (view : ℕ) (next : IsNext rounds view)
-    (round : RoundView S G D)
+    (rounds : List (ℕ × Slot (RoundView S G D))) (view : ℕ) (round : RoundView S G D)
     (lent : Some round ≡ option_map (λ slot. slot.round) (slot_at rounds view))
     {A : Type 0} (subject_in : A → Subject D) (list_in : A → List (Attestation G)) where
   its_round : (at : Option (Slot (RoundView S G D))) (slot : Slot (RoundView S G D))
@@ -39,26 +38,22 @@ module _ {S D K G C : Type 0} (round_config : RoundView S G D → Config D K G C
         );
       }
 
-  pub looks_there :
+  pub looks_in :
       (attempt : Option A)
       → option_map subject_in attempt ≡ subject_next (round_config round) round.holds
       → IfSome attempt (λ a. list_in a ≡ pending_next (round_config round) round.holds)
-      → IfSome attempt (λ a. (other : ℕ) → IsNext rounds other
-      → LooksAtThere round_config (slot_at rounds other) (subject_in a) (list_in a))
-  looks_there None subject pending = tt
-  looks_there (Some a) subject pending = λ other is.
-      subst (λ v. LooksAtThere round_config (slot_at rounds v) (subject_in a) (list_in a))
-      (one_next rounds view other next is)
-      (there (slot_at rounds view) lent (subject_in a) (list_in a) (sym subject) (sym pending))
+      → IfSome attempt (λ a. LooksAtThere round_config (slot_at rounds view) (subject_in a)
+      (list_in a))
+  looks_in None subject pending = tt
+  looks_in (Some a) subject pending =
+      there (slot_at rounds view) lent (subject_in a) (list_in a) (sym subject) (sym pending)
 
-  pub none_there :
+  pub none_in :
       (attempt : Option A)
       → option_map subject_in attempt ≡ subject_next (round_config round) round.holds
-      → attempt ≡ None → (other : ℕ) (s : Subject D) (list : List (Attestation G))
-      → IsNext rounds other → LooksAtThere round_config (slot_at rounds other) s list → ⊥
-  none_there attempt subject none other s list is looks =
-      let it = subst (λ v. LooksAtThere round_config (slot_at rounds v) s list)
-      (one_next rounds other view is next) looks in
+      → attempt ≡ None → (s : Subject D) (list : List (Attestation G))
+      → LooksAtThere round_config (slot_at rounds view) s list → ⊥
+  none_in attempt subject none s list it =
       let same : round ≡ it.slot.round = its_round (slot_at rounds view) it.slot lent it.there in
       let ready : subject_next (round_config round) round.holds ≡ Some s =
       subst (λ r. subject_next (round_config r) r.holds ≡ Some s) (sym same) it.looks.0 in
@@ -67,3 +62,26 @@ module _ {S D K G C : Type 0} (round_config : RoundView S G D → Config D K G C
     where
       no_some : (o : Option (Subject D)) (s : Subject D) → o ≡ None → o ≡ Some s → ⊥
       no_some o s none some = absurd cc
+
+  -- of the next construction
+  module _ (next : IsNext rounds view) where
+    pub looks_there :
+        (attempt : Option A)
+        → option_map subject_in attempt ≡ subject_next (round_config round) round.holds
+        → IfSome attempt (λ a. list_in a ≡ pending_next (round_config round) round.holds)
+        → IfSome attempt (λ a. (other : ℕ) → IsNext rounds other
+        → LooksAtThere round_config (slot_at rounds other) (subject_in a) (list_in a))
+    looks_there None subject pending = tt
+    looks_there (Some a) subject pending = λ other is.
+        subst (λ v. LooksAtThere round_config (slot_at rounds v) (subject_in a) (list_in a))
+        (one_next rounds view other next is) (looks_in (Some a) subject pending)
+
+    pub none_there :
+        (attempt : Option A)
+        → option_map subject_in attempt ≡ subject_next (round_config round) round.holds
+        → attempt ≡ None → (other : ℕ) (s : Subject D) (list : List (Attestation G))
+        → IsNext rounds other → LooksAtThere round_config (slot_at rounds other) s list → ⊥
+    none_there attempt subject none other s list is looks =
+        none_in attempt subject none s list
+        (subst (λ v. LooksAtThere round_config (slot_at rounds v) s list)
+        (one_next rounds other view is next) looks)

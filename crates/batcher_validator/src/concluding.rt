@@ -16,6 +16,7 @@ ghost use Rattle.batcher_log.specs.Copies.{KeepsCopy};
 use crate::inputs::certificate_of;
 use crate::validator::Validator;
 use batcher::messages::{Attestation, Digest, Identical, Subject};
+use batcher::positions::View;
 use batcher::round::RoundConfigs;
 use batcher::scheme::Scheme;
 use batcher::verifier::NextAttempt;
@@ -48,6 +49,22 @@ where
                 Some(round) => round.next_attempt(),
                 None => None,
             },
+            None => None,
+        }
+    }
+
+    /// The same of the construction that a view would make, whether or not it is the next: its
+    /// verdicts may be found meanwhile.
+    pub fn attempt_in(&self, view: View) -> Option<NextAttempt<'_, S::Signature, D>>
+        ensures looks_at { IfSome result (λ attempt. LooksAtThere ⟦<S as RoundConfigs<D>>⟧.of
+            (slot_at self.now.voter.node.rounds view.0) attempt.subject attempt.pending.now) }
+        ensures none { result ≡ None → (subject : TheSubject D)
+            (list : List (TheAttestation S.Signature))
+            → LooksAtThere ⟦<S as RoundConfigs<D>>⟧.of
+            (slot_at self.now.voter.node.rounds view.0) subject list → ⊥ }
+    {
+        match self.voter.node().round(view) {
+            Some(round) => round.next_attempt(),
             None => None,
         }
     }

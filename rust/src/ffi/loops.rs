@@ -96,6 +96,7 @@ unsafe extern "C" {
     ) -> u8;
     fn batcher_loop_lend(
         validator: *mut LoopHandle,
+        view: u64,
         step: *mut Step,
         list: *mut Attestation,
         list_length: usize,
@@ -202,9 +203,10 @@ impl Loop {
         }
     }
 
-    pub(crate) fn lend(&mut self, step: &mut Step, list: &mut [Attestation]) -> u8 {
+    pub(crate) fn lend(&mut self, view: u64, step: &mut Step, list: &mut [Attestation]) -> u8 {
+        let (room, length) = (list.as_mut_ptr(), list.len());
         // SAFETY: as above.
-        unsafe { batcher_loop_lend(&mut self.handle, step, list.as_mut_ptr(), list.len()) }
+        unsafe { batcher_loop_lend(&mut self.handle, view, step, room, length) }
     }
 
     pub(crate) fn conclude(

@@ -1,6 +1,6 @@
 use Rattle.std.proofs.Common.{arith, rules}
 use Rattle.std.proofs.lemmas.Grind.{common_steps}
-use Rattle.batcher_ffi.proofs.loops.lend.Goals as goal
+use Rattle.batcher_ffi.proofs.loops.lend_next.Goals as goal
 
 pub returns : goal.returns
 returns c = record {
