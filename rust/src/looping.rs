@@ -67,7 +67,7 @@ use crate::flat::{
 };
 use crate::messages::{Attestation, Certificate, Kind, Proposal, Sha256Digest, Subject, Vote};
 use crate::positions::{Epoch, Participant, Round, View, quorum};
-use std::collections::{HashMap, VecDeque};
+use std::collections::VecDeque;
 use std::fmt;
 use std::marker::PhantomData;
 
@@ -343,9 +343,9 @@ pub struct Loop<G> {
     list: Vec<ffi::Attestation>,
     // Where the library answers to a vote.
     answer: ffi::Admission,
-    // Verdicts that came early, or late, by kind, view and signer. They are handed in with those on
-    // the other attestations of their construction.
-    known: HashMap<(Kind, View, u32), Known>,
+    // Verdicts that came early, or late. They are handed in with those on the other attestations of
+    // their construction.
+    found: Vec<Found>,
     // What is to be handed out to be verified, and whose attestations were and have no verdict yet.
     queue: VecDeque<Wanted<G>>,
     asked: Vec<(Subject, Vec<u32>)>,
@@ -414,7 +414,7 @@ impl<G: Clone + AsRef<[u8]> + for<'b> TryFrom<&'b [u8]>> Loop<G> {
             waits: false,
             list,
             answer: ffi::Admission::default(),
-            known: HashMap::new(),
+            found: Vec::new(),
             queue: VecDeque::new(),
             asked: Vec::new(),
             entered: View::zero(),
@@ -461,7 +461,8 @@ impl<G: Clone + AsRef<[u8]> + for<'b> TryFrom<&'b [u8]>> Loop<G> {
             }
             code::TASK_FINAL => {
                 let proposal = proposal_of(&flat.proposal);
-                self.known.retain(|key, _| key.1 > proposal.round.view);
+                self.found
+                    .retain(|found| found.subject.round().view > proposal.round.view);
                 self.asked
                     .retain(|asked| asked.0.round().view > proposal.round.view);
                 Task::Final(proposal)
@@ -549,20 +550,30 @@ impl<G: Clone + AsRef<[u8]> + for<'b> TryFrom<&'b [u8]>> Loop<G> {
 
     /// The verdicts on what is listed, where there is one on each.
     fn verdicts(&self, step: &ffi::Step) -> Result<Option<Vec<bool>>, PollError> {
-        if self.known.is_empty() {
-            return Ok(None);
-        }
         let subject = subject_of(kind_of(step.kind), &step.proposal);
         let all = &self.list[..step.listed as usize];
+        // There may be none, where its own vote is a quorum.
+        if self.found.is_empty() && !all.is_empty() {
+            return Ok(None);
+        }
         let mut verdicts = Vec::new();
         reserve(&mut verdicts, all.len())?;
-        verdicts.extend(all.iter().map_while(|it| self.verdict(&subject, it)));
+        let each = all.iter().enumerate();
+        verdicts.extend(each.map_while(|(place, it)| self.verdict(&subject, place, it)));
         Ok((verdicts.len() == all.len()).then_some(verdicts))
     }
 
-    fn verdict(&self, subject: &Subject, it: &ffi::Attestation) -> Option<bool> {
-        let known = self.known.get(&key_of(subject, it))?;
-        (known.subject == *subject && known.attestation == *it).then_some(known.attests)
+    /// The verdict on the attestation at this place of a list, if there is one.
+    fn verdict(&self, subject: &Subject, place: usize, it: &ffi::Attestation) -> Option<bool> {
+        let mut of_subject = self.found.iter().filter(|found| found.subject == *subject);
+        of_subject.find_map(|found| {
+            // They keep their order, so it mostly has the same place.
+            let place = match found.list.get(place) {
+                Some(same) if same == it => place,
+                _ => found.list.iter().position(|other| other == it)?,
+            };
+            Some(found.verdicts[place])
+        })
     }
 
     fn conclude_listed(&mut self, step: &ffi::Step, verdicts: &[bool]) -> Result<(), PollError> {
@@ -576,9 +587,7 @@ impl<G: Clone + AsRef<[u8]> + for<'b> TryFrom<&'b [u8]>> Loop<G> {
             other => unknown(other),
         }
         let subject = subject_of(kind_of(step.kind), &step.proposal);
-        for it in all {
-            self.known.remove(&key_of(&subject, it));
-        }
+        self.found.retain(|found| found.subject != subject);
         Ok(())
     }
 
@@ -586,29 +595,33 @@ impl<G: Clone + AsRef<[u8]> + for<'b> TryFrom<&'b [u8]>> Loop<G> {
     fn ask(&mut self, step: &ffi::Step) -> Result<(), PollError> {
         let subject = subject_of(kind_of(step.kind), &step.proposal);
         let all = &self.list[..step.listed as usize];
+        if self.found.is_empty() && self.asked.is_empty() {
+            let asked = Asked::of(subject, all)?;
+            return self.hand_out(asked);
+        }
         let was_asked = |it: &ffi::Attestation| {
             let mut of_subject = self.asked.iter().filter(|asked| asked.0 == subject);
             of_subject.any(|asked| asked.1.contains(&it.signer))
         };
         let mut left = Vec::new();
         reserve(&mut left, all.len())?;
-        let is_left =
-            |it: &&ffi::Attestation| self.verdict(&subject, it).is_none() && !was_asked(it);
-        left.extend(all.iter().filter(is_left).copied());
+        for (place, it) in all.iter().enumerate() {
+            if self.verdict(&subject, place, it).is_none() && !was_asked(it) {
+                left.push(*it);
+            }
+        }
         if left.is_empty() {
             return Ok(());
         }
-        let attestations = attestations_of(&left)?;
-        let mut signers = Vec::new();
-        reserve(&mut signers, left.len())?;
-        signers.extend(left.iter().map(|it| it.signer));
+        let asked = Asked::of(subject, &left)?;
+        self.hand_out(asked)
+    }
+
+    fn hand_out(&mut self, asked: Asked<G>) -> Result<(), PollError> {
         reserve(&mut self.asked, 1)?;
         self.queue.try_reserve(1).map_err(|_| OutOfMemory)?;
-        self.asked.push((subject, signers));
-        self.queue.push_back(Wanted {
-            subject,
-            attestations,
-        });
+        self.asked.push((asked.wanted.subject, asked.signers));
+        self.queue.push_back(asked.wanted);
         Ok(())
     }
 
@@ -742,15 +755,14 @@ impl<G: Clone + AsRef<[u8]> + for<'b> TryFrom<&'b [u8]>> Loop<G> {
             code::OUT_OF_MEMORY => return Err(VoteError::OutOfMemory),
             other => unknown(other),
         }
-        if self.known.try_reserve(list.len()).is_ok() {
-            for (attestation, attests) in list.iter().zip(verdicts) {
-                let known = Known {
-                    subject: *subject,
-                    attestation: *attestation,
-                    attests: *attests,
-                };
-                self.known.insert(key_of(subject, attestation), known);
-            }
+        let mut kept = Vec::new();
+        if reserve(&mut kept, verdicts.len()).is_ok() && reserve(&mut self.found, 1).is_ok() {
+            kept.extend_from_slice(verdicts);
+            self.found.push(Found {
+                subject: *subject,
+                list,
+                verdicts: kept,
+            });
         }
         Ok(false)
     }
@@ -853,15 +865,31 @@ impl<G: Clone + AsRef<[u8]> + for<'b> TryFrom<&'b [u8]>> Loop<G> {
 /// Of how many views after the next construction's attestations are handed out early.
 const EARLY: usize = 4;
 
-/// A verdict that came before its construction was the next, or once more votes were there.
-struct Known {
+/// Verdicts that came before their construction was the next, or once more votes were there.
+struct Found {
     subject: Subject,
-    attestation: ffi::Attestation,
-    attests: bool,
+    list: Vec<ffi::Attestation>,
+    verdicts: Vec<bool>,
 }
 
-fn key_of(subject: &Subject, attestation: &ffi::Attestation) -> (Kind, View, u32) {
-    (subject.kind(), subject.round().view, attestation.signer)
+/// What is to be handed out, and whose attestations it has.
+struct Asked<G> {
+    wanted: Wanted<G>,
+    signers: Vec<u32>,
+}
+
+impl<G: for<'b> TryFrom<&'b [u8]>> Asked<G> {
+    fn of(subject: Subject, list: &[ffi::Attestation]) -> Result<Self, VoteError> {
+        let attestations = attestations_of(list)?;
+        let mut signers = Vec::new();
+        reserve(&mut signers, list.len())?;
+        signers.extend(list.iter().map(|it| it.signer));
+        let wanted = Wanted {
+            subject,
+            attestations,
+        };
+        Ok(Asked { wanted, signers })
+    }
 }
 
 fn counts_of(flat: &loops::Counts) -> Counts {
