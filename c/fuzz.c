@@ -303,12 +303,17 @@ static int conclude_in(struct batcher_loop *loop, uint32_t participants) {
     size_t room = below(3) != 0 ? MOST : below(MOST);
     memset(&step, 0, sizeof step);
     uint64_t view = below(3) != 0 ? 0 : below(6);
-    uint8_t code = batcher_loop_lend(loop, view, &step, list, room);
+    uint8_t kind = (uint8_t)mostly_below(3);
+    uint8_t code = batcher_loop_lend(loop, view, kind, &step, list, room);
+    if (view != 0 && kind > BATCHER_FINALIZATION) {
+        CHECK(code == BATCHER_MALFORMED);
+        return 0;
+    }
     CHECK((code == BATCHER_SHORT) == (room < participants));
     if (code == BATCHER_SHORT || code == BATCHER_IDLE) return 0;
     MADE(code);
     CHECK(code == BATCHER_VERIFY && step.listed <= participants && step.kind <= BATCHER_FINALIZATION);
-    CHECK(view == 0 || step.proposal.view == view);
+    CHECK(view == 0 || (step.proposal.view == view && step.kind == kind));
     for (uint64_t i = 0; i < step.listed; i++) verdicts[i] = attests(&list[i]);
     if (below(5) == 0) step.kind = (uint8_t)mostly_below(3);
     size_t given = below(10) != 0 ? step.listed : below(MOST);
@@ -330,7 +335,7 @@ static int poll_once(struct batcher_loop *loop, uint32_t me, uint8_t *disk, size
     CHECK(code == BATCHER_DONE || code == BATCHER_WRITE || code == BATCHER_IDLE);
     if (code == BATCHER_WRITE) return write_down(loop, disk, written);
     if (code == BATCHER_IDLE || below(20) == 0) return 0;
-    CHECK(task.task <= BATCHER_TASK_JUDGE);
+    CHECK(task.task <= BATCHER_TASK_FORWARD);
     switch (task.task) {
     case BATCHER_TASK_ENTER:
         code = batcher_loop_enter(loop, task.proposal.view, 0);

@@ -49,7 +49,7 @@ static bool verify(struct alone *it) {
     struct batcher_attestation list[1];
     struct batcher_step step;
     const bool good[] = {true};
-    uint8_t code = AGAIN(batcher_loop_lend(&it->loop, 0, &step, list, 1));
+    uint8_t code = AGAIN(batcher_loop_lend(&it->loop, 0, 0, &step, list, 1));
     if (code == BATCHER_IDLE) return true;
     return code == BATCHER_VERIFY
         && AGAIN(batcher_loop_conclude(&it->loop, step.kind, &step.proposal, list, step.listed, good, step.listed))
@@ -66,7 +66,8 @@ static bool perform(struct alone *it, const struct batcher_task *task) {
     case BATCHER_TASK_SIGN: return cast(it, task);
     case BATCHER_TASK_PROPOSE: return batcher_loop_judge(&it->loop, &task->proposal, true) == BATCHER_DONE;
     case BATCHER_TASK_SEND_VOTE:
-    case BATCHER_TASK_SEND_CERTIFICATE: return true;
+    case BATCHER_TASK_SEND_CERTIFICATE:
+    case BATCHER_TASK_FORWARD: return true;
     default: return false;
     }
 }

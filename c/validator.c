@@ -249,7 +249,7 @@ static void verify(void) {
     struct batcher_attestation list[MOST];
     struct batcher_step step;
     bool verdicts[MOST];
-    uint8_t code = batcher_loop_lend(&loop, 0, &step, list, MOST);
+    uint8_t code = batcher_loop_lend(&loop, 0, 0, &step, list, MOST);
     if (code == BATCHER_IDLE) return;
     need(code == BATCHER_VERIFY, batcher_code_text(code));
     for (uint64_t i = 0; i < step.listed; i++) verdicts[i] = attests(step.kind, &step.proposal, &list[i]);
@@ -296,6 +296,7 @@ static void perform(struct batcher_task *task) {
         break;
     /* There is nothing in a payload here. */
     case BATCHER_TASK_JUDGE: done(batcher_loop_judge(&loop, proposal, true)); break;
+    case BATCHER_TASK_FORWARD: break;
     default: stop("a task isn't known");
     }
 }

@@ -236,8 +236,8 @@ static int verify(uint32_t me) {
     struct batcher_attestation list[VALIDATORS];
     struct batcher_step step;
     bool verdicts[VALIDATORS];
-    CHECK(batcher_loop_lend(&it->loop, 0, &step, list, VALIDATORS - 1) == BATCHER_SHORT);
-    uint8_t code = batcher_loop_lend(&it->loop, 0, &step, list, VALIDATORS);
+    CHECK(batcher_loop_lend(&it->loop, 0, 0, &step, list, VALIDATORS - 1) == BATCHER_SHORT);
+    uint8_t code = batcher_loop_lend(&it->loop, 0, 0, &step, list, VALIDATORS);
     if (code == BATCHER_IDLE) return 0;
     CHECK(code == BATCHER_VERIFY && step.listed <= VALIDATORS);
     for (uint64_t i = 0; i < step.listed; i++) verdicts[i] = attests(step.kind, &step.proposal, &list[i]);
@@ -309,6 +309,11 @@ static int perform(uint32_t me, const struct batcher_task *task) {
         CHECK(batcher_loop_judge(&it->loop, &proposal, true) == BATCHER_DONE);
         return 0;
     case BATCHER_TASK_JUDGE: CHECK(batcher_loop_judge(&it->loop, &proposal, true) == BATCHER_DONE); return 0;
+    /* Its certificate was sent just before. */
+    case BATCHER_TASK_FORWARD:
+        CHECK(batcher_loop_kept(&it->loop, BATCHER_NOTARIZATION, &proposal, message.bytes, sizeof message.bytes, &count)
+              == BATCHER_DONE);
+        return 0;
     default: return __LINE__;
     }
 }
@@ -452,8 +457,8 @@ static int mistakes(void) {
     CHECK(batcher_loop_conclude(&loop, 3, &proposal, list, 0, &verdict, 0) == BATCHER_MALFORMED);
     CHECK(batcher_loop_conclude(&loop, 0, &proposal, list, 0, &verdict, 1) == BATCHER_MALFORMED);
     CHECK(batcher_loop_conclude(&loop, 0, &proposal, list, 0, &verdict, 0) == BATCHER_STALE);
-    CHECK(batcher_loop_lend(&loop, 0, &step, list, VALIDATORS - 1) == BATCHER_SHORT);
-    CHECK(batcher_loop_lend(&loop, 0, &step, list, VALIDATORS) == BATCHER_IDLE);
+    CHECK(batcher_loop_lend(&loop, 0, 0, &step, list, VALIDATORS - 1) == BATCHER_SHORT);
+    CHECK(batcher_loop_lend(&loop, 0, 0, &step, list, VALIDATORS) == BATCHER_IDLE);
     /* A certificate that is forged blocks its peer, and one from beyond the window is taken in. */
     CHECK(batcher_loop_certificate(&loop, 3, BATCHER_NULLIFICATION, &proposal, room, 9, false) == BATCHER_FORGED);
     CHECK(batcher_loop_poll(&loop, &task) == BATCHER_DONE && task.task == BATCHER_TASK_BLOCK);

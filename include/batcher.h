@@ -124,7 +124,8 @@ enum batcher_task_code {
     BATCHER_TASK_VERIFY, /* have what `batcher_loop_lend` lends verified */
     BATCHER_TASK_SIGN, /* sign `kind` and `proposal`, and cast the vote */
     BATCHER_TASK_PROPOSE, /* make the payload of `proposal`, and judge it to be valid */
-    BATCHER_TASK_JUDGE /* judge whether `proposal` is valid */
+    BATCHER_TASK_JUDGE, /* judge whether `proposal` is valid */
+    BATCHER_TASK_FORWARD /* send the payload notarized in the round of `proposal` to whom its certificate lacks */
 };
 
 /* What is to be done to a file. */
@@ -401,10 +402,10 @@ uint8_t batcher_loop_certificate(struct batcher_loop *validator, uint64_t peer, 
 
 /* VERIFY: verdicts are wanted on the attestations of the list. SHORT: the list has fewer places than there
  * are participants. With view 0 they are of the next construction; IDLE: it wants none, and its view rests.
- * With a view they are of that one's, which may not be the next yet: verify them early, and keep the
- * verdicts. Nothing changes then. */
-uint8_t batcher_loop_lend(struct batcher_loop *validator, uint64_t view, struct batcher_step *out,
-                          struct batcher_attestation *list, size_t list_length);
+ * With a view they are of a kind of that one, which may not be the next yet: verify them early, and keep the
+ * verdicts. Nothing changes then, and IDLE says that the kind isn't ready. */
+uint8_t batcher_loop_lend(struct batcher_loop *validator, uint64_t view, uint8_t kind,
+                          struct batcher_step *out, struct batcher_attestation *list, size_t list_length);
 
 /* Whether each attestation that was lent attests. The answer may come late. STALE: others are wanted by
  * now, and the task to verify comes again. */

@@ -153,7 +153,7 @@ fn play_loop<const BYTES: usize>(views: u64, participants: u32) {
                     .expect("memory is there");
             }
             Task::Final(proposal) => last = proposal.round.view.get(),
-            Task::SendCertificate(_) | Task::Enter(_) => {}
+            Task::SendCertificate(_) | Task::Forward(..) | Task::Enter(_) => {}
             Task::Judge(_) | Task::Block(..) => unreachable!("all are honest, and it leads"),
         }
     }

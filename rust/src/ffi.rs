@@ -83,6 +83,7 @@ pub(crate) mod code {
     pub(crate) const TASK_SIGN: u8 = 7;
     pub(crate) const TASK_PROPOSE: u8 = 8;
     pub(crate) const TASK_JUDGE: u8 = 9;
+    pub(crate) const TASK_FORWARD: u8 = 10;
     pub(crate) const CHANGE_FRAME: u8 = 0;
     pub(crate) const CHANGE_BYTE: u8 = 1;
     pub(crate) const CHANGE_LENGTH: u8 = 2;

@@ -47,7 +47,7 @@
 //!         Task::Final(proposal) => last = proposal.round.view,
 //!         // Nobody else is there, and no view takes too long.
 //!         Task::SendVote(_) | Task::SendCertificate(_) | Task::Enter(_) => {}
-//!         Task::Judge(_) | Task::Block(..) => unreachable!("nobody else is there"),
+//!         other => unreachable!("nobody else is there, and there is {other:?}"),
 //!     }
 //! }
 //! // What is on its disk is all that it takes to go on.
@@ -205,7 +205,7 @@ pub enum Receipt<A> {
 pub enum Verdict {
     /// It certifies what it names, and is kept.
     Recorded,
-    /// It doesn't. Drop its peer: one that sent it of a view in the window is given to be blocked.
+    /// It doesn't, and its peer is given to be blocked.
     Forged,
     /// There was one of its kind and view.
     Known,
@@ -277,6 +277,7 @@ pub struct Write {
 #[derive(Clone, Debug)]
 pub struct Wanted<G> {
     subject: Subject,
+    message: Vec<u8>,
     attestations: Vec<Attestation<G>>,
 }
 
@@ -284,6 +285,11 @@ impl<G> Wanted<G> {
     /// What they are to attest to.
     pub fn subject(&self) -> &Subject {
         &self.subject
+    }
+
+    /// The bytes of that, on which their signatures are: its [message](Loop::message).
+    pub fn message(&self) -> &[u8] {
+        &self.message
     }
 
     /// The attestations, each of another participant.
@@ -309,6 +315,9 @@ pub enum Task<G> {
     SendVote(Vote<G>),
     /// Send this certificate to all others.
     SendCertificate(Listed),
+    /// Send the payload of this proposal to these participants, which may lack it: it is notarized
+    /// without them. The validator has it, since its own vote is in the notarization.
+    Forward(Proposal, Vec<Participant>),
     /// This view is entered: start its timer. Once it is over, say so by [`Loop::expire`].
     Enter(View),
     /// Find out which of these attest, and say so by [`Loop::conclude`].
@@ -349,6 +358,13 @@ pub struct Loop<G> {
     // What is to be handed out to be verified, and whose attestations were and have no verdict yet.
     queue: VecDeque<Wanted<G>>,
     asked: Vec<(Subject, Vec<u32>)>,
+    // Of each participant whether it is blocked, and who forged and isn't handed out to be yet.
+    blocked: Vec<bool>,
+    forged: Vec<Participant>,
+    // The last view that is final.
+    last: View,
+    // Who may lack the payload of the notarization that was handed out last.
+    forward: Option<(Proposal, Vec<Participant>)>,
     // The last view that was entered.
     entered: View,
     signatures: PhantomData<G>,
@@ -403,6 +419,9 @@ impl<G: Clone + AsRef<[u8]> + for<'b> TryFrom<&'b [u8]>> Loop<G> {
         let mut list = Vec::new();
         let none = ffi::Attestation::default();
         reserve_each(&mut list, options.participants, none).map_err(|_| StartError::OutOfMemory)?;
+        let mut blocked = Vec::new();
+        reserve_each(&mut blocked, options.participants, false)
+            .map_err(|_| StartError::OutOfMemory)?;
         Ok(Loop {
             library,
             leader: Box::new(leader),
@@ -417,6 +436,10 @@ impl<G: Clone + AsRef<[u8]> + for<'b> TryFrom<&'b [u8]>> Loop<G> {
             found: Vec::new(),
             queue: VecDeque::new(),
             asked: Vec::new(),
+            blocked,
+            forged: Vec::new(),
+            last: View::zero(),
+            forward: None,
             entered: View::zero(),
             signatures: PhantomData,
         })
@@ -430,6 +453,9 @@ impl<G: Clone + AsRef<[u8]> + for<'b> TryFrom<&'b [u8]>> Loop<G> {
     /// same call can be made again.
     pub fn poll(&mut self) -> Result<Option<Task<G>>, PollError> {
         loop {
+            if let Some(peer) = self.forged.pop() {
+                return Ok(Some(Task::Block(peer, Cause::Certificate)));
+            }
             if let Some(wanted) = self.queue.pop_front() {
                 return Ok(Some(Task::Verify(wanted)));
             }
@@ -457,7 +483,12 @@ impl<G: Clone + AsRef<[u8]> + for<'b> TryFrom<&'b [u8]>> Loop<G> {
         let flat = &self.task;
         Ok(Some(match flat.task {
             code::TASK_BLOCK => {
-                Task::Block(Participant::new(flat.participant), cause_of(flat.cause))
+                let (peer, cause) = (Participant::new(flat.participant), cause_of(flat.cause));
+                if self.is_blocked(peer) {
+                    return Ok(None);
+                }
+                self.block(peer);
+                Task::Block(peer, cause)
             }
             code::TASK_FINAL => {
                 let proposal = proposal_of(&flat.proposal);
@@ -465,6 +496,7 @@ impl<G: Clone + AsRef<[u8]> + for<'b> TryFrom<&'b [u8]>> Loop<G> {
                     .retain(|found| found.subject.round().view > proposal.round.view);
                 self.asked
                     .retain(|asked| asked.0.round().view > proposal.round.view);
+                self.last = proposal.round.view;
                 Task::Final(proposal)
             }
             // It is on the disk since it was cast, so it attests.
@@ -475,8 +507,12 @@ impl<G: Clone + AsRef<[u8]> + for<'b> TryFrom<&'b [u8]>> Loop<G> {
             code::TASK_SEND_VOTE => Task::SendVote(vote_of(&flat.vote)?),
             code::TASK_SEND_CERTIFICATE => {
                 let kind = kind_of(flat.kind);
-                match self.kept(kind, round_of(&flat.proposal))? {
-                    Some(certificate) => Task::SendCertificate(certificate),
+                self.forward = None;
+                match self.kept(kind, round_of(&self.task.proposal))? {
+                    Some(certificate) => {
+                        self.forward = self.forward_of(&certificate)?;
+                        Task::SendCertificate(certificate)
+                    }
                     None => return Ok(None),
                 }
             }
@@ -501,8 +537,38 @@ impl<G: Clone + AsRef<[u8]> + for<'b> TryFrom<&'b [u8]>> Loop<G> {
                 parent: View::new(flat.proposal.parent),
             },
             code::TASK_JUDGE => Task::Judge(proposal_of(&flat.proposal)),
+            code::TASK_FORWARD => match self.forward.take() {
+                Some((proposal, to)) => Task::Forward(proposal, to),
+                None => return Ok(None),
+            },
             other => unknown(other),
         }))
+    }
+
+    /// The proposal of a notarization that has its own vote, and whose votes that lacks.
+    fn forward_of(
+        &self,
+        certificate: &Listed,
+    ) -> Result<Option<(Proposal, Vec<Participant>)>, OutOfMemory> {
+        let Certificate::Notarization(notarization) = certificate else {
+            return Ok(None);
+        };
+        let mut lacks = Vec::new();
+        reserve(&mut lacks, self.participants as usize)?;
+        lacks.resize(self.participants as usize, true);
+        for signer in signers(certificate.content()) {
+            if let Some(lacks) = lacks.get_mut(signer as usize) {
+                *lacks = false;
+            }
+        }
+        if lacks[usize::from(self.me)] {
+            return Ok(None);
+        }
+        let mut to = Vec::new();
+        let others = (0..self.participants).zip(&lacks);
+        reserve(&mut to, lacks.iter().filter(|lacks| **lacks).count())?;
+        to.extend(others.filter(|it| *it.1).map(|it| Participant::new(it.0)));
+        Ok((!to.is_empty()).then_some((notarization.proposal, to)))
     }
 
     fn owed(&self) -> Result<Write, PollError> {
@@ -517,30 +583,37 @@ impl<G: Clone + AsRef<[u8]> + for<'b> TryFrom<&'b [u8]>> Loop<G> {
         }
     }
 
-    /// Queues what is to be verified: for the next construction, and early for those of later views.
-    /// Where all of the next one was verified before, that is made.
+    /// Queues what is to be verified: for the next construction, and early for the other kinds of its
+    /// view and of later ones. Where all of the next one was verified before, that is made.
     fn lend(&mut self) -> Result<(), PollError> {
-        let Some(step) = self.listed(0)? else {
+        let Some(step) = self.listed(0, Kind::Notarization)? else {
             return Ok(());
         };
         if let Some(verdicts) = self.verdicts(&step)? {
             return self.conclude_listed(&step, &verdicts);
         }
         self.ask(&step)?;
-        let first = View::new(step.proposal.view);
+        let first = step.proposal.view;
         let last = self.entered.get().saturating_add(1);
-        for view in (first.get()..last).map(|it| it + 1).take(EARLY) {
-            if let Some(step) = self.listed(view)? {
-                self.ask(&step)?;
+        for view in (first..=last.max(first)).take(1 + EARLY) {
+            for kind in [Kind::Notarization, Kind::Nullification, Kind::Finalization] {
+                if (view, kind_code(kind)) == (first, step.kind) {
+                    continue;
+                }
+                if let Some(step) = self.listed(view, kind)? {
+                    self.ask(&step)?;
+                }
             }
         }
         Ok(())
     }
 
-    /// Has the library list what the construction of a view looks at, or the next one where that is 0.
-    fn listed(&mut self, view: u64) -> Result<Option<ffi::Step>, PollError> {
+    /// Has the library list what a construction of this view and kind looks at, or the next
+    /// construction, which view 0 is.
+    fn listed(&mut self, view: u64, kind: Kind) -> Result<Option<ffi::Step>, PollError> {
         let mut step = ffi::Step::default();
-        match self.library.lend(view, &mut step, &mut self.list) {
+        let kind = kind_code(kind);
+        match self.library.lend(view, kind, &mut step, &mut self.list) {
             code::VERIFY => Ok(Some(step)),
             code::IDLE => Ok(None),
             code::OUT_OF_MEMORY => Err(PollError::OutOfMemory),
@@ -596,7 +669,7 @@ impl<G: Clone + AsRef<[u8]> + for<'b> TryFrom<&'b [u8]>> Loop<G> {
         let subject = subject_of(kind_of(step.kind), &step.proposal);
         let all = &self.list[..step.listed as usize];
         if self.found.is_empty() && self.asked.is_empty() {
-            let asked = Asked::of(subject, all)?;
+            let asked = Asked::of(subject, self.message(&subject)?, all)?;
             return self.hand_out(asked);
         }
         let was_asked = |it: &ffi::Attestation| {
@@ -613,7 +686,7 @@ impl<G: Clone + AsRef<[u8]> + for<'b> TryFrom<&'b [u8]>> Loop<G> {
         if left.is_empty() {
             return Ok(());
         }
-        let asked = Asked::of(subject, &left)?;
+        let asked = Asked::of(subject, self.message(&subject)?, &left)?;
         self.hand_out(asked)
     }
 
@@ -644,6 +717,9 @@ impl<G: Clone + AsRef<[u8]> + for<'b> TryFrom<&'b [u8]>> Loop<G> {
         vote: &Vote<G>,
     ) -> Result<Receipt<Admission<G>>, VoteError> {
         let flat = flat_vote(vote)?;
+        if self.is_blocked(sender) {
+            return Ok(Receipt::Dropped);
+        }
         match self
             .library
             .vote(u64::from(sender.get()), &flat, &mut self.answer)
@@ -663,63 +739,105 @@ impl<G: Clone + AsRef<[u8]> + for<'b> TryFrom<&'b [u8]>> Loop<G> {
 
     /// The attestations that a certificate is made of: of a quorum of different participants. It
     /// certifies where each attests its subject. None where it is no such list.
-    pub fn attestations(&self, certificate: &Listed) -> Option<Vec<Attestation<G>>> {
-        let all = listed::<G>(certificate.content())?;
-        let mut signers: Vec<u32> = all.iter().map(|it| it.signer.get()).collect();
-        signers.sort_unstable();
-        let differ = signers.windows(2).all(|pair| pair[0] < pair[1]);
-        let last = signers.last()?;
-        let is_quorum = signers.len() >= quorum(self.participants) as usize;
-        (differ && is_quorum && *last < self.participants).then_some(all)
-    }
-
-    /// The participants whose attestations a certificate doesn't have. Of a notarization they may
-    /// lack the payload: forward it to them. Nobody where it is no list of a quorum.
-    pub fn missing(&self, certificate: &Listed) -> Vec<Participant> {
-        let Some(all) = self.attestations(certificate) else {
-            return Vec::new();
-        };
-        let mut is_missing = vec![true; self.participants as usize];
-        for it in &all {
-            is_missing[usize::from(it.signer)] = false;
-        }
-        let participants = (0..self.participants).map(Participant::new);
-        participants
-            .filter(|it| is_missing[usize::from(*it)])
-            .collect()
-    }
-
-    /// Takes in a certificate that this participant sent, and whether it certifies: whether it has
-    /// [attestations](Loop::attestations), and each attests. Then poll.
     ///
-    /// One from beyond the window is taken in too: by it a validator that fell behind goes on. Where
-    /// that is forged, drop who sent it.
+    /// # Errors
+    ///
+    /// `OutOfMemory`.
+    pub fn attestations(&self, certificate: &Listed) -> Result<Option<Wanted<G>>, OutOfMemory> {
+        let bytes = certificate.content();
+        let mut all: Vec<u32> = Vec::new();
+        reserve(&mut all, bytes.len() / EACH)?;
+        all.extend(signers(bytes));
+        all.sort_unstable();
+        let differ = all.windows(2).all(|pair| pair[0] < pair[1]);
+        let take_part = all.last().is_some_and(|last| *last < self.participants);
+        let is_quorum = all.len() >= quorum(self.participants) as usize;
+        if !differ || !take_part || !is_quorum {
+            return Ok(None);
+        }
+        let subject = certificate.subject();
+        let message = self.message(&subject)?;
+        Ok(listed(bytes)?.map(|attestations| Wanted {
+            subject,
+            message,
+            attestations,
+        }))
+    }
+
+    /// Takes in a certificate that this participant sent. `verify` finds out which of the
+    /// [attestations](Loop::attestations) that it is made of attest, one verdict for each. It isn't
+    /// called where the certificate isn't looked at. Then poll.
+    ///
+    /// One from beyond the window is taken in too: by it a validator that fell behind goes on.
     ///
     /// # Errors
     ///
     /// `OutOfMemory`, after which the same call can be made again.
+    ///
+    /// # Panics
+    ///
+    /// Where there isn't one verdict for each.
     pub fn certificate(
         &mut self,
         sender: Participant,
         certificate: &Listed,
-        certifies: bool,
+        verify: impl FnOnce(&Wanted<G>) -> Vec<bool>,
     ) -> Result<Receipt<Verdict>, OutOfMemory> {
+        if sender.get() >= self.participants {
+            return Ok(Receipt::Unknown);
+        }
+        if self.is_blocked(sender) {
+            return Ok(Receipt::Dropped);
+        }
+        let (kind, round) = (certificate.kind(), certificate.round());
+        if round.epoch != self.epoch || round.view < self.last {
+            return Ok(Receipt::Outside);
+        }
+        if self.has_certificate(kind, round) {
+            return Ok(Receipt::Answered(Verdict::Known));
+        }
+        reserve(&mut self.forged, 1)?;
+        let subject = certificate.subject();
+        let certifies = match self.attestations(certificate)? {
+            Some(wanted) => {
+                let verdicts = verify(&wanted);
+                let count = wanted.attestations.len();
+                assert_eq!(count, verdicts.len(), "{ONE_EACH}");
+                verdicts.iter().all(|attests| *attests)
+            }
+            None => false,
+        };
         match self.library.certificate(
             u64::from(sender.get()),
-            kind_code(certificate.kind()),
-            &flat_subject(&certificate.subject()),
+            kind_code(kind),
+            &flat_subject(&subject),
             certificate.content(),
             certifies,
         ) {
             code::DONE => Ok(Receipt::Answered(Verdict::Recorded)),
             code::KNOWN => Ok(Receipt::Answered(Verdict::Known)),
-            code::FORGED => Ok(Receipt::Answered(Verdict::Forged)),
+            code::FORGED => {
+                self.block(sender);
+                self.forged.push(sender);
+                Ok(Receipt::Answered(Verdict::Forged))
+            }
             code::ELSEWHERE => Ok(Receipt::Outside),
             code::DROPPED => Ok(Receipt::Dropped),
             code::UNKNOWN => Ok(Receipt::Unknown),
             code::OUT_OF_MEMORY => Err(OutOfMemory),
             other => unknown(other),
         }
+    }
+
+    /// What this participant sends is dropped from now on, as where its transport has blocked it.
+    pub fn block(&mut self, peer: Participant) {
+        if let Some(blocked) = self.blocked.get_mut(usize::from(peer)) {
+            *blocked = true;
+        }
+    }
+
+    fn is_blocked(&self, peer: Participant) -> bool {
+        self.blocked.get(usize::from(peer)) == Some(&true)
     }
 
     /// Which of the attestations attest, one verdict for each. Then poll. Lists may be answered in any
@@ -784,8 +902,14 @@ impl<G: Clone + AsRef<[u8]> + for<'b> TryFrom<&'b [u8]>> Loop<G> {
 
     /// The bytes to sign for a subject, and to verify a signature on it: no other subject has the
     /// same ones, and none in another namespace.
-    pub fn message(&self, subject: &Subject) -> Vec<u8> {
-        let mut bytes = (self.namespace.len() as u64).to_be_bytes().to_vec();
+    ///
+    /// # Errors
+    ///
+    /// `OutOfMemory`.
+    pub fn message(&self, subject: &Subject) -> Result<Vec<u8>, OutOfMemory> {
+        let mut bytes = Vec::new();
+        reserve(&mut bytes, self.namespace.len() + 8 + 1 + 3 * 8 + 32)?;
+        bytes.extend((self.namespace.len() as u64).to_be_bytes());
         bytes.extend_from_slice(&self.namespace);
         bytes.push(kind_code(subject.kind()));
         bytes.extend(subject.round().epoch.get().to_be_bytes());
@@ -794,7 +918,7 @@ impl<G: Clone + AsRef<[u8]> + for<'b> TryFrom<&'b [u8]>> Loop<G> {
             bytes.extend(proposal.parent.get().to_be_bytes());
             bytes.extend(proposal.payload.0);
         }
-        bytes
+        Ok(bytes)
     }
 
     /// Proposes this payload in a view, on the proposal of the view `parent`. Then poll.
@@ -825,6 +949,21 @@ impl<G: Clone + AsRef<[u8]> + for<'b> TryFrom<&'b [u8]>> Loop<G> {
             finalizes: counts_of(&flat.finalizes),
             quorum: quorum(self.participants),
         }
+    }
+
+    /// The proposal of a view that is notarized or final. The parent of another is named by its view.
+    /// None of views before the final one, nor of the start, which view 0 is.
+    ///
+    /// # Errors
+    ///
+    /// `OutOfMemory`.
+    pub fn certified(&self, view: View) -> Result<Option<Proposal>, OutOfMemory> {
+        for kind in [Kind::Notarization, Kind::Finalization] {
+            if let Some(certificate) = self.kept(kind, Round::new(self.epoch, view))? {
+                return Ok(certificate.proposal());
+            }
+        }
+        Ok(None)
     }
 
     /// Whether a certificate of this kind and round is kept, so that another one needn't be verified.
@@ -879,13 +1018,18 @@ struct Asked<G> {
 }
 
 impl<G: for<'b> TryFrom<&'b [u8]>> Asked<G> {
-    fn of(subject: Subject, list: &[ffi::Attestation]) -> Result<Self, VoteError> {
+    fn of(
+        subject: Subject,
+        message: Vec<u8>,
+        list: &[ffi::Attestation],
+    ) -> Result<Self, VoteError> {
         let attestations = attestations_of(list)?;
         let mut signers = Vec::new();
         reserve(&mut signers, list.len())?;
         signers.extend(list.iter().map(|it| it.signer));
         let wanted = Wanted {
             subject,
+            message,
             attestations,
         };
         Ok(Asked { wanted, signers })
@@ -918,27 +1062,39 @@ pub(crate) fn reserve_bytes(bytes: &mut Vec<u8>, count: u64) -> Result<(), OutOf
     reserve(bytes, count.saturating_sub(bytes.len()))
 }
 
+/// How many bytes an attestation has in a list.
+const EACH: usize = 4 + 1 + ffi::WIDTH;
+
+/// Who signed the attestations of a list.
+fn signers(bytes: &[u8]) -> impl Iterator<Item = u32> {
+    let all = bytes.get(8..).unwrap_or_default().chunks_exact(EACH);
+    all.filter_map(|one| Some(u32::from_be_bytes(*one.first_chunk::<4>()?)))
+}
+
 /// The attestations of a list: how many there are, and of each its signer, how long its signature
 /// is, and that with zeros behind it.
-fn listed<G: for<'b> TryFrom<&'b [u8]>>(bytes: &[u8]) -> Option<Vec<Attestation<G>>> {
-    const EACH: usize = 4 + 1 + ffi::WIDTH;
-    let (count, rest) = bytes.split_first_chunk::<8>()?;
-    if rest.len() % EACH != 0 || u64::from_be_bytes(*count) != (rest.len() / EACH) as u64 {
+fn listed<G: for<'b> TryFrom<&'b [u8]>>(
+    bytes: &[u8],
+) -> Result<Option<Vec<Attestation<G>>>, OutOfMemory> {
+    let mut all = Vec::new();
+    let Some((count, rest)) = bytes.split_first_chunk::<8>() else {
+        return Ok(None);
+    };
+    reserve(&mut all, rest.len() / EACH)?;
+    all.extend(rest.chunks_exact(EACH).map_while(attestation));
+    let is_whole = rest.len() == all.len() * EACH && u64::from_be_bytes(*count) == all.len() as u64;
+    Ok(is_whole.then_some(all))
+}
+
+fn attestation<G: for<'b> TryFrom<&'b [u8]>>(one: &[u8]) -> Option<Attestation<G>> {
+    let (signer, signature) = one.split_first_chunk::<4>()?;
+    let (length, signature) = signature.split_first()?;
+    let (used, zeros) = signature.split_at_checked(usize::from(*length))?;
+    if zeros.iter().any(|byte| *byte != 0) {
         return None;
     }
-    let mut all = Vec::new();
-    all.try_reserve_exact(rest.len() / EACH).ok()?;
-    for one in rest.chunks_exact(EACH) {
-        let (signer, signature) = one.split_first_chunk::<4>()?;
-        let (length, signature) = signature.split_first()?;
-        let (used, zeros) = signature.split_at_checked(usize::from(*length))?;
-        if zeros.iter().any(|byte| *byte != 0) {
-            return None;
-        }
-        let signer = Participant::new(u32::from_be_bytes(*signer));
-        all.push(Attestation::new(signer, G::try_from(used).ok()?));
-    }
-    Some(all)
+    let signer = Participant::new(u32::from_be_bytes(*signer));
+    Some(Attestation::new(signer, G::try_from(used).ok()?))
 }
 
 fn cause_of(flat: u8) -> Cause {

@@ -71,12 +71,6 @@ impl Station {
         };
     }
 
-    fn certifies(&self, certificate: &Listed) -> bool {
-        let subject = certificate.subject();
-        let all = self.running.attestations(certificate);
-        all.is_some_and(|all| all.iter().all(|it| attests(&subject, it)))
-    }
-
     fn hear(&mut self, sender: u32, message: &Message) {
         let sender = Participant::new(sender);
         match message {
@@ -84,11 +78,8 @@ impl Station {
                 self.running.vote(sender, vote).unwrap();
             }
             Message::Certificate(certificate) => {
-                let certifies = self.certifies(certificate);
-                assert!(certifies);
-                self.running
-                    .certificate(sender, certificate, certifies)
-                    .unwrap();
+                let heard = self.running.certificate(sender, certificate, verdicts);
+                assert_ne!(heard, Ok(Receipt::Answered(Verdict::Forged)));
             }
         }
     }
@@ -119,9 +110,7 @@ impl Station {
                 Task::SendCertificate(made) => messages.push(Message::Certificate(made)),
                 Task::Enter(view) => self.view = view,
                 Task::Verify(wanted) => {
-                    let subject = wanted.subject();
-                    let all = wanted.attestations().iter();
-                    let verdicts: Vec<_> = all.map(|it| attests(subject, it)).collect();
+                    let verdicts = verdicts(&wanted);
                     self.running.conclude(&wanted, &verdicts).unwrap();
                 }
                 Task::Sign(_) if !self.signs => {}
@@ -134,6 +123,7 @@ impl Station {
                     self.running.propose(view, parent, payload);
                 }
                 Task::Judge(proposal) => self.running.judge(&proposal, true),
+                Task::Forward(..) => {}
             }
         }
         messages
@@ -150,6 +140,11 @@ impl Station {
         let all = || self.sent.iter();
         all().all(|one| all().all(|other| !contradict(one, other)))
     }
+}
+
+fn verdicts(wanted: &Wanted<Signature>) -> Vec<bool> {
+    let attests = |it: &_| attests(wanted.subject(), it);
+    wanted.attestations().iter().map(attests).collect()
 }
 
 struct Numbers(u64);
@@ -234,18 +229,13 @@ fn nullification(view: u64, signers: &[u32]) -> Listed {
 #[test]
 fn a_certificate_is_a_list_of_a_quorum() {
     let station = begun(0);
-    let list = |made: &Listed| station.running.attestations(made);
-    let all = list(&nullification(1, &[3, 0, 2])).unwrap();
-    let signers: Vec<u32> = all.iter().map(|it| it.signer.get()).collect();
-    assert_eq!(signers, [3, 0, 2]);
-    assert!(station.certifies(&nullification(1, &[3, 0, 2])));
-    let missing = |made: &Listed| station.running.missing(made);
-    assert_eq!(
-        missing(&nullification(1, &[3, 0, 2])),
-        [Participant::new(1)]
-    );
-    assert!(missing(&nullification(1, &[3, 0, 2, 1])).is_empty());
-    assert!(missing(&nullification(1, &[3, 0])).is_empty());
+    let list = |made: &Listed| station.running.attestations(made).unwrap();
+    let wanted = list(&nullification(1, &[3, 0, 2])).unwrap();
+    let all = wanted.attestations().iter();
+    assert_eq!(all.map(|it| it.signer.get()).collect::<Vec<_>>(), [3, 0, 2]);
+    assert_eq!(verdicts(&wanted), [true; 3]);
+    let message = station.running.message(wanted.subject());
+    assert_eq!(Ok(wanted.message().to_vec()), message);
     // Too few, one of them twice, and one that takes no part.
     for signers in [&[0, 1][..], &[0, 1, 1], &[0, 1, 4]] {
         assert!(list(&nullification(1, signers)).is_none());
@@ -267,18 +257,52 @@ fn who_forges_is_blocked() {
     let mut station = begun(0);
     let forged = nullification(1, &[1, 1, 2]);
     let peer = Participant::new(3);
-    let certifies = station.certifies(&forged);
-    let heard = station.running.certificate(peer, &forged, certifies);
+    let heard = station.running.certificate(peer, &forged, verdicts);
     assert_eq!(heard, Ok(Receipt::Answered(Verdict::Forged)));
     let task = station.running.poll().unwrap();
     assert!(matches!(task, Some(Task::Block(it, Cause::Certificate)) if it == peer));
-    let heard = station.running.certificate(peer, &forged, certifies);
+    let never = |_: &Wanted<Signature>| panic!("it isn't looked at");
+    let heard = station.running.certificate(peer, &forged, never);
     assert_eq!(heard, Ok(Receipt::Dropped));
+    // So is who forges one from beyond the window, and of those that attest one more doesn't.
+    let peer = Participant::new(1);
+    let ahead = nullification(90, &[1, 3, 2]);
+    let one_bad = |wanted: &Wanted<_>| {
+        assert_eq!(wanted.attestations().len(), 3);
+        vec![true, true, false]
+    };
+    let heard = station.running.certificate(peer, &ahead, one_bad);
+    assert_eq!(heard, Ok(Receipt::Answered(Verdict::Forged)));
+    let tasks: Vec<_> = tasks(&mut station.running);
+    let block = |it: &&Task<_>| matches!(it, Task::Block(it, Cause::Certificate) if *it == peer);
+    assert_eq!(tasks.iter().filter(block).count(), 1);
+    let subject = nullify_of(1);
+    let vote = Vote::new(subject, Attestation::new(peer, sign(&subject, 1)));
+    let heard = station.running.vote(peer, &vote);
+    assert!(matches!(heard, Ok(Receipt::Dropped)));
     let good = nullification(1, &[1, 3, 2]);
+    let peer = Participant::new(2);
+    let heard = station.running.certificate(peer, &good, verdicts);
+    assert_eq!(heard, Ok(Receipt::Answered(Verdict::Recorded)));
+    // Another one isn't looked at, nor one of another epoch.
+    let heard = station.running.certificate(peer, &good, never);
+    assert_eq!(heard, Ok(Receipt::Answered(Verdict::Known)));
+    let other = Certificate::Nullification(batcher::Nullification {
+        round: Round::new(Epoch::new(1), View::new(1)),
+        certificate: Vec::new(),
+    });
+    let heard = station.running.certificate(peer, &other, never);
+    assert_eq!(heard, Ok(Receipt::Outside));
+    // Nor what comes from whom a transport has blocked, or from nobody.
+    station.running.block(peer);
     let heard = station
         .running
-        .certificate(Participant::new(2), &good, true);
-    assert_eq!(heard, Ok(Receipt::Answered(Verdict::Recorded)));
+        .certificate(peer, &nullification(2, &[1, 3, 2]), never);
+    assert_eq!(heard, Ok(Receipt::Dropped));
+    let heard = station
+        .running
+        .certificate(Participant::new(4), &good, never);
+    assert_eq!(heard, Ok(Receipt::Unknown));
     let round = good.round();
     let kept = station.running.kept(Kind::Nullification, round).unwrap();
     assert_eq!(kept, Some(good));
@@ -455,7 +479,110 @@ fn late_verdicts_are_kept() {
     let task = running.poll().unwrap();
     assert!(matches!(task, Some(Task::Block(it, cause)) if (it, cause) == blocked));
     let certificate = running.kept(Kind::Nullification, round).unwrap().unwrap();
-    assert_eq!(running.missing(&certificate), [0, 6].map(Participant::new));
+    let made = running.attestations(&certificate).unwrap().unwrap();
+    let signers = made.attestations().iter().map(|it| it.signer.get());
+    assert_eq!(signers.collect::<Vec<_>>(), [1, 2, 3, 4, 5]);
+}
+
+/// A proposal of view 1, which participant 1 leads.
+fn first_proposal() -> Proposal {
+    Proposal::new(nullify_of(1).round(), View::zero(), Sha256Digest([7; 32]))
+}
+
+/// All that is to be done by now. What is to be written is.
+fn tasks(running: &mut Loop<Signature>) -> Vec<Task<Signature>> {
+    let mut tasks = Vec::new();
+    while let Some(task) = running.poll().unwrap() {
+        match task {
+            Task::Write(_) => running.wrote(),
+            other => tasks.push(other),
+        }
+    }
+    tasks
+}
+
+#[test]
+fn kinds_are_verified_at_once() {
+    let mut running = of_seven();
+    let proposal = first_proposal();
+    let (notarize, finalize) = (
+        Subject::Notarize { proposal },
+        Subject::Finalize { proposal },
+    );
+    for signer in 1..6 {
+        hear_vote(&mut running, notarize, signer);
+        hear_vote(&mut running, finalize, signer);
+    }
+    let wanted = tasks(&mut running)
+        .into_iter()
+        .filter_map(|task| match task {
+            Task::Verify(wanted) => Some(wanted),
+            _ => None,
+        });
+    let wanted: Vec<_> = wanted.collect();
+    let [first, second] = &wanted[..] else {
+        panic!("{wanted:?}");
+    };
+    assert_eq!((*first.subject(), *second.subject()), (notarize, finalize));
+    // The verdicts on the finalizes are kept until the notarization is there.
+    assert_eq!(running.conclude(second, &[true; 5]), Ok(false));
+    assert!(tasks(&mut running).is_empty());
+    assert_eq!(running.conclude(first, &[true; 5]), Ok(true));
+    let is_final = |task: &Task<_>| matches!(task, Task::Final(it) if *it == proposal);
+    assert!(tasks(&mut running).iter().any(is_final));
+    assert_eq!(running.certified(View::new(1)), Ok(Some(proposal)));
+    assert_eq!(running.certified(View::new(2)), Ok(None));
+}
+
+#[test]
+fn a_payload_is_forwarded_to_who_may_lack_it() {
+    let proposal = first_proposal();
+    let notarize = Subject::Notarize { proposal };
+    // Where the validator didn't notarize, it may lack the payload too.
+    for is_valid in [true, false] {
+        let mut running = of_seven();
+        for signer in 1..5 {
+            hear_vote(&mut running, notarize, signer);
+        }
+        running.judge(&proposal, is_valid);
+        let mut forwarded = Vec::new();
+        loop {
+            let more = tasks(&mut running);
+            if more.is_empty() {
+                break;
+            }
+            for task in more {
+                match task {
+                    Task::Sign(subject) => {
+                        let signature = sign(&subject, 0);
+                        running.signed(subject, &signature).unwrap();
+                    }
+                    Task::Verify(wanted) => {
+                        let verdicts = vec![true; wanted.attestations().len()];
+                        running.conclude(&wanted, &verdicts).unwrap();
+                    }
+                    Task::Forward(it, to) => forwarded.push((it, to)),
+                    _ => {}
+                }
+            }
+        }
+        if is_valid {
+            let to = [5, 6].map(Participant::new).to_vec();
+            assert_eq!(forwarded, [(proposal, to)]);
+            continue;
+        }
+        hear_vote(&mut running, notarize, 5);
+        let wanted = tasks(&mut running).into_iter().find_map(|task| match task {
+            Task::Verify(wanted) => Some(wanted),
+            _ => None,
+        });
+        let verdicts = vec![true; wanted.as_ref().unwrap().attestations().len()];
+        running.conclude(&wanted.unwrap(), &verdicts).unwrap();
+        let more = tasks(&mut running);
+        let sends = |task: &Task<_>| matches!(task, Task::SendCertificate(_));
+        assert!(more.iter().any(sends));
+        assert!(!more.iter().any(|task| matches!(task, Task::Forward(..))));
+    }
 }
 
 #[test]
@@ -539,7 +666,7 @@ fn subjects_have_messages_of_their_own() {
     ];
     let messages = subjects
         .iter()
-        .flat_map(|it| [one.message(it), other.message(it)]);
+        .flat_map(|it| [one.message(it).unwrap(), other.message(it).unwrap()]);
     let mut messages: Vec<_> = messages.collect();
     messages.sort();
     messages.dedup();

@@ -273,7 +273,8 @@ impl Validator {
     fn perform(&mut self, now: usize, task: AnyTask) -> Result<()> {
         match task {
             Task::Block(peer, cause) => self.block(peer.get(), cause)?,
-            Task::Final(_) => {}
+            // Its payloads are in its proposals.
+            Task::Final(_) | Task::Forward(_) => {}
             Task::Cast(vote) => self.station.cast_again(self.alloc, vote)?,
             Task::SendVote(vote) => self.outbox.push(Message::Vote(vote))?,
             Task::SendCertificate(kind, round) => self.send_certificate(kind, round)?,

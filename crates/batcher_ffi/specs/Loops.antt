@@ -46,7 +46,7 @@ use Rattle.batcher_node.specs.Events.{certificate_came, view_entered, vote_came}
 use Rattle.batcher_node.specs.Nodes.{IsLedByAnother, IsNext, NodeConfig, NodeView, node_config, slot_at}
 use Rattle.batcher_node.specs.Represents.{IsHeard, MayNeedIn}
 use Rattle.batcher_node.specs.Windows.{contains}
-use Rattle.batcher_node.specs.Verdicts.{LooksAtThere}
+use Rattle.batcher_node.specs.Verdicts.{LooksAtKindThere, LooksAtThere}
 use Rattle.batcher_node.specs.declared.answers.Cast.{Cast}
 use Rattle.batcher_node.specs.declared.answers.Cast.TheVariants.{ToSend, Known as KnownVote, Outside as OutsideVote}
 use Rattle.batcher_node.specs.declared.answers.EnterFault.{EnterFault}
@@ -259,11 +259,12 @@ LendsNone l =
     → IsNext l.validator.voter.node.rounds view
     → LooksAtThere loop_round_config (slot_at l.validator.voter.node.rounds view) subject all → ⊥
 
--- The construction of a view looks at none.
-abbrev pub LendsNoneOf : CLoop → ℕ → Type 0
-LendsNoneOf l view =
+-- A kind isn't ready in a view.
+abbrev pub LendsNoneOf : CLoop → ℕ → Kind → Type 0
+LendsNoneOf l view kind =
     (subject : Subject Sha256Digest) (all : List (Attestation Signature))
-    → LooksAtThere loop_round_config (slot_at l.validator.voter.node.rounds view) subject all → ⊥
+    → LooksAtKindThere loop_round_config (slot_at l.validator.voter.node.rounds view) kind subject
+    all → ⊥
 
 -- Whether a round is of a view beyond the window.
 abbrev pub is_ahead : CLoop → Round → Bool
@@ -282,13 +283,13 @@ pub record IsLent (l : CLoop) (out : FlatStep) (room list : List FlatAttestation
   pub listed : out.listed ≡ length asked
   pub written : IsWritten raw_in asked room list
 
--- Those of a view are, of which no construction is made yet.
-pub record IsLentOf (l : CLoop) (view : ℕ) (out : FlatStep) (room list : List FlatAttestation)
-    : Type 0 where
+-- Those of a kind of a view are, of which no construction is made yet.
+pub record IsLentOf (l : CLoop) (view : ℕ) (kind : Kind) (out : FlatStep)
+    (room list : List FlatAttestation) : Type 0 where
   pub subject : Subject Sha256Digest
   pub asked : List (Attestation Signature)
-  pub looks_at :
-      LooksAtThere loop_round_config (slot_at l.validator.voter.node.rounds view) subject asked
+  pub looks_at : LooksAtKindThere loop_round_config
+      (slot_at l.validator.voter.node.rounds view) kind subject asked
   pub about : subject_in out.kind out.proposal ≡ Some subject
   pub listed : out.listed ≡ length asked
   pub written : IsWritten raw_in asked room list
@@ -454,21 +455,23 @@ module _ (before : CLoop) (code : ℕ) (after : CLoop) where
     pub on_disk : disk_of after ≡ disk_of before
 
   -- Of a view that is named nothing is made, and nothing changes.
-  pub record LendsOf (view : ℕ) (old out : FlatStep) (room list : List FlatAttestation) : Type 0
-    where
-      pub codes : is_one_of (VERIFY ∷ IDLE ∷ SHORT ∷ []) code ≡ true
-      pub short : code ≡ SHORT → length room < loop_participants before
-      pub fits : code ≡ VERIFY → loop_participants before ≤ length room
-      pub lent : code ≡ VERIFY → IsLentOf before view out room list
-      pub none : code ≡ IDLE → LendsNoneOf before view
-      pub stays : code ≢ VERIFY → (out ≡ old) × (list ≡ room)
-      pub same : after ≡ before
+  pub record LendsOf (view : ℕ) (kind : Kind) (old out : FlatStep)
+      (room list : List FlatAttestation) : Type 0 where
+    pub codes : is_one_of (VERIFY ∷ IDLE ∷ SHORT ∷ []) code ≡ true
+    pub short : code ≡ SHORT → length room < loop_participants before
+    pub fits : code ≡ VERIFY → loop_participants before ≤ length room
+    pub lent : code ≡ VERIFY → IsLentOf before view kind out room list
+    pub none : code ≡ IDLE → LendsNoneOf before view kind
+    pub stays : code ≢ VERIFY → (out ≡ old) × (list ≡ room)
+    pub same : after ≡ before
 
-  -- what is lent of a view, or of the next construction where that is 0
-  abbrev pub LendsIn : ℕ → FlatStep → FlatStep → List FlatAttestation → List FlatAttestation
-      → Type 0
-  LendsIn view old out room list =
-      (view ≡ 0 → Lends old out room list) × (view ≢ 0 → LendsOf view old out room list)
+  -- what is lent of a kind of a view, or of the next construction where the view is 0
+  abbrev pub LendsIn : ℕ → ℕ → FlatStep → FlatStep → List FlatAttestation
+      → List FlatAttestation → Type 0
+  LendsIn view kind old out room list =
+      (view ≡ 0 → Lends old out room list)
+      × (view ≢ 0 → IfRead (kind_in kind) ((out ≡ old) × (list ≡ room)) (λ typed.
+      LendsOf view typed old out room list))
 
   -- A construction is made by verdicts, or they are of something else.
   pub record IsConcluded (subject : Subject Sha256Digest) (all : List (Attestation Signature))

@@ -150,6 +150,8 @@ pub const TASK_PROPOSE: u8 = 8;
 
 pub const TASK_JUDGE: u8 = 9;
 
+pub const TASK_FORWARD: u8 = 10;
+
 /// What is to be done to a file.
 pub const CHANGE_FRAME: u8 = 0;
 

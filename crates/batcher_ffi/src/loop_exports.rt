@@ -130,23 +130,24 @@ pub extern "C" fn batcher_loop_certificate(
 }
 
 /// Writes the attestations on which verdicts are wanted, and what they are to attest: for the next
-/// construction, which view 0 is, or of a view. Where there are none for the next one, its view
-/// rests.
+/// construction, which view 0 is, or of a kind of a view. Where there are none for the next one,
+/// its view rests.
 #[unsafe(no_mangle)]
 pub extern "C" fn batcher_loop_lend(
     validator: &mut LoopHandle,
     view: u64,
+    kind: u8,
     out: &mut FlatStep,
     list: &mut [FlatAttestation],
 ) -> u8
     ensures { OnLoop validator.old.value validator.new.value result ((out.new ≡ out.old)
         × (list.new ≡ list.old)) (λ before after.
-        LendsIn before result after view out.old out.new list.old list.new) }
+        LendsIn before result after view kind out.old out.new list.old list.new) }
 {
     let Some(validator) = validator.as_mut() else {
         return NONE;
     };
-    loops::lend(validator, view, out, list)
+    loops::lend(validator, view, kind, out, list)
 }
 
 /// Makes the next construction by verdicts on what was lent.

@@ -32,7 +32,7 @@ use batcher_bytes::{Keys, Proof, Signature, Signed, WIDTH};
 use batcher_journal::{OpenFault, Owner};
 use batcher_loop::{Loop, LoopFault, Next};
 use batcher_node::Cast;
-use batcher_types::messages::{Attestation, Certificate, Sha256Digest, Subject, Vote};
+use batcher_types::messages::{Attestation, Certificate, Kind, Sha256Digest, Subject, Vote};
 use batcher_types::positions::{Epoch, Participant, Round, View};
 use batcher_types::scheme::{Counter, Name, names};
 use batcher_validator::PollFault;
@@ -310,14 +310,23 @@ fn hear_certificate(
 }
 
 /// The attestations on which verdicts are wanted for the next construction, which view 0 is, or of
-/// a view.
-pub fn lend(it: &mut Looping, view: u64, out: &mut FlatStep, list: &mut [FlatAttestation]) -> u8
-    ensures { LendsIn it.old result it.new view out.old out.new list.old list.new }
+/// a kind of a view.
+pub fn lend(
+    it: &mut Looping,
+    view: u64,
+    kind: u8,
+    out: &mut FlatStep,
+    list: &mut [FlatAttestation],
+) -> u8
+    ensures { LendsIn it.old result it.new view kind out.old out.new list.old list.new }
 {
     if view == 0 {
         return lend_next(it, out, list);
     }
-    lend_of(it, view, out, list)
+    match kind_of(kind) {
+        Some(kind) => lend_of(it, view, kind, out, list),
+        None => MALFORMED,
+    }
 }
 
 // Whether a list has a place for each participant.
@@ -328,31 +337,38 @@ fn has_room(it: &Looping, list: &[FlatAttestation]) -> bool
     list.len() >= it.validator.participants()
 }
 
-// The attestations of a view on which verdicts will be wanted.
-fn lend_of(it: &Looping, view: u64, out: &mut FlatStep, list: &mut [FlatAttestation]) -> u8
-    ensures { LendsOf it.now result it.now view out.old out.new list.old list.new }
+// The attestations of a kind of a view on which verdicts will be wanted.
+fn lend_of(
+    it: &Looping,
+    view: u64,
+    kind: Kind,
+    out: &mut FlatStep,
+    list: &mut [FlatAttestation],
+) -> u8
+    ensures { LendsOf it.now result it.now view kind out.old out.new list.old list.new }
 {
     if !has_room(it, list) {
         return SHORT;
     }
-    if write_attempt_in(it, view, out, list) {
+    if write_attempt_in(it, view, kind, out, list) {
         return VERIFY;
     }
     IDLE
 }
 
-// Writes what the construction of a view looks at, if it looks at anything.
+// Writes what an attempt at a kind of a view looks at, if it looks at anything.
 fn write_attempt_in(
     it: &Looping,
     view: u64,
+    kind: Kind,
     out: &mut FlatStep,
     list: &mut [FlatAttestation],
 ) -> bool
-    ensures lent { result ≡ true → IsLentOf it.now view out.new list.old list.new }
-    ensures none { result ≡ false → LendsNoneOf it.now view }
+    ensures lent { result ≡ true → IsLentOf it.now view kind out.new list.old list.new }
+    ensures none { result ≡ false → LendsNoneOf it.now view kind }
     ensures stays { result ≡ false → (out.new ≡ out.old) × (list.new ≡ list.old) }
 {
-    match it.validator.attempt_in(View(view)) {
+    match it.validator.attempt_in(View(view), kind) {
         Some(wanted) => {
             write_wanted(&wanted, out, &mut [], list);
             true

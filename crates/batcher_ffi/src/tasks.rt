@@ -4,8 +4,8 @@ ghost use Rattle.std.specs.Prelude.{◌≡◌, Some};
 ghost use Rattle.batcher_ffi.specs.Tasks.{IsProposedIn, task_in};
 
 use crate::codes::{
-    TASK_BLOCK, TASK_CAST, TASK_ENTER, TASK_FINAL, TASK_JUDGE, TASK_PROPOSE, TASK_SEND_CERTIFICATE,
-    TASK_SEND_VOTE, TASK_SIGN, TASK_VERIFY,
+    TASK_BLOCK, TASK_CAST, TASK_ENTER, TASK_FINAL, TASK_FORWARD, TASK_JUDGE, TASK_PROPOSE,
+    TASK_SEND_CERTIFICATE, TASK_SEND_VOTE, TASK_SIGN, TASK_VERIFY,
 };
 use crate::flat::{FlatProposal, FlatVote, cause_code, flat_subject, kind_code};
 use batcher_bytes::Signature;
@@ -19,8 +19,9 @@ use batcher_validator::Task;
 pub struct FlatTask {
     /// The vote to cast again or to send.
     pub vote: FlatVote,
-    /// The proposal that is final, or to be judged, or to be made; what is to be signed; of which
-    /// round the certificate is that is to be sent; of the view to enter the view alone.
+    /// The proposal that is final, or to be judged, or to be made; what is to be signed; the round
+    /// of the certificate that is to be sent, or whose payload is to be forwarded; the view to
+    /// enter.
     pub proposal: FlatProposal,
     /// The participant to block.
     pub participant: u32,
@@ -80,6 +81,10 @@ impl FlatTask {
             Task::Judge(proposal) => {
                 self.task = TASK_JUDGE;
                 self.proposal = FlatProposal::of(proposal);
+            }
+            Task::Forward(round) => {
+                self.task = TASK_FORWARD;
+                self.proposal = FlatProposal::of_round(*round);
             }
         }
     }

@@ -153,7 +153,7 @@ impl Alone {
             }
             Task::Cast(vote) => self.cast(vote)?,
             Task::Verify => self.verify()?,
-            Task::SendVote(_) | Task::SendCertificate(_, _) => {
+            Task::SendVote(_) | Task::SendCertificate(_, _) | Task::Forward(_) => {
                 self.sent = self.sent.saturating_add(1);
             }
             Task::Final(proposal) => self.last = proposal.round.view.0,

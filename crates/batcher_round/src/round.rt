@@ -8,7 +8,8 @@ ghost use Rattle.batcher_round.specs.RoundWords.{needs_memory, BatchCertifies, A
 ghost use Rattle.batcher_round.specs.RoundWords.{IsRefusedForNeed, Represents, NetworkCall, OwnCall, ConstructCall, LeaderCall, ForwardCall, MissingCall, CertificateCall, NetworkAnswer, OwnAnswer, ConstructAnswer, LeaderAnswer};
 ghost use Rattle.batcher_round.specs.RoundWords.{ForwardAnswer, MissingAnswer, CertificateAnswer, OutOfMemoryFault, subject_next, pending_next, verified_next, quorum_of, fresh_votes, proven_votes};
 ghost use Rattle.rand_core.specs.Stream.{Stream};
-ghost use Rattle.batcher_round.specs.Verdicts.{judged, judged_with, BatchIsAssembled, LooksAtNext, MayBeQuorumNext};
+ghost use Rattle.batcher_histories.specs.Steps.{is_ready_in};
+ghost use Rattle.batcher_round.specs.Verdicts.{judged, judged_with, BatchIsAssembled, LooksAtKind, LooksAtNext, MayBeQuorumNext};
 ghost use Rattle.batcher_votes.specs.VerifierSteps.{certificate_for};
 ghost use Rattle.batcher_types.specs.Attestations.{index_of_signer};
 ghost use Rattle.batcher_types.specs.Lists.{EachOnce};
@@ -402,6 +403,19 @@ impl<S: Scheme<D>, D: Digest> Round<S, D> {
             return Some(attempt);
         }
         verifier.next_attempt(Kind::Finalization)
+    }
+
+    /// What a construction of this kind looks at, where the kind is ready. Another kind may be
+    /// constructed before it; its verdicts may be found meanwhile.
+    pub fn attempt_of(&self, kind: Kind) -> Option<NextAttempt<'_, S::Signature, D>>
+        ensures ready { is_some result
+            ≡ is_ready_in (⟦<S as RoundConfigs<D>>⟧.of self.now) self.now.holds kind }
+        ensures looks_at { IfSome result (λ a. LooksAtKind (⟦<S as RoundConfigs<D>>⟧.of self.now)
+            self.now.holds kind a.subject a.pending.now) }
+        ensures once { IfSome result (λ a.
+            EachOnce index_of_signer (a.verified.now ++ a.pending.now)) }
+    {
+        self.ballots.verifier().next_attempt(kind)
     }
 
     /// Tries to make a certificate of the first kind that is ready, of notarize, nullify and

@@ -95,6 +95,7 @@ module _ {S D K G C L : Type 0} (x : NodeConfig D K G C) (validator : ValidatorV
         tally = record { begun = count; recast = 0; sent = 0 };
         asked = 0;
         verifying = false;
+        forwarding = None;
         intent = record { me = me; signing = None; expired = 0; chosen = None; posed = 0 };
       }
       → validator.shelf.certificates ≡ [] → validator.shelf.handed ≡ 0
@@ -127,6 +128,7 @@ module _ {S D K G C L : Type 0} (x : NodeConfig D K G C) (validator : ValidatorV
           no_others = λ view was. absurd was;
         };
         verifies = rw (given) (λ is. is);
+        forwards = rw (given) refl;
         intends = rw (given) record {
           votes_as = refl;
           signs = refl;

@@ -36,6 +36,7 @@ module _ {S D K G C L : Type 0} (x : NodeConfig D K G C) (old new : ValidatorVie
           certificates = rw (shelf) is.certificates;
           asks = rw (given) is.asks;
           verifies = rw (given) is.verifies;
+          forwards = rw (given) is.forwards;
           intends = rw (given, to) record {
             votes_as = is.intends.votes_as;
             signs = is.intends.signs;
@@ -64,6 +65,7 @@ module _ {S D K G C L : Type 0} (x : NodeConfig D K G C) (old new : ValidatorVie
           certificates = rw (shelf) is.certificates;
           asks = rw (given) is.asks;
           verifies = rw (given) is.verifies;
+          forwards = rw (given) is.forwards;
           intends = rw (given, to) record {
             votes_as = is.intends.votes_as;
             signs = is.intends.signs;
@@ -90,6 +92,7 @@ module _ {S D K G C L : Type 0} (x : NodeConfig D K G C) (old new : ValidatorVie
           certificates = rw (shelf) is.certificates;
           asks = rw (given) is.asks;
           verifies = rw (given) is.verifies;
+          forwards = rw (given) is.forwards;
           intends = rw (given, to) record {
             votes_as = is.intends.votes_as;
             signs = refl;
@@ -117,6 +120,7 @@ module _ {S D K G C L : Type 0} (x : NodeConfig D K G C) (old new : ValidatorVie
           certificates = rw (shelf) is.certificates;
           asks = rw (given) is.asks;
           verifies = rw (given) is.verifies;
+          forwards = rw (given) is.forwards;
           intends = rw (given, to) record {
             votes_as = is.intends.votes_as;
             signs = is.intends.signs;
@@ -143,6 +147,7 @@ module _ {S D K G C L : Type 0} (x : NodeConfig D K G C) (old new : ValidatorVie
           certificates = rw (shelf) is.certificates;
           asks = rw (given) is.asks;
           verifies = rw (given) is.verifies;
+          forwards = rw (given) is.forwards;
           intends = rw (given, to) record {
             votes_as = is.intends.votes_as;
             signs = is.intends.signs;

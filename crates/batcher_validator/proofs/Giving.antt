@@ -12,7 +12,7 @@ use Rattle.batcher.specs.messages.Certificate.TheVariants.{Finalization as Final
 use Rattle.batcher.specs.messages.Proposal.{Proposal}
 use Rattle.batcher.specs.messages.Subject.TheVariants.{Finalize}
 use Rattle.batcher.specs.messages.Kind.{Kind}
-use Rattle.batcher.specs.messages.Kind.TheVariants.{Finalization}
+use Rattle.batcher.specs.messages.Kind.TheVariants.{Finalization, Notarization}
 use Rattle.batcher.specs.positions.Round.{Round}
 use Rattle.batcher.specs.RoundState.{RoundView}
 use Rattle.batcher.specs.messages.Subject.{Subject}
@@ -31,11 +31,13 @@ use Rattle.batcher_node.specs.Windows.{numbered}
 use Rattle.batcher_node.specs.declared.answers.Cause.{Cause}
 use Rattle.batcher_node.specs.declared.slot.Slot.{Slot}
 use Rattle.batcher_validator.specs.Running.{AreKept, ForEachRun, GivenView, Gives, IsRunning, RunMeets, RunStays, ValidatorView, is_before_view, is_over_for}
-use Rattle.batcher_validator.specs.Histories.{HadVoted, HasAnnouncedFrom, HasAskedFrom, HasHanded, HasRecast, HasSent, IsVerifying, ValidatorHistory, again, answered, calls_in, conduct_in, gave, voter_history, window_by}
+use Rattle.batcher_validator.specs.Histories.{HadVoted, HasAnnouncedFrom, HasAskedFrom, HasForwarded, HasHanded, HasRecast, HasSent, IsVerifying, ValidatorHistory}
+use Rattle.batcher_validator.specs.Histories.{again, answered, calls_in, conduct_in, forward_with, gave, to_forward, voter_history, window_by}
 use Rattle.batcher_validator.specs.Tasks.{Counts, HasEntered, IsNextIn, NobodyIsToBlock, NothingIsDue, NothingIsPosed}
-use Rattle.batcher_validator.specs.declared.task.Task.TheVariants.{Block, Cast, Enter, SendCertificate, SendVote, Verify}
+use Rattle.batcher_validator.specs.declared.task.Task.TheVariants.{Block, Cast, Enter, Forward, SendCertificate, SendVote, Verify}
 use Rattle.batcher_validator.proofs.Blocking.{blocks_one, not_blocked}
 use Rattle.batcher_validator.proofs.Beginning.{first_none}
+use Rattle.batcher_validator.proofs.Forwarding.{all_forwarded, not_forwarded}
 use Rattle.batcher_validator.proofs.Intending.{still_intent}
 use Rattle.batcher_validator.proofs.Keeping.{kept_still}
 use Rattle.batcher_validator.proofs.Queueing.{before_differ, give_one, not_given}
@@ -150,6 +152,7 @@ module _ {S D K G C L : Type 0} (x : NodeConfig D K G C) (old new : ValidatorVie
           certificates = rw (shelf) is.certificates;
           asks = rw (given) is.asks;
           verifies = rw (given) is.verifies;
+          forwards = rw (given) is.forwards;
           intends = rw (given) (still_intent past (gave (SendVote vote) ∷ past) old.given.intent refl refl refl refl refl
               is.intends);
         }
@@ -189,6 +192,7 @@ module _ {S D K G C L : Type 0} (x : NodeConfig D K G C) (old new : ValidatorVie
           certificates = rw (shelf) is.certificates;
           asks = rw (given) is.asks;
           verifies = rw (given) is.verifies;
+          forwards = rw (given) is.forwards;
           intends = rw (given) (still_intent past (gave (Cast vote) ∷ past) old.given.intent refl refl refl refl refl
               is.intends);
         }
@@ -200,20 +204,27 @@ module _ {S D K G C L : Type 0} (x : NodeConfig D K G C) (old new : ValidatorVie
   pub gives_certificate :
       (kind : Kind) (number : Round) → AreDistinct key_of old.shelf.certificates
       → IsAt old.shelf.certificates old.shelf.handed (kind, number)
-      → new.given ≡ old.given → new.shelf.certificates ≡ old.shelf.certificates
+      → old.given.forwarding ≡ None
+      → new.given ≡ record old.given {
+        forwarding = forward_with kind number old.given.forwarding;
+      }
+      → new.shelf.certificates ≡ old.shelf.certificates
       → new.shelf.handed ≡ old.shelf.handed + 1
       → Gives x old new (SendCertificate kind number)
-  gives_certificate kind number distinct it given certificates handed past earlier is =
+  gives_certificate kind number distinct it nothing given certificates handed past earlier is =
       record {
         voting = rw (voter) is.voting;
         in_turn = (
           (
             record { certificate = c; is_of = it.is_of; certifies = is.kept.certify c in_shelf },
-            λ was. not_given key_of (is_before_view first) (λ key. HasHanded past key) old.shelf.certificates
-                old.shelf.handed is.certificates c
-                (le-ltb (round_in (subject_certified c)).view.0 first (is.kept.looked_at c in_shelf).from_first)
-                (before_differ key_of old.shelf.certificates old.shelf.handed c distinct it.there)
-                (subst (λ key. HasHanded past key) (sym it.is_of) was),
+            (
+              λ was. not_given key_of (is_before_view first) (λ key. HasHanded past key) old.shelf.certificates
+                  old.shelf.handed is.certificates c
+                  (le-ltb (round_in (subject_certified c)).view.0 first (is.kept.looked_at c in_shelf).from_first)
+                  (before_differ key_of old.shelf.certificates old.shelf.handed c distinct it.there)
+                  (subst (λ key. HasHanded past key) (sym it.is_of) was),
+              is.forwards ∙ nothing,
+            ),
           ),
           is.in_turn,
         );
@@ -230,6 +241,7 @@ module _ {S D K G C L : Type 0} (x : NodeConfig D K G C) (old new : ValidatorVie
             (inl (sym it.is_of)) (λ key was. inr was) (λ key was. of_handed key was));
         asks = rw (given) is.asks;
         verifies = rw (given) is.verifies;
+        forwards = rw (given) (ap (forward_with kind number) is.forwards);
         intends = rw (given) (still_intent past (gave (SendCertificate kind number) ∷ past) old.given.intent refl refl refl refl refl
             is.intends);
       }
@@ -284,6 +296,7 @@ module _ {S D K G C L : Type 0} (x : NodeConfig D K G C) (old new : ValidatorVie
           certificates = rw (shelf) is.certificates;
           asks = rw (given) is.asks;
           verifies = rw (given) is.verifies;
+          forwards = rw (given) is.forwards;
           intends = rw (given) (still_intent past (gave (Block who cause) ∷ past) old.given.intent refl refl refl refl refl
               is.intends);
         }
@@ -325,6 +338,7 @@ module _ {S D K G C L : Type 0} (x : NodeConfig D K G C) (old new : ValidatorVie
             ];
           };
           verifies = rw (given) is.verifies;
+          forwards = rw (given) is.forwards;
           intends = rw (given) (still_intent past (gave (Enter view) ∷ past) old.given.intent refl refl refl refl refl
               is.intends);
         }
@@ -361,7 +375,35 @@ module _ {S D K G C L : Type 0} (x : NodeConfig D K G C) (old new : ValidatorVie
           certificates = rw (shelf) is.certificates;
           asks = rw (given) is.asks;
           verifies = rw (given) tt;
+          forwards = rw (given) is.forwards;
           intends = rw (given) (still_intent past (gave Verify ∷ past) old.given.intent refl refl refl refl refl
+              is.intends);
+        }
+
+    pub gives_forward :
+        (number : Round) → old.given.forwarding ≡ Some number
+        → new.given ≡ record old.given { forwarding = None }
+        → Gives x old new (Forward number)
+    gives_forward number due given past earlier is =
+        record {
+          voting = rw (voter) is.voting;
+          in_turn = (
+            (is.forwards ∙ due, not_forwarded x earlier past is.in_turn number (is.forwards ∙ due)),
+            is.in_turn,
+          );
+          blocks = rw (given) is.blocks;
+          calms = rw (given) is.calms;
+          finals = rw (given) is.finals;
+          votes = rw (voter, given) is.votes;
+          begins = rw (voter, given) is.begins;
+          casts = rw (voter, given) is.casts;
+          kept = rw (shelf) (kept_still x past (gave (Forward number) ∷ past) refl old.shelf.certificates
+              (λ c had. had) is.kept);
+          certificates = rw (shelf) is.certificates;
+          asks = rw (given) is.asks;
+          verifies = rw (given) is.verifies;
+          forwards = rw (given) refl;
+          intends = rw (given) (still_intent past (gave (Forward number) ∷ past) old.given.intent refl refl refl refl refl
               is.intends);
         }
 
@@ -384,12 +426,16 @@ module _ {S D K G C L : Type 0} (x : NodeConfig D K G C) (old new : ValidatorVie
           certificates = rw (shelf) is.certificates;
           asks = rw (given) is.asks;
           verifies = rw (given) (λ no. no);
+          forwards = rw (given) is.forwards;
           intends = rw (given) (still_intent past (answered ∷ past) old.given.intent refl refl refl refl refl
               is.intends);
         }
 
   pub begins_again :
-      new.given ≡ record old.given { tally = record old.given.tally { sent = 0 } }
+      new.given ≡ record old.given {
+        tally = record old.given.tally { sent = 0 };
+        forwarding = None;
+      }
       → new.shelf.certificates ≡ old.shelf.certificates
       → new.shelf.handed ≡ 0 → RunMeets x old new again
   begins_again given certificates handed past earlier is =
@@ -406,6 +452,7 @@ module _ {S D K G C L : Type 0} (x : NodeConfig D K G C) (old new : ValidatorVie
         certificates = rw (certificates, handed) (first_none _ _ _ _ (λ key was. was));
         asks = rw (given) is.asks;
         verifies = rw (given) is.verifies;
+        forwards = rw (given) refl;
         intends = rw (given) (still_intent past (again ∷ past) old.given.intent refl refl refl refl refl
             is.intends);
       }
@@ -429,6 +476,7 @@ becomes_calm x old new voter shelf given nothing past earlier is =
       certificates = rw (shelf) is.certificates;
       asks = rw (given) is.asks;
       verifies = rw (given) is.verifies;
+      forwards = rw (given) is.forwards;
       intends = rw (given) is.intends;
     }
 
@@ -583,6 +631,19 @@ module _ {S D K G C L : Type 0} (x : NodeConfig D K G C) (old : ValidatorView S 
       (is.certificates.were_given it.item
       (subst (λ cs. Contains cs it.item) (sym (take_all old.shelf.handed old.shelf.certificates all)) it.there))
 
+  -- and what is notarized to be forwarded
+  no_forward_due :
+      old.given.forwarding ≡ None
+      → (number : Round) → HasHanded past (Notarization, number) → HasForwarded past number
+  no_forward_due none number handed =
+      elim (all_forwarded x earlier past is.in_turn number handed) [
+        | inl was ↦ was
+        | inr due ↦ absurd (no_both (to_forward past) (is.forwards ∙ none) due)
+      ]
+    where
+      no_both : (o : Option Round) → o ≡ None → o ≡ Some number → ⊥
+      no_both o none some = absurd cc
+
   -- and each finalization as final
   no_final_due :
       HaveNoFinal old.given.announced old.shelf.certificates
@@ -606,18 +667,20 @@ module _ {S D K G C L : Type 0} (x : NodeConfig D K G C) (old : ValidatorView S 
       ⊎ (slice_get old.voter.journal.contents.votes old.given.tally.recast ≡ None)
       → slice_get old.voter.journal.contents.votes old.given.tally.sent ≡ None
       → length old.shelf.certificates ≤ old.shelf.handed
+      → old.given.forwarding ≡ None
       → (2 ^ 64 ≤ old.voter.knowledge.highest + 1)
       ⊎ ((old.voter.knowledge.highest + 1 ≤ old.voter.node.window.current)
       ⊎ (old.voter.knowledge.highest + 1 ≤ old.given.asked))
       → (old.given.verifying ≡ true) ⊎ IsAtRest old.voter.node
       → NothingIsPosed x earlier past → NothingIsDue x earlier past
-  nothing_due opened blocks finals casts votes certificates enters verifies poses =
+  nothing_due opened blocks finals casts votes certificates forwards enters verifies poses =
       record {
         blocks = no_block_due blocks;
         finals = no_final_due finals;
         votes = no_vote_due opened votes;
         casts = no_cast_due opened casts;
         certificates = no_certificate_due certificates;
+        forwards = no_forward_due forwards;
         enters = no_enter_due enters;
         verifies = no_verify_due verifies;
         poses = poses;

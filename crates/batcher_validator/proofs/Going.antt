@@ -21,7 +21,7 @@ use Rattle.batcher_validator.specs.Queues.{AreFirst}
 use Rattle.batcher_validator.specs.Running.{AreFirstVotes, AreKept, Constructs, IsRunning, RunMeets, RunStays, ValidatorView, tallied, is_before_view, is_over_for}
 use Rattle.batcher_validator.specs.Shelves.{Shelves, key_of}
 use Rattle.batcher_validator.specs.Histories.{HasAnnouncedFrom, HasAskedFrom, HasBlocked, HasHad, HasHanded, HasRecast, HadVoted, HasSent, IsVerifying, ValidatorEvent, ValidatorHistory}
-use Rattle.batcher_validator.specs.Histories.{calls_in, answered, did, only_did, took, voter_history, window_by}
+use Rattle.batcher_validator.specs.Histories.{calls_in, answered, did, only_did, to_forward, took, voter_history, window_by}
 use Rattle.batcher_validator.specs.Tasks.{AreGivenInTurn}
 use Rattle.batcher_validator.proofs.Intending.{intent_more, still_intent}
 use Rattle.batcher_validator.proofs.Keeping.{first_with, kept_still, kept_with}
@@ -57,6 +57,12 @@ module _ {D K G C : Type 0} where
       (IsVerifying (only_did more ++ past) → ⊥)
   verifies_more [] past verifying is = is
   verifies_more (event ∷ more) past verifying is = verifies_more more past verifying is
+
+  to_forward_more :
+      (more : VoterHistory D K G C) (past : ValidatorHistory D K G C)
+      → to_forward (only_did more ++ past) ≡ to_forward past
+  to_forward_more [] past = refl
+  to_forward_more (event ∷ more) past = to_forward_more more past
 
   in_turn_more :
       (x : NodeConfig D K G C) (earlier : Conduct D) (more : VoterHistory D K G C)
@@ -152,6 +158,7 @@ module _ {S D K G C L : Type 0} (x : NodeConfig D K G C) (old new : ValidatorVie
               (λ event h. ((λ was. was), (λ was. was))) more past was);
         };
         verifies = rw (given) (verifies_more more past old.given.verifying is.verifies);
+        forwards = rw (given) (to_forward_more more past ∙ is.forwards);
         intends = rw (given) (intent_more more past old.given.intent is.intends);
       }
     where
@@ -372,6 +379,7 @@ module _ {S D K G C L : Type 0} (x : NodeConfig D K G C) (old roomy : ValidatorV
         certificates = rw (certificates, handed) is.certificates;
         asks = rw (given) is.asks;
         verifies = rw (given) is.verifies;
+        forwards = rw (given) is.forwards;
         intends = rw (given) is.intends;
       }
 
@@ -436,6 +444,7 @@ takes_in {D = D} {C = C} x old new c epoch certifies voter given handed shelves 
           old.shelf.handed shelved is.certificates);
       asks = rw (given) is.asks;
       verifies = rw (given) is.verifies;
+      forwards = rw (given) is.forwards;
       intends = rw (given) (still_intent past (took c ∷ past) old.given.intent refl refl refl refl refl is.intends);
     }
   where

@@ -1,15 +1,19 @@
 -- What is lent to be verified is what the next construction looks at.
 use Rattle.std.proofs.Common.{◌≡◌, ◌∙◌, ℕ, List, Option, Some, None, ap, refl, subst, sym}
-use Rattle.std.specs.Prelude.{IfSome}
+use Rattle.std.proofs.lemmas.Bool.{false≢true}
+use Rattle.std.specs.Prelude.{IfSome, is_some, true}
 use Rattle.std.specs.Option.{option_map}
 use Rattle.batcher.specs.Config.{Config}
 use Rattle.batcher.specs.Next.{pending_next, subject_next}
 use Rattle.batcher.specs.RoundState.{RoundView}
+use Rattle.batcher.specs.Steps.{is_ready_in}
+use Rattle.batcher.specs.Verdicts.{LooksAtKind}
 use Rattle.batcher.specs.messages.Attestation.{Attestation}
+use Rattle.batcher.specs.messages.Kind.{Kind}
 use Rattle.batcher.specs.messages.Subject.{Subject}
 use Rattle.batcher_node.proofs.Lowest.{one_next}
 use Rattle.batcher_node.specs.Nodes.{IsNext, slot_at}
-use Rattle.batcher_node.specs.Verdicts.{LooksAtThere}
+use Rattle.batcher_node.specs.Verdicts.{LooksAtKindThere, LooksAtThere}
 use Rattle.batcher_node.specs.declared.slot.Slot.{Slot}
 
 module _ {S D K G C : Type 0} (round_config : RoundView S G D → Config D K G C)
@@ -62,6 +66,43 @@ module _ {S D K G C : Type 0} (round_config : RoundView S G D → Config D K G C
     where
       no_some : (o : Option (Subject D)) (s : Subject D) → o ≡ None → o ≡ Some s → ⊥
       no_some o s none some = absurd cc
+
+  -- of a kind
+  module _ (kind : Kind) where
+    kind_there :
+        (at : Option (Slot (RoundView S G D)))
+        → Some round ≡ option_map (λ slot. slot.round) at → (s : Subject D)
+        → (list : List (Attestation G))
+        → LooksAtKind (round_config round) round.holds kind s list
+        → LooksAtKindThere round_config at kind s list
+    kind_there None is s list looks = absurd cc
+    kind_there (Some slot) is s list looks = record {
+      slot = slot;
+      there = refl;
+      looks = subst (λ r. LooksAtKind (round_config r) r.holds kind s list)
+          (its_round (Some slot) slot is refl) looks;
+    }
+
+    pub kind_looks_in :
+        (attempt : Option A)
+        → IfSome attempt (λ a. LooksAtKind (round_config round) round.holds kind (subject_in a)
+        (list_in a))
+        → IfSome attempt (λ a. LooksAtKindThere round_config (slot_at rounds view) kind
+        (subject_in a) (list_in a))
+    kind_looks_in None looks = tt
+    kind_looks_in (Some a) looks =
+        kind_there (slot_at rounds view) lent (subject_in a) (list_in a) looks
+
+    pub no_kind_in :
+        (attempt : Option A)
+        → is_some attempt ≡ is_ready_in (round_config round) round.holds kind
+        → attempt ≡ None → (s : Subject D) (list : List (Attestation G))
+        → LooksAtKindThere round_config (slot_at rounds view) kind s list → ⊥
+    no_kind_in attempt ready none s list it =
+        let same : round ≡ it.slot.round = its_round (slot_at rounds view) it.slot lent it.there in
+        let is : is_ready_in (round_config round) round.holds kind ≡ true =
+        subst (λ r. is_ready_in (round_config r) r.holds kind ≡ true) (sym same) it.looks.0 in
+        false≢true (sym (ap is_some none) ∙ ready ∙ is)
 
   -- of the next construction
   module _ (next : IsNext rounds view) where

@@ -8,6 +8,7 @@ pub mod Going
 pub mod Signing
 pub mod Blocking
 pub mod Beginning
+pub mod Forwarding
 pub mod Giving
 pub mod Finalizing
 pub mod Certifying

@@ -4,6 +4,7 @@ use Rattle.batcher.specs.Selection.{leader_of, selected_proposal}
 use Rattle.batcher.specs.Votes.{subject_of}
 use Rattle.batcher.specs.messages.Certificate.{Certificate}
 use Rattle.batcher.specs.messages.Kind.{Kind}
+use Rattle.batcher.specs.messages.Kind.TheVariants.{Finalization, Notarization, Nullification}
 use Rattle.batcher.specs.messages.Proposal.{Proposal}
 use Rattle.batcher.specs.messages.Subject.{Subject}
 use Rattle.batcher.specs.positions.Participant.{Participant}
@@ -15,7 +16,7 @@ use Rattle.batcher_node.specs.Nodes.{NodeConfig}
 use Rattle.batcher_node.specs.Represents.{config_of}
 use Rattle.batcher_node.specs.declared.window.Window.{Window}
 use Rattle.batcher_validator.specs.declared.task.Task.{Task}
-use Rattle.batcher_validator.specs.declared.task.Task.TheVariants.{Block, Cast, Enter, Final, Judge, Propose, SendCertificate, SendVote, Sign, Verify}
+use Rattle.batcher_validator.specs.declared.task.Task.TheVariants.{Block, Cast, Enter, Final, Forward, Judge, Propose, SendCertificate, SendVote, Sign, Verify}
 
 pub data ValidatorEvent (D K G C : Type 0) : Type 0 where
   -- it was made of a voter, which votes as this participant, and did this before
@@ -38,6 +39,12 @@ pub data ValidatorEvent (D K G C : Type 0) : Type 0 where
 -- all that happened in a life, the newest first
 abbrev pub ValidatorHistory : Type 0 → Type 0 → Type 0 → Type 0 → Type 0
 ValidatorHistory D K G C = List (ValidatorEvent D K G C)
+
+-- what is to be forwarded once a certificate was given to be sent
+abbrev pub forward_with : Kind → Round → Option Round → Option Round
+forward_with Notarization number before = Some number
+forward_with Nullification number before = before
+forward_with Finalization number before = before
 
 -- of two proposals the one of the higher view, or the later one
 abbrev pub later_of : {D : Type 0} → Option (Proposal D) → Proposal D → Option (Proposal D)
@@ -117,6 +124,22 @@ module _ {D K G C : Type 0} where
   HasHanded (gave (SendCertificate kind number) ∷ past) key =
       ((kind, number) ≡ key) ⊎ HasHanded past key
   HasHanded (event ∷ past) key = HasHanded past key
+
+  -- the round of the notarization that it gave to be sent, of which nothing was forwarded since
+  abbrev pub to_forward : ValidatorHistory D K G C → Option Round
+  to_forward [] = None
+  to_forward (again ∷ past) = None
+  to_forward (gave (SendCertificate kind number) ∷ past) =
+      forward_with kind number (to_forward past)
+  to_forward (gave (Forward number) ∷ past) = None
+  to_forward (event ∷ past) = to_forward past
+
+  -- it gave what is notarized in a round to be forwarded, since all was to be sent again
+  abbrev pub HasForwarded : ValidatorHistory D K G C → Round → Type 0
+  HasForwarded [] number = ⊥
+  HasForwarded (again ∷ past) number = ⊥
+  HasForwarded (gave (Forward other) ∷ past) number = (other ≡ number) ⊎ HasForwarded past number
+  HasForwarded (event ∷ past) number = HasForwarded past number
 
   -- it gave a vote for the subject to be cast again
   abbrev pub HasRecast : ValidatorHistory D K G C → Subject D → Type 0

@@ -33,7 +33,7 @@ use Rattle.batcher_validator.specs.Queues.{AreFirst, HasKey}
 use Rattle.batcher_validator.specs.Shelves.{IsLookedAt, ShelfView, key_of}
 use Rattle.batcher_validator.specs.Histories.{HadVoted, HasAnnouncedFrom, HasAskedFrom, HasBlocked, HasHanded, HasRecast, HasSent, IsVerifying, ValidatorEvent}
 use Rattle.batcher_validator.specs.Tasks.{AreGivenInTurn, Counts, NobodyIsToBlock}
-use Rattle.batcher_validator.specs.Histories.{ValidatorHistory, answered, began, chosen_in, conduct_in, did, expired_in, gave, last_to_sign, me_in, only_did, only_took, posed_in, voter_history, window_by}
+use Rattle.batcher_validator.specs.Histories.{ValidatorHistory, answered, began, chosen_in, conduct_in, did, expired_in, gave, last_to_sign, me_in, only_did, only_took, posed_in, to_forward, voter_history, window_by}
 use Rattle.batcher_validator.specs.declared.tally.Tally.{Tally}
 use Rattle.batcher_validator.specs.declared.task.Task.{Task}
 use Rattle.batcher_validator.specs.declared.task.Task.TheVariants.{Cast as CastAgain, Final, SendCertificate, SendVote, Verify}
@@ -68,6 +68,8 @@ pub record GivenView (D : Type 0) : Type 0 where
   pub asked : ℕ
   -- whether votes were given to be verified, and there is no answer yet
   pub verifying : Bool
+  -- the round of the notarization that was given to be sent, of which nothing was forwarded yet
+  pub forwarding : Option Round
   pub intent : IntentView D
 
 -- With scheme S, signatures G, digests D, log L and certificates C.
@@ -205,6 +207,7 @@ module _ {S D K G C L : Type 0} (x : NodeConfig D K G C) where
         validator.shelf.certificates validator.shelf.handed
     pub asks : AreAsked (λ view. HasAskedFrom past view) validator.given.asked
     pub verifies : MatchBool validator.given.verifying (IsVerifying past) (IsVerifying past → ⊥)
+    pub forwards : to_forward past ≡ validator.given.forwarding
     pub intends : IsIntent past validator.given.intent
 
   -- A validator that was made from its journal took in what that has, gave nothing, and asked its

@@ -4,6 +4,7 @@ use Rattle.batcher.specs.Verifiers.{certifies_itself}
 use Rattle.batcher.specs.Votes.{round_in, subject_certified, subject_of}
 use Rattle.batcher.specs.messages.Certificate.{Certificate}
 use Rattle.batcher.specs.messages.Kind.{Kind}
+use Rattle.batcher.specs.messages.Kind.TheVariants.{Notarization}
 use Rattle.batcher.specs.messages.Proposal.{Proposal}
 use Rattle.batcher.specs.messages.Subject.{Subject}
 use Rattle.batcher.specs.messages.Subject.TheVariants.{Finalize, Notarize, Nullify}
@@ -17,11 +18,11 @@ use Rattle.batcher_node.specs.Represents.{is_due}
 use Rattle.batcher_node.specs.Windows.{is_of, numbered}
 use Rattle.batcher_voter.specs.Knowledge.{KnowsOf}
 use Rattle.batcher_voter.specs.Refusals.{IsAnotherNotarized, RestsOnLearned}
-use Rattle.batcher_validator.specs.Histories.{HadVoted, HasAnnouncedFrom, HasAskedFrom, HasBlocked, HasHad, HasHanded, HasRecast, HasSent, IsVerifying, Leads, ValidatorHistory}
-use Rattle.batcher_validator.specs.Histories.{calls_in, chosen_in, conduct_in, expired_in, gave, last_to_sign, posed_in, proposal_by, voter_history, window_by}
+use Rattle.batcher_validator.specs.Histories.{HadVoted, HasAnnouncedFrom, HasAskedFrom, HasBlocked, HasForwarded, HasHad, HasHanded, HasRecast, HasSent, IsVerifying, Leads, ValidatorHistory}
+use Rattle.batcher_validator.specs.Histories.{calls_in, chosen_in, conduct_in, expired_in, gave, last_to_sign, posed_in, proposal_by, to_forward, voter_history, window_by}
 use Rattle.batcher_validator.specs.Shelves.{IsLookedAt, key_of}
 use Rattle.batcher_validator.specs.declared.task.Task.{Task}
-use Rattle.batcher_validator.specs.declared.task.Task.TheVariants.{Block, Cast, Enter, Final, Judge, Propose, SendCertificate, SendVote, Sign, Verify}
+use Rattle.batcher_validator.specs.declared.task.Task.TheVariants.{Block, Cast, Enter, Final, Forward, Judge, Propose, SendCertificate, SendVote, Sign, Verify}
 
 -- Two proposals of a view are notarized, so more are faulty than may be. One of them is finalized.
 abbrev pub IsContested : {D : Type 0} → Conduct D → Subject D → Type 0
@@ -131,9 +132,13 @@ module _ {D K G C : Type 0} (x : NodeConfig D K G C) where
     MayGive past (Cast vote) =
         HadVoted earlier past (subject_of vote)
         × ((HasRecast past (subject_of vote) → ⊥) × HasEntered past)
-    -- there is a certificate of the kind and the round,
+    -- there is a certificate of the kind and the round, and nothing is to be forwarded,
     MayGive past (SendCertificate kind number) =
-        IsThere kind number × (HasHanded past (kind, number) → ⊥)
+        IsThere kind number
+        × ((HasHanded past (kind, number) → ⊥) × (to_forward past ≡ None))
+    -- a notarization was given to be sent,
+    MayGive past (Forward number) =
+        (to_forward past ≡ Some number) × (HasForwarded past number → ⊥)
     -- a view is the next one,
     MayGive past (Enter view) =
         IsNextIn past view.0 × (((window_by past).current < view.0)
@@ -197,6 +202,9 @@ module _ {D K G C : Type 0} (x : NodeConfig D K G C) where
           → HasRecast past s
       -- one of the kind and the round of each certificate that counts was given to be sent,
       pub certificates : (c : Certificate C D) → Counts past c → HasHanded past (key_of c)
+      -- and what the notarizations among them notarize to be forwarded,
+      pub forwards :
+          (number : Round) → HasHanded past (Notarization, number) → HasForwarded past number
       -- the next view above the final one was entered, or given to be,
       pub enters : HasEntered past
       -- votes that wait are being verified,

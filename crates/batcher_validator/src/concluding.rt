@@ -6,7 +6,7 @@ ghost use Rattle.batcher.specs.messages.Attestation.{Attestation as TheAttestati
 ghost use Rattle.batcher.specs.messages.Subject.{Subject as TheSubject};
 ghost use Rattle.batcher_node.specs.Events.{constructed};
 ghost use Rattle.batcher_node.specs.Nodes.{IsNext, SameNode, slot_at};
-ghost use Rattle.batcher_node.specs.Verdicts.{LooksAtThere};
+ghost use Rattle.batcher_node.specs.Verdicts.{LooksAtKindThere, LooksAtThere};
 ghost use Rattle.batcher_validator.specs.Histories.{answered};
 ghost use Rattle.batcher_validator.specs.Running.{Constructs, RunMeets, RunStays};
 ghost use Rattle.batcher_voter.specs.Needing.{ConstructionNeeds};
@@ -15,7 +15,7 @@ ghost use Rattle.batcher_log.specs.Copies.{KeepsCopy};
 
 use crate::inputs::certificate_of;
 use crate::validator::Validator;
-use batcher::messages::{Attestation, Digest, Identical, Subject};
+use batcher::messages::{Attestation, Digest, Identical, Kind, Subject};
 use batcher::positions::View;
 use batcher::round::RoundConfigs;
 use batcher::scheme::Scheme;
@@ -53,18 +53,20 @@ where
         }
     }
 
-    /// The same of the construction that a view would make, whether or not it is the next: its
-    /// verdicts may be found meanwhile.
-    pub fn attempt_in(&self, view: View) -> Option<NextAttempt<'_, S::Signature, D>>
-        ensures looks_at { IfSome result (λ attempt. LooksAtThere ⟦<S as RoundConfigs<D>>⟧.of
-            (slot_at self.now.voter.node.rounds view.0) attempt.subject attempt.pending.now) }
+    /// The same of an attempt at a kind of a view, whether or not it is the next one: its verdicts
+    /// may be found meanwhile. None where the kind isn't ready.
+    pub fn attempt_in(&self, view: View, kind: Kind) -> Option<NextAttempt<'_, S::Signature, D>>
+        ensures looks_at { IfSome result (λ attempt.
+            LooksAtKindThere ⟦<S as RoundConfigs<D>>⟧.of
+            (slot_at self.now.voter.node.rounds view.0) kind attempt.subject
+            attempt.pending.now) }
         ensures none { result ≡ None → (subject : TheSubject D)
             (list : List (TheAttestation S.Signature))
-            → LooksAtThere ⟦<S as RoundConfigs<D>>⟧.of
-            (slot_at self.now.voter.node.rounds view.0) subject list → ⊥ }
+            → LooksAtKindThere ⟦<S as RoundConfigs<D>>⟧.of
+            (slot_at self.now.voter.node.rounds view.0) kind subject list → ⊥ }
     {
         match self.voter.node().round(view) {
-            Some(round) => round.next_attempt(),
+            Some(round) => round.attempt_of(kind),
             None => None,
         }
     }

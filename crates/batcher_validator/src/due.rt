@@ -5,6 +5,7 @@ ghost use Rattle.std.specs.List.{slice_get};
 ghost use Rattle.batcher_journal.specs.Answers.{MayFollow};
 ghost use Rattle.batcher_node.specs.Nodes.{IsAtRest, IsNext};
 ghost use Rattle.batcher_validator.specs.Ending.{HasLessLeft};
+ghost use Rattle.batcher_validator.specs.Histories.{forward_with};
 ghost use Rattle.batcher_validator.specs.Posing.{BlocksNobody, CastsNone, EntersNone};
 ghost use Rattle.batcher_validator.specs.Queues.{AreDistinct};
 ghost use Rattle.batcher_validator.specs.Running.{ForEachRun, Gives, IsReady, RunStays};
@@ -62,14 +63,14 @@ where
                         self.note_vote();
                         Some(Task::SendVote(vote))
                     }
-                    None => self.give_others(),
+                    None => self.give_forward(),
                 },
             },
         }
     }
 
-    // A certificate to send, what is to be signed, proposed or judged, or votes to have verified.
-    fn give_others(&mut self) -> Option<Task<S::Signature, D>>
+    // What is to be forwarded, and else what others wait for.
+    fn give_forward(&mut self) -> Option<Task<S::Signature, D>>
         requires open { self.old.voter.journal.is_open ≡ true }
         requires begins { BeginWithOneView self.old.voter }
         requires nobody { BlocksNobody ⟦<S as NodeConfigs<D>>⟧.of self.old }
@@ -90,9 +91,41 @@ where
         ensures less { IfSome result
             (HasLessLeft (⟦<S as NodeConfigs<D>>⟧.of self.old.voter.node) self.old self.new) }
     {
+        match self.forwarding() {
+            Some(round) => {
+                self.note_forwarded();
+                Some(Task::Forward(round))
+            }
+            None => self.give_others(),
+        }
+    }
+
+    // A certificate to send, what is to be signed, proposed or judged, or votes to have verified.
+    fn give_others(&mut self) -> Option<Task<S::Signature, D>>
+        requires open { self.old.voter.journal.is_open ≡ true }
+        requires begins { BeginWithOneView self.old.voter }
+        requires nobody { BlocksNobody ⟦<S as NodeConfigs<D>>⟧.of self.old }
+        requires no_final { HaveNoFinal self.old.given.announced self.old.shelf.certificates }
+        requires no_view { EntersNone self.old }
+        requires no_cast { CastsNone self.old }
+        requires no_vote { slice_get self.old.voter.journal.contents.votes
+            self.old.given.tally.sent ≡ None }
+        requires no_forward { self.old.given.forwarding ≡ None }
+        ensures gives { IfSome result
+            (Gives (⟦<S as NodeConfigs<D>>⟧.of self.old.voter.node) self.old self.new) }
+        ensures ready { IfSome result (IsReady self.old) }
+        ensures nothing { result ≡ None → ForEachRun
+            (⟦<S as NodeConfigs<D>>⟧.of self.old.voter.node) self.old (λ past earlier.
+            NothingIsDue (⟦<S as NodeConfigs<D>>⟧.of self.old.voter.node) earlier past) }
+        ensures rests { result ≡ None
+            → RunStays (⟦<S as NodeConfigs<D>>⟧.of self.old.voter.node) self.old self.new }
+        ensures voter { self.new.voter ≡ self.old.voter }
+        ensures less { IfSome result
+            (HasLessLeft (⟦<S as NodeConfigs<D>>⟧.of self.old.voter.node) self.old self.new) }
+    {
         match self.next_certificate() {
             Some((kind, round)) => {
-                self.note_handed();
+                self.note_handed(kind, round);
                 Some(Task::SendCertificate(kind, round))
             }
             None => match self.pose() {
@@ -187,14 +220,33 @@ where
         self.shelf.next()
     }
 
-    fn note_handed(&mut self)
+    fn note_handed(&mut self, kind: Kind, round: Round)
         requires { self.old.shelf.handed < length self.old.shelf.certificates }
-        ensures given { self.new.given ≡ self.old.given }
+        ensures given { self.new.given ≡ record self.old.given {
+          forwarding = forward_with kind round self.old.given.forwarding;
+        } }
         ensures voter { self.new.voter ≡ self.old.voter }
         ensures certificates { self.new.shelf.certificates ≡ self.old.shelf.certificates }
         ensures handed { self.new.shelf.handed ≡ self.old.shelf.handed + 1 }
     {
         self.shelf.note_handed();
+        if kind == Kind::Notarization {
+            self.given.forwarding = Some(round);
+        }
+    }
+
+    fn forwarding(&self) -> Option<Round>
+        ensures { result ≡ self.now.given.forwarding }
+    {
+        self.given.forwarding
+    }
+
+    fn note_forwarded(&mut self)
+        ensures given { self.new.given ≡ record self.old.given { forwarding = None } }
+        ensures voter { self.new.voter ≡ self.old.voter }
+        ensures shelf { self.new.shelf ≡ self.old.shelf }
+    {
+        self.given.forwarding = None;
     }
 
     // The view to be in, where it wasn't entered, nor given to be.

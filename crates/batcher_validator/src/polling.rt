@@ -97,12 +97,14 @@ where
     fn note_again(&mut self)
         ensures given { self.new.given ≡ record self.old.given {
           tally = record self.old.given.tally { sent = 0 };
+          forwarding = None;
         } }
         ensures voter { self.new.voter ≡ self.old.voter }
         ensures certificates { self.new.shelf.certificates ≡ self.old.shelf.certificates }
         ensures handed { self.new.shelf.handed ≡ 0 }
     {
         self.given.tally.sent = 0;
+        self.given.forwarding = None;
         self.shelf.begin_again();
     }
 

@@ -17,6 +17,9 @@ pub enum Task<G, D> {
     SendVote(Vote<G, D>),
     /// Send the certificate of this kind and round to all others: `certificate` lends it.
     SendCertificate(Kind, Round),
+    /// Forward the payload of what is notarized in this round. Whoever isn't in its certificate,
+    /// which was given to be sent before, may lack it.
+    Forward(Round),
     /// Enter this view, with its leader, and start its timer.
     Enter(View),
     /// Have votes verified that wait for it: construct.

@@ -285,6 +285,7 @@ fn play(station: &mut Station, rt: &impl Abort) -> Result<(), Fail> {
     assert!(rt; station.validator.try_construct(&mut station.rng)?);
     station.enter(rt, 2);
     station.gives(rt, Task::SendCertificate(Kind::Notarization, at(1)));
+    station.gives(rt, Task::Forward(at(1)));
     assert!(rt;
         station
             .validator
@@ -321,6 +322,7 @@ fn play(station: &mut Station, rt: &impl Abort) -> Result<(), Fail> {
     station.sends_again(rt, finalize(1, 0));
     station.sends_again(rt, nullify(2));
     station.gives(rt, Task::SendCertificate(Kind::Notarization, at(1)));
+    station.gives(rt, Task::Forward(at(1)));
     station.gives(rt, Task::SendCertificate(Kind::Finalization, at(1)));
     station.rests(rt);
     Ok(())
@@ -338,6 +340,7 @@ fn go_on(station: &mut Station, rt: &impl Abort) -> Result<(), Fail> {
     station.sends_again(rt, nullify(2));
     station.gives(rt, Task::SendCertificate(Kind::Finalization, at(1)));
     station.gives(rt, Task::SendCertificate(Kind::Notarization, at(1)));
+    station.gives(rt, Task::Forward(at(1)));
     // The view stays given up.
     station.hear(0, notarize(2, 1))?;
     station.gives(rt, Task::Verify);
@@ -452,6 +455,7 @@ fn catch_up(station: &mut Station, rt: &impl Abort, alloc: Global) -> Result<(),
     }
     station.gives(rt, Task::Enter(View(92)));
     station.gives(rt, Task::SendCertificate(Kind::Notarization, at(91)));
+    station.gives(rt, Task::Forward(at(91)));
     Ok(())
 }
 
@@ -535,6 +539,8 @@ impl Member {
                 self.last = proposal.round.view.0;
             }
             Task::SendVote(vote) => self.outbox.push(Message::Vote(vote))?,
+            // Nobody has a payload.
+            Task::Forward(_) => {}
             Task::SendCertificate(kind, round) => {
                 if let Some(it) = self.station.validator.certificate(kind, round) {
                     self.outbox.push(Message::Certificate(it.clone()?))?;

@@ -66,6 +66,8 @@ pub(crate) struct Given<D: Digest> {
     pub(crate) asked: u64,
     // Whether votes were given to be verified, and there is no answer yet.
     pub(crate) verifying: bool,
+    // The round of the notarization that was given to be sent, of which nothing was forwarded yet.
+    pub(crate) forwarding: Option<Round>,
     pub(crate) intent: Intent<D>,
 }
 
@@ -81,6 +83,7 @@ impl<D: Digest> Model for Given<D> {
       tally = g.tally;
       asked = g.asked;
       verifying = g.verifying;
+      forwarding = g.forwarding;
       intent = g.intent;
     } };
 }
@@ -198,6 +201,7 @@ where
           tally = record { begun = begun; recast = 0; sent = 0 };
           asked = 0;
           verifying = false;
+          forwarding = None;
           intent = record { me = me; signing = None; expired = 0; chosen = None; posed = 0 };
         } }
         ensures empty { result.shelf.certificates ≡ [] }
@@ -216,6 +220,7 @@ where
                 },
                 asked: 0,
                 verifying: false,
+                forwarding: None,
                 intent: Intent {
                     me,
                     signing: None,

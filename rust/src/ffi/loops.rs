@@ -97,6 +97,7 @@ unsafe extern "C" {
     fn batcher_loop_lend(
         validator: *mut LoopHandle,
         view: u64,
+        kind: u8,
         step: *mut Step,
         list: *mut Attestation,
         list_length: usize,
@@ -203,10 +204,16 @@ impl Loop {
         }
     }
 
-    pub(crate) fn lend(&mut self, view: u64, step: &mut Step, list: &mut [Attestation]) -> u8 {
+    pub(crate) fn lend(
+        &mut self,
+        view: u64,
+        kind: u8,
+        step: &mut Step,
+        list: &mut [Attestation],
+    ) -> u8 {
         let (room, length) = (list.as_mut_ptr(), list.len());
         // SAFETY: as above.
-        unsafe { batcher_loop_lend(&mut self.handle, view, step, room, length) }
+        unsafe { batcher_loop_lend(&mut self.handle, view, kind, step, room, length) }
     }
 
     pub(crate) fn conclude(

@@ -40,8 +40,12 @@ impl Fault {
                 let payload = Sha256Digest([7; 32]);
                 let proposal = Proposal::new(proposal.round, proposal.parent, payload);
                 let subject = Subject::Notarize { proposal };
-                let other = Message::Vote(subject, validator.sign(&subject));
-                validator.station.peers.send(&other);
+                if let Ok(signature) = validator.sign(&subject) {
+                    validator
+                        .station
+                        .peers
+                        .send(&Message::Vote(subject, signature));
+                }
             }
             // Nobody has one of what is voted for yet, so the others look at it.
             (Fault::Forges, Message::Vote(subject, signature)) => {

@@ -4,7 +4,7 @@ use crate::faults::Fault;
 use crate::record::Record;
 use crate::sodium::{KeyPair, PublicKey, Signature, sha256, verify};
 use crate::transport::{Message, Peers};
-use batcher::looping::{Listed, Loop, Options, Task};
+use batcher::looping::{Loop, Options, Task, Wanted};
 use batcher::{Attestation, Epoch, Files, Participant, Sha256Digest, Subject, View, Vote};
 use std::error::Error;
 use std::sync::mpsc::{Receiver, RecvTimeoutError};
@@ -94,33 +94,12 @@ impl Validator {
                 let _ = self.running.vote(sender, &vote)?;
             }
             Message::Certificate(certificate) => {
-                let (kind, round) = (certificate.kind(), certificate.round());
-                // One that is there, or of a view that is passed, isn't verified.
-                if !self.running.has_certificate(kind, round) && round.view >= self.last {
-                    let certifies = self.certifies(&certificate);
-                    let _ = self.running.certificate(sender, &certificate, certifies)?;
-                    if !certifies {
-                        self.station.peers.block(sender);
-                    }
-                }
+                let participants = &self.station.participants;
+                let verify = |wanted: &_| verdicts(participants, wanted);
+                let _ = self.running.certificate(sender, &certificate, verify)?;
             }
         }
         Ok(())
-    }
-
-    fn certifies(&self, certificate: &Listed) -> bool {
-        let subject = certificate.subject();
-        let all = self.running.attestations(certificate);
-        all.is_some_and(|all| self.verdicts(&subject, &all).iter().all(|attests| *attests))
-    }
-
-    fn verdicts(&self, subject: &Subject, all: &[Attestation<Signature>]) -> Vec<bool> {
-        let message = self.running.message(subject);
-        let attests = |it: &Attestation<Signature>| {
-            let key = self.station.participants.get(usize::from(it.signer));
-            key.is_some_and(|key| verify(key, &message, &it.signature))
-        };
-        all.iter().map(attests).collect()
     }
 
     fn perform(&mut self, task: Task<Signature>) -> Outcome<()> {
@@ -152,10 +131,10 @@ impl Validator {
                 self.deadline = Instant::now() + self.patience();
             }
             Task::Verify(wanted) => {
-                let verdicts = self.verdicts(wanted.subject(), wanted.attestations());
+                let verdicts = verdicts(&self.station.participants, &wanted);
                 self.running.conclude(&wanted, &verdicts)?;
             }
-            Task::Sign(subject) => self.running.signed(subject, &self.sign(&subject))?,
+            Task::Sign(subject) => self.running.signed(subject, &self.sign(&subject)?)?,
             Task::Propose { view, parent } => {
                 let numbers = [view, parent].map(|it| it.get().to_be_bytes());
                 let payload = Sha256Digest(sha256(&numbers.concat()));
@@ -163,12 +142,22 @@ impl Validator {
             }
             // There is nothing in a payload here.
             Task::Judge(proposal) => self.running.judge(&proposal, true),
+            Task::Forward(..) => {}
         }
         Ok(())
     }
 
     /// Its signature, for whatever it is.
-    pub fn sign(&self, subject: &Subject) -> Signature {
-        self.station.keys.sign(&self.running.message(subject))
+    pub fn sign(&self, subject: &Subject) -> Outcome<Signature> {
+        Ok(self.station.keys.sign(&self.running.message(subject)?))
     }
+}
+
+/// Which of them attest. It needs nothing of the validator, so it might run on other threads.
+fn verdicts(participants: &[PublicKey], wanted: &Wanted<Signature>) -> Vec<bool> {
+    let attests = |it: &Attestation<Signature>| {
+        let key = participants.get(usize::from(it.signer));
+        key.is_some_and(|key| verify(key, wanted.message(), &it.signature))
+    };
+    wanted.attestations().iter().map(attests).collect()
 }

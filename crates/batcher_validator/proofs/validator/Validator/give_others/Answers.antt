@@ -10,7 +10,7 @@ returns-in-Some-clause-gives g c =
     gives_certificate (node_config g.S.Scheme.meaning g.S.PublicKey.Ord.cmp g.S.Signature.PartialEq.eq
     g.D.PartialEq.eq old.voter.node) old c.note_handed.new.self
     c.note_handed.ensures.voter c.in-Some.kind c.in-Some.round
-    c.next_certificate.ensures.distinct c.in-Some.ensures.some
+    c.next_certificate.ensures.distinct c.in-Some.ensures.some c.requires.no_forward
     c.note_handed.ensures.given c.note_handed.ensures.certificates c.note_handed.ensures.handed
 
 pub returns-in-Some-clause-ready :
@@ -49,7 +49,7 @@ returns-else-has_votes_waiting-clause-nothing g c = λ none past earlier is.
     nothing_due x old
     c.requires.begins refl past earlier is c.requires.open c.requires.nobody c.requires.no_final
     c.requires.no_cast c.requires.no_vote
-    (c.next_certificate.ensures.none c.in-None.is) c.requires.no_view
+    (c.next_certificate.ensures.none c.in-None.is) c.requires.no_forward c.requires.no_view
     (subst (λ v. (v.given.verifying ≡ true) ⊎ IsAtRest v.voter.node)
     (c.pose.ensures.same c.in-None-pose.is) c.if-has_votes_waiting.ensures)
     (c.pose.ensures.nothing c.in-None-pose.is past earlier is)
