@@ -85,7 +85,7 @@ fn play<const BYTES: usize>(rounds: u32, participants: u32, adds: bool, construc
         for votes in &votes {
             for vote in votes.iter().filter(|_| adds) {
                 let sender = vote.signer().get();
-                let admission = round.add_network(&sender, *vote);
+                let admission = round.add_network(&sender, vote);
                 black_box(&admission);
                 assert!(
                     matches!(&admission, Ok(it) if it.added),

@@ -65,7 +65,7 @@ fn hear(
     made: &Sender<Made>,
     (sender, vote): (&'static str, Vote<Signature>),
 ) -> Result<(), Error> {
-    match mailbox.call(move |round| round.add_network(&sender, vote))? {
+    match mailbox.call(move |round| round.add_network(&sender, &vote))? {
         Ok(admission) => {
             if let Some(reason) = admission.block {
                 println!("block {sender}: {reason}");

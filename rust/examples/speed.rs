@@ -82,7 +82,7 @@ fn rounds(participants: u32) {
     };
     let hear = |round: &mut Round<Trusting>| {
         for (sender, vote) in &votes {
-            let _ = black_box(round.add_network(sender, *vote).unwrap());
+            let _ = black_box(round.add_network(sender, vote).unwrap());
         }
     };
     let made = shortest(count, || {
@@ -132,7 +132,7 @@ fn mailboxes(participants: u32) {
         for signer in 0..participants {
             let _ = black_box(
                 mailbox
-                    .call(move |round| round.add_network(&signer, vote(signer)))
+                    .call(move |round| round.add_network(&signer, &vote(signer)))
                     .unwrap()
                     .unwrap(),
             );
@@ -143,7 +143,7 @@ fn mailboxes(participants: u32) {
         let mailbox = start();
         let begin = Instant::now();
         let replies: Vec<_> = (0..participants)
-            .map(|signer| mailbox.ask(move |round| round.add_network(&signer, vote(signer))))
+            .map(|signer| mailbox.ask(move |round| round.add_network(&signer, &vote(signer))))
             .collect();
         for reply in replies {
             let _ = black_box(reply.wait().unwrap().unwrap());
@@ -155,7 +155,7 @@ fn mailboxes(participants: u32) {
         let begin = Instant::now();
         let all = move |round: &mut Round<Trusting>| {
             for signer in 0..participants {
-                let _ = black_box(round.add_network(&signer, vote(signer)).unwrap());
+                let _ = black_box(round.add_network(&signer, &vote(signer)).unwrap());
             }
         };
         mailbox.call(all).unwrap();

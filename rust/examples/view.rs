@@ -85,7 +85,7 @@ impl Scheme for Plain {
 
 /// Takes in a vote. The sender is who the transport has authenticated.
 fn hear(round: &mut Round<Plain>, sender: Key, vote: Vote<Signature>) -> Result<(), Error> {
-    match round.add_network(&sender, vote) {
+    match round.add_network(&sender, &vote) {
         Ok(admission) => {
             if let Some(reason) = admission.block {
                 println!("block {sender}: {reason}");
@@ -116,7 +116,7 @@ fn learn(
 
 /// Casts a vote of one's own.
 fn cast(round: &mut Round<Plain>, vote: Vote<Signature>) -> Result<(), Error> {
-    match round.accept_vote(vote) {
+    match round.accept_vote(&vote) {
         // A validator writes the vote down first: after a restart a round knows none of its votes.
         Ok(Outcome::ToSend { .. }) => println!("send a vote for a {}", vote.kind()),
         // An earlier vote is there, with which this one might be found to disagree.

@@ -26,10 +26,10 @@ use std::slice;
 /// let scheme = Toy::new(4);
 /// let mut round = Round::new(ROUND, scheme.clone(), true)?;
 /// // One vote for a proposal is no evidence.
-/// let admission = round.add_network(&KEYS[1], notarize(1, 7))?;
+/// let admission = round.add_network(&KEYS[1], &notarize(1, 7))?;
 /// assert_eq!(convicted(&*scheme, &admission.report.unwrap())?, None);
 /// // Two for two proposals are.
-/// let report = round.add_network(&KEYS[1], notarize(1, 8))?.report.unwrap();
+/// let report = round.add_network(&KEYS[1], &notarize(1, 8))?.report.unwrap();
 /// assert_eq!(convicted(&*scheme, &report)?, Some(Participant::new(1)));
 /// // A report whose second vote was made up by somebody else convicts nobody.
 /// let (Vote::Notarize(one), Vote::Notarize(other)) = (notarize(2, 7), bad(notarize(2, 8))) else {

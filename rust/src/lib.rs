@@ -31,7 +31,7 @@
 //! // Participants 1 and 2 notarize a proposal, and 3 signs badly.
 //! for vote in [notarize(1, 7), notarize(2, 7), bad(notarize(3, 7))] {
 //!     let sender = KEYS[usize::from(vote.signer())];
-//!     let admission = round.add_network(&sender, vote)?;
+//!     let admission = round.add_network(&sender, &vote)?;
 //!     assert!(admission.added && admission.block.is_none());
 //! }
 //! let batch = round.try_construct()?.expect("three votes could be a quorum");
@@ -41,14 +41,14 @@
 //! # let mut sent = Vec::new();
 //! # let mut send = |vote| sent.push(vote);
 //! let vote = notarize(0, 7);
-//! if let Outcome::ToSend { .. } = round.accept_vote(vote)? {
+//! if let Outcome::ToSend { .. } = round.accept_vote(&vote)? {
 //!     send(vote);
 //! }
 //! // Nothing is verified twice.
 //! let batch = round.try_construct()?.expect("three votes that attest");
 //! assert_eq!(batch.kind(), Some(Kind::Notarization));
 //! // Who votes for something else is to be blocked.
-//! let admission = round.add_network(&KEYS[1], notarize(1, 8))?;
+//! let admission = round.add_network(&KEYS[1], &notarize(1, 8))?;
 //! assert_eq!(admission.block, Some(BlockReason::ConflictingNotarize));
 //! # assert_eq!(sent, [notarize(0, 7)]);
 //! # Ok(())
@@ -106,7 +106,7 @@ pub use scheme::Scheme;
 /// # include!(concat!(env!("CARGO_MANIFEST_DIR"), "/tests/toy/mod.rs"));
 /// # fn main() -> Result<(), batcher::Error> {
 /// let mut round = batcher::Round::new(ROUND, Toy::new(4), true)?;
-/// round.accept_vote(notarize(0, 7))?;
+/// round.accept_vote(&notarize(0, 7))?;
 /// # Ok(())
 /// # }
 /// ```
@@ -116,7 +116,7 @@ pub use scheme::Scheme;
 /// # include!(concat!(env!("CARGO_MANIFEST_DIR"), "/tests/toy/mod.rs"));
 /// # fn main() -> Result<(), batcher::Error> {
 /// let mut round = batcher::Round::new(ROUND, Toy::new(4), true)?;
-/// round.add_network(&"ada", notarize(0, 7))?;
+/// round.add_network(&"ada", &notarize(0, 7))?;
 /// # Ok(())
 /// # }
 /// ```
@@ -136,8 +136,8 @@ pub use scheme::Scheme;
 /// # include!(concat!(env!("CARGO_MANIFEST_DIR"), "/tests/toy/mod.rs"));
 /// # fn main() -> Result<(), batcher::Error> {
 /// let mut round = batcher::Round::new(ROUND, Toy::new(4), true)?;
-/// let _ = round.accept_vote(notarize(0, 7))?;
-/// let _ = round.add_network(&"ada", notarize(0, 7))?;
+/// let _ = round.accept_vote(&notarize(0, 7))?;
+/// let _ = round.add_network(&"ada", &notarize(0, 7))?;
 /// let _ = round.step()?;
 /// # Ok(())
 /// # }

@@ -53,7 +53,7 @@ pub enum Step<G, C> {
 /// let scheme = Toy::new(4);
 /// let mut round = Round::in_mode(ROUND, scheme.clone(), Mode::Releasing)?;
 /// for signer in 0..3 {
-///     let admission = round.add_network(&KEYS[signer], nullify(signer as u32))?;
+///     let admission = round.add_network(&KEYS[signer], &nullify(signer as u32))?;
 ///     assert!(admission.added && admission.block.is_none());
 /// }
 /// // Nothing was verified until now. All three are, at once, and make a certificate.
@@ -182,10 +182,10 @@ impl<S: Scheme> Round<S> {
     /// # fn main() -> Result<(), batcher::Error> {
     /// let mut round = Round::new(ROUND, Toy::new(4), true)?;
     /// let (first, second) = (notarize(1, 7), notarize(1, 8));
-    /// assert!(round.add_network(&KEYS[1], first)?.added);
-    /// let again = round.add_network(&KEYS[1], first)?;
+    /// assert!(round.add_network(&KEYS[1], &first)?.added);
+    /// let again = round.add_network(&KEYS[1], &first)?;
     /// assert!(!again.added && again.block.is_none());
-    /// let other = round.add_network(&KEYS[1], second)?;
+    /// let other = round.add_network(&KEYS[1], &second)?;
     /// assert_eq!(other.block, Some(BlockReason::ConflictingNotarize));
     /// assert!(matches!(other.report, Some(Activity::ConflictingNotarize(..))));
     /// # Ok(())
@@ -199,10 +199,10 @@ impl<S: Scheme> Round<S> {
     pub fn add_network(
         &mut self,
         sender: &S::PublicKey,
-        vote: Vote<S::Signature>,
+        vote: &Vote<S::Signature>,
     ) -> Result<Admission<S::Signature>, RoundError> {
         let sender = self.scheme.participants().index_near(sender, vote.signer());
-        let flat = flat_vote(&vote)?;
+        let flat = flat_vote(vote)?;
         match self
             .library
             .add_network(name_of(sender), &flat, &mut self.answer)
@@ -215,7 +215,7 @@ impl<S: Scheme> Round<S> {
         Ok(Admission {
             added: self.answer.added,
             block: block_of(self.answer.block),
-            report: report_of(&self.answer, &vote)?,
+            report: report_of(&self.answer, vote)?,
         })
     }
 
@@ -246,7 +246,7 @@ impl<S: Scheme> Round<S> {
     /// let mut round = Round::new(ROUND, Toy::new(4), true)?;
     /// let mut sent = Vec::new();
     /// let mut cast = |round: &mut Round<Toy>, vote: Vote<Signature>| {
-    ///     if let Outcome::ToSend { .. } = round.accept_vote(vote)? {
+    ///     if let Outcome::ToSend { .. } = round.accept_vote(&vote)? {
     ///         sent.push(vote);
     ///     }
     ///     Ok::<(), Error>(())
@@ -268,12 +268,12 @@ impl<S: Scheme> Round<S> {
     /// `Own`.
     pub fn accept_vote(
         &mut self,
-        vote: Vote<S::Signature>,
+        vote: &Vote<S::Signature>,
     ) -> Result<Outcome<S::Signature>, OwnError> {
-        if !self.belongs(&vote) {
+        if !self.belongs(vote) {
             return Err(OwnError::Elsewhere);
         }
-        let attests = attests(&*self.scheme, &vote);
+        let attests = attests(&*self.scheme, vote);
         self.accept(vote, attests)
     }
 
@@ -285,17 +285,17 @@ impl<S: Scheme> Round<S> {
     /// As of [`Round::accept_vote`]. `NotVerified` where its signer takes no part.
     pub fn accept_verified_vote(
         &mut self,
-        vote: Vote<S::Signature>,
+        vote: &Vote<S::Signature>,
     ) -> Result<Outcome<S::Signature>, OwnError> {
         self.accept(vote, true)
     }
 
     fn accept(
         &mut self,
-        vote: Vote<S::Signature>,
+        vote: &Vote<S::Signature>,
         attests: bool,
     ) -> Result<Outcome<S::Signature>, OwnError> {
-        let flat = flat_vote(&vote)?;
+        let flat = flat_vote(vote)?;
         match self.library.accept_vote(&flat, attests, &mut self.answer) {
             code::DONE => {}
             code::ELSEWHERE => return Err(OwnError::Elsewhere),
@@ -308,7 +308,7 @@ impl<S: Scheme> Round<S> {
             return Ok(Outcome::Duplicate { retained });
         }
         // A vote that was added is reported.
-        match report_of(&self.answer, &vote)? {
+        match report_of(&self.answer, vote)? {
             Some(report) => Ok(Outcome::ToSend { report, retained }),
             None => unknown(code::DONE),
         }
@@ -331,7 +331,7 @@ impl<S: Scheme> Round<S> {
     /// let mut round = Round::new(ROUND, Toy::new(4), false)?;
     /// // No leader is named, so the notarizes wait.
     /// for signer in 0..3 {
-    ///     assert!(round.add_network(&KEYS[signer], notarize(signer as u32, 7))?.added);
+    ///     assert!(round.add_network(&KEYS[signer], &notarize(signer as u32, 7))?.added);
     /// }
     /// assert!(round.try_construct()?.is_none());
     /// let subject = Subject::Finalize { proposal: proposal(7) };
@@ -537,9 +537,9 @@ impl<S: Scheme> Round<S> {
     /// # fn main() -> Result<(), batcher::Error> {
     /// # let mut round = Round::new(ROUND, Toy::new(4), false)?;
     /// # for vote in [bad(notarize(1, 7)), notarize(2, 7), notarize(3, 7)] {
-    /// #     assert!(round.add_network(&KEYS[vote.signer().get() as usize], vote)?.added);
+    /// #     assert!(round.add_network(&KEYS[vote.signer().get() as usize], &vote)?.added);
     /// #     let nullify = nullify(vote.signer().get());
-    /// #     assert!(round.add_network(&KEYS[vote.signer().get() as usize], nullify)?.added);
+    /// #     assert!(round.add_network(&KEYS[vote.signer().get() as usize], &nullify)?.added);
     /// # }
     /// # let (mut send, mut block) = (Vec::new(), Vec::new());
     /// round.set_leader(Participant::new(2))?;
@@ -587,14 +587,14 @@ impl<S: Scheme> Round<S> {
     /// let scheme = Toy::new(4);
     /// let mut round = Round::new(ROUND, scheme.clone(), false)?;
     /// for signer in 0..3 {
-    ///     round.add_network(&KEYS[signer], nullify(signer as u32))?;
+    ///     round.add_network(&KEYS[signer], &nullify(signer as u32))?;
     /// }
     /// let Step::Verify(wanted) = round.step()? else { panic!("three votes are a quorum") };
     /// let worker = std::thread::spawn(move || {
     ///     let verdicts = scheme.verify_attestations(wanted.subject(), wanted.attestations());
     ///     (wanted, verdicts)
     /// });
-    /// round.add_network(&KEYS[3], nullify(3))?;
+    /// round.add_network(&KEYS[3], &nullify(3))?;
     /// let (wanted, verdicts) = worker.join().unwrap();
     /// round.record_verdicts(&wanted, &verdicts)?;
     /// // The vote that came meanwhile is wanted alone.

@@ -23,7 +23,7 @@
 //! let signers = [("ada", 0), ("dot", 2), ("ben", 1), ("cyd", 2)];
 //! let votes = signers.map(|(sender, signer)| (sender, nullify(signer)));
 //! let answers = mailbox.call(move |round| {
-//!     votes.map(|(sender, vote)| (sender, round.add_network(&sender, vote)))
+//!     votes.map(|(sender, vote)| (sender, round.add_network(&sender, &vote)))
 //! })?;
 //! let mut blocked = Vec::new();
 //! for (sender, answer) in answers {

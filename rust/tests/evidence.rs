@@ -12,7 +12,7 @@ fn report(scheme: &Arc<Toy>, votes: [Vote<Signature>; 2]) -> Activity<Signature>
     let mut round = Round::in_mode(ROUND, scheme.clone(), Mode::Retaining).unwrap();
     let [_, report] = votes.map(|vote| {
         let sender = KEYS[usize::from(vote.signer())];
-        round.add_network(&sender, vote).unwrap().report
+        round.add_network(&sender, &vote).unwrap().report
     });
     report.unwrap()
 }
@@ -41,7 +41,7 @@ fn one_vote_convicts_nobody() {
     let scheme = Toy::new(4);
     for vote in [notarize(1, 1), nullify(1), finalize(1, 1)] {
         let mut round = Round::new(ROUND, scheme.clone(), true).unwrap();
-        let report = round.add_network(&KEYS[1], vote).unwrap().report;
+        let report = round.add_network(&KEYS[1], &vote).unwrap().report;
         assert_eq!(convicted(&*scheme, &report.unwrap()), Ok(None));
     }
     assert_eq!(scheme.counted(), [0, 0, 0]);

@@ -75,7 +75,7 @@ fn play(seed: u64) {
                 // An honest one casts a vote, or repeats it.
                 let signer = 1 + random.below(u64::from(count) - 3) as usize;
                 let vote = honest[signer][random.below(2) as usize];
-                let admission = round.add_network(&KEYS[signer], vote).unwrap();
+                let admission = round.add_network(&KEYS[signer], &vote).unwrap();
                 assert_eq!(admission.block, None, "seed {seed}, {vote:?}");
             }
             4..7 => {
@@ -87,7 +87,7 @@ fn play(seed: u64) {
                     sender
                 };
                 let vote = any_vote(signer, &mut random);
-                let answer = round.add_network(&KEYS[sender as usize], vote).unwrap();
+                let answer = round.add_network(&KEYS[sender as usize], &vote).unwrap();
                 if let Some(activity) = answer.report {
                     assert_eq!(activity.signer(), Participant::new(sender), "seed {seed}");
                 }
@@ -95,7 +95,7 @@ fn play(seed: u64) {
             7 => {
                 let vote = honest[0][random.below(2) as usize];
                 // Both of what a node casts once are added once.
-                let _: Result<Outcome<_>, _> = round.accept_vote(vote);
+                let _: Result<Outcome<_>, _> = round.accept_vote(&vote);
             }
             8 => {
                 let certificate = Certificate::new(any_subject(&mut random), Vec::new());

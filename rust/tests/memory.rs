@@ -30,7 +30,7 @@ impl Player {
 
     fn hear(&mut self, granted: &mut Option<u32>, signer: u32, subject: Subject, is_good: bool) {
         let vote = vote(subject, signer, is_good);
-        let answer = again(granted, || self.round.add_network(&signer, vote));
+        let answer = again(granted, || self.round.add_network(&signer, &vote));
         self.note(answer);
     }
 
@@ -98,7 +98,7 @@ fn play(mode: Mode, aggregates: bool, granted: &mut Option<u32>) -> Vec<String> 
         proposal: proposal(2),
     };
     let own = vote(subject, 3, true);
-    let answer = again(granted, || player.round.accept_verified_vote(own));
+    let answer = again(granted, || player.round.accept_verified_vote(&own));
     player.note(answer);
     for signer in 0..3 {
         player.hear(
@@ -140,7 +140,7 @@ fn a_refusal_changes_nothing() {
 
 fn hear_nullify(round: &mut Round<Plain>, signer: u32) {
     let nullify = vote(Subject::Nullify { round: NUMBER }, signer, true);
-    let admission = round.add_network(&signer, nullify).unwrap();
+    let admission = round.add_network(&signer, &nullify).unwrap();
     assert!(admission.added);
 }
 
@@ -219,7 +219,7 @@ fn a_vote_of_another_round_takes_no_memory() {
     let mut round = Round::in_mode(NUMBER, Plain::new(4, false), Mode::Retaining).unwrap();
     let other = Number::new(Epoch::zero(), View::new(9));
     let nullify = vote(Subject::Nullify { round: other }, 1, true);
-    let answer = asks(|| round.add_network(&1, nullify));
+    let answer = asks(|| round.add_network(&1, &nullify));
     assert_eq!(answer, (Err(RoundError::Elsewhere), false));
 }
 

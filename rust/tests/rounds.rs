@@ -18,7 +18,7 @@ fn round(scheme: &Arc<Toy>, mode: Mode) -> Round<Toy> {
 /// Takes in a vote from its signer.
 fn answer(round: &mut Round<Toy>, vote: Vote<Signature>) -> batcher::Admission<Signature> {
     round
-        .add_network(&KEYS[usize::from(vote.signer())], vote)
+        .add_network(&KEYS[usize::from(vote.signer())], &vote)
         .unwrap()
 }
 
@@ -29,7 +29,7 @@ fn hear(round: &mut Round<Toy>, vote: Vote<Signature>) {
 
 /// Casts an own vote, which is to be sent.
 fn cast(round: &mut Round<Toy>, vote: Vote<Signature>) {
-    let outcome = round.accept_verified_vote(vote);
+    let outcome = round.accept_verified_vote(&vote);
     assert!(matches!(outcome, Ok(Outcome::ToSend { .. })));
 }
 
@@ -110,9 +110,9 @@ fn contradictions_are_blocked_with_their_evidence() {
     );
     let admission = answer(&mut round, bad(first));
     assert_eq!(admission.block, Some(BlockReason::InvalidSignature));
-    let admission = round.add_network(&"ada", second).unwrap();
+    let admission = round.add_network(&"ada", &second).unwrap();
     assert_eq!(admission.block, Some(BlockReason::NotarizeSignerMismatch));
-    let admission = round.add_network(&"zoe", second).unwrap();
+    let admission = round.add_network(&"zoe", &second).unwrap();
     assert_eq!(admission.block, Some(BlockReason::UnknownParticipant));
     let (early, late) = (nullify(2), finalize(2, 1));
     hear(&mut round, early);
@@ -195,7 +195,7 @@ fn restored_votes_are_verified_again() {
     round.set_leader(Participant::new(0)).unwrap();
     hear(&mut round, notarize(0, 1));
     // An own vote for another proposal was verified when it was taken in.
-    assert!(round.accept_vote(notarize(1, 2)).is_ok());
+    assert!(round.accept_vote(&notarize(1, 2)).is_ok());
     hear(&mut round, notarize(2, 2));
     hear(&mut round, notarize(3, 2));
     assert_eq!(scheme.counted(), [1, 1, 0]);
@@ -244,9 +244,9 @@ fn the_leaders_proposal_is_notarized_forwarded_and_finalized() {
         report: Activity::Notarize(own),
         retained: true,
     };
-    assert_eq!(round.accept_vote(notarize(0, 7)), Ok(to_send));
+    assert_eq!(round.accept_vote(&notarize(0, 7)), Ok(to_send));
     let duplicate = Err(OwnError::Own(OwnFault::DuplicateNotarize));
-    assert_eq!(round.accept_vote(notarize(0, 7)), duplicate);
+    assert_eq!(round.accept_vote(&notarize(0, 7)), duplicate);
     let batch = round.try_construct().unwrap().unwrap();
     // The own vote is known to attest, so two are pending.
     assert_eq!(batch.processed, 2);
@@ -256,10 +256,10 @@ fn the_leaders_proposal_is_notarized_forwarded_and_finalized() {
     assert!(round.is_missing_voter(&proposal(7), Participant::new(3)));
     assert!(!round.is_missing_voter(&proposal(7), Participant::new(1)));
     // Its kind is released, so a repeat leaves facts alone.
-    let again = round.accept_vote(notarize(0, 7));
+    let again = round.accept_vote(&notarize(0, 7));
     assert_eq!(again, Ok(Outcome::Duplicate { retained: false }));
     assert_eq!(
-        round.accept_vote(bad(finalize(0, 7))),
+        round.accept_vote(&bad(finalize(0, 7))),
         Err(OwnError::NotVerified)
     );
     for signer in 1..4 {
@@ -275,21 +275,21 @@ fn own_votes_exclude_each_other() {
     let mut round = round(&scheme, Mode::Retaining);
     cast(&mut round, finalize(0, 1));
     let fault = Err(OwnError::Own(OwnFault::NullifyAfterFinalize));
-    assert_eq!(round.accept_verified_vote(nullify(0)), fault);
+    assert_eq!(round.accept_verified_vote(&nullify(0)), fault);
     cast(&mut round, nullify(1));
-    let again = round.accept_verified_vote(nullify(1));
+    let again = round.accept_verified_vote(&nullify(1));
     assert_eq!(again, Ok(Outcome::Duplicate { retained: true }));
     let fault = Err(OwnError::Own(OwnFault::FinalizeAfterNullify));
-    assert_eq!(round.accept_verified_vote(finalize(1, 1)), fault);
+    assert_eq!(round.accept_verified_vote(&finalize(1, 1)), fault);
     assert!(round.has_nullify(Participant::new(1)));
     assert!(!round.has_nullify(Participant::new(0)));
     // Who takes no part has no own vote.
     let stranger = toy::vote(Subject::Nullify { round: ROUND }, 4);
     assert_eq!(
-        round.accept_verified_vote(stranger),
+        round.accept_verified_vote(&stranger),
         Err(OwnError::NotVerified)
     );
-    assert_eq!(round.accept_vote(stranger), Err(OwnError::NotVerified));
+    assert_eq!(round.accept_vote(&stranger), Err(OwnError::NotVerified));
 }
 
 // A second one is on nothing that is wanted.
@@ -348,8 +348,8 @@ fn what_is_of_another_round_is_refused() {
     let mut round = round(&scheme, Mode::Releasing);
     let elsewhere = Number::new(Epoch::zero(), View::new(2));
     let vote = toy::vote(Subject::Nullify { round: elsewhere }, 0);
-    assert_eq!(round.add_network(&"ada", vote), Err(RoundError::Elsewhere));
-    assert_eq!(round.accept_vote(vote), Err(OwnError::Elsewhere));
+    assert_eq!(round.add_network(&"ada", &vote), Err(RoundError::Elsewhere));
+    assert_eq!(round.accept_vote(&vote), Err(OwnError::Elsewhere));
     let nullification = certificate(Subject::Nullify { round: elsewhere }, 0..3);
     assert!(!round.belongs_certificate(&nullification));
     let elsewhere = Err(CertificateError::Elsewhere);
@@ -433,7 +433,7 @@ fn a_round_that_is_made_again_is_handed_the_votes_that_were_sent() {
             cast(&mut again, vote);
         }
         for vote in contradicts {
-            let refused = again.accept_vote(vote);
+            let refused = again.accept_vote(&vote);
             assert!(
                 matches!(refused, Err(OwnError::Own(_))),
                 "{mode:?}, {vote:?}"

@@ -112,9 +112,9 @@ fn what_is_assembled_is_verified() {
     let (mut trusted, mut right) = (round::<8, true>(1), round::<8, false>(0));
     for signer in 0..3 {
         let vote = || nullify(signer, 1, 1);
-        assert!(sloppy.add_network(&signer, vote()).unwrap().added);
-        assert!(trusted.add_network(&signer, vote()).unwrap().added);
-        assert!(right.add_network(&signer, vote()).unwrap().added);
+        assert!(sloppy.add_network(&signer, &vote()).unwrap().added);
+        assert!(trusted.add_network(&signer, &vote()).unwrap().added);
+        assert!(right.add_network(&signer, &vote()).unwrap().added);
     }
     assert_eq!(sloppy.try_construct(), Err(ConstructError::BadAssembly));
     // It was made, and isn't given again.
@@ -129,11 +129,11 @@ fn what_is_assembled_is_verified() {
 #[test]
 fn signatures_have_96_bytes_at_most() {
     let mut longest = round::<96, true>(0);
-    assert!(longest.add_network(&1, nullify(1, 1, 1)).unwrap().added);
+    assert!(longest.add_network(&1, &nullify(1, 1, 1)).unwrap().added);
     let mut longer = round::<97, true>(0);
-    let answer = longer.add_network(&1, nullify(1, 1, 1));
+    let answer = longer.add_network(&1, &nullify(1, 1, 1));
     assert_eq!(answer, Err(RoundError::SignatureBytes));
-    let own = longer.accept_verified_vote(nullify(0, 1, 1));
+    let own = longer.accept_verified_vote(&nullify(0, 1, 1));
     assert_eq!(own, Err(OwnError::SignatureBytes));
 }
 
@@ -143,7 +143,7 @@ fn a_signature_that_is_not_made_again_is_an_error() {
     for signer in 0..3 {
         let last = if signer == 2 { 7 } else { 1 };
         let vote = nullify(signer, 1, last);
-        assert!(round.add_network(&signer, vote).unwrap().added);
+        assert!(round.add_network(&signer, &vote).unwrap().added);
     }
     assert_eq!(round.try_construct(), Err(ConstructError::SignatureBytes));
 }
@@ -153,17 +153,17 @@ fn a_signature_that_is_not_made_again_is_an_error() {
 fn a_clone_that_panics_leaves_the_round_whole() {
     let mut round = round::<8, true>(0);
     let panics = catch_unwind(AssertUnwindSafe(|| {
-        round.add_network(&1, nullify(1, 13, 1))
+        round.add_network(&1, &nullify(1, 13, 1))
     }));
     assert!(panics.is_err());
     // It is a repeat now.
-    let again = round.add_network(&1, nullify(1, 13, 1)).unwrap();
+    let again = round.add_network(&1, &nullify(1, 13, 1)).unwrap();
     assert!(!again.added && again.block.is_none());
     for signer in [0, 2] {
         let vote = nullify(signer, 1, 1);
-        assert!(round.add_network(&signer, vote).unwrap().added);
+        assert!(round.add_network(&signer, &vote).unwrap().added);
     }
-    let own = round.accept_verified_vote(nullify(3, 1, 1));
+    let own = round.accept_verified_vote(&nullify(3, 1, 1));
     assert!(matches!(own, Ok(Outcome::ToSend { .. })));
     let batch = round.try_construct().unwrap().unwrap();
     assert_eq!(batch.certificate.map(|it| *it.content()), Some(4));

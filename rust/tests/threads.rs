@@ -34,7 +34,7 @@ fn many_threads_share_a_round() {
                 let vote = nullify(signer);
                 let key = KEYS[signer as usize];
                 mailbox
-                    .call(move |round| round.add_network(&key, vote))
+                    .call(move |round| round.add_network(&key, &vote))
                     .unwrap()
                     .unwrap()
                     .added

@@ -161,7 +161,7 @@ impl Player {
                     added,
                     block,
                     report,
-                } = self.round.add_network(&sender, vote)?;
+                } = self.round.add_network(&sender, &vote)?;
                 let outcome = if added { "added" } else { "refused" };
                 let reason = OrNone(block);
                 if block.is_some() {
@@ -175,7 +175,7 @@ impl Player {
             }
             Command::Own { signer, ballot } => {
                 let vote = self.vote(signer, ballot, true);
-                match self.round.accept_vote(vote) {
+                match self.round.accept_vote(&vote) {
                     Ok(outcome) => {
                         let (outcome, report) = own_outcome(outcome);
                         print(printed, format_args!("own: {outcome}, report {report}"));
