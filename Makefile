@@ -56,4 +56,4 @@ test:
 	@$(TOP)/tools/test
 
 clean:
-	@rm -rf $(TOP)/crates/*/out $(TOP)/rust/target $(TOP)/rust/validator/target
+	@rm -rf $(TOP)/crates/*/out $(TOP)/rust/target $(TOP)/rust/validator/target $(TOP)/out
