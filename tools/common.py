@@ -26,14 +26,23 @@ def has_rt():
     return False
 
 
+# What the tools take of the kit's own script, and of its module rtlib.
+OF_RT = ["checked", "edits_of", "free", "must_fail", "processors", "read_edit", "unread"]
+OF_RTLIB = ["ALLOW_C", "KIT", "RATTLE", "STALE", "blanked", "crates_below", "guarded", "lock"]
+
+
 def load_rt():
-    """The kit's rt as a module, so that what rt does is done by its own code."""
+    """The kit's rt as a module, so that what rt does is done by its own code. Says what of it another kit doesn't have."""
     path = shutil.which("rt")
     if path is None:
         sys.exit("rt is not on the path: it comes with the kit that README.md names")
     loader = importlib.machinery.SourceFileLoader("rt", os.path.realpath(path))
     module = importlib.util.module_from_spec(importlib.util.spec_from_loader("rt", loader))
     loader.exec_module(module)
+    gone = [it for it in OF_RT if not hasattr(module, it)]
+    gone += [f"rtlib.{it}" for it in OF_RTLIB if not hasattr(module.rtlib, it)]
+    if gone:
+        sys.exit(f"this kit's rt has no {', '.join(gone)}, which tools/edits and tools/archive take: README.md names the kit")
     return module
 
 
