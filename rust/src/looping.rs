@@ -422,13 +422,16 @@ impl<G: Clone + AsRef<[u8]> + for<'b> TryFrom<&'b [u8]>> Loop<G> {
         let mut blocked = Vec::new();
         reserve_each(&mut blocked, options.participants, false)
             .map_err(|_| StartError::OutOfMemory)?;
+        let mut namespace = Vec::new();
+        reserve(&mut namespace, options.namespace.len()).map_err(|_| StartError::OutOfMemory)?;
+        namespace.extend_from_slice(options.namespace);
         Ok(Loop {
             library,
             leader: Box::new(leader),
             epoch: options.epoch,
             me: options.me,
             participants: options.participants,
-            namespace: options.namespace.to_vec(),
+            namespace,
             task: loops::Task::default(),
             waits: false,
             list,

@@ -4,12 +4,13 @@
 mod refusing;
 
 use batcher::errors::RoundError;
+use batcher::looping::{self, Loop, Options, PollError, StartError, Task};
 use batcher::positions::Round as Number;
 use batcher::{
     Certificate, Epoch, Mode, Participant, Proposal, Round, Sha256Digest, Step, Subject, View,
     Wanted,
 };
-use refusing::{Plain, Signature, again, asks, each_refused_in_turn, once, vote};
+use refusing::{Plain, Signature, again, asks, each_refused_in_turn, once, uncounted, vote};
 
 /// A round with what it has answered, as text.
 struct Player {
@@ -242,4 +243,102 @@ fn the_first_verdict_on_a_whole_counts() {
             return;
         }
     }
+}
+
+/// A validator of four, with what it gave to be done and what it answered, as text.
+struct Validator {
+    running: Loop<Signature>,
+    answers: Vec<String>,
+}
+
+fn verdicts(wanted: &looping::Wanted<Signature>) -> Vec<bool> {
+    let all = wanted.attestations().iter();
+    all.map(|it| it.signature == [1]).collect()
+}
+
+impl Validator {
+    fn begin(granted: &mut Option<u32>) -> Self {
+        let options = Options {
+            epoch: Epoch::zero(),
+            me: Participant::new(0),
+            participants: 4,
+            keys: [4; 32],
+            namespace: b"memory",
+            ahead: 4,
+            track_historical_votes: false,
+        };
+        let leader = |view: View| Participant::new((view.get() % 4) as u32);
+        let begin = || Loop::<Signature>::begin(&options, leader);
+        let running = match once(granted, begin) {
+            Err(StartError::OutOfMemory) => begin(),
+            made => made,
+        };
+        Validator {
+            running: running.unwrap(),
+            answers: Vec::new(),
+        }
+    }
+
+    /// Does all that is to be done. What is to be verified isn't noted, since it is asked about twice
+    /// where memory is refused.
+    fn go_on(&mut self, granted: &mut Option<u32>) {
+        let running = &mut self.running;
+        loop {
+            let task = match once(granted, || running.poll()) {
+                Err(PollError::OutOfMemory) => running.poll(),
+                task => task,
+            };
+            match task.unwrap() {
+                None => return,
+                Some(Task::Write(_)) => once(granted, || running.wrote()),
+                Some(Task::Verify(wanted)) => {
+                    let verdicts = verdicts(&wanted);
+                    again(granted, || running.conclude(&wanted, &verdicts)).unwrap();
+                }
+                Some(Task::Sign(subject)) => {
+                    again(granted, || running.signed(subject, &[1])).unwrap();
+                }
+                Some(task) => self.answers.push(format!("{task:?}")),
+            }
+        }
+    }
+
+    /// Hears a certificate, of attestations that attest or don't.
+    fn hear(&mut self, granted: &mut Option<u32>, sender: u32, subject: Subject, good: [u8; 3]) {
+        let mut bytes = 3_u64.to_be_bytes().to_vec();
+        for (signer, is_good) in (1_u32..).zip(good) {
+            bytes.extend(signer.to_be_bytes());
+            bytes.extend([1, is_good]);
+            bytes.extend([0; 95]);
+        }
+        let made = Certificate::new(subject, bytes);
+        let sender = Participant::new(sender);
+        let verify = |wanted: &_| uncounted(|| verdicts(wanted));
+        let heard = again(granted, || self.running.certificate(sender, &made, verify));
+        self.answers.push(format!("{heard:?}"));
+        self.go_on(granted);
+    }
+}
+
+#[test]
+fn a_validator_goes_on_where_memory_is_refused() {
+    each_refused_in_turn("a validator", |granted| {
+        let mut it = Validator::begin(granted);
+        it.go_on(granted);
+        for signer in 1..4 {
+            let nullify = vote(Subject::Nullify { round: NUMBER }, signer, true);
+            let sender = nullify.signer();
+            let heard = again(granted, || it.running.vote(sender, &nullify));
+            it.answers.push(format!("{heard:?}"));
+            it.go_on(granted);
+        }
+        let later = Number::new(Epoch::zero(), View::new(3));
+        let proposal = Proposal::new(later, View::zero(), Sha256Digest([7; 32]));
+        it.hear(granted, 1, Subject::Notarize { proposal }, [1, 1, 1]);
+        it.hear(granted, 2, Subject::Finalize { proposal }, [1, 0, 1]);
+        it.hear(granted, 3, Subject::Finalize { proposal }, [1, 1, 1]);
+        let kept = again(granted, || it.running.certified(View::new(3)));
+        it.answers.push(format!("{kept:?}"));
+        it.answers
+    });
 }

@@ -126,6 +126,15 @@ pub fn again<R, E: Copy + Into<Error>>(
     }
 }
 
+/// Does something in a call of which no request is counted.
+#[allow(dead_code)]
+pub fn uncounted<R>(what: impl FnOnce() -> R) -> R {
+    let granted = GRANTED.take();
+    let answer = what();
+    GRANTED.set(granted);
+    answer
+}
+
 /// Whether a call asks for memory.
 #[allow(dead_code)]
 pub fn asks<R>(call: impl FnOnce() -> R) -> (R, bool) {
