@@ -273,26 +273,27 @@ is_ahead l round =
     && (nat_le l.validator.voter.node.window.finalized round.view.0
     && not (contains l.validator.voter.node.window round.view.0))
 
--- Attestations are lent, on which verdicts are wanted.
-pub record IsLent (l : CLoop) (out : FlatStep) (room list : List FlatAttestation) : Type 0 where
+-- Attestations of a subject are lent, on which verdicts are wanted: of what is looked at.
+pub record IsLentBy
+    (LooksAt : Subject Sha256Digest → List (Attestation Signature) → Type 0) (out : FlatStep)
+    (room list : List FlatAttestation) : Type 0 where
   pub subject : Subject Sha256Digest
   pub asked : List (Attestation Signature)
-  pub looks_at : (view : ℕ) → IsNext l.validator.voter.node.rounds view
-      → LooksAtThere loop_round_config (slot_at l.validator.voter.node.rounds view) subject asked
+  pub looks_at : LooksAt subject asked
   pub about : subject_in out.kind out.proposal ≡ Some subject
   pub listed : out.listed ≡ length asked
   pub written : IsWritten raw_in asked room list
 
--- Those of a kind of a view are, of which no construction is made yet.
-pub record IsLentOf (l : CLoop) (view : ℕ) (kind : Kind) (out : FlatStep)
-    (room list : List FlatAttestation) : Type 0 where
-  pub subject : Subject Sha256Digest
-  pub asked : List (Attestation Signature)
-  pub looks_at : LooksAtKindThere loop_round_config
-      (slot_at l.validator.voter.node.rounds view) kind subject asked
-  pub about : subject_in out.kind out.proposal ≡ Some subject
-  pub listed : out.listed ≡ length asked
-  pub written : IsWritten raw_in asked room list
+-- They are of the next construction,
+abbrev pub IsLent : CLoop → FlatStep → List FlatAttestation → List FlatAttestation → Type 0
+IsLent l = IsLentBy (λ subject asked. (view : ℕ) → IsNext l.validator.voter.node.rounds view
+    → LooksAtThere loop_round_config (slot_at l.validator.voter.node.rounds view) subject asked)
+
+-- or of a kind of a view, of which no construction is made yet.
+abbrev pub IsLentOf : CLoop → ℕ → Kind → FlatStep → List FlatAttestation → List FlatAttestation
+    → Type 0
+IsLentOf l view kind = IsLentBy (LooksAtKindThere loop_round_config
+    (slot_at l.validator.voter.node.rounds view) kind)
 
 -- Questions to a validator, and what is answered to them. It stays as it was.
 module _ (l : CLoop) (code : ℕ) where
