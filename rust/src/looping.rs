@@ -363,8 +363,6 @@ pub struct Loop<G> {
     forged: Vec<Participant>,
     // The last view that is final.
     last: View,
-    // Who may lack the payload of the notarization that was handed out last.
-    forward: Option<(Proposal, Vec<Participant>)>,
     // The last view that was entered.
     entered: View,
     signatures: PhantomData<G>,
@@ -442,7 +440,6 @@ impl<G: Clone + AsRef<[u8]> + for<'b> TryFrom<&'b [u8]>> Loop<G> {
             blocked,
             forged: Vec::new(),
             last: View::zero(),
-            forward: None,
             entered: View::zero(),
             signatures: PhantomData,
         })
@@ -510,12 +507,8 @@ impl<G: Clone + AsRef<[u8]> + for<'b> TryFrom<&'b [u8]>> Loop<G> {
             code::TASK_SEND_VOTE => Task::SendVote(vote_of(&flat.vote)?),
             code::TASK_SEND_CERTIFICATE => {
                 let kind = kind_of(flat.kind);
-                self.forward = None;
-                match self.kept(kind, round_of(&self.task.proposal))? {
-                    Some(certificate) => {
-                        self.forward = self.forward_of(&certificate)?;
-                        Task::SendCertificate(certificate)
-                    }
+                match self.kept(kind, round_of(&flat.proposal))? {
+                    Some(certificate) => Task::SendCertificate(certificate),
                     None => return Ok(None),
                 }
             }
@@ -540,38 +533,30 @@ impl<G: Clone + AsRef<[u8]> + for<'b> TryFrom<&'b [u8]>> Loop<G> {
                 parent: View::new(flat.proposal.parent),
             },
             code::TASK_JUDGE => Task::Judge(proposal_of(&flat.proposal)),
-            code::TASK_FORWARD => match self.forward.take() {
-                Some((proposal, to)) => Task::Forward(proposal, to),
-                None => return Ok(None),
-            },
+            code::TASK_FORWARD => return Ok(self.forward(round_of(&flat.proposal))?),
             other => unknown(other),
         }))
     }
 
-    /// The proposal of a notarization that has its own vote, and whose votes that lacks.
-    fn forward_of(
-        &self,
-        certificate: &Listed,
-    ) -> Result<Option<(Proposal, Vec<Participant>)>, OutOfMemory> {
-        let Certificate::Notarization(notarization) = certificate else {
+    /// Who isn't in the notarization of a round, where this validator is in it. Else it may lack the
+    /// payload itself.
+    fn forward(&self, round: Round) -> Result<Option<Task<G>>, OutOfMemory> {
+        let Some(Certificate::Notarization(made)) = self.kept(Kind::Notarization, round)? else {
             return Ok(None);
         };
         let mut lacks = Vec::new();
-        reserve(&mut lacks, self.participants as usize)?;
-        lacks.resize(self.participants as usize, true);
-        for signer in signers(certificate.content()) {
+        reserve_each(&mut lacks, self.participants, true)?;
+        for signer in signers(&made.certificate) {
             if let Some(lacks) = lacks.get_mut(signer as usize) {
                 *lacks = false;
             }
         }
-        if lacks[usize::from(self.me)] {
-            return Ok(None);
-        }
         let mut to = Vec::new();
-        let others = (0..self.participants).zip(&lacks);
         reserve(&mut to, lacks.iter().filter(|lacks| **lacks).count())?;
-        to.extend(others.filter(|it| *it.1).map(|it| Participant::new(it.0)));
-        Ok((!to.is_empty()).then_some((notarization.proposal, to)))
+        let all = (0..self.participants).map(Participant::new).zip(&lacks);
+        to.extend(all.filter(|it| *it.1).map(|it| it.0));
+        let has_it = !lacks[usize::from(self.me)];
+        Ok((has_it && !to.is_empty()).then_some(Task::Forward(made.proposal, to)))
     }
 
     fn owed(&self) -> Result<Write, PollError> {
