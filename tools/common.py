@@ -1,5 +1,6 @@
 """What the tools in Python share: the crates, whether one was proved as it is now, and rt itself."""
 import hashlib
+import html
 import importlib.machinery
 import importlib.util
 import os
@@ -44,6 +45,19 @@ def load_rt():
     if gone:
         sys.exit(f"this kit's rt has no {', '.join(gone)}, which tools/edits and tools/archive take: README.md names the kit")
     return module
+
+
+def drawn_text(x, y, said, more=""):
+    """A text of a drawing, with more of its attributes."""
+    return f'<text x="{x:g}" y="{y:g}" xml:space="preserve"{more}>{html.escape(said)}</text>'
+
+
+def drawing(wide, high, size, body):
+    """The lines of a drawing in SVG, on white, with letters of this size."""
+    yield f'<svg xmlns="http://www.w3.org/2000/svg" width="{wide}" height="{high}" font-family="sans-serif" font-size="{size}">'
+    yield f'<rect width="{wide}" height="{high}" fill="#ffffff"/>'
+    yield from body
+    yield "</svg>"
 
 
 def folder_of(crate):
