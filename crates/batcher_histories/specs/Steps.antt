@@ -26,7 +26,7 @@ use Rattle.batcher_histories.specs.Config.{Config, quorum_in, sender_in}
 pub use Rattle.batcher_histories.specs.Known.{is_participant, opposite_fault, duplicate_result, unopposed_result, own_result_by, admission_by, admission_named}
 use Rattle.batcher_histories.specs.Known.{known_in, forward_by, has_block_by, missing_by, own_by, network_by, first_ready}
 use Rattle.batcher_types.specs.Votes.{is_kind, kind_of, signer_of, proposal_in, subject_of, kind_certified, subject_certified, is_eligible}
-use Rattle.batcher_votes.specs.ProposalStates.{proposal_of, is_fixed, updated, fixes, same_selected}
+use Rattle.batcher_votes.specs.ProposalStates.{proposal_of, is_fixed, updated, same_selected}
 use Rattle.batcher_votes.specs.RoundState.{of_kind, VerifierState, TrackerView, RoundState}
 use Rattle.batcher_votes.specs.TrackerSteps.{Observed, unseen, in_full, as_facts, is_seen, observed, observed_opposite, kept_vote, RecordsKind, ReleasesKind, nothing_tracked, is_released_in}
 use Rattle.batcher_votes.specs.VerifierSteps.{nothing_buffered, AddsVote, SetsLeader, SetsProposal, MayFix, CompletesKind, TriesKind, is_ready, restored_by_fix, selected_in}
@@ -154,15 +154,9 @@ module _ {D K G C : Type 0} (x : Config D K G C) where
         (AddsVote x.same_digest old.buffered vote false new.buffered) (new.buffered ≡ old.buffered)
 
   -- OWN
-  -- the selected proposal once an own vote has fixed its own
-  abbrev pub selected_with : RoundState G D → Vote G D → Option (Proposal D)
-  selected_with held vote = proposal_of (fixes held.buffered.selection (fixed_by vote))
-
   -- what comes of an own vote, or why it is refused
   abbrev pub own_result : RoundState G D → Vote G D → Result Outcome OwnFault
-  own_result held vote =
-      own_by x.same_digest
-      (record (known_in held) { selection = fixes held.buffered.selection (fixed_by vote) }) vote
+  own_result held vote = own_by x.same_digest (known_in held) vote
 
   pub record AfterOwn (old : RoundState G D) (vote : Vote G D) (outcome : Outcome)
       (report : Option (Activity G D)) (new : RoundState G D) : Type 0 where
@@ -173,7 +167,7 @@ module _ {D K G C : Type 0} (x : Config D K G C) where
     pub fixed : VerifierState G D
     pub fixes : MayFix x.same_digest old.buffered old.tracked.kept (fixed_by vote) fixed
     pub tracked : (kind : Kind) → RecordsKind x.same_digest old.tracked new.tracked
-        (selected_with old vote) true vote kind
+        (selected_in fixed) true vote kind
     -- One that is added and kept in full waits as verified.
     pub buffered : MatchBool (is_kept outcome) (AddsVote x.same_digest fixed vote true new.buffered)
         (new.buffered ≡ fixed)

@@ -15,7 +15,7 @@ use Rattle.batcher_votes.specs.Soundness.{BuffersOnlyKept}
 use Rattle.batcher_histories.specs.Config.{Config}
 use Rattle.batcher_histories.specs.Steps.{IsRight, AfterOwn, own_result, fixed_by, is_added, is_kept, report_by}
 use Rattle.batcher_histories.proofs.Correctness.Admission.{IsNew, added_new, right_recorded, right_eligible}
-use Rattle.batcher_histories.proofs.Correctness.Own.{in_range, kept_outcome, may_fix_selects, own_step, result_is, right_fixed, seen_before}
+use Rattle.batcher_histories.proofs.Correctness.Own.{in_range, kept_outcome, own_step, result_is, right_fixed, same_kept, seen_before}
 
 -- a tracker with more room
 pub right_moved : {D K G C : Type 0} (m : Meaning D K G C) (tracker moved : TrackerView G D)
@@ -68,20 +68,20 @@ module _ {D K G C : Type 0} (x : Config D K G C) (tracker : TrackerView G D) (ol
       took_fixed =
           took ∙ ap (λ s. outcome_of x.same_digest moved.participants moved.holds s vote) selects
 
-      -- recording it answers what was answered before
-      pub taken_is : taken ≡ outcome
-      taken_is =
-          took_fixed ∙ in_range x.same_digest moved.participants moved.holds (proposal_of fixed.selection) vote below
+      -- it is kept where it was answered so before
+      pub kept_as_said : is_kept taken ≡ is_kept outcome
+      kept_as_said =
+          ap is_kept (took_fixed ∙ in_range x.same_digest moved.participants moved.holds (proposal_of fixed.selection) vote below
           ∙ ap (λ h. outcome_by x.same_digest (proposal_of fixed.selection) (of_kind h.compacted (kind_of vote)) (observed h (kind_of vote) (signer_of vote))
-          vote) holds
-          ∙ ap (λ s. outcome_by x.same_digest s (of_kind tracker.holds.compacted (kind_of vote)) (observed tracker.holds (kind_of vote) (signer_of vote)) vote)
-          (ap proposal_of (may_fix_selects x.same_digest old tracker.holds.kept (fixed_by vote) fixed fixes_it))
-          ∙ sym (result_is (observed_opposite tracker.holds vote) (kind_of vote) _ outcome result)
+          vote) holds)
+          ∙ same_kept x.same_digest (proposal_of fixed.selection) (proposal_of old.selection) (of_kind tracker.holds.compacted (kind_of vote))
+          (observed tracker.holds (kind_of vote) (signer_of vote)) vote
+          ∙ sym (ap is_kept (result_is (observed_opposite tracker.holds vote) (kind_of vote) _ outcome result))
 
       -- one that is kept is the first of its kind and signer
       pub kept_new : is_kept outcome ≡ true → IsNew moved.holds vote
       kept_new kept =
-          added_new x.same_digest moved.holds selected vote moved.participants (sym took ∙ taken_is ∙ kept_outcome outcome kept)
+          added_new x.same_digest moved.holds selected vote moved.participants (sym took ∙ kept_outcome taken (kept_as_said ∙ kept))
 
       module _ (recorded : TrackerView G D)
           (records : (kind : Kind) → RecordsKind x.same_digest moved.holds recorded.holds selected true vote kind) where
@@ -93,7 +93,7 @@ module _ {D K G C : Type 0} (x : Config D K G C) (tracker : TrackerView G D) (ol
             own_step x (held_by tracker old) (held_by recorded new) vote outcome taken fixed moved.participants moved.holds _
             result refl refl fixes_it holds below took_fixed
             (λ kind. subst (λ s. RecordsKind x.same_digest moved.holds recorded.holds s true vote kind) selects (records kind))
-            (subst (λ o. MatchBool (is_kept o) (AddsVote x.same_digest fixed vote true new) (new ≡ fixed)) (sym taken_is) is_eligible)
+            (subst (λ b. MatchBool b (AddsVote x.same_digest fixed vote true new) (new ≡ fixed)) (sym kept_as_said) is_eligible)
 
         module _ (q : ℕ) (right : IsRight x.meaning tracker old q)
             (within : BuffersOnlyKept tracker.holds fixed) (same : SameTracker tracker moved)

@@ -301,16 +301,6 @@ impl<S: Scheme<D>, D: Digest> Verifier<S, D> {
         }
     }
 
-    /// The selected proposal once this one is fixed, where none is.
-    pub fn selected_with(&self, proposal: Proposal<D>) -> Option<Proposal<D>>
-        ensures { result ≡ proposal_of (updated self.now.holds.selection (FixedProposal proposal)) }
-    {
-        match self.proposal {
-            ProposalState::Certificate(fixed) => Some(fixed),
-            ProposalState::Unknown | ProposalState::Leader(_) => Some(proposal),
-        }
-    }
-
     /// Whether the proposal, once it is fixed, takes another's place.
     pub fn replaces(&self, proposal: &Proposal<D>) -> bool
         ensures { result ≡ replaces D.eq self.now.holds.selection proposal.now }

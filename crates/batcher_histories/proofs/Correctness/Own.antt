@@ -6,8 +6,6 @@ use Rattle.batcher_types.specs.declared.messages.Vote.{Vote}
 use Rattle.batcher_types.specs.declared.messages.Activity.{Activity}
 use Rattle.batcher_types.specs.declared.messages.Kind.{Kind}
 use Rattle.batcher_types.specs.declared.messages.Kind.TheVariants.{Notarization, Nullification, Finalization}
-use Rattle.batcher_votes.specs.declared.verifier.ProposalState.{ProposalState}
-use Rattle.batcher_votes.specs.declared.verifier.ProposalState.TheVariants.{Certificate as FixedProposal}
 use Rattle.batcher_histories.specs.declared.answers.OwnFault.{OwnFault}
 use Rattle.batcher_votes.specs.declared.votes.Mode.{Mode}
 use Rattle.batcher_votes.specs.declared.votes.Mode.TheVariants.{Retaining, Releasing, Skipped}
@@ -17,9 +15,9 @@ use Rattle.batcher_types.specs.Lists.{count}
 use Rattle.batcher_types.specs.Meaning.{Meaning}
 use Rattle.batcher_histories.specs.Config.{Config}
 use Rattle.batcher_types.specs.Votes.{is_kind, kind_of, signer_of, is_vote_of, is_eligible}
-use Rattle.batcher_votes.specs.ProposalStates.{proposal_of, updated, fixes, is_fixed}
+use Rattle.batcher_votes.specs.ProposalStates.{proposal_of, fixes, is_fixed}
 use Rattle.batcher_votes.specs.RoundState.{PerKind, of_kind, TrackerState, VerifierState, TrackerView, RoundState}
-use Rattle.batcher_votes.specs.TrackerSteps.{Observed, unseen, in_full, as_facts, shown, observed, observed_opposite, is_seen, kept_vote, outcome_by, outcome_of, is_released_in, RecordsKind, ReleasesKind, SameTrackerState}
+use Rattle.batcher_votes.specs.TrackerSteps.{Observed, unseen, in_full, as_facts, shown, observed, observed_opposite, is_seen, kept_vote, outcome_by, outcome_of, is_released_in, conflicts_with, RecordsKind, ReleasesKind, SameTrackerState}
 use Rattle.batcher_votes.specs.VerifierSteps.{AddsVote, MayFix, CompletesKind, restored_by_fix}
 use Rattle.batcher_histories.specs.Steps.{IsRight, AfterOwn, fixed_by, unopposed_result, duplicate_result, own_result, own_result_by, report_by, is_added, is_kept}
 use Rattle.batcher_votes.specs.Soundness.{BuffersOnlyKept}
@@ -34,15 +32,6 @@ kept_outcome (Added false) h = absurd (cc)
 kept_outcome (Duplicate retained) h = absurd (cc)
 kept_outcome Conflicting h = absurd (cc)
 
-module _ {D : Type 0} where
-  pub fixed_some : (s : ProposalState D) (o : Option (Proposal D)) (p : Proposal D) → o ≡ Some p
-      → proposal_of (updated s (FixedProposal p)) ≡ proposal_of (fixes s o)
-  fixed_some s o p e = ap (λ x. proposal_of (fixes s x)) (sym e)
-
-  pub fixed_none : (s : ProposalState D) (o : Option (Proposal D)) → o ≡ None → proposal_of s
-      ≡ proposal_of (fixes s o)
-  fixed_none s o e = ap (λ x. proposal_of (fixes s x)) (sym e)
-
 module _ {G D : Type 0} where
   pub unopposed : (o : Observed G D) (kind : Kind) (outcome : Outcome) → is_some (shown o) ≡ false
       → own_result_by o kind outcome ≡ unopposed_result kind outcome
@@ -51,18 +40,15 @@ module _ {G D : Type 0} where
   unopposed (as_facts facts) kind outcome h = absurd (cc)
 
   pub own_result_of : (same : D → D → Bool) (held : TrackerState G D) (vote : Vote G D)
-      (selected s : Option (Proposal D)) (k : Kind) (o : Outcome) (r : Result Outcome OwnFault)
+      (selected : Option (Proposal D)) (k : Kind) (o : Outcome) (r : Result Outcome OwnFault)
       → is_some (shown (observed_opposite held vote)) ≡ false → k ≡ kind_of vote →
-      o ≡ outcome_by same s (of_kind held.compacted (kind_of vote))
-      (observed held (kind_of vote) (signer_of vote)) vote → s ≡ selected → r
-      ≡ unopposed_result k o →
+      o ≡ outcome_by same selected (of_kind held.compacted (kind_of vote))
+      (observed held (kind_of vote) (signer_of vote)) vote → r ≡ unopposed_result k o →
       r ≡ own_result_by (observed_opposite held vote) (kind_of vote)
       (outcome_by same selected (of_kind held.compacted (kind_of vote))
       (observed held (kind_of vote) (signer_of vote)) vote)
-  own_result_of same held vote selected s k o r none kind_is outcome_is selects is =
-      let outcome : o ≡ outcome_by same selected (of_kind held.compacted (kind_of vote)) (observed held (kind_of vote) (signer_of vote)) vote =
-      outcome_is ∙ ap (λ s. outcome_by same s (of_kind held.compacted (kind_of vote)) (observed held (kind_of vote) (signer_of vote)) vote) selects in
-      is ∙ ap (λ k. unopposed_result k o) kind_is ∙ ap (λ o. unopposed_result (kind_of vote) o) outcome
+  own_result_of same held vote selected k o r none kind_is outcome_is is =
+      is ∙ ap (λ k. unopposed_result k o) kind_is ∙ ap (λ o. unopposed_result (kind_of vote) o) outcome_is
       ∙ sym (unopposed (observed_opposite held vote) (kind_of vote) _ none)
 
   pub in_range : (same : D → D → Bool) (participants : ℕ) (held : TrackerState G D)
@@ -127,6 +113,20 @@ module _ {G D : Type 0} (same : D → D → Bool) where
       → is_seen (observed held (kind_of vote) (signer_of vote)) ≡ true
   seen_before held selected vote h =
       unseen_known held selected (of_kind held.compacted (kind_of vote)) (observed held (kind_of vote) (signer_of vote)) vote h
+
+-- whether a vote is kept doesn't depend on the proposal that is selected
+pub same_kept : {G D : Type 0} (same : D → D → Bool) (selected other : Option (Proposal D))
+    (released : Bool) (first : Observed G D) (vote : Vote G D)
+    → is_kept (outcome_by same selected released first vote)
+    ≡ is_kept (outcome_by same other released first vote)
+same_kept same selected other released unseen vote = refl
+same_kept same selected other released (in_full kept) vote = refl
+same_kept same selected other released (as_facts facts) vote =
+    not_kept (conflicts_with same selected vote facts) ∙ sym (not_kept (conflicts_with same other vote facts))
+  where
+    not_kept : (b : Bool) → is_kept (cond b Conflicting (Duplicate false)) ≡ false
+    not_kept true = refl
+    not_kept false = refl
 
 released_again : (mode : Mode) (b : Bool) → (is_released_in mode true || is_released_in mode b)
     ≡ is_released_in mode true
@@ -266,16 +266,15 @@ module _ {D K G C : Type 0} (x : Config D K G C) (old new : RoundState G D) (vot
       (new.buffered ≡ fixed) →
       AfterOwn x old vote outcome report new
   own_step before report result report_is forwarded fixes_it same below took tracked eligible_then =
-      let selects : proposal_of fixed.selection ≡ proposal_of (fixes old.buffered.selection (fixed_by vote)) = ap proposal_of
-      (may_fix_selects x.same_digest old.buffered old.tracked.kept (fixed_by vote) fixed fixes_it) in
       let recorded : taken ≡ outcome_by x.same_digest (proposal_of fixed.selection) (of_kind old.tracked.compacted (kind_of vote))
       (observed old.tracked (kind_of vote) (signer_of vote)) vote =
       took ∙ in_range x.same_digest participants before (proposal_of fixed.selection) vote below
       ∙ ap (λ h. outcome_by x.same_digest (proposal_of fixed.selection) (of_kind h.compacted (kind_of vote)) (observed h (kind_of vote) (signer_of vote))
       vote) same in
-      let is : taken ≡ outcome = recorded
-      ∙ ap (λ s. outcome_by x.same_digest s (of_kind old.tracked.compacted (kind_of vote)) (observed old.tracked (kind_of vote) (signer_of vote)) vote) selects
-      ∙ sym (result_is (observed_opposite old.tracked vote) (kind_of vote) _ _ result) in
+      let is : is_kept taken ≡ is_kept outcome = ap is_kept recorded
+      ∙ same_kept x.same_digest (proposal_of fixed.selection) (proposal_of old.buffered.selection) (of_kind old.tracked.compacted (kind_of vote))
+      (observed old.tracked (kind_of vote) (signer_of vote)) vote
+      ∙ sym (ap is_kept (result_is (observed_opposite old.tracked vote) (kind_of vote) _ _ result)) in
       record {
         outcome_is = result;
         report_is = report_is;
@@ -283,7 +282,6 @@ module _ {D K G C : Type 0} (x : Config D K G C) (old new : RoundState G D) (vot
         fixed = fixed;
         fixes = fixes_it;
         tracked =
-            λ kind. subst (λ s. RecordsKind x.same_digest old.tracked new.tracked s true vote kind) selects
-            (subst (λ h. RecordsKind x.same_digest h new.tracked (proposal_of fixed.selection) true vote kind) same (tracked kind));
-        buffered = subst (λ o. MatchBool (is_kept o) (AddsVote x.same_digest fixed vote true new.buffered) (new.buffered ≡ fixed)) is eligible_then;
+            λ kind. subst (λ h. RecordsKind x.same_digest h new.tracked (proposal_of fixed.selection) true vote kind) same (tracked kind);
+        buffered = subst (λ b. MatchBool b (AddsVote x.same_digest fixed vote true new.buffered) (new.buffered ≡ fixed)) is eligible_then;
       }

@@ -1,5 +1,5 @@
 -- What is answered by what is held is what the history names.
-use Rattle.std.proofs.Common.{◌≡◌, ℕ, Bool, true, false, not, cond, ◌&&◌, List, [], ◌∷◌, ◌++◌, Option, Some, None, refl, ap, sym, ◌∙◌, ⊎_elim, eqb}
+use Rattle.std.proofs.Common.{◌≡◌, ℕ, Bool, true, false, not, ◌&&◌, List, [], ◌∷◌, ◌++◌, Option, Some, None, refl, ap, sym, ◌∙◌, ⊎_elim, eqb}
 use Rattle.std.specs.Prelude.{filter, find, is_some, option_and_then}
 use Rattle.std.specs.Option.{option_or}
 use Rattle.std.proofs.lemmas.Bool.{cases_Bool, and_parts, false_from_ne_true, and_right, and_left, eqb-true}
@@ -14,20 +14,19 @@ use Rattle.batcher_types.specs.declared.messages.Certificate.{Certificate}
 use Rattle.batcher_types.specs.declared.messages.Certificate.TheVariants.{Notarization as NotarizationCertificate, Nullification as NullificationCertificate, Finalization as FinalizationCertificate}
 use Rattle.batcher_votes.specs.declared.votes.Mode.{Mode}
 use Rattle.batcher_votes.specs.declared.votes.Mode.TheVariants.{Retaining, Releasing, Skipped}
-use Rattle.batcher_votes.specs.declared.votes.Outcome.TheVariants.{Duplicate, Conflicting}
 use Rattle.batcher_histories.specs.Config.{Config, participants_in}
-use Rattle.batcher_types.specs.Lists.{is_some_and, is_empty, exactly_one}
-use Rattle.batcher_types.specs.Votes.{is_kind, kind_of, signer_of, proposal_in, kind_certified, subject_certified, has_proposals, is_vote_of, is_for, opposes, are_opposite}
+use Rattle.batcher_types.specs.Lists.{is_some_and}
+use Rattle.batcher_types.specs.Votes.{is_kind, kind_of, signer_of, proposal_in, kind_certified, subject_certified, has_proposals, is_vote_of, opposes, are_opposite}
 use Rattle.batcher_types.proofs.ListLemmas.{filter_none}
 use Rattle.batcher_types.proofs.KindLemmas.{is_kind-true}
-use Rattle.batcher_votes.specs.ProposalStates.{proposal_of, fixes}
-use Rattle.batcher_votes.specs.RoundState.{Facts, RoundState}
-use Rattle.batcher_votes.specs.TrackerSteps.{observed_opposite, conflicts_with, outcome_by, is_skipped, is_released_in}
-use Rattle.batcher_histories.specs.Steps.{admission, own_result, own_result_by, fixed_by, forward_answer, missing_in, has_block as has_block_held}
+use Rattle.batcher_votes.specs.ProposalStates.{proposal_of}
+use Rattle.batcher_votes.specs.RoundState.{RoundState}
+use Rattle.batcher_votes.specs.TrackerSteps.{observed_opposite, is_skipped, is_released_in}
+use Rattle.batcher_histories.specs.Steps.{admission, own_result, forward_answer, missing_in, has_block as has_block_held}
 use Rattle.batcher_histories.specs.Known.{known_in, known_by, forward_by, has_block_by, missing_by, network_by, own_by}
 use Rattle.batcher_histories.specs.History.{History, cast_votes}
-use Rattle.batcher_histories.specs.FirstVotes.{first_votes, first_vote, first_like}
-use Rattle.batcher_histories.specs.Selection.{selection_by, selection, selected_proposal, is_certified, certificate_of, finalized_by, fixed_proposal, fixing_evidence, leaders_proposal, is_released}
+use Rattle.batcher_histories.specs.FirstVotes.{first_votes, first_vote}
+use Rattle.batcher_histories.specs.Selection.{selection_by, selected_proposal, is_certified, certificate_of, finalized_by, fixed_proposal, fixing_evidence, leaders_proposal, is_released}
 use Rattle.batcher_histories.specs.Comparison.{compared_votes, is_compared, is_compared_at_release, facts_of, known_opposite, known_after, has_block}
 use Rattle.batcher_histories.specs.Answers.{network_answer, own_answer, forward_after, missing_after}
 use Rattle.batcher_histories.specs.Represents.{Represents}
@@ -209,49 +208,9 @@ module _ {D K G C : Type 0} (x : Config D K G C) where
   network_same past held sender vote represents = ap (λ known. network_by x known sender vote) (known_is past held represents)
 
   -- OWN VOTES
-  fixed_selects : (fixed leaders evidence : Option (Proposal D)) (f : Proposal D) → fixed ≡ Some f
-      → proposal_of (fixes (selection_by fixed leaders) evidence)
-      ≡ proposal_of (selection_by fixed leaders)
-  fixed_selects None leaders evidence f e = absurd (cc)
-  fixed_selects (Some g) leaders None f e = refl
-  fixed_selects (Some g) leaders (Some p) f e = refl
-
-  -- A vote conflicts with nothing while none of its kind and signer was compared.
-  uncompared : (selected : Option (Proposal D)) (vote : Vote G D) (facts : Facts)
-      → facts.has_compared ≡ false → conflicts_with x.same_digest selected vote facts ≡ false
-  uncompared selected vote facts none =
-      ap (λ b. b && is_some_and selected (λ p. exactly_one (is_for x.same_digest p vote) facts.has_matched)) none
-
-  -- The evidence of an own finalize makes no difference to a conflict: nothing is compared before a
-  -- proposal is fixed.
-  own_conflict : (past : History D K G C) (vote : Vote G D) (fixed : Option (Proposal D))
-      → fixed_proposal past ≡ fixed →
-      conflicts_with x.same_digest (proposal_of (fixes (selection x past) (fixed_by vote))) vote
-      (facts_of x past (kind_of vote) (signer_of vote))
-      ≡ conflicts_with x.same_digest (selected_proposal x past) vote
-      (facts_of x past (kind_of vote) (signer_of vote))
-  own_conflict past vote None e =
-      let none = ap (λ vs. not (is_empty (filter (is_vote_of (kind_of vote) (signer_of vote)) vs))) (compared_if_fixed past e) in
-      uncompared _ vote (facts_of x past (kind_of vote) (signer_of vote)) none ∙ sym (uncompared _ vote (facts_of x past (kind_of vote) (signer_of vote)) none)
-  own_conflict past vote (Some f) e =
-      ap (λ s. conflicts_with x.same_digest s vote (facts_of x past (kind_of vote) (signer_of vote)))
-      (fixed_selects (fixed_proposal past) (leaders_proposal x past) (fixed_by vote) f e)
-
-  outcome_fixed : (past : History D K G C) (vote : Vote G D) (released : Bool)
-      (first : Option (Vote G D)) →
-      outcome_by x.same_digest (proposal_of (fixes (selection x past) (fixed_by vote))) released
-      (known_by released (facts_of x past (kind_of vote) (signer_of vote)) first) vote
-      ≡ outcome_by x.same_digest (selected_proposal x past) released
-      (known_by released (facts_of x past (kind_of vote) (signer_of vote)) first) vote
-  outcome_fixed past vote released None = refl
-  outcome_fixed past vote false (Some kept) = refl
-  outcome_fixed past vote true (Some seen) = ap (λ c. cond c Conflicting (Duplicate false)) (own_conflict past vote (fixed_proposal past) refl)
-
   -- An own vote is answered as the history names.
   pub own_same : (past : History D K G C) (held : RoundState G D) (vote : Vote G D)
       → Represents x past held
       → own_result x held vote ≡ own_answer x past vote
   own_same past held vote represents =
-      ap (λ known. own_by x.same_digest (record known { selection = fixes known.selection (fixed_by vote) }) vote) (known_is past held represents)
-      ∙ ap (own_result_by ((known_after x past).opposite vote) (kind_of vote))
-      (outcome_fixed past vote (is_released x past (kind_of vote)) (first_like x past vote))
+      ap (λ known. own_by x.same_digest known vote) (known_is past held represents)

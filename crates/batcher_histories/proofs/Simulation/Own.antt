@@ -20,8 +20,8 @@ use Rattle.batcher_types.proofs.ListLemmas.{open_or_closed, filter_behind}
 use Rattle.batcher_votes.specs.ProposalStates.{proposal_of, updated, fixes}
 use Rattle.batcher_votes.specs.RoundState.{of_kind, VerifierState, RoundState}
 use Rattle.batcher_votes.specs.TrackerSteps.{is_skipped, outcome_by, RecordsKind}
-use Rattle.batcher_votes.specs.VerifierSteps.{MayFix, FixesProposal, restored_by_fix}
-use Rattle.batcher_histories.specs.Steps.{fixed_by, selected_with, is_kept, AfterOwn}
+use Rattle.batcher_votes.specs.VerifierSteps.{MayFix, FixesProposal, restored_by_fix, selected_in}
+use Rattle.batcher_histories.specs.Steps.{fixed_by, is_kept, AfterOwn}
 use Rattle.batcher_histories.specs.Runs.{MayCall}
 use Rattle.batcher_histories.specs.History.{Event, History}
 use Rattle.batcher_histories.specs.FirstVotes.{is_free, first_votes, first_like, opposite_vote}
@@ -30,7 +30,7 @@ use Rattle.batcher_histories.specs.Comparison.{conflicts, facts_of, known_after}
 use Rattle.batcher_histories.specs.Eligible.{eligible_among}
 use Rattle.batcher_histories.specs.Answers.{own_answer}
 use Rattle.batcher_histories.specs.Known.{known_by}
-use Rattle.batcher_histories.proofs.Correctness.Own.{own_unseen, result_is}
+use Rattle.batcher_histories.proofs.Correctness.Own.{own_unseen, result_is, may_fix_selects}
 use Rattle.batcher_histories.proofs.KnownLemmas.Observed.{none_from}
 use Rattle.batcher_histories.specs.Represents.{Represents, Simulates, pending_after, verified_after}
 use Rattle.batcher_histories.proofs.History.Laws.{HasLaws}
@@ -89,14 +89,15 @@ module _ {D K G C : Type 0} (x : Config D K G C) where
     evidence_is (FinalizeVote v) = refl
 
     records : (kind : Kind) → RecordsKind x.same_digest old.tracked new.tracked
-        (selected_with x old vote) (is_taken x past event vote true) vote kind
+        (selected_in step.fixed) (is_taken x past event vote true) vote kind
     records kind =
-        subst (λ (b : Bool). RecordsKind x.same_digest old.tracked new.tracked (selected_with x old vote) b vote kind)
+        subst (λ (b : Bool). RecordsKind x.same_digest old.tracked new.tracked (selected_in step.fixed) b vote kind)
         (sym (ap is_none (unopposed past vote outcome answered))) (step.tracked kind)
 
-    selected_is : selected_with x old vote ≡ proposal_of (state_fixed x past event)
+    selected_is : selected_in step.fixed ≡ proposal_of (state_fixed x past event)
     selected_is =
-        ap (λ s. proposal_of (fixes s (fixed_by vote))) represents.selection_is ∙ ap (λ e. proposal_of (fixes (selection x past) e)) (sym (evidence_is vote))
+        ap proposal_of (may_fix_selects x.same_digest old.buffered old.tracked.kept (fixed_by vote) step.fixed step.fixes)
+        ∙ ap (λ s. proposal_of (fixes s (fixed_by vote))) represents.selection_is ∙ ap (λ e. proposal_of (fixes (selection x past) e)) (sym (evidence_is vote))
 
     eligible_fixed : (fixed : VerifierState G D) (p : Proposal D) → fixing_evidence event ≡ Some p
         → FixesProposal x.same_digest old.buffered old.tracked.kept p fixed
@@ -181,7 +182,7 @@ module _ {D K G C : Type 0} (x : Config D K G C) where
           selection_is = eligible_then.selection_is;
           forwarded_is = step.forwarded ∙ represents.forwarded_is;
           kinds =
-              moves_kind x past event vote true old new (selected_with x old vote) true (with_restored x past event old)
+              moves_kind x past event vote true old new (selected_in step.fixed) true (with_restored x past event old)
               (of_kind old.buffered.verified) represents
               refl refl
               (λ released. selected_is ∙ released_selects x past event vote true refl refl released) eligible_then records;

@@ -33,7 +33,7 @@ use Rattle.batcher_types.proofs.KindLemmas.{is_kind-true}
 use Rattle.batcher_votes.specs.ProposalStates.{proposal_of, same_selected}
 use Rattle.batcher_votes.specs.RoundState.{PerKind, of_kind, TrackerState, VerifierState, RoundState}
 use Rattle.batcher_votes.specs.TrackerSteps.{RecordsKind, ReleasesKind, facts_of_kept, is_released_in, kept_vote}
-use Rattle.batcher_votes.specs.VerifierSteps.{Buffers, still_eligible, AddsVote, SetsLeader, SetsProposal, MayFix, CompletesKind, TriesKind, restored_by_fix, vote_for}
+use Rattle.batcher_votes.specs.VerifierSteps.{Buffers, still_eligible, AddsVote, SetsLeader, SetsProposal, MayFix, selected_in, CompletesKind, TriesKind, restored_by_fix, vote_for}
 use Rattle.batcher_histories.specs.Steps.{AfterLeader, AfterNetwork, AfterOwn, AfterCertificate, AfterBatch, AfterConstruct, Fixes, Settles, AfterGiven, is_kept, nothing_held, option_proposal, report_by}
 use Rattle.batcher_histories.specs.Runs.{AfterLeaderSet, Steps, StepsNetwork, StepsOwn, StepsCertificate, StepsLeader, StepsConstruct, StepsForward, StepsMissing, Runs}
 use Rattle.batcher_promises.specs.Replay.{is_out_of_memory, HadMemory, GoAlike, EqualRunsGoAlike}
@@ -222,7 +222,10 @@ module _ {D K G C : Type 0} (x : Config D K G C) (old new news : RoundState G D)
         same,
         one.report_is ∙ (ap (λ o. report_by o vote) same ∙ sym two.report_is),
         held_same new news
-            (recorded_once x.same_digest old.tracked new.tracked news.tracked _ _ vote one.tracked two.tracked)
+            (recorded_once x.same_digest old.tracked new.tracked news.tracked _ _ vote
+            (subst (λ (f : VerifierState G D). (kind : Kind)
+            → RecordsKind x.same_digest old.tracked new.tracked (selected_in f) true vote kind) fixed one.tracked)
+            two.tracked)
             (may_add_once x.same_digest two.fixed new.buffered news.buffered (is_kept other) vote true
             (subst (λ (o : Outcome). MatchBool (is_kept o)
             (AddsVote x.same_digest two.fixed vote true new.buffered) (new.buffered ≡ two.fixed)) same

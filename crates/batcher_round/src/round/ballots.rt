@@ -286,10 +286,7 @@ impl<S: Scheme<D>, D: Digest> Ballots<S, D> {
         if self.saw_opposite(slot, vote).is_some() {
             return Err(opposite_fault(vote.kind()));
         }
-        let selected = match fixed_by(vote) {
-            Some(proposal) => self.verifier.selected_with(proposal),
-            None => self.verifier.proposal().copied(),
-        };
+        let selected = self.verifier.proposal().copied();
         unopposed_result(
             vote.kind(),
             self.tracker.outcome_at(slot.place, vote, selected),
