@@ -1,9 +1,10 @@
 //! Calls of a round as values, whole lists of them, and what holds of all rounds.
 
+mod lists;
 mod pair;
 mod theorems;
 
-pub use batcher_run::run::{Answer, Call, Ran, blocked, run};
+pub use lists::{Answer, Call, Ran, blocked, run};
 pub use pair::{PairRan, run_pair};
 pub use theorems::{
     order_is_free, possible_histories_are_promised, replays, senders_of_added_give_no_cause,

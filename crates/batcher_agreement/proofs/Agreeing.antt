@@ -1,16 +1,7 @@
 -- Why the honest agree.
-use Rattle.std.proofs.Common.{◌≡◌, ◌<◌, ◌≤◌, ℕ, zero, suc, Bool, inl, inr, ◌⊎◌, ⊎_elim, refl, ap, sym, ◌∙◌, subst, arith}
-use Rattle.std.proofs.lemmas.Bool.{cases_lt}
-use Rattle.batcher.specs.Meaning.{Meaning}
-use Rattle.batcher.specs.positions.Epoch.{Epoch}
-use Rattle.batcher.specs.positions.Round.{Round}
-use Rattle.batcher.specs.messages.Certificate.{Certificate}
-use Rattle.batcher.specs.messages.Proposal.{Proposal}
-use Rattle.batcher.specs.messages.Subject.TheVariants.{Notarize, Nullify, Finalize}
-use Rattle.batcher_node.specs.Windows.{numbered}
-use Rattle.batcher_agreement.specs.Policy.{Conduct, Knows, IsGrounded, KnowsProposal}
-use Rattle.batcher_agreement.specs.Participants.{IsHonest, IsCertified}
-use Rattle.batcher_agreement.specs.Agreement.{IsNotarized, IsFinal, IsInChain, itself, above, Agree}
+use Rattle.batcher_agreement.proofs.Words.{◌≡◌, ◌<◌, ◌≤◌, ℕ, zero, suc, Bool, inl, inr, ◌⊎◌, ⊎_elim, refl, ap, sym, ◌∙◌, subst, arith, cases_lt, Meaning, Epoch}
+use Rattle.batcher_agreement.proofs.Words.{Round, Certificate, Proposal, Notarize, Nullify, Finalize, numbered, Conduct, Knows, IsGrounded, KnowsProposal}
+use Rattle.batcher_agreement.proofs.Words.{IsHonest, IsHeldByHonest, IsNotarized, IsFinal, IsInChain, itself, above, Agree}
 use Rattle.batcher_agreement.proofs.Voting.{voted_is_grounded, voted_final_is_notarized, one_voted, not_both}
 use Rattle.batcher_agreement.proofs.Certifying.{AreSound, both_voted}
 
@@ -48,7 +39,7 @@ module _ {D K G C : Type 0} (m : Meaning D K G C) (is_faulty : ℕ → Bool)
       }
 
   not_nullified :
-      (p : Proposal D) → final p → IsCertified m is_faulty conduct (Nullify p.round) → ⊥
+      (p : Proposal D) → final p → IsHeldByHonest m is_faulty conduct (Nullify p.round) → ⊥
   not_nullified p h k =
       let it = both_voted m is_faulty holds conduct sound (Finalize p) (Nullify p.round) h k in
       not_both (conduct it.voter) p (sound.keep_policy it.voter it.honest) it.first it.second

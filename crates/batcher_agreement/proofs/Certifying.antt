@@ -1,14 +1,7 @@
 -- What is behind certificates that the honest have.
-use Rattle.std.proofs.Common.{◌≡◌, ℕ, Bool, true, List, length, subst}
-use Rattle.batcher.specs.Meaning.{Meaning, IsLawful}
-use Rattle.batcher.specs.Votes.{subject_certified, content_of}
-use Rattle.batcher.specs.messages.Attestation.{Attestation}
-use Rattle.batcher.specs.messages.Certificate.{Certificate}
-use Rattle.batcher.specs.messages.Subject.{Subject}
-use Rattle.batcher_evidence.specs.SignedQuorums.{ShowsQuorum, has_signed}
-use Rattle.batcher_agreement.specs.Policy.{Conduct, HasVoted, KeepsPolicy, Knows}
-use Rattle.batcher_agreement.specs.Participants.{IsHonest, IsBacked, HoldsFor, AreBacked, AreUnforged, IsCertified}
-use Rattle.batcher_agreement.specs.Voters.{AreFewFaulty}
+use Rattle.batcher_agreement.proofs.Words.{◌≡◌, ℕ, Bool, true, List, length, subst, Meaning, IsLawful, subject_certified, content_of, Attestation, Certificate}
+use Rattle.batcher_agreement.proofs.Words.{Subject, ShowsQuorum, has_signed, Conduct, HasVoted, KeepsPolicy, Knows, IsHonest, IsBackedBy, HoldsFor, AreBacked}
+use Rattle.batcher_agreement.proofs.Words.{AreUnforged, IsHeldByHonest, AreFewFaulty}
 use Rattle.batcher_agreement.proofs.Counting.{honest_in_both, quorum_signed}
 
 module _ {D K G C : Type 0} (m : Meaning D K G C) (is_faulty : ℕ → Bool)
@@ -44,18 +37,19 @@ module _ {D K G C : Type 0} (m : Meaning D K G C) (is_faulty : ℕ → Bool)
       pub second : HasVoted (conduct voter) t
 
     held :
-        (s : Subject D) (k : IsCertified m is_faulty conduct s)
+        (s : Subject D) (k : IsHeldByHonest m is_faulty conduct s)
         → HoldsFor m is_faulty (holds k.holder) s
     held s k = sound.hold k.holder k.honest s k.knows
 
     backing :
-        (s : Subject D) (k : IsCertified m is_faulty conduct s)
-        → IsBacked m is_faulty conduct (held s k).certificate
+        (s : Subject D) (k : IsHeldByHonest m is_faulty conduct s)
+        → IsBackedBy m is_faulty conduct (held s k).certificate
     backing s k =
         sound.backed k.holder k.honest (held s k).certificate (held s k).held (held s k).certifies
 
     pub both_voted :
-        (s t : Subject D) → IsCertified m is_faulty conduct s → IsCertified m is_faulty conduct t
+        (s t : Subject D) → IsHeldByHonest m is_faulty conduct s
+        → IsHeldByHonest m is_faulty conduct t
         → VotedForBoth s t
     both_voted s t h k =
         let a = backing s h in

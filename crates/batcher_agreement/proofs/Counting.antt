@@ -1,18 +1,8 @@
 -- An honest one of two quorums, and the quorum that a certificate shows.
-use Rattle.std.proofs.Common.{◌≡◌, ◌≤◌, ◌<◌, ◌+◌, ◌-◌, ◌/◌, ◌==◌, ◌&&◌, ◌||◌, ℕ, zero, suc, Bool, true, false, cond, nat_lt, List, [], ◌∷◌, length, refl, ap, ◌∙◌, arith}
-use Rattle.std.specs.List.{list_all}
-use Rattle.std.proofs.lemmas.Bool.{and_parts, and_from, lt-ltb}
-use Rattle.std.proofs.lemmas.List.Sums.{list_all-from_AllPass}
-use Rattle.batcher.proofs.ListLemmas.{and-true}
-use Rattle.batcher.proofs.CountLemmas.{quorums_overlap}
-use Rattle.batcher.specs.Quorum.{quorum_of}
-use Rattle.batcher.specs.Attestations.{index_of_signer}
-use Rattle.batcher.specs.Meaning.{Meaning, IsLawful}
-use Rattle.batcher.specs.messages.Attestation.{Attestation}
-use Rattle.batcher.specs.messages.Subject.{Subject}
-use Rattle.batcher_evidence.specs.SignedQuorums.{ShowsQuorum, has_signed}
-use Rattle.batcher_evidence.specs.Rounds.{count_below}
-use Rattle.batcher_evidence.proofs.Counting.{below_both, below_more, distinct_below, has_number}
+use Rattle.batcher_agreement.proofs.Words.{◌≡◌, ◌≤◌, ◌<◌, ◌+◌, ◌-◌, ◌/◌, ◌==◌, ◌&&◌, ◌||◌, ℕ, zero, suc, Bool, true, false, cond, nat_lt, List, [], ◌∷◌, length}
+use Rattle.batcher_agreement.proofs.Words.{refl, ap, ◌∙◌, arith, list_all, and_parts, and_from, lt-ltb, list_all-from_AllPass, and-true, quorums_overlap}
+use Rattle.batcher_agreement.proofs.Words.{quorum_of, index_of_signer, Meaning, IsLawful, Attestation, Subject, ShowsQuorum, has_signed, count_below}
+use Rattle.batcher_agreement.proofs.Words.{below_both, below_more, distinct_below, has_number}
 
 -- A number below n that passes a test, and not another one.
 record IsApart (n : ℕ) (p q : ℕ → Bool) : Type 0 where

@@ -1,3 +1,4 @@
+pub mod Words
 mod Counting
 pub mod Voting
 mod Certifying

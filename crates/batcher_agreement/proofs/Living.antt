@@ -1,23 +1,10 @@
 -- What a participant knows to be certified, it holds certificates for, which certify.
-use Rattle.std.proofs.Common.{◌≡◌, ◌≤◌, ℕ, Bool, true, List, [], ◌∷◌, ◌++◌, length, Option, Some, None, inl, inr, ◌⊎◌, ⊎_elim, refl, sym, ◌∙◌, subst}
-use Rattle.std.specs.Prelude.{All, IfSome}
-use Rattle.std.specs.List.{AllByRecursion}
-use Rattle.std.proofs.lemmas.List.Elements.{recursion_from_All}
-use Rattle.batcher.specs.Meaning.{Meaning}
-use Rattle.batcher.specs.Votes.{subject_certified}
-use Rattle.batcher.specs.Verifiers.{certifies_itself}
-use Rattle.batcher.specs.messages.Certificate.{Certificate}
-use Rattle.batcher.specs.messages.Subject.{Subject}
-use Rattle.batcher_node.specs.declared.answers.Receipt.TheVariants.{Answered}
-use Rattle.batcher_node.specs.declared.answers.Verdict.TheVariants.{Recorded}
-use Rattle.batcher_node.specs.Events.{NodeEvent, certificate_came, constructed, NodeHistory}
-use Rattle.batcher_node.specs.Nodes.{NodeView, NodeConfig}
-use Rattle.batcher_node.specs.Represents.{NodeRepresents}
-use Rattle.batcher_node.specs.Sending.{HoldsCertified}
-use Rattle.batcher_agreement.specs.Policy.{Conduct, learned, voted, Knows}
-use Rattle.batcher_agreement.specs.Participants.{AreBacked}
-use Rattle.batcher_agreement.specs.Lives.{AreVerified, HasHeld, HasHeldInLives, IsLife, Life, VoterEvent, VoterHistory, acts_of, called, conduct_of, conduct_of_lives, held_by, learned_by, node_history, verified, written}
-use Rattle.batcher_agreement.specs.Voters.{AreFewFaulty, AreVoters}
+use Rattle.batcher_agreement.proofs.Words.{◌≡◌, ◌≤◌, ℕ, Bool, true, List, [], ◌∷◌, ◌++◌, length, Option, Some, None, inl, inr, ◌⊎◌, ⊎_elim, refl, sym, ◌∙◌}
+use Rattle.batcher_agreement.proofs.Words.{subst, All, IfSome, AllByRecursion, recursion_from_All, Meaning, subject_certified, certifies_itself, Certificate}
+use Rattle.batcher_agreement.proofs.Words.{Subject, Answered, Recorded, NodeEvent, certificate_came, constructed, NodeHistory, NodeView, NodeConfig}
+use Rattle.batcher_agreement.proofs.Words.{NodeRepresents, HoldsCertified, Conduct, learned, voted, Knows, AreBacked, AreVerified, HasHeld, HasHeldInLives}
+use Rattle.batcher_agreement.proofs.Words.{IsLife, Life, VoterEvent, VoterHistory, acts_of, called, conduct_of, conduct_of_lives, held_by, learned_by}
+use Rattle.batcher_agreement.proofs.Words.{node_history, verified, written, AreFewFaulty, AreVoters}
 use Rattle.batcher_agreement.proofs.Certifying.{AreSound}
 
 module _ {D : Type 0} where

@@ -1,11 +1,6 @@
 -- What one participant that keeps the policy has voted for and knows.
-use Rattle.std.proofs.Common.{◌≡◌, [], ◌∷◌, inl, inr, ◌⊎◌, refl, sym, subst}
-use Rattle.batcher.specs.positions.Round.{Round}
-use Rattle.batcher.specs.messages.Proposal.{Proposal}
-use Rattle.batcher.specs.messages.Subject.{Subject}
-use Rattle.batcher.specs.messages.Subject.TheVariants.{Notarize, Nullify, Finalize}
-use Rattle.batcher_node.specs.Windows.{numbered}
-use Rattle.batcher_agreement.specs.Policy.{Act, learned, voted, Conduct, HasVoted, Knows, KnowsProposal, IsGrounded, IsCleared, KeepsPolicy}
+use Rattle.batcher_agreement.proofs.Words.{◌≡◌, [], ◌∷◌, inl, inr, ◌⊎◌, refl, sym, subst, Round, Proposal, Subject, Notarize, Nullify, Finalize, numbered, Act}
+use Rattle.batcher_agreement.proofs.Words.{learned, voted, Conduct, HasVoted, Knows, KnowsProposal, IsGrounded, IsCleared, KeepsPolicy}
 
 same_proposal :
     {D : Type 0} (t : Subject D) (p q : Proposal D) → t ≡ Notarize p → t ≡ Notarize q → q ≡ p

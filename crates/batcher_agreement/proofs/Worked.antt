@@ -1,18 +1,9 @@
 -- The example of participants that agree, computed.
-use Rattle.std.proofs.Common.{◌≡◌, ℕ, zero, suc, true, false, not, [], ◌∷◌, Some, None, Option, inl, inr, ◌⊎◌, ap, refl, arith, sym}
-use Rattle.std.proofs.lemmas.Option.{same_Some}
-use Rattle.batcher.specs.Examples.Answers.{finalization, listing, notarization, p}
+use Rattle.batcher_agreement.proofs.Words.{◌≡◌, ℕ, zero, suc, true, false, not, [], ◌∷◌, Some, None, Option, inl, inr, ◌⊎◌, ap, refl, arith, sym, same_Some}
+use Rattle.batcher_agreement.proofs.Words.{finalization, listing, notarization, p, subject_certified, Certificate, Subject, Finalize, Notarize, Nullify}
+use Rattle.batcher_agreement.proofs.Words.{AreNamed, of_four, AgreementExamples, asked, did, is_zero, HasHeld, node_history, IsHonest, Conduct, HasVoted}
+use Rattle.batcher_agreement.proofs.Words.{KeepsPolicy, learned, voted}
 use Rattle.batcher.specs.Keys.{index_of}
-use Rattle.batcher.specs.Votes.{subject_certified}
-use Rattle.batcher.specs.messages.Certificate.{Certificate}
-use Rattle.batcher.specs.messages.Subject.{Subject}
-use Rattle.batcher.specs.messages.Subject.TheVariants.{Finalize, Notarize, Nullify}
-use Rattle.batcher_node.specs.Represents.{AreNamed}
-use Rattle.batcher_node.specs.SendingExamples.{of_four}
-use Rattle.batcher_agreement.specs.Examples.{AgreementExamples, asked, did, is_zero}
-use Rattle.batcher_agreement.specs.Lives.{HasHeld, node_history}
-use Rattle.batcher_agreement.specs.Participants.{IsHonest}
-use Rattle.batcher_agreement.specs.Policy.{Conduct, HasVoted, KeepsPolicy, learned, voted}
 
 -- The honest are 1, 2 and 3.
 each : (P : ℕ → Type 0) → P 1 → P 2 → P 3 → (i : ℕ) → IsHonest (listing 4) is_zero i → P i

@@ -1,12 +1,15 @@
 -- A worked example: four participants, of whom 0 is faulty, and what happened to the others until
 -- a proposal is final.
 use Rattle.std.specs.Prelude.{◌==◌, ℕ, Bool, [], ◌∷◌, map}
-use Rattle.batcher.specs.Examples.Answers.{TinyVote, finalization, finalize, listing, notarization, notarize, p}
+use Rattle.batcher.specs.Examples.Answers.{TinyVote, finalization, finalize, listing, notarization}
+use Rattle.batcher.specs.Examples.Answers.{notarize, p}
 use Rattle.batcher.specs.messages.Certificate.{Certificate}
 use Rattle.batcher_node.specs.Represents.{AreNamed}
-use Rattle.batcher_node.specs.SendingExamples.{TinyNodeHistory, begun, cast, hear_certificate, of_four}
+use Rattle.batcher_node.specs.SendingExamples.{TinyNodeHistory, just_entered, cast}
+use Rattle.batcher_node.specs.SendingExamples.{hear_certificate, of_four}
 use Rattle.batcher_agreement.specs.Agreement.{IsFinal}
-use Rattle.batcher_agreement.specs.Lives.{HasHeld, VoterHistory, called, conduct_of, node_history, written}
+use Rattle.batcher_agreement.specs.Lives.{HasHeld, VoterHistory, called, conduct_of, node_history}
+use Rattle.batcher_agreement.specs.Lives.{written}
 use Rattle.batcher_agreement.specs.Participants.{AreBacked, IsHonest}
 use Rattle.batcher_agreement.specs.Policy.{Conduct, KeepsPolicy}
 use Rattle.batcher_agreement.specs.Voters.{AreFewFaulty}
@@ -23,8 +26,8 @@ with_newest [] past = past
 with_newest (event ∷ earlier) past = called event ∷ past
 
 -- It votes: the vote is written, and then its node casts it.
-abbrev pub vote_for : TinyHistory → TinyVote → TinyHistory
-vote_for past vote = with_newest (cast (node_history past) vote) (written vote ∷ past)
+abbrev pub having_voted : TinyHistory → TinyVote → TinyHistory
+having_voted past vote = with_newest (cast (node_history past) vote) (written vote ∷ past)
 
 -- a certificate comes from 0
 abbrev pub hears : TinyHistory → Certificate ℕ ℕ → TinyHistory
@@ -34,7 +37,8 @@ hears past certificate = with_newest (hear_certificate (node_history past) 0 cer
 -- the finalization comes.
 abbrev pub asked : ℕ → TinyHistory
 asked i =
-    hears (vote_for (hears (vote_for (map called begun) (notarize i 1)) (notarization 1))
+    hears (having_voted (hears (having_voted (map called just_entered) (notarize i 1))
+    (notarization 1))
     (finalize i 1)) (finalization 1)
 
 abbrev pub did : ℕ → Conduct ℕ

@@ -18,7 +18,7 @@ module _ {D K G C : Type 0} (m : Meaning D K G C) (is_faulty : ℕ → Bool) whe
 
   -- A quorum voted for what the certificate certifies, and those of them who are honest did so
   -- themselves: nobody else made their votes.
-  pub record IsBacked (conduct : ℕ → Conduct D) (c : Certificate C D) : Type 0 where
+  pub record IsBackedBy (conduct : ℕ → Conduct D) (c : Certificate C D) : Type 0 where
     pub voted : ℕ → Bool
     pub enough : quorum_of (length m.participants) ≤ count_below (length m.participants) voted
     pub unforged :
@@ -36,7 +36,7 @@ module _ {D K G C : Type 0} (m : Meaning D K G C) (is_faulty : ℕ → Bool) whe
   abbrev pub AreBacked : (ℕ → Certificate C D → Type 0) → (ℕ → Conduct D) → Type 0
   AreBacked holds conduct =
       (i : ℕ) → IsHonest i → (c : Certificate C D) → holds i c → certifies_itself m c ≡ true
-      → IsBacked conduct c
+      → IsBackedBy conduct c
 
   -- The same of a scheme whose certificates show attestations. Where one shows an attestation of an
   -- honest participant which attests, that one has voted so.
@@ -49,7 +49,7 @@ module _ {D K G C : Type 0} (m : Meaning D K G C) (is_faulty : ℕ → Bool) whe
       → HasVoted (conduct j) (subject_certified c)
 
   -- an honest participant has a certificate of this
-  pub record IsCertified (conduct : ℕ → Conduct D) (s : Subject D) : Type 0 where
+  pub record IsHeldByHonest (conduct : ℕ → Conduct D) (s : Subject D) : Type 0 where
     pub holder : ℕ
     pub honest : IsHonest holder
     pub knows : Knows (conduct holder) s

@@ -1,6 +1,8 @@
 //! Why those who vote by the policy agree on what is final: over all views of an epoch, and over
-//! restarts.
+//! restarts. And what it takes that two nodes construct certificates which contradict each other.
 #![tactic(auto)]
+
+mod forks;
 
 ghost use Rattle.std.specs.Prelude.{Bool, List, ℕ};
 ghost use Rattle.batcher_agreement.specs.Agreement.{Agree};
@@ -13,6 +15,7 @@ use batcher::messages::Digest;
 use batcher::scheme::Scheme;
 use batcher_evidence::Accountable;
 use batcher_node::{NodeConfigs, senders_of_votes_to_send_are_never_blocked};
+pub use forks::nodes_fork_by_contradicting_votes;
 
 /// Does nothing. Where fewer than a third of the participants are faulty, and each other one votes
 /// by the policy (`AreVoters`), with nodes of one scheme and in however many lives, the honest

@@ -2,7 +2,7 @@
 
 ghost use Rattle.std.specs.Prelude.{◌≡◌, true};
 ghost use Rattle.std.specs.List.{list_all};
-ghost use Rattle.batcher_reader.specs.Commands.{is_among};
+ghost use Rattle.batcher_reader.specs.Commands.{is_signer_among};
 
 use crate::scripts::{Scripts, read_scripts};
 use batcher::messages::{Activity, Certificate, Sha256Digest};

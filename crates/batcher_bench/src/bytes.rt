@@ -3,7 +3,7 @@
 use anyhow::{Result, bail};
 use batcher::messages::{Attestation, Proposal, Sha256Digest, Subject, Vote};
 use batcher::positions::{Epoch, Participant, Round, View};
-use batcher_codec::{decode, encode};
+use batcher_bytes::{decode, encode};
 use std::alloc::Global;
 
 type SignedVote = Vote<[u8; 64], Sha256Digest>;

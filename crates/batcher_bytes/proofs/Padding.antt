@@ -1,9 +1,5 @@
 -- Bytes with zeros after them.
-use Rattle.std.proofs.Common.{◌≡◌, ◌++◌, ℕ, List, length, drop, replicate, refl}
-use Rattle.std.proofs.lemmas.List.{drop-replicate}
-use Rattle.batcher_bytes.specs.declared.signature.Signature.{Signature}
-use Rattle.batcher_bytes.specs.Signatures.{signature_of}
-use Rattle.batcher_bytes.specs.declared.signature.TheConstants.{WIDTH}
+use Rattle.batcher_bytes.proofs.Words.{◌≡◌, ◌++◌, ℕ, List, length, drop, replicate, refl, drop-replicate, Signature, signature_of, WIDTH}
 
 abbrev filled_with : List ℕ → List ℕ → Signature
 filled_with bytes filled =

@@ -1,15 +1,6 @@
 -- A quorum of attestations that attest each, or pass as a whole, has passed.
-use Rattle.std.proofs.Common.{◌≡◌, ◌||◌, ℕ, Bool, true, false, List, refl}
-use Rattle.std.specs.List.{AllPass, list_all}
-use Rattle.std.proofs.lemmas.List.Sums.{list_all-from_AllPass}
-use Rattle.batcher_types.specs.Attestations.{IsQuorum}
-use Rattle.batcher_types.specs.declared.messages.Attestation.{Attestation}
-use Rattle.batcher_types.specs.declared.messages.Sha256Digest.{Sha256Digest}
-use Rattle.batcher_types.specs.declared.messages.Subject.{Subject}
-use Rattle.batcher_bytes.specs.Listings.{Passed, attests, listing_of}
-use Rattle.batcher_bytes.specs.declared.signature.Keys.{Keys}
-use Rattle.batcher_bytes.specs.declared.signature.Signature.{Signature}
-use Rattle.batcher_bytes.specs.declared.truth.Truth.{Ghosts}
+use Rattle.batcher_bytes.proofs.Words.{◌≡◌, ◌||◌, ℕ, Bool, true, false, List, refl, AllPass, list_all, list_all-from_AllPass, IsQuorum, Attestation}
+use Rattle.batcher_bytes.proofs.Words.{Sha256Digest, Subject, Passed, attests, listing_of, Keys, Signature, Ghosts}
 
 or_true : (b : Bool) → (b || true) ≡ true
 or_true true = refl

@@ -1,13 +1,17 @@
 -- The bytes of signatures, and of certificates with their verdicts.
-use Rattle.std.proofs.Common.{◌≡◌, ◌++◌, ℕ, zero, suc, Bool, true, false, List, [], ◌∷◌, Result, Ok, Err, ap, length, refl, subst}
+use Rattle.std.specs.Prelude.{◌≡◌, ◌++◌, ℕ, zero, suc, Bool, true, false, List, [], ◌∷◌, Result, Ok}
+use Rattle.std.specs.Prelude.{Err, length}
+use Rattle.std.proofs.Common.{ap, refl, subst}
 use Rattle.batcher_types.specs.declared.messages.Sha256Digest.{Sha256Digest}
 use Rattle.batcher_types.specs.declared.messages.Subject.{Subject}
-use Rattle.batcher_codec.specs.Exact.{bind_ok, bytes_is_exact, fixed_is_exact, mapped_is_exact, ok_is, pair_is_exact}
-use Rattle.batcher_codec.specs.Format.{◌>>=◌, AreBytes, Format, IsExact, bytes_format, fixed, mapped, pair}
-use Rattle.batcher_codec.specs.Lawful.{sha256_is_exact, subject_is_exact}
-use Rattle.batcher_codec.specs.Messages.{sha256_format, subject_format}
-use Rattle.batcher_codec.specs.declared.fault.DecodeFault.{DecodeFault}
-use Rattle.batcher_codec.specs.declared.fault.DecodeFault.TheVariants.{Kind, Short}
+use Rattle.batcher_bytes.specs.Exact.{bind_ok, bytes_is_exact, fixed_is_exact, mapped_is_exact}
+use Rattle.batcher_bytes.specs.Exact.{ok_is, pair_is_exact}
+use Rattle.batcher_bytes.specs.Format.{◌>>=◌, AreBytes, Format, IsExact, bytes_format, fixed}
+use Rattle.batcher_bytes.specs.Format.{mapped, pair}
+use Rattle.batcher_bytes.specs.Lawful.{sha256_is_exact, subject_is_exact}
+use Rattle.batcher_bytes.specs.Messages.{sha256_format, subject_format}
+use Rattle.batcher_bytes.specs.declared.fault.DecodeFault.{DecodeFault}
+use Rattle.batcher_bytes.specs.declared.fault.DecodeFault.TheVariants.{Kind, Short}
 use Rattle.batcher_bytes.specs.declared.signature.Signature.{Signature}
 use Rattle.batcher_bytes.specs.declared.signature.TheConstants.{WIDTH}
 

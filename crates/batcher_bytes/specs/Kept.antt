@@ -1,5 +1,7 @@
 -- What a scheme means whose certificates are kept with their verdicts, and its laws.
-use Rattle.std.proofs.Common.{◌≡◌, ◌&&◌, ◌++◌, ℕ, Bool, true, false, cond, List, Some, None, Option, is_some, refl, subst}
+use Rattle.std.specs.Prelude.{◌≡◌, ◌&&◌, ◌++◌, ℕ, Bool, true, false, cond, List, Some, None, Option}
+use Rattle.std.specs.Prelude.{is_some}
+use Rattle.std.proofs.Common.{refl, subst}
 use Rattle.std.specs.List.{AllPass, list_all}
 use Rattle.std.proofs.lemmas.List.Sums.{list_all-from_AllPass}
 use Rattle.rand_core.specs.Stream.{Stream}
@@ -8,11 +10,11 @@ use Rattle.batcher_types.proofs.VoteLemmas.{same_subject-refl}
 use Rattle.batcher_types.specs.declared.messages.Attestation.{Attestation}
 use Rattle.batcher_types.specs.declared.messages.Sha256Digest.{Sha256Digest}
 use Rattle.batcher_types.specs.declared.messages.Subject.{Subject}
-use Rattle.batcher_codec.specs.Lists.{list_format}
-use Rattle.batcher_codec.specs.Messages.{attestation_format}
+use Rattle.batcher_bytes.specs.Lists.{list_format}
+use Rattle.batcher_bytes.specs.Messages.{attestation_format}
 use Rattle.batcher_bytes.specs.Encodings.{ProofView, signature_format}
 use Rattle.batcher_bytes.specs.Keys.{same_digest}
-use Rattle.batcher_bytes.specs.Lawful.{same_as_itself}
+use Rattle.batcher_bytes.specs.Certifying.{same_as_itself}
 use Rattle.batcher_bytes.specs.Listings.{attests}
 use Rattle.batcher_bytes.specs.declared.signature.Keys.{Keys}
 use Rattle.batcher_bytes.specs.declared.signature.Signature.{Signature}

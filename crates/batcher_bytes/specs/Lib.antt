@@ -2,6 +2,13 @@ pub mod Signatures
 pub mod Keys
 pub mod Listings
 pub mod Meanings
-pub mod Lawful
+pub mod Certifying
 pub mod Encodings
 pub mod Kept
+pub mod Format
+pub mod Messages
+pub mod Starting
+pub mod Exact
+pub mod Lawful
+pub mod Lists
+pub mod Copies

@@ -103,7 +103,8 @@ impl<T: Truth, const BATCHABLE: bool> Scheme<Sha256Digest> for Bytes<T, BATCHABL
           (prior ++ fresh);
     } };
 
-    ghost use Rattle.batcher_bytes.specs.Lawful.{in_range, made, at_once_certifies, at_once_gives};
+    ghost use Rattle.batcher_bytes.specs.Certifying.{in_range, made, at_once_certifies};
+    ghost use Rattle.batcher_bytes.specs.Certifying.{at_once_gives};
 
     ghost lawful = { λ s. record {
       signers_in_range = λ subject a h. in_range T.Truth s.keys (length s.participants) subject a h;

@@ -7,10 +7,10 @@ ghost use Rattle.batcher_types.specs.Attestations.{Sorts, IsQuorum};
 ghost use Rattle.batcher_bytes.specs.Kept.{proof_of, proved_at_once, vouches};
 ghost use Rattle.batcher_bytes.specs.Listings.{attests};
 
+use crate::encode_list;
 use crate::proof::Proof;
 use crate::signature::{Keys, Signature};
 use crate::truth::Truth;
-use batcher_codec::encode_list;
 use batcher_types::messages::{Attestation, Sha256Digest, Subject};
 use batcher_types::positions::Set;
 use batcher_types::scheme::{Name, Scheme, Verification};
@@ -80,7 +80,7 @@ impl<T: Truth, const BATCHABLE: bool> Scheme<Sha256Digest> for Signed<T, BATCHAB
     } };
 
     ghost use Rattle.batcher_bytes.specs.Kept.{proved_gives, vouched, vouched_at_once};
-    ghost use Rattle.batcher_bytes.specs.Lawful.{in_range};
+    ghost use Rattle.batcher_bytes.specs.Certifying.{in_range};
 
     ghost lawful = { λ s. record {
       signers_in_range = λ subject a h. in_range T.Truth s.keys (length s.participants) subject a h;

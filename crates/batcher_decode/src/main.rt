@@ -8,7 +8,7 @@ mod text;
 
 use crate::text::{Text, fault_of};
 use anyhow::{Result, bail};
-use batcher_codec::{DecodeError, SigningBytes, decode, decode_owned};
+use batcher_bytes::{DecodeError, SigningBytes, decode, decode_owned};
 use batcher_types::messages::{Activity, Certificate, Sha256Digest, Subject, Vote};
 use batcher_types::scheme::AttestationList;
 use std::alloc::Global;

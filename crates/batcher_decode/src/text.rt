@@ -1,6 +1,6 @@
 //! The texts of messages.
 
-use batcher_codec::DecodeFault;
+use batcher_bytes::DecodeFault;
 use batcher_types::messages::{
     Activity, Attestation, Certificate, Proposal, Sha256Digest, Subject, Vote,
 };

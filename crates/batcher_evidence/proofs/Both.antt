@@ -1,23 +1,11 @@
 -- The signers of both of two quorums.
-use Rattle.std.proofs.Common.{◌≡◌, ◌≤◌, ◌<◌, ◌+◌, ◌==◌, ℕ, Bool, true, false, cond, List, [], ◌∷◌, length, Option, Some, None, is_some, refl, ap, sym, ◌∙◌, arith, ◌&&◌, ◌||◌, ⊎_elim, nat_lt, subst}
-use Rattle.std.specs.Prelude.{IfOk, IfSome, Result, Ok, Err}
-use Rattle.std.specs.Option.{option_map}
-use Rattle.std.specs.List.{list_any, list_all, find, filter_map, cons_option, AllByRecursion}
-use Rattle.std.proofs.lemmas.Bool.{cases_Bool, and_right, and_from, and_parts, eqb-true, lt-ltb}
-use Rattle.std.proofs.lemmas.List.Sums.{AllPass-from_list_all, list_all-from_AllPass}
-use Rattle.batcher.proofs.ListLemmas.{and-true}
-use Rattle.batcher.proofs.CountLemmas.{quorums_overlap}
-use Rattle.batcher.specs.Quorum.{quorum_of}
+use Rattle.batcher_evidence.proofs.Words.{◌≡◌, ◌≤◌, ◌<◌, ◌+◌, ◌==◌, ℕ, Bool, true, false, cond, List, [], ◌∷◌, length, Option, Some, None, is_some, refl, ap}
+use Rattle.batcher_evidence.proofs.Words.{sym, ◌∙◌, arith, ◌&&◌, ◌||◌, ⊎_elim, nat_lt, subst, IfOk, IfSome, Result, Ok, Err, option_map, list_any, list_all}
+use Rattle.batcher_evidence.proofs.Words.{find, filter_map, cons_option, AllByRecursion, cases_Bool, and_right, and_from, and_parts, eqb-true, lt-ltb}
+use Rattle.batcher_evidence.proofs.Words.{AllPass-from_list_all, list_all-from_AllPass, and-true, quorums_overlap, quorum_of, index_of_signer, Meaning}
+use Rattle.batcher_evidence.proofs.Words.{IsLawful, subject_certified, content_of, Attestation, Subject, Certificate, Culprit, ShowsQuorum, has_signed}
+use Rattle.batcher_evidence.proofs.Words.{AreCulprits, attests_both, beside, index_of_culprit, signed_both}
 use Rattle.batcher.specs.Ascending.{IsAscending}
-use Rattle.batcher.specs.Attestations.{index_of_signer}
-use Rattle.batcher.specs.Meaning.{Meaning, IsLawful}
-use Rattle.batcher.specs.Votes.{subject_certified, content_of}
-use Rattle.batcher.specs.messages.Attestation.{Attestation}
-use Rattle.batcher.specs.messages.Subject.{Subject}
-use Rattle.batcher.specs.messages.Certificate.{Certificate}
-use Rattle.batcher_evidence.specs.declared.certificates.Culprit.{Culprit}
-use Rattle.batcher_evidence.specs.SignedQuorums.{ShowsQuorum, has_signed}
-use Rattle.batcher_evidence.specs.Culprits.{AreCulprits, attests_both, beside, index_of_culprit, signed_both}
 use Rattle.batcher_evidence.proofs.Counting.{below_both, below_more, distinct_below, few_have, has_number}
 
 -- Parts of elements, each with the number of its element.

@@ -1,16 +1,8 @@
 -- A report that convicts a participant holds a proof.
-use Rattle.std.proofs.Common.{◌≡◌, ◌==◌, ◌&&◌, Bool, true, false, cond, Option, Some, None, refl, ap, sym, ◌∙◌}
-use Rattle.std.specs.Prelude.{IfSome, IfOk, Result, Ok, Err, option_and_then}
-use Rattle.std.proofs.Math.Bool.{and_assoc}
-use Rattle.std.proofs.lemmas.Bool.{and_parts, eqb-true}
-use Rattle.std.proofs.lemmas.Option.{same_Some}
-use Rattle.batcher.specs.Meaning.{Meaning}
-use Rattle.batcher.specs.Votes.{signer_of, subject_of, attestation_of}
-use Rattle.batcher.specs.Reports.{subjects_contradict, evidence_in}
-use Rattle.batcher.specs.positions.Participant.{Participant}
-use Rattle.batcher.specs.messages.Vote.{Vote}
-use Rattle.batcher.specs.messages.Activity.{Activity}
-use Rattle.batcher_evidence.specs.Convictions.{both_attest, convicts, convicted_by, convicted_where, may_convict, AreVerdicts, IsProof}
+use Rattle.batcher_evidence.proofs.Words.{◌≡◌, ◌==◌, ◌&&◌, Bool, true, false, cond, Option, Some, None, refl, ap, sym, ◌∙◌, IfSome, IfOk, Result, Ok, Err}
+use Rattle.batcher_evidence.proofs.Words.{option_and_then, and_assoc, and_parts, eqb-true, same_Some, Meaning, signer_of, subject_of, attestation_of}
+use Rattle.batcher_evidence.proofs.Words.{subjects_contradict, evidence_in, Participant, Vote, Activity, both_attest, convicts, convicted_by, convicted_where}
+use Rattle.batcher_evidence.proofs.Words.{may_convict, AreVerdicts, IsProof}
 
 module _ {D K G C : Type 0} (m : Meaning D K G C) (same : D → D → Bool) where
   proof_of :

@@ -1,11 +1,7 @@
 -- Counts, and numbers below a bound that are among those of lists.
-use Rattle.std.proofs.Common.{◌≡◌, ◌≤◌, ◌+◌, ◌==◌, ◌&&◌, ◌||◌, ℕ, zero, suc, Bool, true, false, cond, nat_lt, List, [], ◌∷◌, length, filter, refl, arith, ⊎_elim}
-use Rattle.std.specs.List.{list_any, list_all}
-use Rattle.std.proofs.lemmas.Bool.{cases_Bool, and_from}
-use Rattle.std.proofs.lemmas.Bool.Decides.{nat_tests}
-use Rattle.batcher.proofs.CountLemmas.{count_same, count-false, count_covers, count_none, below_or_at, below_zero, at_most_one, all_counted}
-use Rattle.batcher.specs.Lists.{count, EachOnce}
-use Rattle.batcher_evidence.specs.Rounds.{count_below}
+use Rattle.batcher_evidence.proofs.Words.{◌≡◌, ◌≤◌, ◌+◌, ◌==◌, ◌&&◌, ◌||◌, ℕ, zero, suc, Bool, true, false, cond, nat_lt, List, [], ◌∷◌, length, filter, refl}
+use Rattle.batcher_evidence.proofs.Words.{arith, ⊎_elim, list_any, list_all, cases_Bool, and_from, nat_tests, count_same, count-false, count_covers, count_none}
+use Rattle.batcher_evidence.proofs.Words.{below_or_at, below_zero, at_most_one, all_counted, count, EachOnce, count_below}
 
 at_or_below : (m n : ℕ) → cond (m == n) 1 0 + cond (nat_lt m n) 1 0 ≤ cond (nat_lt m (suc n)) 1 0
 at_or_below m n = grind (arith, nat_tests)

@@ -1,11 +1,8 @@
 -- What a search of a list finds, and what it doesn't.
-use Rattle.std.proofs.Common.{◌≡◌, Bool, true, false, cond, List, [], ◌∷◌, Option, Some, None, refl, ap, subst, sym, ◌∙◌, arith, ⊎_elim}
-use Rattle.std.specs.Prelude.{Contains, find, is_some}
-use Rattle.std.proofs.lemmas.Bool.{cases_Bool}
-use Rattle.std.proofs.lemmas.List.Elements.{Contains-append_cases, Contains-append_left, Contains-append_right, Contains-push, Contains-push_cases}
-use Rattle.batcher.specs.Meaning.{Meaning}
-use Rattle.batcher.specs.messages.Certificate.{Certificate}
-use Rattle.batcher_evidence.specs.Forks.{IsContradiction, certify_and_contradict}
+use Rattle.batcher_evidence.proofs.Words.{◌≡◌, Bool, true, false, cond, List, [], ◌∷◌, Option, Some, None, refl, ap, subst, sym, ◌∙◌, arith, ⊎_elim, Contains}
+use Rattle.batcher_evidence.proofs.Words.{is_some, cases_Bool, Contains-append_cases, Contains-append_left, Contains-append_right, Contains-push}
+use Rattle.batcher_evidence.proofs.Words.{Contains-push_cases, Meaning, Certificate, IsContradiction, certify_and_contradict}
+use Rattle.std.specs.Prelude.{find}
 
 nothing_in : {X : Type 0} (x : X) → Contains [] x → ⊥
 nothing_in x there = omega (arith, there.1)

@@ -1,19 +1,8 @@
 -- A fork over views shows two certificates that contradict each other.
-use Rattle.std.proofs.Common.{◌≡◌, ◌≢◌, ◌≤◌, ◌<◌, ◌&&◌, ◌⊎◌, ℕ, Bool, true, not, List, [], ◌∷◌, ap, subst, sym, ◌∙◌, arith, inl, inr, ⊎_elim}
-use Rattle.std.specs.List.{AllByRecursion}
-use Rattle.std.proofs.lemmas.Bool.{cases_Bool, cases_lt, and_from}
-use Rattle.batcher_types.proofs.VoteLemmas.{same_proposal-true, same_round-refl}
-use Rattle.batcher.specs.Meaning.{Meaning}
-use Rattle.batcher.specs.Verifiers.{certifies_itself}
-use Rattle.batcher.specs.Votes.{same_proposal, same_round, subject_certified}
-use Rattle.batcher.specs.Reports.{subjects_contradict}
-use Rattle.batcher.specs.positions.Round.{Round}
-use Rattle.batcher.specs.messages.Certificate.{Certificate}
-use Rattle.batcher.specs.messages.Proposal.{Proposal}
-use Rattle.batcher.specs.messages.Subject.{Subject}
-use Rattle.batcher.specs.messages.Subject.TheVariants.{Notarize, Nullify, Finalize}
-use Rattle.batcher_evidence.specs.Culprits.{certificates_contradict}
-use Rattle.batcher_evidence.specs.Forks.{AreLinked, EndsBelow, IsContradiction, IsFork, IsShown, IsShownWithGround}
+use Rattle.batcher_evidence.proofs.Words.{◌≡◌, ◌≢◌, ◌≤◌, ◌<◌, ◌&&◌, ◌⊎◌, ℕ, Bool, true, not, List, [], ◌∷◌, ap, subst, sym, ◌∙◌, arith, inl, inr, ⊎_elim}
+use Rattle.batcher_evidence.proofs.Words.{AllByRecursion, cases_Bool, cases_lt, and_from, same_proposal-true, same_round-refl, Meaning, certifies_itself}
+use Rattle.batcher_evidence.proofs.Words.{same_proposal, same_round, subject_certified, subjects_contradict, Round, Certificate, Proposal, Subject, Notarize}
+use Rattle.batcher_evidence.proofs.Words.{Nullify, Finalize, certificates_contradict, AreLinked, EndsBelow, IsContradiction, IsFork, IsShown, IsShownWithGround}
 
 pub round_of : (a b : Round) → a.epoch ≡ b.epoch → a.view.0 ≡ b.view.0 → a ≡ b
 round_of a b epoch view =

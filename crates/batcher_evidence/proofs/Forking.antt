@@ -1,34 +1,13 @@
 -- Who voted in both of two rounds that gave certificates which contradict each other.
-use Rattle.std.proofs.Common.{inl, inr, ◌≡◌, ◌≤◌, ◌+◌, ◌==◌, ◌&&◌, ◌||◌, ℕ, Bool, true, false, cond, nat_lt, List, [], ◌∷◌, length, filter, Option, Some, None, refl, ap, sym, ◌∙◌, subst, arith}
-use Rattle.std.specs.Prelude.{IfSome}
-use Rattle.std.specs.List.{AllByRecursion, list_any, list_all}
-use Rattle.std.proofs.lemmas.Bool.{and_parts}
-use Rattle.std.proofs.lemmas.List.Sums.{list_all-from_AllPass}
-use Rattle.std.specs.declared.cmp.Ordering.{Ordering}
-use Rattle.batcher.proofs.VoteLemmas.{same_subject-true}
-use Rattle.batcher.proofs.ListLemmas.{and-true}
-use Rattle.batcher.proofs.CountLemmas.{any_within, count-append, count-filter, count_mono, quorums_overlap}
-use Rattle.batcher.specs.Quorum.{quorum_of}
-use Rattle.batcher.specs.Lists.{count, EachOnce, ElementsWithin}
-use Rattle.batcher.specs.Meaning.{Meaning}
-use Rattle.batcher.specs.Config.{Config, participants_in, quorum_in}
-use Rattle.batcher.specs.Votes.{signer_of, subject_of, subject_certified, same_subject}
-use Rattle.batcher.specs.History.{Event, History, batch_given, certificate_given, cast_votes}
-use Rattle.batcher.specs.FirstVotes.{first_votes, is_free}
-use Rattle.batcher.specs.Promises.{AtEachEvent, votes_cast}
-use Rattle.batcher.specs.Reports.{subjects_contradict}
-use Rattle.batcher.specs.Backing.{GivesBacked, IsBacked, IsGiven, votes_behind}
-use Rattle.batcher.specs.positions.Round.{Round}
-use Rattle.batcher.specs.messages.Subject.{Subject}
-use Rattle.batcher.specs.messages.Vote.{Vote}
-use Rattle.batcher.specs.messages.Certificate.{Certificate}
-use Rattle.batcher.specs.votes.Mode.{Mode}
-use Rattle.batcher.specs.verifier.Batch.{Batch}
-use Rattle.batcher.specs.answers.Answer.{Answer}
-use Rattle.batcher.specs.answers.Answer.TheVariants.{OutOfMemory, Network as NetworkAnswer, Own as OwnAnswer, OwnRefused, Certificate as CertificateAnswer}
-use Rattle.batcher.specs.answers.Answer.TheVariants.{Leader as LeaderAnswer, Construct as ConstructAnswer, Forward as ForwardAnswer, Missing as MissingAnswer}
-use Rattle.batcher_evidence.specs.Culprits.{certificates_contradict}
-use Rattle.batcher_evidence.specs.Rounds.{TakeContradictingVotes, TakesContradicting, count_below, votes_contradict, round_of}
+use Rattle.batcher_evidence.proofs.Words.{inl, inr, ◌≡◌, ◌≤◌, ◌+◌, ◌==◌, ◌&&◌, ◌||◌, ℕ, Bool, true, false, cond, nat_lt, List, [], ◌∷◌, length, filter, Option}
+use Rattle.batcher_evidence.proofs.Words.{Some, None, refl, ap, sym, ◌∙◌, subst, arith, IfSome, AllByRecursion, list_any, list_all, and_parts}
+use Rattle.batcher_evidence.proofs.Words.{list_all-from_AllPass, Ordering, same_subject-true, and-true, any_within, count-append, count-filter, count_mono}
+use Rattle.batcher_evidence.proofs.Words.{quorums_overlap, quorum_of, count, EachOnce, ElementsWithin, Meaning, Config, participants_in, quorum_in, signer_of}
+use Rattle.batcher_evidence.proofs.Words.{subject_of, subject_certified, same_subject, Event, History, batch_given, certificate_given, cast_votes, first_votes}
+use Rattle.batcher_evidence.proofs.Words.{is_free, AtEachEvent, votes_cast, subjects_contradict, GivesBacked, IsBacked, IsGiven, votes_behind, Round, Subject}
+use Rattle.batcher_evidence.proofs.Words.{Vote, Certificate, Mode, Batch, Answer, OutOfMemory, NetworkAnswer, OwnAnswer, OwnRefused, CertificateAnswer}
+use Rattle.batcher_evidence.proofs.Words.{LeaderAnswer, ConstructAnswer, ForwardAnswer, MissingAnswer, certificates_contradict, TakeContradictingVotes}
+use Rattle.batcher_evidence.proofs.Words.{TakesContradicting, count_below, votes_contradict, config_with}
 use Rattle.batcher_evidence.proofs.Counting.{below_both, below_more, distinct_below, filter_passes, has_number}
 
 module _ {D : Type 0} (same : D → D → Bool) (identical : (a b : D) → same a b ≡ true → a ≡ b) where
@@ -172,12 +151,12 @@ module _ {D K G C : Type 0} (m : Meaning D K G C) (compare_keys : K → K → Or
       (number : Round) (mode other_mode : Mode) (past other_past : History D K G C)
       (a b : Certificate C D) (vs ws : List (Vote G D))
       → 1 ≤ length m.participants
-      → IsBehind (round_of m compare_keys same_signature same number mode) past a vs
-      → IsBehind (round_of m compare_keys same_signature same number other_mode) other_past b ws
+      → IsBehind (config_with m compare_keys same_signature same number mode) past a vs
+      → IsBehind (config_with m compare_keys same_signature same number other_mode) other_past b ws
       → certificates_contradict same a b ≡ true
       → TakesContradicting m same
-      (round_of m compare_keys same_signature same number mode)
-      (round_of m compare_keys same_signature same number other_mode)
+      (config_with m compare_keys same_signature same number mode)
+      (config_with m compare_keys same_signature same number other_mode)
       past other_past
   contradicting_behind number mode other_mode past other_past a b vs ws some first second contradict =
       record { enough = enough; more_than_faulty = omega (arith, enough, quorums_overlap n some) }
@@ -186,10 +165,10 @@ module _ {D K G C : Type 0} (m : Meaning D K G C) (compare_keys : K → K → Or
       n = length m.participants
 
       cast : List (Vote G D)
-      cast = votes_cast (round_of m compare_keys same_signature same number mode) past
+      cast = votes_cast (config_with m compare_keys same_signature same number mode) past
 
       others : List (Vote G D)
-      others = votes_cast (round_of m compare_keys same_signature same number other_mode) other_past
+      others = votes_cast (config_with m compare_keys same_signature same number other_mode) other_past
 
       each :
           (i : ℕ) → (has_number signer_of vs i && has_number signer_of ws i) ≡ true
@@ -215,8 +194,8 @@ module _ {D K G C : Type 0} (m : Meaning D K G C) (compare_keys : K → K → Or
   pub take_contradicting : TakeContradictingVotes m compare_keys same_signature same
   take_contradicting number mode other_mode past other_past some run other_run a b given_a given_b
       contradict =
-      let x = round_of m compare_keys same_signature same number mode in
-      let y = round_of m compare_keys same_signature same number other_mode in
+      let x = config_with m compare_keys same_signature same number mode in
+      let y = config_with m compare_keys same_signature same number other_mode in
       let first = given_behind x _ a run.gives_safely.given_are_backed given_a in
       let second = given_behind y _ b other_run.gives_safely.given_are_backed given_b in
       contradicting_behind number mode other_mode _ _ a b first.0 second.0

@@ -1,14 +1,7 @@
 -- Two ascending lists of attestations, gone down together.
-use Rattle.std.proofs.Common.{◌≡◌, ◌<◌, ◌==◌, ℕ, false, List, [], ◌∷◌, ◌++◌, length, None, refl, ap, sym, ◌∙◌, arith}
-use Rattle.std.specs.List.{AllByRecursion, cons_option, find}
-use Rattle.std.specs.Option.{option_map}
-use Rattle.std.proofs.lemmas.Bool.{eq-eqb}
-use Rattle.std.proofs.lemmas.Bool.Decides.{nat_tests}
+use Rattle.batcher_evidence.proofs.Words.{◌≡◌, ◌<◌, ◌==◌, ℕ, false, List, [], ◌∷◌, ◌++◌, length, None, refl, ap, sym, ◌∙◌, arith, AllByRecursion, cons_option}
+use Rattle.batcher_evidence.proofs.Words.{find, option_map, eq-eqb, nat_tests, index_of_signer, Attestation, Culprit, signed_both}
 use Rattle.batcher.specs.Ascending.{IsAscending}
-use Rattle.batcher.specs.Attestations.{index_of_signer}
-use Rattle.batcher.specs.messages.Attestation.{Attestation}
-use Rattle.batcher_evidence.specs.declared.certificates.Culprit.{Culprit}
-use Rattle.batcher_evidence.specs.Culprits.{signed_both}
 
 append_nothing : {X : Type 0} (us : List X) → us ++ [] ≡ us
 append_nothing [] = refl

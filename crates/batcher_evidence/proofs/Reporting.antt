@@ -1,22 +1,8 @@
 -- A report whose two votes attest convicts their signer.
-use Rattle.std.proofs.Common.{◌≡◌, ℕ, Bool, true, cond, List, [], ◌∷◌, Option, Some, None, refl, ap, ◌∙◌}
-use Rattle.std.specs.Prelude.{IfSome, is_some, option_and_then}
-use Rattle.std.proofs.lemmas.Bool.{and_from, eq-eqb}
-use Rattle.std.specs.declared.cmp.Ordering.{Ordering}
-use Rattle.batcher.specs.Meaning.{Meaning}
-use Rattle.batcher.specs.Config.{Config}
-use Rattle.batcher.specs.Votes.{signer_of, subject_of, attestation_of}
-use Rattle.batcher.specs.Reports.{subjects_contradict, evidence_in, AreContrary, ReportsContrary}
-use Rattle.batcher.specs.History.{History, names_sender}
-use Rattle.batcher.specs.Promises.{AtEachVote, votes_cast}
-use Rattle.batcher.specs.positions.Participant.{Participant}
-use Rattle.batcher.specs.messages.Vote.{Vote}
-use Rattle.batcher.specs.messages.Activity.{Activity}
-use Rattle.batcher.specs.answers.Admission.{Admission}
-use Rattle.batcher.specs.calls.Call.TheVariants.{Network as NetworkCall}
-use Rattle.batcher.specs.answers.Answer.TheVariants.{Network as NetworkAnswer}
-use Rattle.batcher_evidence.specs.Convictions.{both_attest, convicts, convicted_by}
-use Rattle.batcher_evidence.specs.Rounds.{ConvictsIfAttested, ReportsConvict, round_of}
+use Rattle.batcher_evidence.proofs.Words.{◌≡◌, ℕ, Bool, true, cond, List, [], ◌∷◌, Option, Some, None, refl, ap, ◌∙◌, IfSome, is_some, option_and_then}
+use Rattle.batcher_evidence.proofs.Words.{and_from, eq-eqb, Ordering, Meaning, Config, signer_of, subject_of, attestation_of, subjects_contradict, evidence_in}
+use Rattle.batcher_evidence.proofs.Words.{AreContrary, ReportsContrary, History, names_sender, AtEachVote, votes_cast, Participant, Vote, Activity, Admission}
+use Rattle.batcher_evidence.proofs.Words.{NetworkCall, NetworkAnswer, both_attest, convicts, convicted_by, ConvictsIfAttested, ReportsConvict, config_with}
 
 module _ {D K G C : Type 0} (holds more : History D K G C → K → Vote G D → Admission G D → Type 0)
     (then : (past : History D K G C) (sender : K) (vote : Vote G D) (admission : Admission G D)
@@ -89,6 +75,6 @@ pub reports_that_convict :
     (same_signature : G → G → Bool) (same_digest : D → D → Bool)
     → ReportsConvict m compare_keys same_signature same_digest
 reports_that_convict m compare same_signature same number mode past run =
-    let x = round_of m compare same_signature same number mode in
+    let x = config_with m compare same_signature same number mode in
     at_each_more (ReportsContrary x) (ConvictsIfAttested m same) (convicts_then x)
     past run.reports_truly.evidence_is_contrary

@@ -1,24 +1,9 @@
 -- Two rounds that gave certificates which contradict each other.
-use Rattle.std.proofs.Common.{inl, inr, ◌≡◌, Bool, true, cond, List, [], ◌∷◌, Option, Some, None, subst, sym}
-use Rattle.std.specs.Prelude.{IfSome, IsSomeAnd}
-use Rattle.std.proofs.lemmas.Bool.{and_from}
-use Rattle.std.specs.declared.cmp.Ordering.{Ordering}
-use Rattle.batcher.specs.Meaning.{Meaning, IsLawful}
-use Rattle.batcher.specs.Votes.{subject_certified, content_of}
-use Rattle.batcher.specs.Verifiers.{certifies_itself}
-use Rattle.batcher.specs.Runs.{certifies_answer}
-use Rattle.batcher.specs.History.{History, certificate_given}
-use Rattle.batcher.specs.Promises.{AtEachEvent}
-use Rattle.batcher.specs.Backing.{IsGiven}
-use Rattle.batcher.specs.messages.Attestation.{Attestation}
-use Rattle.batcher.specs.messages.Subject.{Subject}
-use Rattle.batcher.specs.messages.Certificate.{Certificate}
-use Rattle.batcher.specs.answers.Answer.{Answer}
-use Rattle.batcher.specs.answers.Answer.TheVariants.{OutOfMemory, Network as NetworkAnswer, Own as OwnAnswer, OwnRefused, Certificate as CertificateAnswer}
-use Rattle.batcher.specs.answers.Answer.TheVariants.{Leader as LeaderAnswer, Construct as ConstructAnswer, Forward as ForwardAnswer, Missing as MissingAnswer}
-use Rattle.batcher_evidence.specs.SignedQuorums.{ShowsQuorum}
-use Rattle.batcher_evidence.specs.Culprits.{AreCulprits, certificates_contradict, culprits_of, signed_both}
-use Rattle.batcher_evidence.specs.Rounds.{AreAccountable}
+use Rattle.batcher_evidence.proofs.Words.{inl, inr, ◌≡◌, Bool, true, cond, List, [], ◌∷◌, Option, Some, None, subst, sym, IfSome, IsSomeAnd, and_from, Ordering}
+use Rattle.batcher_evidence.proofs.Words.{Meaning, IsLawful, subject_certified, content_of, certifies_itself, certifies_answer, History, certificate_given}
+use Rattle.batcher_evidence.proofs.Words.{AtEachEvent, IsGiven, Attestation, Subject, Certificate, Answer, OutOfMemory, NetworkAnswer, OwnAnswer, OwnRefused}
+use Rattle.batcher_evidence.proofs.Words.{CertificateAnswer, LeaderAnswer, ConstructAnswer, ForwardAnswer, MissingAnswer, ShowsQuorum, AreCulprits}
+use Rattle.batcher_evidence.proofs.Words.{certificates_contradict, culprits_of, signed_both, AreAccountable}
 use Rattle.batcher_evidence.proofs.Both.{both_signed}
 
 module _ {D K G C : Type 0} (m : Meaning D K G C) where

@@ -1,15 +1,9 @@
 -- The examples are computed.
-use Rattle.std.proofs.Common.{◌≡◌, ◌<◌, ℕ, true, [], ◌∷◌, ap, arith, get_or, inl, refl, subst, sym}
-use Rattle.batcher.specs.Verifiers.{certifies_itself}
-use Rattle.batcher.specs.Votes.{subject_certified}
-use Rattle.batcher.specs.Examples.Answers.{p, the_round}
-use Rattle.batcher.specs.messages.Proposal.{Proposal}
-use Rattle.batcher.specs.messages.Subject.TheVariants.{Nullify}
-use Rattle.batcher.specs.positions.Round.{Round}
+use Rattle.batcher_evidence.proofs.Words.{◌≡◌, ◌<◌, ℕ, true, [], ◌∷◌, ap, arith, get_or, inl, refl, subst, sym, certifies_itself, subject_certified, p}
+use Rattle.batcher_evidence.proofs.Words.{the_round, Proposal, Nullify, Round, IsFork, IsShown, EvidenceExamples, TinyCertificate, finalization_with}
+use Rattle.batcher_evidence.proofs.Words.{first_three, in_full, last_three, listed, next, next_notarized, notarized, nullified}
 use Rattle.batcher_evidence.proofs.Forked.{round_of}
-use Rattle.batcher_evidence.specs.Forks.{IsFork, IsShown}
 use Rattle.batcher.specs.Keys.{index_of}
-use Rattle.batcher_evidence.specs.Examples.{EvidenceExamples, TinyCertificate, finalized, first_three, in_full, last_three, listed, next, next_notarized, notarized, nullified}
 
 shown :
     (k : ℕ) → (c : TinyCertificate) → k < 4 → get_or in_full k c ≡ c
@@ -29,7 +23,7 @@ differ a b two one same = omega (arith, two, one, same)
 fork : IsFork listed in_full (p 1) (next ∷ [])
 fork =
     record {
-      finalized = shown 1 (finalized 1 first_three) (omega arith) refl refl;
+      finalized = shown 1 (finalization_with 1 first_three) (omega arith) refl refl;
       notarized = shown 2 (notarized 1 first_three) (omega arith) refl refl;
       grounded = (record { certified = inl (shown 3 next_notarized (omega arith) refl refl); between = only }, tt);
       linked = tt;

@@ -1,5 +1,6 @@
 -- Who signed what each of two certificates certifies.
-use Rattle.std.specs.Prelude.{◌≡◌, ◌<◌, ◌≤◌, ◌+◌, ◌-◌, ◌/◌, ◌==◌, ◌&&◌, ℕ, Bool, cond, nat_lt, List, length, Option, Some, None}
+use Rattle.std.specs.Prelude.{◌≡◌, ◌<◌, ◌≤◌, ◌+◌, ◌-◌, ◌/◌, ◌==◌, ◌&&◌, ℕ, Bool, cond, nat_lt, List}
+use Rattle.std.specs.Prelude.{length, Option, Some, None}
 use Rattle.std.specs.List.{list_any, find, filter_map, AllPass}
 use Rattle.std.specs.Option.{option_map}
 use Rattle.batcher.specs.Quorum.{quorum_of}

@@ -1,12 +1,16 @@
 -- A fork of four participants that exactly two of them made, and what is near to one.
-use Rattle.std.specs.Prelude.{◌≡◌, ◌+◌, ◌&&◌, ◌==◌, ℕ, Bool, true, false, nat_lt, nat_le, List, [], ◌∷◌, length, Option, Some, None}
+use Rattle.std.specs.Prelude.{◌≡◌, ◌+◌, ◌&&◌, ◌==◌, ℕ, Bool, true, false, nat_lt, nat_le, List, []}
+use Rattle.std.specs.Prelude.{◌∷◌, length, Option, Some, None}
 use Rattle.std.specs.List.{list_all, list_any, range_with_len}
 use Rattle.batcher.specs.messages.Attestation.{Attestation}
 use Rattle.batcher.specs.messages.Certificate.{Certificate}
 use Rattle.batcher.specs.messages.Proposal.{Proposal}
-use Rattle.batcher.specs.messages.Certificate.TheVariants.{Notarization as NotarizationCertificate, Nullification as NullificationCertificate, Finalization as FinalizationCertificate}
+use Rattle.batcher.specs.messages.Certificate.TheVariants.{Notarization as NotarizationCertificate}
+use Rattle.batcher.specs.messages.Certificate.TheVariants.{Nullification as NullificationCertificate}
+use Rattle.batcher.specs.messages.Certificate.TheVariants.{Finalization as FinalizationCertificate}
 use Rattle.batcher.specs.messages.Activity.{Activity}
-use Rattle.batcher.specs.messages.Activity.TheVariants.{ConflictingNotarize as ReportConflictingNotarize, Notarize as ReportNotarize}
+use Rattle.batcher.specs.messages.Activity.TheVariants.{ConflictingNotarize as ReportConflictingNotarize}
+use Rattle.batcher.specs.messages.Activity.TheVariants.{Notarize as ReportNotarize}
 use Rattle.batcher.specs.votes.Mode.TheVariants.{Retaining, Releasing}
 use Rattle.batcher.specs.Quorum.{quorum_of}
 use Rattle.batcher.specs.Keys.{participant}
@@ -15,7 +19,8 @@ use Rattle.batcher.specs.Attestations.{index_of_signer}
 use Rattle.batcher.specs.Meaning.{Meaning}
 use Rattle.batcher.specs.Promises.{votes_cast}
 use Rattle.batcher.specs.Backing.{IsGiven}
-use Rattle.batcher.specs.Examples.Answers.{TinyCall, the_round, p, four, signed, notarize, notarization, net, lead, construct, played}
+use Rattle.batcher.specs.Examples.Answers.{TinyCall, the_round, p, four, signed, notarize}
+use Rattle.batcher.specs.Examples.Answers.{notarization, net, lead, construct, played}
 use Rattle.batcher_evidence.specs.declared.certificates.Culprit.{Culprit}
 use Rattle.batcher_evidence.specs.Culprits.{certificates_contradict, culprits_of}
 use Rattle.batcher_evidence.specs.Convictions.{convicted_by}
@@ -32,8 +37,8 @@ abbrev pub same : ℕ → ℕ → Bool
 same a b = a == b
 
 -- The signature 0 is good.
-abbrev pub is_signed : Attestation ℕ → Bool
-is_signed a = nat_lt a.signer.0 4 && (a.signature == 0)
+abbrev pub has_good_signature : Attestation ℕ → Bool
+has_good_signature a = nat_lt a.signer.0 4 && (a.signature == 0)
 
 -- A scheme of four whose certificates list their attestations.
 abbrev pub listed : Meaning ℕ ℕ ℕ TinyList
@@ -41,9 +46,9 @@ listed =
     record {
       participants = range_with_len 0 4;
       batchable = true;
-      attests = λ subject a. is_signed a;
+      attests = λ subject a. has_good_signature a;
       certifies = λ subject c.
-          nat_le 3 (length c) && (is_ascending index_of_signer c && list_all is_signed c);
+          nat_le 3 (length c) && (is_ascending index_of_signer c && list_all has_good_signature c);
       left_by_verifying = λ subject pending stream. stream;
       assembled_at_once = λ subject pending verified stream. (None, stream);
       assembled = λ subject prior fresh. fresh;
@@ -56,8 +61,8 @@ notarized v c = NotarizationCertificate (record { proposal = p v; certificate = 
 abbrev pub nullified : TinyList → TinyCertificate
 nullified c = NullificationCertificate (record { round = the_round; certificate = c })
 
-abbrev pub finalized : ℕ → TinyList → TinyCertificate
-finalized v c = FinalizationCertificate (record { proposal = p v; certificate = c })
+abbrev pub finalization_with : ℕ → TinyList → TinyCertificate
+finalization_with v c = FinalizationCertificate (record { proposal = p v; certificate = c })
 
 abbrev pub first_three : TinyList
 first_three = signed 0 0 ∷ signed 1 0 ∷ signed 2 0 ∷ []
@@ -87,7 +92,7 @@ abbrev pub next_notarized : TinyCertificate
 next_notarized = NotarizationCertificate (record { proposal = next; certificate = last_three })
 
 abbrev pub in_part : List TinyCertificate
-in_part = finalized 1 first_three ∷ notarized 1 first_three ∷ next_notarized ∷ []
+in_part = finalization_with 1 first_three ∷ notarized 1 first_three ∷ next_notarized ∷ []
 
 abbrev pub in_full : List TinyCertificate
 in_full = nullified last_three ∷ in_part
@@ -122,10 +127,11 @@ pub record EvidenceExamples : Type 0 where
       found (notarized 1 first_three) (notarized 2 first_three)
       ≡ Some (both 0 ∷ both 1 ∷ both 2 ∷ [])
   pub nullify_and_finalize :
-      found (nullified first_three) (finalized 1 last_three) ≡ Some (both 1 ∷ both 2 ∷ [])
+      found (nullified first_three) (finalization_with 1 last_three) ≡ Some (both 1 ∷ both 2 ∷ [])
   -- One proposal is no contradiction, nor is a notarization of one and a finalization of another.
   pub of_one_proposal : found (notarized 1 first_three) (notarized 1 last_three) ≡ None
-  pub notarize_and_finalize : found (notarized 1 first_three) (finalized 2 last_three) ≡ None
+  pub notarize_and_finalize : found (notarized 1 first_three) (finalization_with 2 last_three)
+      ≡ None
   pub notarize_and_nullify : found (notarized 1 first_three) (nullified last_three) ≡ None
   -- One of them doesn't certify.
   pub below_the_quorum : found (notarized 1 two) (notarized 2 last_three) ≡ None

@@ -1,6 +1,7 @@
 -- What holds of the reports and certificates of all rounds: of each history that is promised, as is
 -- that of a run, and that of each view of a node.
-use Rattle.std.specs.Prelude.{◌≡◌, ◌<◌, ◌≤◌, ◌+◌, ◌-◌, ◌/◌, ◌==◌, ◌&&◌, ℕ, zero, suc, Bool, true, cond, List, length, Some, IfSome, IsSomeAnd}
+use Rattle.std.specs.Prelude.{◌≡◌, ◌<◌, ◌≤◌, ◌+◌, ◌-◌, ◌/◌, ◌==◌, ◌&&◌, ℕ, zero, suc, Bool, true}
+use Rattle.std.specs.Prelude.{cond, List, length, Some, IfSome, IsSomeAnd}
 use Rattle.std.specs.List.{list_any}
 use Rattle.std.specs.declared.cmp.Ordering.{Ordering}
 use Rattle.batcher.specs.positions.Round.{Round}
@@ -64,13 +65,13 @@ module _ {D K G C : Type 0} (m : Meaning D K G C) where
       (compare_keys : K → K → Ordering) (same_signature : G → G → Bool) (same_digest : D → D → Bool)
     where
       -- a round of the scheme
-      abbrev pub round_of : Round → Mode → Config D K G C
-      round_of number mode = config m compare_keys same_signature same_digest number mode
+      abbrev pub config_with : Round → Mode → Config D K G C
+      config_with number mode = config m compare_keys same_signature same_digest number mode
 
       abbrev pub ReportsConvict : Type 0
       ReportsConvict =
           (number : Round) (mode : Mode) (past : History D K G C)
-          → IsPromised (round_of number mode) past
+          → IsPromised (config_with number mode) past
           → AtEachVote (ConvictsIfAttested same_digest) past
 
       -- Histories of two rounds of one scheme, whoever holds the rounds, of any numbers, whatever
@@ -79,8 +80,8 @@ module _ {D K G C : Type 0} (m : Meaning D K G C) where
       abbrev pub AreAccountable : (C → List (Attestation G)) → Type 0
       AreAccountable shown =
           (number other : Round) (mode other_mode : Mode) (past other_past : History D K G C)
-          → IsPromised (round_of number mode) past
-          → IsPromised (round_of other other_mode) other_past
+          → IsPromised (config_with number mode) past
+          → IsPromised (config_with other other_mode) other_past
           → (a b : Certificate C D)
           → IsGiven past a → IsGiven other_past b
           → certificates_contradict same_digest a b ≡ true
@@ -93,11 +94,11 @@ module _ {D K G C : Type 0} (m : Meaning D K G C) where
       TakeContradictingVotes =
           (number : Round) (mode other_mode : Mode) (past other_past : History D K G C)
           → 1 ≤ length m.participants
-          → IsPromised (round_of number mode) past
-          → IsPromised (round_of number other_mode) other_past
+          → IsPromised (config_with number mode) past
+          → IsPromised (config_with number other_mode) other_past
           → (a b : Certificate C D)
           → IsGiven past a → IsGiven other_past b
           → certificates_contradict same_digest a b ≡ true
           → TakesContradicting same_digest
-          (round_of number mode) (round_of number other_mode)
+          (config_with number mode) (config_with number other_mode)
           past other_past

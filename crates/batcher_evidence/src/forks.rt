@@ -1,12 +1,14 @@
 //! Whom certificates of many views convict.
 
-ghost use Rattle.std.specs.Prelude.{◌≡◌, IfOk, IfSome, List, MatchOption, None, Ok, OnErr, find, is_some, true};
+ghost use Rattle.std.specs.Prelude.{◌≡◌, IfOk, IfSome, List, MatchOption, None, Ok, OnErr, find};
+ghost use Rattle.std.specs.Prelude.{is_some, true};
 ghost use Rattle.std.specs.Option.{option_copied};
 ghost use Rattle.batcher.specs.Verifiers.{certifies_itself};
 ghost use Rattle.batcher.specs.messages.Certificate.{Certificate as TheCertificate};
 ghost use Rattle.batcher.specs.messages.Proposal.{Proposal as TheProposal};
 ghost use Rattle.batcher_evidence.specs.Culprits.{AreCulprits};
-ghost use Rattle.batcher_evidence.specs.Forks.{AreShownCulprits, IsContradiction, IsFork, certify_and_contradict};
+ghost use Rattle.batcher_evidence.specs.Forks.{AreShownCulprits, IsContradiction, IsFork};
+ghost use Rattle.batcher_evidence.specs.Forks.{certify_and_contradict};
 
 use crate::Accountable;
 use crate::certificates::{Culprit, certifies, culprits};

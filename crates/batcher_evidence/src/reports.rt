@@ -2,7 +2,9 @@
 
 ghost use Rattle.std.specs.Prelude.{◌≡◌, ◌&&◌, cond, true, IfOk, IfSome, OnOk, OnErr, Some, None};
 ghost use Rattle.batcher.specs.Votes.{subject_of, attestation_of};
-ghost use Rattle.batcher_evidence.specs.Convictions.{AreVerdicts, IsProof, convicts, convicted_by, convicted_where, may_convict, has_to_verify, left_by, left_by_both, left_by_convicting};
+ghost use Rattle.batcher_evidence.specs.Convictions.{AreVerdicts, IsProof, convicts, convicted_by};
+ghost use Rattle.batcher_evidence.specs.Convictions.{convicted_where, may_convict, has_to_verify};
+ghost use Rattle.batcher_evidence.specs.Convictions.{left_by, left_by_both, left_by_convicting};
 
 use crate::subjects::contradict;
 use batcher::messages::{Activity, Digest, Vote};

@@ -1,7 +1,9 @@
-//! What holds of all rounds, as the contracts of functions that do nothing.
+//! What holds of reports, and of certificates of two histories, as contracts of functions that do
+//! nothing.
 
 ghost use Rattle.batcher_evidence.specs.Examples.{EvidenceExamples};
-ghost use Rattle.batcher_evidence.specs.Rounds.{ReportsConvict, AreAccountable, TakeContradictingVotes};
+ghost use Rattle.batcher_evidence.specs.Rounds.{ReportsConvict, AreAccountable};
+ghost use Rattle.batcher_evidence.specs.Rounds.{TakeContradictingVotes};
 
 use crate::Accountable;
 use batcher::messages::Digest;

@@ -7,7 +7,7 @@ ghost use Rattle.batcher_node.specs.declared.answers.Receipt.{Receipt as TheRece
 ghost use Rattle.batcher_node.specs.Events.{vote_came};
 ghost use Rattle.batcher_node.specs.Nodes.{SameNode, cause_at};
 ghost use Rattle.batcher_node.specs.Sending.{HearsWhatIsToSend};
-ghost use Rattle.batcher_node.specs.Represents.{Meets};
+ghost use Rattle.batcher_node.specs.Represents.{NodeMeets};
 
 use batcher::messages::{Digest, Vote};
 use batcher::round::OwnFault;
@@ -36,7 +36,7 @@ pub fn cast_and_send<S: Scheme<D>, D: Digest>(
         (⟦<S as NodeConfigs<D>>⟧.of other.old) own.old other.old (signer_of vote)
         → cause_at other.new.blocked (signer_of vote) ≡ None }
     ensures sent { result ≡ Ok true → (receipt : TheReceipt (TheAdmission S.Signature D))
-        × (Meets (⟦<S as NodeConfigs<D>>⟧.of other.old) other.old
+        × (NodeMeets (⟦<S as NodeConfigs<D>>⟧.of other.old) other.old
         (vote_came key vote receipt) other.new) }
     ensures not_sent { result ≡ Ok false → other.new ≡ other.old }
     ensures same { (SameNode own.old own.new) × (SameNode other.old other.new) }

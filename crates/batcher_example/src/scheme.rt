@@ -1,6 +1,7 @@
 //! The smallest scheme. It protects nothing: it takes the word of whoever signs.
 
-ghost use Rattle.std.specs.Prelude.{◌≡◌, ◌&&◌, true, Option, Some, nat_lt, length, IfOk, IfErr, OnOk};
+ghost use Rattle.std.specs.Prelude.{◌≡◌, ◌&&◌, true, Option, Some, nat_lt, length, IfOk, IfErr};
+ghost use Rattle.std.specs.Prelude.{OnOk};
 ghost use Rattle.std.specs.Result.{result_ok};
 ghost use Rattle.rand_core.specs.Stream.{Stream};
 ghost use Rattle.batcher.specs.Attestations.{Sorts};

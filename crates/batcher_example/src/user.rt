@@ -1,8 +1,10 @@
 //! A validator's side of one view: votes come in, and certificates come out.
 
 ghost use Rattle.std.specs.Prelude.{◌≡◌, ◌∷◌, ◌↔◌, true, is_some, IfOk, IfSome, IfNone, OnErr};
-ghost use Rattle.batcher.specs.calls.Call.TheVariants.{Network as NetworkCall, Construct as ConstructCall};
-ghost use Rattle.batcher.specs.answers.Answer.TheVariants.{Network as NetworkAnswer, Construct as ConstructAnswer};
+ghost use Rattle.batcher.specs.calls.Call.TheVariants.{Network as NetworkCall};
+ghost use Rattle.batcher.specs.calls.Call.TheVariants.{Construct as ConstructCall};
+ghost use Rattle.batcher.specs.answers.Answer.TheVariants.{Network as NetworkAnswer};
+ghost use Rattle.batcher.specs.answers.Answer.TheVariants.{Construct as ConstructAnswer};
 ghost use Rattle.batcher.specs.Blocks.{GaveCause};
 ghost use Rattle.batcher.specs.RoundState.{SameRound};
 ghost use Rattle.batcher.specs.RoundContracts.{ForEachHistory, SimulatesAlways, SimulatesOnOk};

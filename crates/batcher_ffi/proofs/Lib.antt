@@ -1,3 +1,4 @@
+pub mod Words
 mod Pointers
 mod Verified
 mod Quorums

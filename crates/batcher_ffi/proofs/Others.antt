@@ -1,16 +1,7 @@
 -- Whose journal is on a disk that isn't the validator's.
-use Rattle.std.proofs.Common.{◌≡◌, ℕ, Bool, List, arith, refl}
-use Rattle.batcher_journal.specs.Causes.{Cause, IsAnothers}
-use Rattle.batcher_journal.specs.Text.{OwnerFields}
-use Rattle.batcher_journal.specs.declared.journal.OpenFault.{OpenFault}
-use Rattle.batcher_journal.specs.declared.journal.OpenFault.TheVariants.{NotBegun, OtherVersion, OtherLengths, OtherParticipant, OtherKeys, OtherNamespace, OutOfMemory as NoMemoryToOpen, Malformed as NoJournal, Contradiction}
-use Rattle.batcher_codec.specs.Format.{Format}
-use Rattle.batcher_types.specs.declared.messages.Vote.{Vote}
-use Rattle.batcher_loop.specs.declared.starting.LoopFault.{LoopFault}
-use Rattle.batcher_loop.specs.declared.starting.LoopFault.TheVariants.{NotOpened, NotStarted, OutOfMemory as NoMemoryToStart}
-use Rattle.batcher_voter.specs.declared.answers.StartFault.TheVariants.{OutOfMemory as NoMemoryForVoter}
-use Rattle.batcher_ffi.specs.Loops.{start_code}
-use Rattle.batcher_ffi.specs.declared.codes.TheConstants.{OTHER_OWNER}
+use Rattle.batcher_ffi.proofs.Words.{◌≡◌, ℕ, Bool, List, arith, refl, Cause, IsAnothers, OwnerFields, OpenFault, NotBegun, OtherVersion, OtherLengths}
+use Rattle.batcher_ffi.proofs.Words.{OtherParticipant, OtherKeys, OtherNamespace, NoMemoryToOpen, NoJournal, Contradiction, Format, Vote, LoopFault, NotOpened}
+use Rattle.batcher_ffi.proofs.Words.{NotStarted, NoMemoryToStart, NoMemoryForVoter, start_code, OTHER_OWNER}
 
 module _ {G D : Type 0} (format : Format (Vote G D)) (same : D → D → Bool) (disk : List ℕ)
     (owner : OwnerFields) where

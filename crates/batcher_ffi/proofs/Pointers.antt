@@ -3,7 +3,7 @@
 --     word p h             the struct of the pointer p and the machine value h of the allocator
 --     parts_out, parts_in  what such a struct owns is what its parts own, both ways
 --     with_one             what runs with one machine value runs with a list of it
-use Rattle.std.proofs.Common.{◌≡◌, ◌&&◌, ◌∙◌, ℕ, true, List, [], ◌∷◌, ◌++◌, refl, sym, subst, lit<}
+use Rattle.batcher_ffi.proofs.Words.{◌≡◌, ◌&&◌, ◌∙◌, ℕ, true, List, [], ◌∷◌, ◌++◌, refl, sym, subst, lit<}
 use lib.Dec.{T}
 use seplogic.Ra.Ura.{Ura}
 use mir.Syntax.{impl, tnil, dnil}
@@ -22,17 +22,11 @@ use denote.Steps.{nothing}
 use denote.Param.{layout}
 use denote.Param.Laws.{Laws}
 use denote.Struct.Struct.{Struct, Shape, within}
-use Rattle.core.specs.declared.alloc.Allocator.{Ghosts}
-use Rattle.core.proofs.alloc.Calls.{Al, handle_tells}
-use Rattle.core.proofs.cell.Inside.{Good}
-use Rattle.std_alloc.proofs.ResultValues.{and_tt}
-use Rattle.std.specs.declared.option.Option.{Option}
-use Rattle.std.specs.declared.option.Option.TheVariants.{None, Some}
+use Rattle.batcher_ffi.proofs.Words.{Ghosts, Al, handle_tells, Good, and_tt, Option, None, Some}
 use Rattle.std.specs.contracts.alloc.Global as heap
 use Rattle.std.specs.contracts.impls.GlobalAllocator.TheImpl.{ghosts}
 use Rattle.std.proofs.alloc.Global.TheLaws as heap_laws
-use Rattle.std.proofs.GlobalToken.{dealloc_token-Testable}
-use Rattle.batcher_ffi.specs.Ownership.{block_owned, owned_or_null}
+use Rattle.batcher_ffi.proofs.Words.{dealloc_token-Testable, block_owned, owned_or_null}
 use Rattle.batcher_ffi.specs.contracts.unboxed.Unboxed as unboxed
 
 abbrev pub word : Ptr → Val → Val

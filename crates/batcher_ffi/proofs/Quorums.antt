@@ -1,24 +1,10 @@
 -- What a certificate shows that a round or a node gives.
-use Rattle.std.proofs.Common.{◌≡◌, ◌++◌, ℕ, Bool, true, false, List, length, Option, Some, None, IfSome, subst, sym}
-use Rattle.batcher_types.specs.Votes.{content_of, subject_certified}
-use Rattle.batcher_types.specs.declared.messages.Attestation.{Attestation}
-use Rattle.batcher_types.specs.declared.messages.Sha256Digest.{Sha256Digest}
-use Rattle.batcher_types.specs.declared.messages.Subject.{Subject}
-use Rattle.batcher_types.specs.declared.scheme.keyed.Name.{Name}
-use Rattle.batcher_votes.specs.declared.verifier.Batch.{Batch}
-use Rattle.batcher_round.specs.Verdicts.{IsAssembled, BatchIsAssembled}
-use Rattle.batcher_bytes.specs.Meanings.{made_of}
-use Rattle.batcher_bytes.specs.declared.certificates.Content.{Content}
-use Rattle.batcher_bytes.specs.declared.signature.Keys.{Keys}
-use Rattle.batcher_bytes.specs.declared.signature.Signature.{Signature}
-use Rattle.batcher_any.specs.Judging.{keys_in, meaning_by}
-use Rattle.batcher_any.specs.declared.either.Either.TheVariants.{Batchable, OneByOne}
-use Rattle.batcher_ffi.specs.Output.{Made, WritesCertificate, WritesContent}
-use Rattle.batcher_ffi.specs.Rounds.{CRound, IsOfQuorum, MakesQuorum, config_of}
+use Rattle.batcher_ffi.proofs.Words.{◌≡◌, ◌++◌, ℕ, Bool, true, false, List, length, IfSome, subst, sym, content_of, subject_certified, Attestation}
+use Rattle.batcher_ffi.proofs.Words.{Sha256Digest, Subject, Name, Batch, IsAssembled, BatchIsAssembled, made_of, Content, Keys, Signature, keys_in, meaning_by}
+use Rattle.batcher_ffi.proofs.Words.{Batchable, OneByOne, Made, WritesCertificate, WritesContent, CRound, IsOfQuorum, MakesQuorum, config_of_handle, Caller}
+use Rattle.batcher_ffi.proofs.Words.{FlatAttestation, FlatStep}
+use Rattle.std.specs.Prelude.{Option, Some, None}
 use Rattle.batcher_ffi.specs.contracts.caller.CallerTruth.TheImpl.{ghosts}
-use Rattle.batcher_ffi.specs.declared.caller.Caller.{Caller}
-use Rattle.batcher_ffi.specs.declared.flat.FlatAttestation.{FlatAttestation}
-use Rattle.batcher_ffi.specs.declared.flat.FlatStep.{FlatStep}
 
 -- What the scheme assembles is made of attestations of a quorum, as they are written.
 of_quorum : (keys : Keys) (n : ℕ) (step : FlatStep) (room list : List FlatAttestation)
@@ -49,9 +35,9 @@ makes_quorum batchable participants keys step room list batch assembled written 
 
 -- The same of a batch of a round.
 pub round_makes_quorum : (r : CRound) (step : FlatStep) (room list : List FlatAttestation)
-    (batch : Batch Made) → BatchIsAssembled (config_of r).meaning batch
+    (batch : Batch Made) → BatchIsAssembled (config_of_handle r).meaning batch
     → IfSome batch.certificate (WritesCertificate step room list)
-    → MakesQuorum (keys_in r) (length (config_of r).meaning.participants) batch
+    → MakesQuorum (keys_in r) (length (config_of_handle r).meaning.participants) batch
 round_makes_quorum (Batchable j) step room list batch is written =
     makes_quorum true j.round.scheme.participants j.round.scheme.keys step room list batch is written
 round_makes_quorum (OneByOne j) step room list batch is written =

@@ -1,25 +1,13 @@
 -- What a caller has verified, by what the scheme of its round means.
-use Rattle.std.proofs.Common.{◌≡◌, ◌≢◌, ◌↔◌, ◌∙◌, ◌&&◌, nat_lt, ℕ, Bool, true, false, List, [], ◌∷◌, Some, map, ap, refl, sym}
-use Rattle.std.specs.List.{list_all, list_any}
-use Rattle.std.specs.Prelude.{is_none, length}
-use Rattle.std.proofs.lemmas.Bool.{and_parts, true≢false}
-use Rattle.std.proofs.lemmas.List.{length-map}
-use Rattle.batcher_types.specs.declared.messages.Attestation.{Attestation}
-use Rattle.batcher_types.specs.declared.messages.Sha256Digest.{Sha256Digest}
-use Rattle.batcher_types.specs.declared.messages.Subject.{Subject}
-use Rattle.batcher_bytes.specs.declared.signature.Signature.{Signature}
-use Rattle.batcher_any.specs.Judging.{SameAny, keys_in}
-use Rattle.batcher_any.specs.declared.either.Either.TheVariants.{Batchable, OneByOne}
-use Rattle.batcher_ffi.specs.Flat.{AreIn, attestation_in}
-use Rattle.batcher_ffi.specs.Loops.{CLoop, loop_config, loop_keys, loop_participants}
-use Rattle.batcher_ffi.specs.Rounds.{CRound, config_of, is_short}
-use Rattle.batcher_ffi.specs.Truths.{is_attested}
-use Rattle.batcher_ffi.specs.declared.codes.TheConstants.{SHORT}
-use Rattle.batcher_ffi.specs.declared.flat.FlatAttestation.{FlatAttestation}
+use Rattle.batcher_ffi.proofs.Words.{◌≡◌, ◌≢◌, ◌↔◌, ◌∙◌, ◌&&◌, nat_lt, ℕ, Bool, true, false, List, [], ◌∷◌, map, ap, refl, sym, list_all, list_any, is_none}
+use Rattle.batcher_ffi.proofs.Words.{length, and_parts, true≢false, length-map, Attestation, Sha256Digest, Subject, Signature, SameAny, keys_in, Batchable}
+use Rattle.batcher_ffi.proofs.Words.{OneByOne, AreIn, attestation_in, CLoop, loop_config, loop_keys, loop_participants, CRound, config_of_handle, is_short}
+use Rattle.batcher_ffi.proofs.Words.{is_attested, SHORT, FlatAttestation}
+use Rattle.std.specs.Prelude.{Some}
 
 pub attests_if : (r : CRound) (subject : Subject Sha256Digest) (a : Attestation Signature)
-    → (config_of r).meaning.attests subject a
-    ≡ (nat_lt a.signer.0 (length (config_of r).meaning.participants)
+    → (config_of_handle r).meaning.attests subject a
+    ≡ (nat_lt a.signer.0 (length (config_of_handle r).meaning.participants)
     && is_attested (keys_in r) subject a)
 attests_if (Batchable judged) subject a = refl
 attests_if (OneByOne judged) subject a = refl
@@ -41,11 +29,13 @@ each_attests n holds attests if (a ∷ all) h =
 
 pub all_attest : (r : CRound) (subject : Subject Sha256Digest)
     (all : List (Attestation Signature))
-    → list_all (λ a. nat_lt a.signer.0 (length (config_of r).meaning.participants)) all ≡ true
-    → map (is_attested (keys_in r) subject) all ≡ map ((config_of r).meaning.attests subject) all
+    → list_all (λ a. nat_lt a.signer.0 (length (config_of_handle r).meaning.participants)) all
+    ≡ true
+    → map (is_attested (keys_in r) subject) all ≡ map
+    ((config_of_handle r).meaning.attests subject) all
 all_attest r subject all h =
-    each_attests (length (config_of r).meaning.participants) (is_attested (keys_in r) subject)
-    ((config_of r).meaning.attests subject) (attests_if r subject) all h
+    each_attests (length (config_of_handle r).meaning.participants) (is_attested (keys_in r) subject)
+    ((config_of_handle r).meaning.attests subject) (attests_if r subject) all h
 
 -- The same of a validator.
 pub loop_attests_if : (l : CLoop) (subject : Subject Sha256Digest) (a : Attestation Signature)

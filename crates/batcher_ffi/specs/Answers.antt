@@ -3,13 +3,18 @@ use Rattle.std.specs.Prelude.{◌≡◌, ◌≢◌, ⊤, ℕ, false, Result, Ok,
 use Rattle.batcher_types.specs.declared.messages.Sha256Digest.{Sha256Digest}
 use Rattle.batcher_histories.specs.declared.answers.Admission.{Admission}
 use Rattle.batcher_node.specs.declared.answers.EnterFault.{EnterFault}
-use Rattle.batcher_node.specs.declared.answers.EnterFault.TheVariants.{Passed, LeaderChanged, OutOfMemory}
+use Rattle.batcher_node.specs.declared.answers.EnterFault.TheVariants.{Passed, LeaderChanged}
+use Rattle.batcher_node.specs.declared.answers.EnterFault.TheVariants.{OutOfMemory}
 use Rattle.batcher_node.specs.declared.answers.Receipt.{Receipt}
-use Rattle.batcher_node.specs.declared.answers.Receipt.TheVariants.{Answered, Outside, Dropped, Unknown}
+use Rattle.batcher_node.specs.declared.answers.Receipt.TheVariants.{Answered, Outside, Dropped}
+use Rattle.batcher_node.specs.declared.answers.Receipt.TheVariants.{Unknown}
 use Rattle.batcher_node.specs.declared.answers.Verdict.{Verdict}
-use Rattle.batcher_node.specs.declared.answers.Verdict.TheVariants.{Recorded, Forged, Known as KnownCertificate}
+use Rattle.batcher_node.specs.declared.answers.Verdict.TheVariants.{Recorded, Forged}
+use Rattle.batcher_node.specs.declared.answers.Verdict.TheVariants.{Known as KnownCertificate}
 use Rattle.batcher_bytes.specs.declared.signature.Signature.{Signature}
-use Rattle.batcher_ffi.specs.declared.codes.TheConstants.{DONE, ELSEWHERE, OUT_OF_MEMORY, LEADER_CHANGED, DROPPED, UNKNOWN, PASSED, KNOWN, FORGED}
+use Rattle.batcher_ffi.specs.declared.codes.TheConstants.{DONE, ELSEWHERE, OUT_OF_MEMORY}
+use Rattle.batcher_ffi.specs.declared.codes.TheConstants.{LEADER_CHANGED, DROPPED, UNKNOWN, PASSED}
+use Rattle.batcher_ffi.specs.declared.codes.TheConstants.{KNOWN, FORGED}
 use Rattle.batcher_ffi.specs.declared.flat.FlatAdmission.{FlatAdmission}
 use Rattle.batcher_ffi.specs.Flat.{admission_in}
 

@@ -1,7 +1,8 @@
 -- Whom two votes convict, by flat values.
-use Rattle.std.specs.Prelude.{◌≡◌, ◌≢◌, ◌↔◌, ℕ, Bool, true, false, List, [], ◌∷◌, length, None, IfSome}
+use Rattle.std.specs.Prelude.{◌≡◌, ◌≢◌, ◌↔◌, ℕ, Bool, true, false, List, [], ◌∷◌, length, None}
+use Rattle.std.specs.Prelude.{IfSome}
 use Rattle.batcher_types.specs.Keys.{participant}
-use Rattle.batcher_types.specs.Votes.{attestation_of, subject_of}
+use Rattle.batcher_types.specs.Votes.{attestation_of}
 use Rattle.batcher_types.specs.declared.messages.Sha256Digest.{Sha256Digest}
 use Rattle.batcher_types.specs.declared.messages.Vote.{Vote}
 use Rattle.batcher_types.specs.declared.scheme.keyed.Name.{Name}
@@ -9,18 +10,12 @@ use Rattle.batcher_bytes.specs.Keys.{same_digest}
 use Rattle.batcher_bytes.specs.declared.signature.Keys.{Keys}
 use Rattle.batcher_bytes.specs.declared.signature.Signature.{Signature}
 use Rattle.batcher_evidence.specs.Convictions.{convicts}
-use Rattle.batcher_any.specs.Judging.{meaning_by}
+use Rattle.batcher_verdicts.specs.Judging.{meaning_by}
 use Rattle.batcher_ffi.specs.contracts.caller.CallerTruth.TheImpl.{ghosts}
 use Rattle.batcher_ffi.specs.declared.codes.TheConstants.{DONE, IDLE, MALFORMED}
 use Rattle.batcher_ffi.specs.declared.flat.FlatVote.{FlatVote}
-use Rattle.batcher_ffi.specs.Flat.{vote_in, with_both}
+use Rattle.batcher_ffi.specs.Flat.{vote_of_flat, with_both}
 use Rattle.batcher_ffi.specs.Rounds.{is_one_of}
-use Rattle.batcher_ffi.specs.Truths.{is_attested}
-
--- a vote that the caller has verified by the keys
-abbrev pub IsVerifiedBy : Keys → FlatVote → Bool → Type 0
-IsVerifiedBy keys vote attests = IfSome (vote_in vote) (λ typed.
-    is_attested keys (subject_of typed) (attestation_of typed) ≡ attests)
 
 -- Whether two votes are of one signer, contradict each other and both attest is this, by each
 -- scheme over so many participants with the keys.
@@ -35,9 +30,9 @@ pub record AsksConvicted (code participants : ℕ) (keys : Keys) (first second :
     (old out : ℕ) : Type 0 where
   pub codes : is_one_of (DONE ∷ IDLE ∷ MALFORMED ∷ []) code ≡ true
   pub malformed : (code ≡ MALFORMED)
-      ↔ (with_both (λ a b. a) (vote_in first) (vote_in second) ≡ None)
-  pub done : code ≡ DONE → IfSome (vote_in first) (λ a. IfSome (vote_in second) (λ b.
+      ↔ (with_both (λ a b. a) (vote_of_flat first) (vote_of_flat second) ≡ None)
+  pub done : code ≡ DONE → IfSome (vote_of_flat first) (λ a. IfSome (vote_of_flat second) (λ b.
       Convict participants keys a b true × ((attestation_of a).signer ≡ participant out)))
-  pub nobody : code ≡ IDLE → IfSome (vote_in first) (λ a. IfSome (vote_in second) (λ b.
+  pub nobody : code ≡ IDLE → IfSome (vote_of_flat first) (λ a. IfSome (vote_of_flat second) (λ b.
       Convict participants keys a b false))
   pub stays : code ≢ DONE → out ≡ old

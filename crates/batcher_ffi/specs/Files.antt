@@ -1,10 +1,13 @@
 -- What the calls of two files that take turns do, and how their answers are written. What is said
 -- of them are the words of `batcher_file`.
-use Rattle.std.specs.Prelude.{◌≡◌, ◌≢◌, ◌==◌, ◌<◌, ◌≤◌, ◌-◌, ◌^◌, ◌⊎◌, ◌↔◌, ℕ, Bool, true, if◌then◌else◌, List, [], ◌∷◌, Option, Some, None, IfSome, IsSomeAnd, is_some, length}
+use Rattle.std.specs.Prelude.{◌≡◌, ◌≢◌, ◌==◌, ◌<◌, ◌≤◌, ◌-◌, ◌^◌, ◌⊎◌, ◌↔◌, ℕ, Bool, true}
+use Rattle.std.specs.Prelude.{if◌then◌else◌, List, [], ◌∷◌, Option, Some, None, IfSome, IsSomeAnd}
+use Rattle.std.specs.Prelude.{is_some, length}
 use Rattle.std.specs.List.{slice_get}
 use Rattle.batcher_file.specs.Pairs.{HoldNone}
-use Rattle.batcher_file.specs.Plans.{IsAddition, IsMade, IsOpened, IsReplacement, IsSame, IsTaken}
-use Rattle.batcher_file.specs.Refusals.{Shows}
+use Rattle.batcher_file.specs.Plans.{IsAddition, MakesFiles, IsOpened, IsReplacement, SameBytes}
+use Rattle.batcher_file.specs.Plans.{IsTaken}
+use Rattle.batcher_file.specs.Refusals.{FaultShows}
 use Rattle.batcher_file.specs.Steps.{steps}
 use Rattle.batcher_file.specs.declared.files.TwoFiles.{TwoFiles}
 use Rattle.batcher_file.specs.declared.opening.OpenFault.{OpenFault}
@@ -12,7 +15,9 @@ use Rattle.batcher_file.specs.declared.opening.OpenFault.TheVariants.{Empty, Out
 use Rattle.batcher_file.specs.declared.steps.Plan.{Plan}
 use Rattle.batcher_file.specs.declared.steps.Step.{Step}
 use Rattle.batcher_file.specs.declared.steps.Step.TheVariants.{Byte, Frame, SetLen}
-use Rattle.batcher_ffi.specs.declared.codes.TheConstants.{BEGUN, CHANGE_BYTE, CHANGE_FRAME, CHANGE_LENGTH, DAMAGED, DONE, FULL, IDLE, NOT_BEGUN, OUT_OF_MEMORY, UNFINISHED}
+use Rattle.batcher_ffi.specs.declared.codes.TheConstants.{BEGUN, CHANGE_BYTE, CHANGE_FRAME}
+use Rattle.batcher_ffi.specs.declared.codes.TheConstants.{CHANGE_LENGTH, DAMAGED, DONE, FULL, IDLE}
+use Rattle.batcher_ffi.specs.declared.codes.TheConstants.{NOT_BEGUN, OUT_OF_MEMORY, UNFINISHED}
 use Rattle.batcher_ffi.specs.declared.files.Files.{Files}
 use Rattle.batcher_ffi.specs.declared.files.FlatChange.{FlatChange}
 use Rattle.batcher_ffi.specs.Rounds.{is_one_of}
@@ -41,10 +46,10 @@ module _ (first second : List ℕ) where
 
   abbrev pub WhyNotOpened : ℕ → Type 0
   WhyNotOpened code =
-      (fault : OpenFault) × ((code ≡ fault_code fault) × Shows (HoldNone first second) fault)
+      (fault : OpenFault) × ((code ≡ fault_code fault) × FaultShows (HoldNone first second) fault)
 
   abbrev pub IsCreated : List ℕ → Files → Type 0
-  IsCreated bytes it = IsSomeAnd it.plan (λ plan. IsMade first second bytes it.files plan)
+  IsCreated bytes it = IsSomeAnd it.plan (λ plan. MakesFiles first second bytes it.files plan)
 
   abbrev pub WhyNotCreated : ℕ → Type 0
   WhyNotCreated code =
@@ -78,7 +83,7 @@ module _ (before : Files) (code : ℕ) (after : Files) where
     pub done : code ≡ DONE → IsSomeAnd after.plan (IsPlanned after.files)
     pub full : code ≡ FULL → (2 ^ 63 - 2 ≤ before.files.next) ⊎ (2 ^ 40 < before.files.end)
         ⊎ (2 ^ 40 < length bytes)
-    pub stays : code ≢ DONE → IsSame before.files after.files × (after.plan ≡ before.plan)
+    pub stays : code ≢ DONE → SameBytes before.files after.files × (after.plan ≡ before.plan)
 
   abbrev pub Appends : List ℕ → Type 0
   Appends bytes = Plans bytes (IsAddition before.files bytes)

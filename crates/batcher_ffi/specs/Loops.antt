@@ -1,7 +1,9 @@
 -- What the calls of a validator do whose caller verifies signatures and writes to the disk, and how
 -- its answers are written. What is said of it are the words of `batcher_validator`.
-use Rattle.std.specs.Prelude.{◌≡◌, ◌≢◌, ◌==◌, ◌<◌, ◌≤◌, ◌++◌, ◌⊎◌, ◌&&◌, ⊤, ℕ, Bool, true, false, List, [], ◌∷◌, length}
-use Rattle.std.specs.Prelude.{nat_le, not, nat_lt, Contains, MatchBool, MatchOption, Option, Some, None, Result, Ok, Err, IfErr, IfOk, IfSome, IsSomeAnd, OnErr, OnOk, is_some}
+use Rattle.std.specs.Prelude.{◌≡◌, ◌≢◌, ◌==◌, ◌<◌, ◌≤◌, ◌++◌, ◌⊎◌, ◌&&◌, ⊤, ℕ, Bool, true, false}
+use Rattle.std.specs.Prelude.{List, [], ◌∷◌, length, nat_le, not, nat_lt, Contains, MatchBool}
+use Rattle.std.specs.Prelude.{MatchOption, Option, Some, None, Result, Ok, Err, IfErr, IfOk, IfSome}
+use Rattle.std.specs.Prelude.{IsSomeAnd, OnErr, OnOk, is_some}
 use Rattle.std.specs.Ordering.{nat_cmp}
 use Rattle.std.specs.declared.alloc.AllocError.{AllocError}
 use Rattle.batcher.specs.Meaning.{Meaning}
@@ -11,7 +13,8 @@ use Rattle.batcher.specs.Config.{Config}
 use Rattle.batcher.specs.Verifiers.{certifies_itself}
 use Rattle.batcher.specs.calls.Call.TheVariants.{Network as NetworkCall}
 use Rattle.batcher.specs.answers.Admission.{Admission}
-use Rattle.batcher_types.specs.Votes.{attestation_of, round_in as round_signed, subject_certified, content_of, subject_of}
+use Rattle.batcher_types.specs.Votes.{attestation_of, round_in}
+use Rattle.batcher_types.specs.Votes.{subject_certified, content_of, subject_of}
 use Rattle.batcher_types.specs.declared.messages.Attestation.{Attestation}
 use Rattle.batcher_types.specs.declared.messages.Certificate.{Certificate}
 use Rattle.batcher_types.specs.declared.messages.Kind.{Kind}
@@ -31,48 +34,69 @@ use Rattle.batcher_bytes.specs.declared.signature.Keys.{Keys}
 use Rattle.batcher_bytes.specs.declared.signature.Signature.{Signature}
 use Rattle.batcher_bytes.specs.declared.signature.TheConstants.{WIDTH}
 use Rattle.batcher_bytes.specs.declared.signed.Signed.{Signed}
-use Rattle.batcher_codec.specs.Messages.{certificate_format, sha256_format, vote_format}
+use Rattle.batcher_bytes.specs.Messages.{certificate_format, sha256_format, vote_format}
 use Rattle.batcher_journal.specs.Causes.{IsAnothers}
 use Rattle.batcher_journal.specs.Text.{Contents, IsText, OwnerFields}
 use Rattle.batcher_journal.specs.declared.journal.OpenFault.{OpenFault}
-use Rattle.batcher_journal.specs.declared.journal.OpenFault.TheVariants.{NotBegun, OtherVersion, OtherLengths, OtherParticipant, OtherKeys, OtherNamespace, OutOfMemory as NoMemoryToOpen, Malformed as NoJournal, Contradiction}
-use Rattle.batcher_loop.specs.Disks.{noted}
-use Rattle.batcher_loop.specs.declared.looping.Loop.{Loop}
-use Rattle.batcher_loop.specs.declared.looping.Next.{Next}
-use Rattle.batcher_loop.specs.declared.looping.Next.TheVariants.{Do, Write}
-use Rattle.batcher_loop.specs.declared.starting.LoopFault.{LoopFault}
-use Rattle.batcher_loop.specs.declared.starting.LoopFault.TheVariants.{NotOpened, NotStarted, OutOfMemory as NoMemoryToStart}
+use Rattle.batcher_journal.specs.declared.journal.OpenFault.TheVariants.{NotBegun, OtherVersion}
+use Rattle.batcher_journal.specs.declared.journal.OpenFault.TheVariants.{OtherLengths}
+use Rattle.batcher_journal.specs.declared.journal.OpenFault.TheVariants.{OtherParticipant}
+use Rattle.batcher_journal.specs.declared.journal.OpenFault.TheVariants.{OtherKeys, OtherNamespace}
+use Rattle.batcher_journal.specs.declared.journal.OpenFault.TheVariants.{OutOfMemory as NoMemoryToOpen}
+use Rattle.batcher_journal.specs.declared.journal.OpenFault.TheVariants.{Malformed as NoJournal}
+use Rattle.batcher_journal.specs.declared.journal.OpenFault.TheVariants.{Contradiction}
+use Rattle.batcher_validator.specs.Disks.{noted}
+use Rattle.batcher_validator.specs.declared.looping.Loop.{Loop}
+use Rattle.batcher_validator.specs.declared.looping.Next.{Next}
+use Rattle.batcher_validator.specs.declared.looping.Next.TheVariants.{Do, Write}
+use Rattle.batcher_validator.specs.declared.starting.LoopFault.{LoopFault}
+use Rattle.batcher_validator.specs.declared.starting.LoopFault.TheVariants.{NotOpened, NotStarted}
+use Rattle.batcher_validator.specs.declared.starting.LoopFault.TheVariants.{OutOfMemory as NoMemoryToStart}
 use Rattle.batcher_node.specs.Events.{certificate_came, view_entered, vote_came}
-use Rattle.batcher_node.specs.Nodes.{IsLedByAnother, IsNext, NodeConfig, NodeView, node_config, slot_at}
+use Rattle.batcher_node.specs.Nodes.{IsLedByAnother, IsNext, NodeConfig, NodeView, node_config}
+use Rattle.batcher_node.specs.Nodes.{slot_at}
 use Rattle.batcher_node.specs.Represents.{IsHeard, MayNeedIn}
 use Rattle.batcher_node.specs.Windows.{contains}
 use Rattle.batcher_node.specs.Verdicts.{LooksAtKindThere, LooksAtThere}
 use Rattle.batcher_node.specs.declared.answers.Cast.{Cast}
-use Rattle.batcher_node.specs.declared.answers.Cast.TheVariants.{ToSend, Known as KnownVote, Outside as OutsideVote}
+use Rattle.batcher_node.specs.declared.answers.Cast.TheVariants.{ToSend, Known as KnownVote}
+use Rattle.batcher_node.specs.declared.answers.Cast.TheVariants.{Outside as OutsideVote}
 use Rattle.batcher_node.specs.declared.answers.EnterFault.{EnterFault}
 use Rattle.batcher_node.specs.declared.answers.Receipt.{Receipt}
 use Rattle.batcher_node.specs.declared.answers.Verdict.{Verdict}
 use Rattle.batcher_validator.specs.Ending.{HasLessLeft}
-use Rattle.batcher_validator.specs.Histories.{ValidatorEvent, again, answered, chose, did, expired, took}
+use Rattle.batcher_validator.specs.Histories.{ValidatorEvent, again, answered, chose, did, expired}
+use Rattle.batcher_validator.specs.Histories.{took}
 use Rattle.batcher_validator.specs.Queues.{HasKey}
-use Rattle.batcher_validator.specs.Running.{Constructs, ForEachRun, Gives, HasBegun, IsReady, IsRunning, RunCasts, RunMayWrite, RunMeets, RunStays}
-use Rattle.batcher_validator.specs.Shelves.{IsToAnnounce, key_of}
+use Rattle.batcher_validator.specs.Running.{HasConstructed, ForEachRun, Gives, HasBegun}
+use Rattle.batcher_validator.specs.Running.{IsReadyTask, IsRunning, RunCasts, RunMayWrite, RunMeets}
+use Rattle.batcher_validator.specs.Running.{RunStays}
+use Rattle.batcher_validator.specs.Shelves.{IsToAnnounce, kind_and_round}
 use Rattle.batcher_validator.specs.Tasks.{NothingIsDue}
 use Rattle.batcher_validator.specs.declared.task.PollFault.{PollFault}
-use Rattle.batcher_validator.specs.declared.task.PollFault.TheVariants.{Closed, Full, OutOfMemory as NoMemoryToPoll}
+use Rattle.batcher_validator.specs.declared.task.PollFault.TheVariants.{Closed, Full}
+use Rattle.batcher_validator.specs.declared.task.PollFault.TheVariants.{OutOfMemory as NoMemoryToPoll}
 use Rattle.batcher_validator.specs.declared.task.Task.{Task}
 use Rattle.batcher_voter.specs.Needing.{CertificateNeeds, ConstructionNeeds}
 use Rattle.batcher_voter.specs.Remembering.{IsLeft}
 use Rattle.batcher_voter.specs.Voting.{WhyNotCast}
 use Rattle.batcher_voter.specs.declared.answers.CastFault.{CastFault}
-use Rattle.batcher_voter.specs.declared.answers.CastFault.TheVariants.{Closed as NotOpen, Excluded, Full as NoRoom, NotOwn, OutOfMemory as NoMemoryToCast, Refused, Signed as SignedBefore}
+use Rattle.batcher_voter.specs.declared.answers.CastFault.TheVariants.{Closed as NotOpen, Excluded}
+use Rattle.batcher_voter.specs.declared.answers.CastFault.TheVariants.{Full as NoRoom, NotOwn}
+use Rattle.batcher_voter.specs.declared.answers.CastFault.TheVariants.{OutOfMemory as NoMemoryToCast}
+use Rattle.batcher_voter.specs.declared.answers.CastFault.TheVariants.{Refused}
+use Rattle.batcher_voter.specs.declared.answers.CastFault.TheVariants.{Signed as SignedBefore}
 use Rattle.batcher_voter.specs.declared.answers.StartFault.{StartFault}
 use Rattle.batcher_voter.specs.declared.answers.StartFault.TheVariants.{OutOfMemory as NoMemoryForVoter}
-use Rattle.batcher_any.specs.Judging.{same_signature}
+use Rattle.batcher_verdicts.specs.Judging.{same_signature}
 use Rattle.batcher_ffi.specs.contracts.caller.CallerTruth.TheImpl.{ghosts}
 use Rattle.batcher_ffi.specs.declared.caller.Caller.{Caller}
-use Rattle.batcher_ffi.specs.declared.codes.TheConstants.{BEGUN, CLOSED, DAMAGED, DONE, ELSEWHERE, FORGED, FULL, IDLE, KNOWN, LEADER_CHANGED, MALFORMED, NOT_BEGUN}
-use Rattle.batcher_ffi.specs.declared.codes.TheConstants.{NOT_OWN, NOT_VERIFIED, OTHER_OWNER, OTHER_VERSION, OUT_OF_MEMORY, PASSED, REFUSED, SHORT, SIGNED, STALE, VERIFY, WRITE}
+use Rattle.batcher_ffi.specs.declared.codes.TheConstants.{BEGUN, CLOSED, DAMAGED, DONE, ELSEWHERE}
+use Rattle.batcher_ffi.specs.declared.codes.TheConstants.{FORGED, FULL, IDLE, KNOWN, LEADER_CHANGED}
+use Rattle.batcher_ffi.specs.declared.codes.TheConstants.{MALFORMED, NOT_BEGUN, NOT_OWN}
+use Rattle.batcher_ffi.specs.declared.codes.TheConstants.{NOT_VERIFIED, OTHER_OWNER, OTHER_VERSION}
+use Rattle.batcher_ffi.specs.declared.codes.TheConstants.{OUT_OF_MEMORY, PASSED, REFUSED, SHORT}
+use Rattle.batcher_ffi.specs.declared.codes.TheConstants.{SIGNED, STALE, VERIFY, WRITE}
 use Rattle.batcher_ffi.specs.declared.flat.FlatAdmission.{FlatAdmission}
 use Rattle.batcher_ffi.specs.declared.flat.FlatAttestation.{FlatAttestation}
 use Rattle.batcher_ffi.specs.declared.flat.FlatProposal.{FlatProposal}
@@ -80,9 +104,10 @@ use Rattle.batcher_ffi.specs.declared.flat.FlatStep.{FlatStep}
 use Rattle.batcher_ffi.specs.declared.flat.FlatVote.{FlatVote}
 use Rattle.batcher_ffi.specs.declared.loops.LoopOptions.{LoopOptions}
 use Rattle.batcher_ffi.specs.declared.tasks.FlatTask.{FlatTask}
-use Rattle.batcher_ffi.specs.Flat.{AreIn, fault_in, kind_in, proposal_in, raw_in, round_in, subject_in, vote_in}
+use Rattle.batcher_ffi.specs.Flat.{AreIn, fault_in, kind_in, proposal_of_flat, raw_in}
+use Rattle.batcher_ffi.specs.Flat.{round_of_flat, subject_in, vote_of_flat}
 use Rattle.batcher_ffi.specs.Answers.{AnswersVote, enter_code, receipt_code, verdict_code}
-use Rattle.batcher_ffi.specs.Output.{IsWritten, WritesAll}
+use Rattle.batcher_ffi.specs.Output.{FillsRoom, WritesAll}
 use Rattle.batcher_ffi.specs.Rounds.{AreOfParticipants, AreVerifiedBy, IsVerifiedBy, is_one_of}
 use Rattle.batcher_ffi.specs.Tasks.{IsProposedIn, task_in}
 
@@ -129,11 +154,11 @@ abbrev pub loop_participants : CLoop → ℕ
 loop_participants l = length l.validator.voter.node.scheme.participants
 
 -- what its disk is to have, and what the caller has written there
-abbrev pub log_of : CLoop → List ℕ
-log_of l = l.validator.voter.journal.log.bytes
+abbrev pub loop_log : CLoop → List ℕ
+loop_log l = l.validator.voter.journal.log.bytes
 
-abbrev pub disk_of : CLoop → List ℕ
-disk_of l = l.validator.voter.journal.log.copy
+abbrev pub loop_disk : CLoop → List ℕ
+loop_disk l = l.validator.voter.journal.log.copy
 
 -- the certificates that it keeps
 abbrev pub kept_in : CLoop → List (Certificate ProofView Sha256Digest)
@@ -205,7 +230,7 @@ pub record IsMade (options : LoopOptions) (namespace disk : List ℕ) (l : CLoop
   pub ahead_is : l.validator.voter.node.window.ahead ≡ options.ahead
   pub retains_is : l.validator.voter.node.retains ≡ options.track_historical_votes
   pub goes_on : GoesOnFrom options.begins disk l
-  pub on_disk : disk_of l ≡ disk
+  pub on_disk : loop_disk l ≡ disk
 
 -- The journal on the disk is of another owner, or of another epoch.
 abbrev pub IsOthers : LoopOptions → OwnerFields → List ℕ → Type 0
@@ -282,7 +307,7 @@ pub record IsLentBy
   pub looks_at : LooksAt subject asked
   pub about : subject_in out.kind out.proposal ≡ Some subject
   pub listed : out.listed ≡ length asked
-  pub written : IsWritten raw_in asked room list
+  pub written : FillsRoom raw_in asked room list
 
 -- They are of the next construction,
 abbrev pub IsLent : CLoop → FlatStep → List FlatAttestation → List FlatAttestation → Type 0
@@ -300,20 +325,20 @@ module _ (l : CLoop) (code : ℕ) where
   -- What is to be written, behind what is there or in its place.
   pub record AsksOwed (room list : List ℕ) (old count : ℕ) (was replaces : Bool) : Type 0 where
     pub codes : is_one_of (DONE ∷ IDLE ∷ SHORT ∷ []) code ≡ true
-    pub none : code ≡ IDLE → disk_of l ≡ log_of l
+    pub none : code ≡ IDLE → loop_disk l ≡ loop_log l
     pub stays : code ≡ IDLE → (list ≡ room) × ((count ≡ old) × (replaces ≡ was))
     pub owed : List ℕ
     pub has_all : code ≢ IDLE
-        → MatchBool replaces (owed ≡ log_of l) (disk_of l ++ owed ≡ log_of l)
-    pub lacks : code ≢ IDLE → disk_of l ≢ log_of l
+        → MatchBool replaces (owed ≡ loop_log l) (loop_disk l ++ owed ≡ loop_log l)
+    pub lacks : code ≢ IDLE → loop_disk l ≢ loop_log l
     pub written : code ≢ IDLE → WritesAll owed room list count code
 
   -- A certificate is kept, and its bytes and its proposal are written.
-  pub record IsKept (key : Kind × Round) (kind : ℕ) (asked out : FlatProposal)
+  pub record GivesKept (key : Kind × Round) (kind : ℕ) (asked out : FlatProposal)
       (room list : List ℕ) (count : ℕ) : Type 0 where
     pub certificate : Certificate ProofView Sha256Digest
     pub there : Contains (kept_in l) certificate
-    pub key_is : key_of certificate ≡ key
+    pub key_is : kind_and_round certificate ≡ key
     pub bytes : WritesAll (content_of certificate).bytes room list count code
     pub subject : code ≡ DONE → subject_in kind out ≡ Some (subject_certified certificate)
     pub short : code ≡ SHORT → out ≡ asked
@@ -323,9 +348,9 @@ module _ (l : CLoop) (code : ℕ) where
   AsksKept kind asked out room list old count =
       MatchOption (kind_in kind)
       ((code ≡ MALFORMED) × ((list ≡ room) × ((out ≡ asked) × (count ≡ old)))) (λ typed.
-      IsKept (typed, round_in asked) kind asked out room list count
+      GivesKept (typed, round_of_flat asked) kind asked out room list count
       ⊎ ((code ≡ IDLE) × ((list ≡ room) × ((out ≡ asked) × ((count ≡ old)
-      × (HasKey key_of (kept_in l) (typed, round_in asked) → ⊥))))))
+      × (HasKey kind_and_round (kept_in l) (typed, round_of_flat asked) → ⊥))))))
 
 -- Calls of a validator, and what is answered to them.
 module _ (before : CLoop) (code : ℕ) (after : CLoop) where
@@ -334,8 +359,8 @@ module _ (before : CLoop) (code : ℕ) (after : CLoop) where
   Notes event = RunMeets (loop_config before) before.validator after.validator event
 
   -- nothing happened that counts
-  abbrev pub Rests : Type 0
-  Rests = RunStays (loop_config before) before.validator after.validator
+  abbrev pub LoopRests : Type 0
+  LoopRests = RunStays (loop_config before) before.validator after.validator
 
   -- What is handed in has a meaning, of which it holds. Else the code says so, and nothing changes.
   abbrev pub IfRead : {A : Type 0} → Option A → Type 0 → (A → Type 0) → Type 0
@@ -347,30 +372,30 @@ module _ (before : CLoop) (code : ℕ) (after : CLoop) where
     pub answer : Result (Option Next) PollFault
     pub written : AnswersPoll answer code old out
     pub proposed : IsProposedIn before.validator.voter.node.epoch out ⊎ (code ≢ DONE)
-    pub writes : code ≡ WRITE → (after ≡ before) × (disk_of before ≢ log_of before)
-    pub is_written : code ≡ DONE → disk_of before ≡ log_of before
+    pub writes : code ≡ WRITE → (after ≡ before) × (loop_disk before ≢ loop_log before)
+    pub is_written : code ≡ DONE → loop_disk before ≡ loop_log before
     pub gives : (task : Task Signature Sha256Digest) → answer ≡ Ok (Some (Do task))
         → Gives (loop_config before) before.validator after.validator task
     pub ready : (task : Task Signature Sha256Digest) → answer ≡ Ok (Some (Do task))
-        → IsReady before.validator task
+        → IsReadyTask before.validator task
     pub less : (task : Task Signature Sha256Digest) → answer ≡ Ok (Some (Do task))
         → HasLessLeft (loop_config before) before.validator after.validator task
     pub nothing : code ≡ IDLE → ForEachRun (loop_config before) before.validator
         (λ past earlier. NothingIsDue (loop_config before) earlier past)
-    pub rests : code ≡ IDLE → Rests
+    pub rests : code ≡ IDLE → LoopRests
     pub why : OnErr answer ((before.validator.voter.journal.is_open ≡ false)
         ⊎ IsToAnnounce before.validator.given.announced (kept_in before))
-    pub refused : OnErr answer Rests
+    pub refused : OnErr answer LoopRests
     pub closed : code ≡ CLOSED → after.validator.voter.journal.is_open ≡ false
     pub full : code ≡ FULL → after.validator.voter.journal.is_open ≡ true
-    pub on_disk : disk_of after ≡ disk_of before
+    pub on_disk : loop_disk after ≡ loop_disk before
 
   -- What is owed is written, and nothing else changes.
   pub record Wrote : Type 0 where
     pub codes : code ≡ DONE
-    pub written : disk_of after ≡ log_of after
+    pub written : loop_disk after ≡ loop_log after
     pub validator : after.validator ≡ noted before.validator
-    pub rests : Rests
+    pub rests : LoopRests
 
   -- a vote of a peer, whose key is the number
   pub record VoteCame (peer : ℕ) (vote : Vote Signature Sha256Digest) (old out : FlatAdmission)
@@ -380,15 +405,15 @@ module _ (before : CLoop) (code : ℕ) (after : CLoop) where
     pub meets : IfOk answer (λ receipt.
         Notes (did (called (vote_came (record { 0 = peer }) vote receipt))))
     pub heard : OnErr answer (IsHeard (loop_config before) before.validator.voter.node
-        (record { 0 = peer }) (round_signed (subject_of vote)))
+        (record { 0 = peer }) (round_in (subject_of vote)))
     pub needed : OnErr answer (MayNeedIn (loop_config before) before.validator.voter.node
-        (round_signed (subject_of vote)).view.0 (NetworkCall (record { 0 = peer }) vote))
+        (round_in (subject_of vote)).view.0 (NetworkCall (record { 0 = peer }) vote))
     pub refused : OnErr answer (after ≡ before)
-    pub on_disk : disk_of after ≡ disk_of before
+    pub on_disk : loop_disk after ≡ loop_disk before
 
   abbrev pub HearsVote : ℕ → FlatVote → FlatAdmission → FlatAdmission → Type 0
   HearsVote peer vote old out =
-      IfRead (vote_in vote) (out ≡ old) (λ typed. VoteCame peer typed old out)
+      IfRead (vote_of_flat vote) (out ≡ old) (λ typed. VoteCame peer typed old out)
 
   -- There is no room for another certificate.
   abbrev pub IsShelfFull : Type 0
@@ -402,7 +427,7 @@ module _ (before : CLoop) (code : ℕ) (after : CLoop) where
         Notes (did (called (certificate_came (record { 0 = peer }) certificate receipt))))
     pub needed : OnErr answer (IsShelfFull ⊎ CertificateNeeds (loop_config before)
         before.validator.voter (record { 0 = peer }) certificate)
-    pub refused : OnErr answer Rests
+    pub refused : OnErr answer LoopRests
 
   -- or from beyond the window, where who fell behind goes on by it.
   pub record IsFromAhead (certificate : Certificate ProofView Sha256Digest) : Type 0 where
@@ -412,7 +437,7 @@ module _ (before : CLoop) (code : ℕ) (after : CLoop) where
         → certifies_itself (loop_config before).meaning certificate ≡ false
     pub forged_stays : code ≡ FORGED → after ≡ before
     pub needed : code ≡ OUT_OF_MEMORY → IsShelfFull
-    pub refused : code ≡ OUT_OF_MEMORY → Rests
+    pub refused : code ≡ OUT_OF_MEMORY → LoopRests
 
   -- memory is refused for the copy of its bytes
   pub record IsNotCopied (bytes : List ℕ) : Type 0 where
@@ -430,9 +455,9 @@ module _ (before : CLoop) (code : ℕ) (after : CLoop) where
       certifies = certifies;
       bytes = bytes;
     }
-    pub came : MatchBool (is_ahead before (round_signed subject)) (IsFromAhead certificate)
+    pub came : MatchBool (is_ahead before (round_in subject)) (IsFromAhead certificate)
         (IsOfPeer peer certificate)
-    pub on_disk : disk_of after ≡ disk_of before
+    pub on_disk : loop_disk after ≡ loop_disk before
 
   abbrev pub HearsCertificate : ℕ → ℕ → FlatProposal → List ℕ → Bool → Type 0
   HearsCertificate peer kind proposal bytes certifies =
@@ -447,13 +472,13 @@ module _ (before : CLoop) (code : ℕ) (after : CLoop) where
     pub lent : code ≡ VERIFY → IsLent before out room list
     pub same : (code ≡ VERIFY) ⊎ (code ≡ SHORT) → after ≡ before
     pub rests : code ≡ IDLE
-        → Constructs (loop_config before) before.validator after.validator ⊎ Notes answered
+        → HasConstructed (loop_config before) before.validator after.validator ⊎ Notes answered
     pub needed : code ≡ OUT_OF_MEMORY
         → IsShelfFull ⊎ ConstructionNeeds (loop_config before) before.validator.voter
     pub none : code ≡ IDLE → LendsNone before
-    pub refused : code ≡ OUT_OF_MEMORY → Rests
+    pub refused : code ≡ OUT_OF_MEMORY → LoopRests
     pub stays : code ≢ VERIFY → (out ≡ old) × (list ≡ room)
-    pub on_disk : disk_of after ≡ disk_of before
+    pub on_disk : loop_disk after ≡ loop_disk before
 
   -- Of a view that is named nothing is made, and nothing changes.
   pub record LendsOf (view : ℕ) (kind : Kind) (old out : FlatStep)
@@ -478,15 +503,15 @@ module _ (before : CLoop) (code : ℕ) (after : CLoop) where
   pub record IsConcluded (subject : Subject Sha256Digest) (all : List (Attestation Signature))
       : Type 0 where
     pub codes : is_one_of (DONE ∷ STALE ∷ OUT_OF_MEMORY ∷ []) code ≡ true
-    pub made : code ≡ DONE → Constructs (loop_config before) before.validator after.validator
+    pub made : code ≡ DONE → HasConstructed (loop_config before) before.validator after.validator
     pub stale : code ≡ STALE → Notes answered
     pub not_stale : (view : ℕ) → IsNext before.validator.voter.node.rounds view
         → LooksAtThere loop_round_config (slot_at before.validator.voter.node.rounds view) subject
         all → code ≢ STALE
     pub needed : code ≡ OUT_OF_MEMORY
         → IsShelfFull ⊎ ConstructionNeeds (loop_config before) before.validator.voter
-    pub refused : code ≡ OUT_OF_MEMORY → Rests
-    pub on_disk : disk_of after ≡ disk_of before
+    pub refused : code ≡ OUT_OF_MEMORY → LoopRests
+    pub on_disk : loop_disk after ≡ loop_disk before
 
   -- Verdicts on what was lent.
   pub record Concludes (kind : ℕ) (proposal : FlatProposal) (list : List FlatAttestation)
@@ -501,9 +526,9 @@ module _ (before : CLoop) (code : ℕ) (after : CLoop) where
         × (AreIn list all × IsConcluded subject all)))
     pub needed : code ≡ OUT_OF_MEMORY → (1 ≤ length list)
         ⊎ (IsShelfFull ⊎ ConstructionNeeds (loop_config before) before.validator.voter)
-    pub refused : code ≡ OUT_OF_MEMORY → Rests
+    pub refused : code ≡ OUT_OF_MEMORY → LoopRests
     pub stays : code ≡ MALFORMED → after ≡ before
-    pub on_disk : disk_of after ≡ disk_of before
+    pub on_disk : loop_disk after ≡ loop_disk before
 
   -- a vote of its own that attests
   pub record VoteCast (vote : Vote Signature Sha256Digest) : Type 0 where
@@ -515,7 +540,7 @@ module _ (before : CLoop) (code : ℕ) (after : CLoop) where
         RunMayWrite (loop_config before) vote past earlier after.validator))
     pub why : IfErr answer (λ fault. WhyNotCast (loop_config before) same_digest
         before.validator.voter vote fault after.validator.voter)
-    pub on_disk : disk_of after ≡ disk_of before
+    pub on_disk : loop_disk after ≡ loop_disk before
 
   -- one that doesn't attest, or whose signer takes no part
   pub record IsNotVerified (vote : Vote Signature Sha256Digest) (attests : Bool) : Type 0 where
@@ -525,7 +550,7 @@ module _ (before : CLoop) (code : ℕ) (after : CLoop) where
 
   abbrev pub CastsOwn : FlatVote → Bool → Type 0
   CastsOwn vote attests =
-      IfRead (vote_in vote) (Unit {0}) (λ typed. IsNotVerified typed attests ⊎ VoteCast typed)
+      IfRead (vote_of_flat vote) (Unit {0}) (λ typed. IsNotVerified typed attests ⊎ VoteCast typed)
 
   -- a view, with its leader
   pub record EntersNext (view leader : ℕ) : Type 0 where
@@ -537,17 +562,17 @@ module _ (before : CLoop) (code : ℕ) (after : CLoop) where
         → IsLedByAnother (slot_at before.validator.voter.node.rounds view) (participant leader)
     pub needed : code ≡ OUT_OF_MEMORY → slot_at before.validator.voter.node.rounds view ≡ None
     pub refused : OnErr answer (after ≡ before)
-    pub on_disk : disk_of after ≡ disk_of before
+    pub on_disk : loop_disk after ≡ loop_disk before
 
   -- Whether a proposal is valid. Of a view that it isn't in yet nothing is noted.
   pub record Judges (proposal : FlatProposal) (valid : Bool) : Type 0 where
     pub codes : code ≡ DONE
     pub chooses : valid ≡ true → proposal.view ≤ before.validator.voter.node.window.current
-        → Notes (chose (proposal_in proposal))
+        → Notes (chose (proposal_of_flat proposal))
     pub gives_up : valid ≡ false → proposal.view ≤ before.validator.voter.node.window.current
         → Notes (expired proposal.view)
     pub ahead : before.validator.voter.node.window.current < proposal.view → after ≡ before
-    pub on_disk : disk_of after ≡ disk_of before
+    pub on_disk : loop_disk after ≡ loop_disk before
 
   -- The time of a view is over, and all that is to be sent is given again.
   pub record Expires (view : ℕ) : Type 0 where
@@ -556,4 +581,4 @@ module _ (before : CLoop) (code : ℕ) (after : CLoop) where
         → ForEachRun (loop_config before) before.validator (λ past earlier.
         IsRunning (loop_config before) (again ∷ expired view ∷ past) earlier after.validator)
     pub ahead : before.validator.voter.node.window.current < view → Notes again
-    pub on_disk : disk_of after ≡ disk_of before
+    pub on_disk : loop_disk after ≡ loop_disk before

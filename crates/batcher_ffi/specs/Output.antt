@@ -8,7 +8,8 @@ use Rattle.batcher_types.specs.Votes.{subject_certified, content_of}
 use Rattle.batcher_votes.specs.declared.verifier.Batch.{Batch}
 use Rattle.batcher_bytes.specs.Listings.{Passed}
 use Rattle.batcher_bytes.specs.declared.certificates.Content.{Content}
-use Rattle.batcher_bytes.specs.declared.certificates.Content.TheVariants.{Made as MadeHere, Received}
+use Rattle.batcher_bytes.specs.declared.certificates.Content.TheVariants.{Made as MadeHere}
+use Rattle.batcher_bytes.specs.declared.certificates.Content.TheVariants.{Received}
 use Rattle.batcher_ffi.specs.contracts.caller.CallerTruth.TheImpl.{ghosts}
 use Rattle.batcher_ffi.specs.declared.caller.Caller.{Caller}
 use Rattle.batcher_ffi.specs.declared.codes.TheConstants.{DONE, SHORT}
@@ -17,7 +18,7 @@ use Rattle.batcher_ffi.specs.declared.flat.FlatStep.{FlatStep}
 use Rattle.batcher_ffi.specs.Flat.{raw_in, subject_in}
 
 -- The room has as many of the values, in their order, as it has places, and is else as it was.
-pub record IsWritten {A B : Type 0} (meaning : A → B) (values : List B) (room new : List A)
+pub record FillsRoom {A B : Type 0} (meaning : A → B) (values : List B) (room new : List A)
     : Type 0 where
   pub places : length new ≡ length room
   pub written : (i : ℕ) → i < length values → i < length room
@@ -30,7 +31,7 @@ pub record WritesAll (bytes room list : List ℕ) (count code : ℕ) : Type 0 wh
   pub counted : count ≡ length bytes
   pub short : code ≡ SHORT → length room < length bytes
   pub fits : code ≡ DONE → length bytes ≤ length room
-  pub written : code ≡ DONE → IsWritten (λ b. b) bytes room list
+  pub written : code ≡ DONE → FillsRoom (λ b. b) bytes room list
   pub stays : code ≡ SHORT → list ≡ room
 
 -- the certificates that rounds of a caller make
@@ -43,7 +44,7 @@ module _ (step : FlatStep) (room list : List FlatAttestation) where
   abbrev pub WritesContent : Content Caller → Type 0
   WritesContent (MadeHere listing) =
       (step.listed ≡ length listing.attestations)
-      × (IsWritten raw_in listing.attestations room list × Passed ghosts listing)
+      × (FillsRoom raw_in listing.attestations room list × Passed ghosts listing)
   WritesContent (Received certificate) = step.listed ≡ 0
 
   -- what the certificate is of, and its attestations
@@ -55,6 +56,6 @@ module _ (step : FlatStep) (room list : List FlatAttestation) where
     pub processed : step.processed ≡ batch.processed
     pub fallback : step.fallback ≡ batch.fallback
     pub invalid : step.invalid ≡ length batch.invalid
-    pub named : IsWritten participant batch.invalid signers_room signers
+    pub named : FillsRoom participant batch.invalid signers_room signers
     pub certified : step.certified ≡ is_some batch.certificate
     pub certificate : IfSome batch.certificate WritesCertificate

@@ -7,7 +7,8 @@ use Rattle.batcher.specs.RoundState.{RoundView}
 use Rattle.batcher.specs.Selection.{is_certified, leader_of, selected_proposal}
 use Rattle.batcher_types.specs.Keys.{participant}
 use Rattle.batcher_types.specs.declared.messages.Kind.{Kind}
-use Rattle.batcher_types.specs.declared.messages.Kind.TheVariants.{Finalization, Notarization, Nullification}
+use Rattle.batcher_types.specs.declared.messages.Kind.TheVariants.{Finalization, Notarization}
+use Rattle.batcher_types.specs.declared.messages.Kind.TheVariants.{Nullification}
 use Rattle.batcher_types.specs.declared.messages.Sha256Digest.{Sha256Digest}
 use Rattle.batcher_types.specs.declared.positions.Participant.{Participant}
 use Rattle.batcher_bytes.specs.declared.signature.Signature.{Signature}
@@ -18,8 +19,8 @@ use Rattle.batcher_ffi.specs.declared.progress.FlatCounts.{FlatCounts}
 use Rattle.batcher_ffi.specs.declared.progress.FlatProgress.{FlatProgress}
 use Rattle.batcher_ffi.specs.Loops.{CLoop, loop_round_config}
 
-abbrev pub leader_in : FlatProgress → Option Participant
-leader_in flat = if flat.has_leader then Some (participant flat.leader) else None
+abbrev pub leader_shown : FlatProgress → Option Participant
+leader_shown flat = if flat.has_leader then Some (participant flat.leader) else None
 
 module _ (round : RoundView (Signed Caller 1) Signature Sha256Digest) where
   -- The votes of a kind that wait are counted, as its history says.
@@ -33,7 +34,7 @@ module _ (round : RoundView (Signed Caller 1) Signature Sha256Digest) where
     pub notarizes : IsCounted Notarization flat.notarizes
     pub nullifies : IsCounted Nullification flat.nullifies
     pub finalizes : IsCounted Finalization flat.finalizes
-    pub led : ForEachHistory loop_round_config round (λ x past. leader_in flat ≡ leader_of past)
+    pub led : ForEachHistory loop_round_config round (λ x past. leader_shown flat ≡ leader_of past)
     pub proposed :
         ForEachHistory loop_round_config round (λ x past.
         flat.has_proposal ≡ is_some (selected_proposal x past))
@@ -47,7 +48,7 @@ pub record IsUnbegun (flat : FlatProgress) : Type 0 where
   pub notarizes : IsNone flat.notarizes
   pub nullifies : IsNone flat.nullifies
   pub finalizes : IsNone flat.finalizes
-  pub no_leader : leader_in flat ≡ None
+  pub no_leader : leader_shown flat ≡ None
   pub no_proposal : flat.has_proposal ≡ false
 
 abbrev IsOf : Option (RoundView (Signed Caller 1) Signature Sha256Digest) → FlatProgress → Type 0

@@ -1,7 +1,7 @@
 -- The types that handles own, as the logic describes them.
 use denote.RattleType.{RattleType}
-use Rattle.batcher_any.specs.contracts.any_round.AnyRound as round
-use Rattle.batcher_loop.specs.contracts.looping.Loop as looping
+use Rattle.batcher_verdicts.specs.contracts.any_round.AnyRound as round
+use Rattle.batcher_validator.specs.contracts.looping.Loop as looping
 use Rattle.batcher_ffi.specs.contracts.caller.Caller as caller
 use Rattle.batcher_ffi.specs.contracts.files.Files as files
 use Rattle.batcher_ffi.specs.contracts.caller.CallerTruth.TheImpl.{ghosts}

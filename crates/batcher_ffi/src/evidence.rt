@@ -4,7 +4,8 @@ ghost use Rattle.std.specs.Prelude.{◌≡◌, ◌==◌, ◌&&◌};
 ghost use Rattle.batcher.specs.Reports.{subjects_contradict};
 ghost use Rattle.batcher_bytes.specs.Keys.{same_digest};
 ghost use Rattle.batcher_types.specs.Votes.{signer_of, subject_of};
-ghost use Rattle.batcher_ffi.specs.Convictions.{AsksConvicted, IsVerifiedBy};
+ghost use Rattle.batcher_ffi.specs.Convictions.{AsksConvicted};
+ghost use Rattle.batcher_ffi.specs.Rounds.{IsVerifiedBy};
 
 use crate::codes::{DONE, IDLE, MALFORMED};
 use crate::flat::FlatVote;

@@ -2,10 +2,15 @@
 //! header.
 
 ghost use Rattle.std.specs.Prelude.{◌≡◌, None};
-ghost use Rattle.batcher_ffi.specs.Convictions.{AsksConvicted, IsVerifiedBy};
+ghost use Rattle.batcher_ffi.specs.Convictions.{AsksConvicted};
+ghost use Rattle.batcher_ffi.specs.Rounds.{IsVerifiedBy};
 ghost use Rattle.batcher_ffi.specs.Handles.{OnRound};
-ghost use Rattle.batcher_ffi.specs.Rounds.{MakesRound, IsVerified, AreVerified, PassTogether, Certifies, RecordsVerdicts, AddsNetwork, AcceptsVote, RecordsCertificate, SetsLeader, Forwards, AsksLeader, AsksProposal};
-ghost use Rattle.batcher_ffi.specs.Rounds.{AsksCertificate, AsksNullify, AsksMissing, ListsMissing, Constructs, ConstructsTogether};
+ghost use Rattle.batcher_ffi.specs.Rounds.{MakesRound, IsVerified, AreVerifiedHere, PassTogether};
+ghost use Rattle.batcher_ffi.specs.Rounds.{Certifies, RecordsVerdicts, AddsNetwork, AcceptsVote};
+ghost use Rattle.batcher_ffi.specs.Rounds.{RecordsCertificate, NamesFirstLeader, Forwards};
+ghost use Rattle.batcher_ffi.specs.Rounds.{AsksLeader, AsksProposal, AsksCertificate, AsksNullify};
+ghost use Rattle.batcher_ffi.specs.Rounds.{AsksMissing, ListsMissing, Constructs};
+ghost use Rattle.batcher_ffi.specs.Rounds.{ConstructsTogether};
 
 use crate::codes::{DONE, MALFORMED, NONE, OUT_OF_MEMORY};
 use crate::flat::{
@@ -145,7 +150,7 @@ pub extern "C" fn batcher_round_record_verdicts(
     list: &[FlatAttestation],
     verdicts: &[bool],
 ) -> u8
-    requires { AreVerified round.old.value kind proposal.now list.now verdicts.now }
+    requires { AreVerifiedHere round.old.value kind proposal.now list.now verdicts.now }
     ensures { OnRound round.old.value round.new.value result (Unit {0}) (λ before after.
         RecordsVerdicts before result after kind proposal.now list.now verdicts.now) }
 {
@@ -159,7 +164,7 @@ pub extern "C" fn batcher_round_record_verdicts(
 #[unsafe(no_mangle)]
 pub extern "C" fn batcher_round_set_leader(round: &mut RoundHandle, leader: u32) -> u8
     ensures { OnRound round.old.value round.new.value result (Unit {0}) (λ before after.
-        SetsLeader before result after leader) }
+        NamesFirstLeader before result after leader) }
 {
     let Some(round) = round.as_mut() else {
         return NONE;

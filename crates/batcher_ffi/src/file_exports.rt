@@ -1,7 +1,8 @@
 //! The functions of two files that take turns. Each answers a code of the header.
 
 ghost use Rattle.std.specs.Prelude.{◌≡◌, ⊤, None};
-ghost use Rattle.batcher_ffi.specs.Files.{Appends, AsksChange, CarriesOut, CreatesFiles, OpensFiles, Replaces};
+ghost use Rattle.batcher_ffi.specs.Files.{Appends, AsksChange, CarriesOut, CreatesFiles};
+ghost use Rattle.batcher_ffi.specs.Files.{OpensFiles, Replaces};
 ghost use Rattle.batcher_ffi.specs.Handles.{OnFiles};
 ghost use Rattle.batcher_ffi.specs.Output.{WritesAll};
 

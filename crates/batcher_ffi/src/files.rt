@@ -1,8 +1,9 @@
 //! The calls of two files that take turns, over flat values. Each answers a code.
 
 ghost use Rattle.std.specs.Prelude.{◌≡◌, IfErr, IfOk};
-ghost use Rattle.batcher_ffi.specs.Files.{Appends, AsksChange, CarriesOut, IsCreated, IsOpenedAs, Replaces, WhyNotCreated, WhyNotOpened};
-ghost use Rattle.batcher_ffi.specs.Files.{change_in, fault_code};
+ghost use Rattle.batcher_ffi.specs.Files.{Appends, AsksChange, CarriesOut, IsCreated, IsOpenedAs};
+ghost use Rattle.batcher_ffi.specs.Files.{Replaces, WhyNotCreated, WhyNotOpened, change_in};
+ghost use Rattle.batcher_ffi.specs.Files.{fault_code};
 ghost use Rattle.batcher_ffi.specs.Output.{WritesAll};
 
 use crate::codes::{
@@ -10,8 +11,8 @@ use crate::codes::{
     OUT_OF_MEMORY, UNFINISHED,
 };
 use crate::writing::write_all;
+use batcher_bytes::LogFault;
 use batcher_file::{OpenFault, Plan, Step, TwoFiles};
-use batcher_log::LogFault;
 use std::alloc::Global;
 
 /// Two files, with what is to be done to them.

@@ -2,7 +2,10 @@
 
 ghost use Rattle.std.specs.Prelude.{◌≡◌, ◌≢◌, true, false, Some, None, if◌then◌else◌};
 ghost use Rattle.batcher_ffi.specs.Rounds.{is_one_of, refusals};
-ghost use Rattle.batcher_ffi.specs.Flat.{kind_in, mode_in, block_in, cause_in, fault_in, round_in, proposal_in, attestation_in, raw_in, vote_in, raw_vote_in, report_in, admission_in, outcome_in, subject_in};
+ghost use Rattle.batcher_ffi.specs.Flat.{kind_in, mode_in, block_in, cause_of_code, fault_in};
+ghost use Rattle.batcher_ffi.specs.Flat.{round_of_flat, proposal_of_flat, attestation_in, raw_in};
+ghost use Rattle.batcher_ffi.specs.Flat.{vote_of_flat, raw_vote_in, report_in, admission_in};
+ghost use Rattle.batcher_ffi.specs.Flat.{outcome_in, subject_in};
 
 use crate::codes::{
     BLOCK_CONFLICTING_FINALIZE, BLOCK_CONFLICTING_NOTARIZE, BLOCK_CONFLICTING_NULLIFY,
@@ -142,7 +145,7 @@ fn block_code(block: Option<BlockReason>) -> u8
 
 /// The code of why a participant is blocked, or that it isn't.
 pub fn cause_code(cause: Option<Cause>) -> u8
-    ensures { cause_in result ≡ cause }
+    ensures { cause_of_code result ≡ cause }
 {
     match cause {
         None => CAUSE_NONE,
@@ -182,7 +185,7 @@ pub fn round_of(epoch: u64, view: u64) -> Round
 impl FlatProposal {
     /// The proposal.
     pub fn proposal(&self) -> Proposal<Sha256Digest>
-        ensures { result ≡ proposal_in self.now }
+        ensures { result ≡ proposal_of_flat self.now }
     {
         Proposal {
             round: self.round(),
@@ -193,14 +196,14 @@ impl FlatProposal {
 
     /// The round number.
     pub fn round(&self) -> Round
-        ensures { result ≡ round_in self.now }
+        ensures { result ≡ round_of_flat self.now }
     {
         round_of(self.epoch, self.view)
     }
 
     /// A proposal, flat.
     pub fn of(proposal: &Proposal<Sha256Digest>) -> Self
-        ensures { proposal_in result ≡ proposal.now }
+        ensures { proposal_of_flat result ≡ proposal.now }
     {
         FlatProposal {
             epoch: proposal.round.epoch.0,
@@ -212,7 +215,7 @@ impl FlatProposal {
 
     /// A round number, flat.
     pub fn of_round(round: Round) -> Self
-        ensures { round_in result ≡ round }
+        ensures { round_of_flat result ≡ round }
     {
         FlatProposal {
             epoch: round.epoch.0,
@@ -282,7 +285,7 @@ impl FlatAttestation {
 impl FlatVote {
     /// The vote. None where its kind is none, or its signature is longer than there are bytes.
     pub fn vote(&self) -> Option<Vote<Signature, Sha256Digest>>
-        ensures { result ≡ vote_in self.now }
+        ensures { result ≡ vote_of_flat self.now }
     {
         let attestation = self.attestation.attestation()?;
         match kind_of(self.kind)? {

@@ -12,7 +12,7 @@ use crate::caller::Caller;
 use crate::files::Files;
 use crate::loops::Looping;
 use crate::unboxed::Unboxed;
-use batcher_any::AnyRound;
+use batcher_verdicts::AnyRound;
 use std::alloc::Global;
 use std::marker::Model;
 use std::{mem, ptr};

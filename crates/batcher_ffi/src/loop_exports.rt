@@ -2,8 +2,9 @@
 
 ghost use Rattle.std.specs.Prelude.{◌≡◌, ⊤, None};
 ghost use Rattle.batcher_ffi.specs.Handles.{OnLoop};
-ghost use Rattle.batcher_ffi.specs.Loops.{AreVerifiedFor, AsksKept, AsksOwed, CastsOwn, Concludes, EntersNext, Expires, HearsCertificate, HearsVote, IsVerifiedFor, Judges, LendsIn};
-ghost use Rattle.batcher_ffi.specs.Loops.{MakesLoop, Polls, Wrote};
+ghost use Rattle.batcher_ffi.specs.Loops.{AreVerifiedFor, AsksKept, AsksOwed, CastsOwn, Concludes};
+ghost use Rattle.batcher_ffi.specs.Loops.{EntersNext, Expires, HearsCertificate, HearsVote};
+ghost use Rattle.batcher_ffi.specs.Loops.{IsVerifiedFor, Judges, LendsIn, MakesLoop, Polls, Wrote};
 ghost use Rattle.batcher_ffi.specs.Progress.{AsksProgress};
 
 use crate::codes::{DONE, NONE, OUT_OF_MEMORY};

@@ -1,13 +1,20 @@
 //! The calls of a validator, over flat values. Each answers a code.
 
-ghost use Rattle.std.specs.Prelude.{◌≡◌, ◌≢◌, ◌<◌, ◌≤◌, ◌⊎◌, [], IfErr, IfOk, MatchBool, Some, false, length, map, true};
-ghost use Rattle.batcher_types.specs.Votes.{attestation_of, round_in, subject_certified, subject_of};
+ghost use Rattle.std.specs.Prelude.{◌≡◌, ◌≢◌, ◌<◌, ◌≤◌, ◌⊎◌, [], IfErr, IfOk, MatchBool, Some};
+ghost use Rattle.std.specs.Prelude.{false, length, map, true};
+ghost use Rattle.batcher_types.specs.Votes.{attestation_of, round_in, subject_certified};
+ghost use Rattle.batcher_types.specs.Votes.{subject_of};
 ghost use Rattle.batcher_validator.specs.Histories.{answered};
-ghost use Rattle.batcher_validator.specs.Running.{Constructs};
+ghost use Rattle.batcher_validator.specs.Running.{HasConstructed};
 ghost use Rattle.batcher_voter.specs.Needing.{ConstructionNeeds};
-ghost use Rattle.batcher_ffi.specs.Loops.{AnswersPoll, AreVerifiedFor, AsksKept, AsksOwed, CastsOwn, Concludes, EntersNext, Expires, HearsCertificate, HearsVote, IsConcluded};
-ghost use Rattle.batcher_ffi.specs.Loops.{IsFromAhead, IsLent, IsMade, IsOfPeer, IsVerifiedFor, Judges, Lends, Notes, Polls, Rests, VoteCast, WhyNotMade, Wrote, loop_config};
-ghost use Rattle.batcher_ffi.specs.Loops.{GoesOnFrom, IsLentOf, IsOf, IsOthers, LendsIn, LendsNone, LendsNoneOf, LendsOf, disk_of, is_ahead, loop_participants, start_code, start_codes};
+ghost use Rattle.batcher_ffi.specs.Loops.{AnswersPoll, AreVerifiedFor, AsksKept, AsksOwed};
+ghost use Rattle.batcher_ffi.specs.Loops.{CastsOwn, Concludes, EntersNext, Expires};
+ghost use Rattle.batcher_ffi.specs.Loops.{HearsCertificate, HearsVote, IsConcluded, IsFromAhead};
+ghost use Rattle.batcher_ffi.specs.Loops.{IsLent, IsMade, IsOfPeer, IsVerifiedFor, Judges, Lends};
+ghost use Rattle.batcher_ffi.specs.Loops.{Notes, Polls, LoopRests, VoteCast, WhyNotMade, Wrote};
+ghost use Rattle.batcher_ffi.specs.Loops.{loop_config, GoesOnFrom, IsLentOf, IsOf, IsOthers};
+ghost use Rattle.batcher_ffi.specs.Loops.{LendsIn, LendsNone, LendsNoneOf, LendsOf, loop_disk};
+ghost use Rattle.batcher_ffi.specs.Loops.{is_ahead, loop_participants, start_code, start_codes};
 ghost use Rattle.batcher_ffi.specs.Progress.{AsksProgress};
 ghost use Rattle.batcher_ffi.specs.Rounds.{is_one_of};
 ghost use Rattle.batcher_journal.specs.Text.{fields_of};
@@ -30,12 +37,11 @@ use crate::tasks::FlatTask;
 use crate::writing::{attestations_of, copied, write_all, write_wanted};
 use batcher_bytes::{Keys, Proof, Signature, Signed, WIDTH};
 use batcher_journal::{OpenFault, Owner};
-use batcher_loop::{Loop, LoopFault, Next};
 use batcher_node::Cast;
 use batcher_types::messages::{Attestation, Certificate, Kind, Sha256Digest, Subject, Vote};
 use batcher_types::positions::{Epoch, Participant, Round, View};
 use batcher_types::scheme::{Counter, Name, names};
-use batcher_validator::PollFault;
+use batcher_validator::{Loop, LoopFault, Next, PollFault};
 use batcher_voter::{CastFault, StartFault};
 use std::alloc::Global;
 use std::rc::Rc;
@@ -107,7 +113,7 @@ fn begun(
     requires { 1 ≤ length scheme.value.participants }
     ensures is_of { IfOk result (IsOf options.now scheme.value (fields_of owner.now)) }
     ensures goes_on { IfOk result (GoesOnFrom true []) }
-    ensures on_disk { IfOk result (λ it. disk_of it ≡ []) }
+    ensures on_disk { IfOk result (λ it. loop_disk it ≡ []) }
     ensures refused { IfErr result (λ code. code ≡ OUT_OF_MEMORY) }
 {
     match Loop::begin(
@@ -134,7 +140,7 @@ fn started(
     requires { 1 ≤ length scheme.value.participants }
     ensures is_of { IfOk result (IsOf options.now scheme.value (fields_of owner.now)) }
     ensures goes_on { IfOk result (GoesOnFrom false disk.now) }
-    ensures on_disk { IfOk result (λ it. disk_of it ≡ disk.now) }
+    ensures on_disk { IfOk result (λ it. loop_disk it ≡ disk.now) }
     ensures refused { IfErr result (λ code. is_one_of start_codes code ≡ true) }
     ensures not_begun { IfErr result (λ code. code ≡ NOT_BEGUN → disk.now ≡ []) }
     ensures others { IfErr result (λ code. code ≡ OTHER_OWNER
@@ -288,7 +294,7 @@ fn is_ahead(it: &Looping, round: Round) -> bool
 
 fn catch_up(it: &mut Looping, certificate: Certificate<Proof, Sha256Digest>) -> u8
     ensures came { IsFromAhead it.old result it.new certificate }
-    ensures on_disk { disk_of it.new ≡ disk_of it.old }
+    ensures on_disk { loop_disk it.new ≡ loop_disk it.old }
 {
     match it.validator.catch_up(certificate) {
         Ok(true) => DONE,
@@ -303,7 +309,7 @@ fn hear_certificate(
     certificate: Certificate<Proof, Sha256Digest>,
 ) -> u8
     ensures came { IsOfPeer it.old result it.new peer certificate }
-    ensures on_disk { disk_of it.new ≡ disk_of it.old }
+    ensures on_disk { loop_disk it.new ≡ loop_disk it.old }
 {
     let answer = it.validator.receive_certificate(Name(peer), certificate);
     verdict_code_of(&answer)
@@ -408,12 +414,12 @@ fn write_next_attempt(it: &Looping, out: &mut FlatStep, list: &mut [FlatAttestat
 // A construction without verdicts.
 fn rest(it: &mut Looping) -> u8
     ensures codes { (result ≡ IDLE) ⊎ (result ≡ OUT_OF_MEMORY) }
-    ensures rests { result ≡ IDLE → Constructs (loop_config it.old) it.old.validator
+    ensures rests { result ≡ IDLE → HasConstructed (loop_config it.old) it.old.validator
         it.new.validator ⊎ Notes it.old result it.new answered }
     ensures needed { result ≡ OUT_OF_MEMORY → (it.old.validator.shelf.room ≡ 0)
         ⊎ ConstructionNeeds (loop_config it.old) it.old.validator.voter }
-    ensures refused { result ≡ OUT_OF_MEMORY → Rests it.old result it.new }
-    ensures on_disk { disk_of it.new ≡ disk_of it.old }
+    ensures refused { result ≡ OUT_OF_MEMORY → LoopRests it.old result it.new }
+    ensures on_disk { loop_disk it.new ≡ loop_disk it.old }
 {
     match it.validator.try_construct(&mut Counter::new(0)) {
         Ok(_) => IDLE,

@@ -5,8 +5,12 @@ ghost use Rattle.batcher_types.specs.Votes.{attestation_of};
 ghost use Rattle.std.specs.List.{list_all};
 ghost use Rattle.batcher_histories.specs.declared.answers.OwnFault.{OwnFault as TheFault};
 ghost use Rattle.batcher_ffi.specs.Flat.{fault_in};
-ghost use Rattle.batcher_ffi.specs.Rounds.{is_one_of, refusals, AddsNetwork, AcceptsVote, RecordsCertificate, SetsLeader, Forwards, AsksLeader, AsksProposal, AsksCertificate, AsksNullify, AsksMissing, ListsMissing};
-ghost use Rattle.batcher_ffi.specs.Rounds.{IsVerified, AreVerified, PassTogether, Certifies, RecordsVerdicts, Constructs, ConstructsTogether, is_short};
+ghost use Rattle.batcher_ffi.specs.Rounds.{is_one_of, refusals, AddsNetwork, AcceptsVote};
+ghost use Rattle.batcher_ffi.specs.Rounds.{RecordsCertificate, NamesFirstLeader, Forwards};
+ghost use Rattle.batcher_ffi.specs.Rounds.{AsksLeader, AsksProposal, AsksCertificate, AsksNullify};
+ghost use Rattle.batcher_ffi.specs.Rounds.{AsksMissing, ListsMissing, IsVerified, AreVerifiedHere};
+ghost use Rattle.batcher_ffi.specs.Rounds.{PassTogether, Certifies, RecordsVerdicts, Constructs};
+ghost use Rattle.batcher_ffi.specs.Rounds.{ConstructsTogether, is_short};
 
 use crate::codes::{
     CONFLICTING, DONE, ELSEWHERE, IDLE, LEADER_CHANGED, MALFORMED, NOT_VERIFIED, OUT_OF_MEMORY,
@@ -18,15 +22,15 @@ use crate::flat::{
 };
 use crate::handle::Round;
 use crate::writing::{attestations_of, copied, write_batch, write_signers, write_wanted};
-use batcher_any::{
-    AcceptVote, AddNetwork, Conclude, ConcludeTogether, Forward, HasCertificate, HasNullify,
-    IsMissingVoter, Leader, MissingVoters, OwnRefusal, Promises, RecordCertificate, RecordVerdicts,
-    Selected, SetLeader,
-};
 use batcher_bytes::{Content, Signature, Verified};
 use batcher_types::messages::{Attestation, Certificate, Sha256Digest, Vote};
 use batcher_types::positions::Participant;
 use batcher_types::scheme::Name;
+use batcher_verdicts::{
+    AcceptVote, AddNetwork, Conclude, ConcludeTogether, Forward, HasCertificate, HasNullify,
+    IsMissingVoter, Leader, MissingVoters, OwnRefusal, Promises, RecordCertificate, RecordVerdicts,
+    Selected, SetLeader,
+};
 use batcher_votes::votes::Outcome;
 use std::alloc::Global;
 
@@ -53,7 +57,7 @@ pub fn add_network(round: &mut Round, sender: u64, vote: &FlatVote, out: &mut Fl
 
 /// Sets the leader.
 pub fn set_leader(round: &mut Round, leader: u32) -> u8
-    ensures { SetsLeader round.old result round.new leader }
+    ensures { NamesFirstLeader round.old result round.new leader }
 {
     let leader = Participant(leader);
     match round.call(SetLeader { leader }) {
@@ -249,7 +253,7 @@ pub fn record_verdicts(
     list: &[FlatAttestation],
     verdicts: &[bool],
 ) -> u8
-    requires { AreVerified (Some round.old) kind proposal.now list.now verdicts.now }
+    requires { AreVerifiedHere (Some round.old) kind proposal.now list.now verdicts.now }
     ensures { RecordsVerdicts round.old result round.new kind proposal.now list.now verdicts.now }
 {
     let Some(subject) = subject_of(kind, proposal) else {

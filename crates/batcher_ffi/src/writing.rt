@@ -1,10 +1,11 @@
 //! What is written into the room that a caller hands in, and read from it.
 
-ghost use Rattle.std.specs.Prelude.{◌≡◌, ◌≤◌, true, length, is_none, None, Some, Ok, IfOk, IfSome, OnErr};
+ghost use Rattle.std.specs.Prelude.{◌≡◌, ◌≤◌, true, length, is_none, None, Some, Ok, IfOk, IfSome};
+ghost use Rattle.std.specs.Prelude.{OnErr};
 ghost use Rattle.std.specs.List.{list_any};
 ghost use Rattle.batcher_types.specs.Keys.{participant};
 ghost use Rattle.batcher_ffi.specs.Flat.{AreIn, attestation_in, raw_in, subject_in};
-ghost use Rattle.batcher_ffi.specs.Output.{IsWritten, WritesAll, WritesContent, WritesBatch};
+ghost use Rattle.batcher_ffi.specs.Output.{FillsRoom, WritesAll, WritesContent, WritesBatch};
 
 use crate::caller::Caller;
 use crate::codes::{DONE, SHORT};
@@ -26,8 +27,8 @@ pub fn write_wanted(
     ensures subject { subject_in step.new.kind step.new.proposal ≡ Some wanted.now.subject }
     ensures listed { step.new.listed ≡ length wanted.now.pending.now }
     ensures verified { step.new.verified ≡ length wanted.now.verified.now }
-    ensures known { IsWritten raw_in wanted.now.verified.now known.old known.new }
-    ensures list { IsWritten raw_in wanted.now.pending.now list.old list.new }
+    ensures known { FillsRoom raw_in wanted.now.verified.now known.old known.new }
+    ensures list { FillsRoom raw_in wanted.now.pending.now list.old list.new }
 {
     let (kind, proposal) = flat_subject(&wanted.subject);
     step.kind = kind;
@@ -80,7 +81,7 @@ fn write_content(content: &Content<Caller>, step: &mut FlatStep, list: &mut [Fla
 
 // Writes as many as there is room for.
 fn write_attestations(from: &[Attestation<Signature>], to: &mut [FlatAttestation])
-    ensures { IsWritten raw_in from.now to.old to.new }
+    ensures { FillsRoom raw_in from.now to.old to.new }
 {
     for index in 0..from.len().min(to.len()) {
         to[index] = FlatAttestation::of(&from[index]);
@@ -89,7 +90,7 @@ fn write_attestations(from: &[Attestation<Signature>], to: &mut [FlatAttestation
 
 /// Writes as many as there is room for.
 pub fn write_signers(from: &[Participant], to: &mut [u32])
-    ensures { IsWritten participant from.now to.old to.new }
+    ensures { FillsRoom participant from.now to.old to.new }
 {
     for index in 0..from.len().min(to.len()) {
         to[index] = from[index].0;
@@ -110,7 +111,7 @@ pub fn write_all(bytes: &[u8], room: &mut [u8], count: &mut u64) -> u8
 
 // Writes as many as there is room for.
 fn write_bytes(from: &[u8], to: &mut [u8])
-    ensures { IsWritten (λ b. b) from.now to.old to.new }
+    ensures { FillsRoom (λ b. b) from.now to.old to.new }
 {
     for index in 0..from.len().min(to.len()) {
         to[index] = from[index];

@@ -1,14 +1,6 @@
 -- No change of one bit goes unseen.
-use Rattle.std.proofs.Common.{◌≡◌, ◌≢◌, ◌∙◌, ℕ, List, ◌∷◌, ap, arith, inl, inr, length, refl, subst, sym}
-use Rattle.std.proofs.lemmas.List.{length-append}
-use Rattle.std.specs.Int.Bits.{xor_self}
-use Rattle.std.specs.List.{concat}
-use Rattle.std.specs.Prelude.{bit_xor, count_ones}
-use Rattle.batcher_file.specs.Disks.{IsBlank}
-use Rattle.batcher_file.specs.Frames.{Has}
-use Rattle.batcher_file.specs.Near.{IsChanged}
-use Rattle.batcher_file.specs.Pairs.{AreCurrent, Hold}
-use Rattle.batcher_file.specs.Rot.{IsOneBit, NoBitIsMissed}
+use Rattle.batcher_file.proofs.Words.{◌≡◌, ◌≢◌, ◌∙◌, ℕ, List, ◌∷◌, ap, arith, inl, inr, length, refl, subst, sym, length-append, xor_self, concat, bit_xor}
+use Rattle.batcher_file.proofs.Words.{count_ones, IsBlank, HasFrames, IsChanged, AreCurrent, Hold, IsOneBit, NoBitIsMissed}
 use Rattle.batcher_file.proofs.OneReading.{IsShut, heads, one_frame, one_reading}
 use Rattle.batcher_file.proofs.SoFar.{has_first}
 use Rattle.batcher_file.proofs.Turns.{not_blank, one_number, same_list}
@@ -51,12 +43,12 @@ changed_length a c it =
     omega (arith, ap length it.before, ap length it.after, length-append it.front (it.was ∷ it.back), length-append it.front (it.is ∷ it.back))
 
 module _ (a c : List ℕ) (it : IsChanged IsOneBit a c) where
-  same_frames : (m n : ℕ) (xs ys : List (List ℕ)) → Has m xs a → Has n ys c → xs ≡ ys
+  same_frames : (m n : ℕ) (xs ys : List (List ℕ)) → HasFrames m xs a → HasFrames n ys c → xs ≡ ys
   same_frames m n xs ys x y =
       one_reading IsOneBit differ m n xs ys 0 0 x.rest y.rest x.values y.values closed closed
       (inr (rw (← x.parts, ← y.parts) it))
 
-  same_number : (m n : ℕ) (xs ys : List (List ℕ)) → Has m xs a → Has n ys c → m ≡ n
+  same_number : (m n : ℕ) (xs ys : List (List ℕ)) → HasFrames m xs a → HasFrames n ys c → m ≡ n
   same_number m n xs ys x y =
       let f = has_first m xs a x in
       let g = has_first n ys c y in
@@ -68,7 +60,7 @@ module _ (a c : List ℕ) (it : IsChanged IsOneBit a c) where
       ]
 
   -- a file that has frames doesn't become a blank one
-  no_blank : (m : ℕ) (xs : List (List ℕ)) → Has m xs a → IsBlank c → ⊥
+  no_blank : (m : ℕ) (xs : List (List ℕ)) → HasFrames m xs a → IsBlank c → ⊥
   no_blank m xs x (inl short) = not_blank m xs a x (inl (omega (arith, changed_length a c it, short)))
   no_blank m xs x (inr unused) =
       let f = has_first m xs a x in
@@ -77,7 +69,7 @@ module _ (a c : List ℕ) (it : IsChanged IsOneBit a c) where
         | inr wrong ↦ absurd (omega (arith, wrong.0, open_unused))
       ]
 
-  blank_stays : (k : ℕ) (zs : List (List ℕ)) → Has k zs c → IsBlank a → ⊥
+  blank_stays : (k : ℕ) (zs : List (List ℕ)) → HasFrames k zs c → IsBlank a → ⊥
   blank_stays k zs h (inl short) = not_blank k zs c h (inl (omega (arith, changed_length a c it, short)))
   blank_stays k zs h (inr unused) =
       let f = has_first k zs c h in

@@ -1,12 +1,7 @@
 -- Two files that aren't opened hold nothing.
-use Rattle.std.proofs.Common.{◌≡◌, ◌≢◌, ℕ, Bool, true, false, List, Result, Err, ap, arith, inl, inr, length, min, refl}
-use Rattle.batcher_file.specs.Disks.{IsBlank}
-use Rattle.batcher_file.specs.Frames.{AreContents, IsUnread}
-use Rattle.batcher_file.specs.Pairs.{HoldNone, IsOther, IsTidied}
-use Rattle.batcher_file.specs.Refusals.{IsWholeBefore, Shows}
-use Rattle.batcher_file.specs.declared.contents.Contents.{Contents}
-use Rattle.batcher_file.specs.declared.opening.OpenFault.{OpenFault}
-use Rattle.batcher_file.specs.declared.opening.OpenFault.TheVariants.{Apart, Damaged, Empty, Failed, OutOfMemory, Taken, TooLong}
+use Rattle.batcher_file.proofs.Words.{◌≡◌, ◌≢◌, ℕ, Bool, true, false, List, Result, Err, ap, arith, inl, inr, length, min, refl, IsBlank, AreContents, IsUnread}
+use Rattle.batcher_file.proofs.Words.{HoldNone, IsOther, IsTidied, IsWholeBefore, FaultShows, Contents, OpenFault, Apart, Damaged, Empty, Failed, OutOfMemory}
+use Rattle.batcher_file.proofs.Words.{Taken, TooLong}
 use Rattle.batcher_file.proofs.Turns.{not_blank, one_number, same_list}
 
 pub blank_unread : (file : List ℕ) → IsBlank file → IsUnread file
@@ -57,7 +52,7 @@ abbrev answer : OpenFault → Result Contents OpenFault
 answer fault = Err fault
 
 -- a fault of the one file is one of both
-pub shown : {P Q : Type 0} → (P → Q) → (fault : OpenFault) → Shows P fault → Shows Q fault
+pub shown : {P Q : Type 0} → (P → Q) → (fault : OpenFault) → FaultShows P fault → FaultShows Q fault
 shown f OutOfMemory shows = tt
 shown f Failed shows = absurd shows
 shown f Empty shows = f shows

@@ -1,12 +1,8 @@
 -- What has a checksum behind it is far from all else that has: one byte isn't enough.
-use Rattle.std.proofs.Common.{◌≡◌, ◌≢◌, ◌⊎◌, ◌^◌, ◌<◌, ◌++◌, ◌∙◌, ℕ, List, [], ◌∷◌, ap, append_assoc, arith, drop, inl, inr, length, refl, subst, sym, take}
-use Rattle.std.proofs.lemmas.Bool.{cases_lt}
-use Rattle.std.proofs.lemmas.List.{append_cancel_left, drop_at, get_or_append_left, get_or_past, length-append, take_at}
-use Rattle.std.specs.Int.{w64}
-use Rattle.batcher_codec.specs.Exact.{AreBytes-rest, exact_is_prefix_free, u64_is_exact}
-use Rattle.batcher_codec.specs.Format.{AreBytes, number_bytes, u64_format}
-use Rattle.batcher_file.specs.Checksums.{checksum, sealed}
-use Rattle.batcher_file.specs.Near.{IsChanged, IsNear}
+use Rattle.batcher_file.proofs.Words.{◌≡◌, ◌≢◌, ◌⊎◌, ◌^◌, ◌<◌, ◌++◌, ◌∙◌, ℕ, List, [], ◌∷◌, ap, append_assoc, arith, drop, inl, inr, length, refl, subst, sym}
+use Rattle.batcher_file.proofs.Words.{take, cases_lt, append_cancel_left, drop_at, get_or_append_left, get_or_past, length-append, take_at, w64, AreBytes-rest}
+use Rattle.batcher_file.proofs.Words.{exact_is_prefix_free, u64_is_exact, AreBytes, u64_format, checksum, sealed, IsChanged, IsNear}
+use Rattle.batcher_bytes.specs.Format.{number_bytes}
 use Rattle.batcher_file.proofs.Sums.{checksum_below, no_other}
 
 -- two lists that begin with as many values

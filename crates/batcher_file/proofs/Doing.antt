@@ -1,11 +1,7 @@
 -- Steps that are done one after the other.
-use Rattle.std.proofs.Common.{◌≡◌, ◌+◌, ◌<◌, ◌∙◌, ℕ, Bool, true, false, List, ◌∷◌, Some, Result, Ok, Err, ap, arith, drop, inl, inr, refl, slice_get}
-use Rattle.std.specs.Prelude.{IsTrue, OnErr}
-use Rattle.std.proofs.lemmas.List.{drop_more}
-use Rattle.std.proofs.lemmas.Option.{get_or_from_slice_get, slice_get_within}
-use Rattle.sqlite_disk.specs.Disk.{CountsFault}
-use Rattle.batcher_file.specs.Steps.{AreBegun, AreDone, IsDone, IsFailed, IsOneOn}
-use Rattle.batcher_file.specs.declared.steps.Step.{Step}
+use Rattle.batcher_file.proofs.Words.{◌≡◌, ◌+◌, ◌<◌, ◌∙◌, ℕ, Bool, true, false, List, ◌∷◌, Some, Result, Ok, Err, ap, arith, drop, inl, inr, refl, slice_get}
+use Rattle.batcher_file.proofs.Words.{IsTrue, OnErr, drop_more, get_or_from_slice_get, slice_get_within, CountsFault, AreBegun, AreDone, IsDone, IsFailed}
+use Rattle.batcher_file.proofs.Words.{IsOneOn, Step}
 
 rest_is : {X : Type 0} (all : List X) (n : ℕ) (x : X) → slice_get all n ≡ Some x
     → drop n all ≡ x ∷ drop (n + 1) all

@@ -1,14 +1,8 @@
 -- What is read as a frame was written as one, and what was written as one is read.
-use Rattle.std.proofs.Common.{◌≡◌, ◌≢◌, ◌+◌, ◌-◌, ◌≤◌, ◌^◌, ◌<◌, ◌++◌, ◌∙◌, Fits, ℕ, Bool, true, false, cond, eqb, List, ◌∷◌, Ok, Err, ap, append_assoc, arith, drop, eq-eqb, get_or, length, refl, subst, sym, take, w8}
-use Rattle.std.proofs.lemmas.Bool.{eqb-true}
-use Rattle.std.proofs.lemmas.List.{drop_more, take_rest}
-use Rattle.std.specs.Int.{w64}
-use Rattle.batcher_codec.specs.Exact.{AreBytes-rest, bind_ok, fixed_is_exact, ok_is, pair_is_exact, u64_is_exact}
-use Rattle.batcher_codec.specs.Format.{AreBytes, Format, IsExact, fixed, number_bytes, pair, u64_format}
-use Rattle.batcher_codec.specs.declared.fault.DecodeFault.{DecodeFault}
-use Rattle.batcher_codec.specs.declared.fault.DecodeFault.TheVariants.{Malformed}
-use Rattle.batcher_file.specs.Checksums.{checksum, sealed, sealed_format}
-use Rattle.batcher_file.specs.Frames.{AreTwoFrames, IsFrame, frame, frame_format}
+use Rattle.batcher_file.proofs.Words.{◌≡◌, ◌≢◌, ◌+◌, ◌-◌, ◌≤◌, ◌^◌, ◌<◌, ◌++◌, ◌∙◌, Fits, ℕ, Bool, true, false, cond, eqb, List, ◌∷◌, Ok, Err, ap, append_assoc}
+use Rattle.batcher_file.proofs.Words.{arith, drop, eq-eqb, get_or, length, refl, subst, sym, take, w8, eqb-true, drop_more, take_rest, w64, AreBytes-rest}
+use Rattle.batcher_file.proofs.Words.{bind_ok, fixed_is_exact, ok_is, pair_is_exact, u64_is_exact, AreBytes, Format, IsExact, fixed, number_bytes, pair}
+use Rattle.batcher_file.proofs.Words.{u64_format, DecodeFault, Malformed, checksum, sealed, sealed_format, AreTwoFrames, IsFrame, frame, frame_format}
 use Rattle.batcher_file.proofs.Sums.{checksum_below}
 use Rattle.batcher_file.proofs.OneReading.{frame_first}
 

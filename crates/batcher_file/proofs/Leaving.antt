@@ -1,11 +1,7 @@
 -- What steps come to, and what a crash leaves while they are under way.
-use Rattle.std.proofs.Common.{◌≡◌, ◌⊎◌, ◌+◌, ◌^◌, ◌<◌, ◌≤◌, ◌++◌, ◌∙◌, ℕ, Bool, true, false, List, [], ◌∷◌, ap, arith, drop, inl, inr, length, refl, subst, sym, take}
-use Rattle.std.specs.Prelude.{IsTrue}
-use Rattle.sqlite_disk.specs.Disk.{Cut, Mixed, Only, Torn}
-use Rattle.batcher_file.specs.Disks.{Finishes, IsBlank, IsKept, IsShutting, MayBe, MayHave, MayRetire}
-use Rattle.batcher_file.specs.Steps.{AreBegun, AreDone, IsDone, IsFailed, IsTried, add, on, renew, retire}
-use Rattle.batcher_file.specs.declared.steps.Step.{Step}
-use Rattle.batcher_file.specs.declared.steps.Step.TheVariants.{Byte, Frame, SetLen}
+use Rattle.batcher_file.proofs.Words.{◌≡◌, ◌⊎◌, ◌+◌, ◌^◌, ◌<◌, ◌≤◌, ◌++◌, ◌∙◌, ℕ, Bool, true, false, List, [], ◌∷◌, ap, arith, drop, inl, inr, length, refl}
+use Rattle.batcher_file.proofs.Words.{subst, sym, take, IsTrue, Cut, Mixed, Only, Torn, Finishes, IsBlank, IsSyncedAs, IsShutting, MayBe, MayHave, MayRetire}
+use Rattle.batcher_file.proofs.Words.{AreBegun, AreDone, IsDone, IsFailed, IsTried, add, on, renew, retire, Step, Byte, Frame, SetLen}
 use Rattle.batcher_file.proofs.Torn.{cut_off, cut_within, is_open, is_shut, opening_leaves, shutting, writing_leaves}
 
 module _ {K : Type 0} (seen : K → List ℕ) (may_leave : K → List ℕ → Type 0)
@@ -26,7 +22,7 @@ module _ {K : Type 0} (seen : K → List ℕ) (may_leave : K → List ℕ → Ty
   Some = AreBegun seen may_leave is_usable is_clean is_mixing faults frame
 
   abbrev Kept : K → List ℕ → Type 0
-  Kept = IsKept seen may_leave
+  Kept = IsSyncedAs seen may_leave
 
   abbrev Durable : K → Type 0
   Durable disk = Only (seen disk) (may_leave disk)

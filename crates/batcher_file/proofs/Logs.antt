@@ -1,22 +1,11 @@
 -- What a log comes to by its plans, and what a crash leaves where one of them fails.
-use Rattle.std.proofs.Common.{◌≡◌, ◌⊎◌, ◌+◌, ◌-◌, ◌^◌, ◌<◌, ◌≤◌, ◌++◌, ◌∙◌, ℕ, Bool, true, false, List, [], ◌∷◌, ap, arith, inl, inr, length, subst, sym}
-use Rattle.std.proofs.lemmas.List.{length-append, take-append-drop}
-use Rattle.std.specs.Prelude.{IsTrue}
-use Rattle.sqlite_disk.specs.Disk.{Only}
-use Rattle.batcher_file.specs.Carrying.{IsBegun, IsCarriedOut}
-use Rattle.batcher_file.specs.Disks.{Finishes, IsKept, MayHave}
-use Rattle.batcher_file.specs.Frames.{frame, frames}
-use Rattle.batcher_file.specs.Pairs.{AreAtRest, IsTornIntoTwo}
-use Rattle.batcher_file.specs.Plans.{IsAddition, IsFramed, IsReplacement, IsSame, Tidies}
-use Rattle.batcher_file.specs.Settled.{IsHonest, IsSettled, MayLeave, MayLose, rest_opens, rest_settled}
-use Rattle.batcher_file.specs.Steps.{AreBegun, AreDone, IsDone, IsTried, add, on, renew, retire, steps}
-use Rattle.batcher_file.specs.declared.files.TwoFiles.{TwoFiles}
-use Rattle.batcher_file.specs.declared.log.FileLog.{FileLog}
-use Rattle.batcher_file.specs.declared.steps.Plan.{Plan}
-use Rattle.batcher_file.specs.declared.steps.Step.{Step}
-use Rattle.batcher_file.specs.declared.steps.Step.TheVariants.{SetLen}
-use Rattle.batcher_file.proofs.Leaving.{Begun, Done, begun_clean, begun_of_current, begun_of_other, done_clean, done_of_current, done_of_other}
-use Rattle.batcher_file.proofs.Leaving.{added, adding_leaves, cutting_leaves, is_cut, renewed, renewing_leaves, retired, retiring_leaves}
+use Rattle.batcher_file.proofs.Words.{◌≡◌, ◌⊎◌, ◌+◌, ◌-◌, ◌^◌, ◌<◌, ◌≤◌, ◌++◌, ◌∙◌, ℕ, Bool, true, false, List, [], ◌∷◌, ap, arith, inl, inr, length, subst}
+use Rattle.batcher_file.proofs.Words.{sym, length-append, take-append-drop, IsTrue, Only, IsBegun, IsCarriedOut, Finishes, IsSyncedAs, MayHave, frame, frames}
+use Rattle.batcher_file.proofs.Words.{AreAtRest, IsTornIntoTwo, IsAddition, IsFramed, IsReplacement, SameBytes, Tidies, AreHonestDisks, IsSettled, MayLeave}
+use Rattle.batcher_file.proofs.Words.{MayLose, rest_opens, rest_settled, AreBegun, AreDone, IsDone, IsTried, add, on, renew, retire, steps, TwoFiles, FileLog}
+use Rattle.batcher_file.proofs.Words.{Plan, Step, SetLen}
+use Rattle.batcher_file.proofs.Leaving.{Begun, Done, begun_clean, begun_of_current, begun_of_other, done_clean, done_of_current, done_of_other, added}
+use Rattle.batcher_file.proofs.Leaving.{adding_leaves, cutting_leaves, is_cut, renewed, renewing_leaves, retired, retiring_leaves}
 use Rattle.batcher_file.proofs.Tidying.{IsCut, tidy_finds, tidy_opens}
 use Rattle.batcher_file.proofs.Turns.{none_turned, turned}
 use Rattle.batcher_file.proofs.Writing.{add_leaves, add_opens, add_settles, renew_leaves, renew_opens, renew_settles, retire_leaves, retire_opens, tidied}
@@ -27,7 +16,7 @@ module _ {K : Type 0} (seen : K → List ℕ) (may_leave : K → List ℕ → Ty
   Settled = IsSettled seen may_leave is_usable is_clean
 
   abbrev Honest : FileLog K → Type 0
-  Honest = IsHonest seen may_leave is_usable is_clean
+  Honest = AreHonestDisks seen may_leave is_usable is_clean
 
   abbrev Leaves : FileLog K → List ℕ → Type 0
   Leaves = MayLeave seen may_leave is_usable is_clean
@@ -63,7 +52,7 @@ module _ {K : Type 0} (seen : K → List ℕ) (may_leave : K → List ℕ → Ty
           hold = may.hold;
         })
 
-    pub unchanged_opens : IsSame old.files files → Honest same_disks → Loses same_disks → ⊥
+    pub unchanged_opens : SameBytes old.files files → Honest same_disks → Loses same_disks → ⊥
     unchanged_opens same honest lose =
         rest_opens seen may_leave is_usable is_clean is_mixing old honest settled (record {
           current = lose.current;
@@ -96,7 +85,7 @@ module _ {K : Type 0} (seen : K → List ℕ) (may_leave : K → List ℕ → Ty
       leaves_of : Begun seen may_leave is_usable is_clean is_mixing faults framed_by adds
           old.current new.current
           → (front : List ℕ) (gate : ℕ) → length front ≡ old.files.end
-          → IsKept seen may_leave old.current (front ++ gate ∷ []) → (file : List ℕ)
+          → IsSyncedAs seen may_leave old.current (front ++ gate ∷ []) → (file : List ℕ)
           → may_leave new.current file → MayHave Whole front gate framed_by file
       leaves_of begun front gate len kept file left =
           adding_leaves seen may_leave is_usable is_clean is_mixing faults framed_by front gate
@@ -274,7 +263,7 @@ module _ {K : Type 0} (seen : K → List ℕ) (may_leave : K → List ℕ → Ty
 
         -- The other file was on the disk, and so is the new one.
         module _ (honest : Clean old.current × Clean new.other) where
-          kept_now : IsKept seen may_leave new.other (255 ∷ framed_by)
+          kept_now : IsSyncedAs seen may_leave new.other (255 ∷ framed_by)
           kept_now =
               renewed seen may_leave is_usable is_clean is_mixing faults framed_by old.other
               (settled.rest (honest.0, done_other_clean honest.1)).other_kept some

@@ -1,19 +1,10 @@
 -- Two files of which a log is being made.
-use Rattle.std.proofs.Common.{◌≡◌, ◌⊎◌, ◌^◌, ◌<◌, ◌≤◌, ◌++◌, ◌∙◌, ℕ, Bool, false, List, [], ◌∷◌, ap, arith, inl, inr, length, min, subst, sym}
-use Rattle.std.proofs.lemmas.List.{append-nil, length-append}
-use Rattle.std.specs.List.{concat}
-use Rattle.sqlite_disk.specs.Disk.{Only}
-use Rattle.batcher_file.specs.Carrying.{IsBegun, IsCarriedOut}
-use Rattle.batcher_file.specs.Disks.{Finishes, IsBlank, MayBe, MayStart}
-use Rattle.batcher_file.specs.Frames.{frame, frames}
-use Rattle.batcher_file.specs.Pairs.{AreAtRest, AreCurrent, Hold}
-use Rattle.batcher_file.specs.Plans.{IsMade}
-use Rattle.batcher_file.specs.Settled.{MayLeave}
-use Rattle.batcher_file.specs.Steps.{AreBegun, AreDone, IsDone, IsTried, on, renew, start, steps}
-use Rattle.batcher_file.specs.declared.log.FileLog.{FileLog}
-use Rattle.batcher_file.specs.declared.steps.Plan.{Plan}
-use Rattle.batcher_file.specs.declared.steps.Step.TheVariants.{SetLen}
-use Rattle.batcher_file.proofs.Leaving.{Begun, Done, begun_of_current, begun_of_other, cutting_leaves, done_of_current, done_of_other, is_cut, renewed, renewing_leaves}
+use Rattle.batcher_file.proofs.Words.{◌≡◌, ◌⊎◌, ◌^◌, ◌<◌, ◌≤◌, ◌++◌, ◌∙◌, ℕ, Bool, false, List, [], ◌∷◌, ap, arith, inl, inr, length, min, subst, sym}
+use Rattle.batcher_file.proofs.Words.{append-nil, length-append, concat, Only, IsBegun, IsCarriedOut, Finishes, IsBlank, MayBe, MayStart, frame, frames}
+use Rattle.batcher_file.proofs.Words.{AreAtRest, AreCurrent, Hold, MakesFiles, MayLeave, AreBegun, AreDone, IsDone, IsTried, on, renew, start_over, steps}
+use Rattle.batcher_file.proofs.Words.{FileLog, Plan, SetLen}
+use Rattle.batcher_file.proofs.Leaving.{Begun, Done, begun_of_current, begun_of_other, cutting_leaves, done_of_current, done_of_other, is_cut, renewed}
+use Rattle.batcher_file.proofs.Leaving.{renewing_leaves}
 use Rattle.batcher_file.proofs.SoFar.{has_first}
 use Rattle.batcher_file.proofs.Tidying.{still_blank}
 use Rattle.batcher_file.proofs.Turns.{has_just, not_blank, same_list}
@@ -48,7 +39,7 @@ module _ {K : Type 0} (seen : K → List ℕ) (may_leave : K → List ℕ → Ty
     (planned : FileLog K) (plan : Plan) (new : FileLog K)
     (kept : Only (seen planned.current) (may_leave planned.current))
     (other_kept : Only (seen planned.other) (may_leave planned.other))
-    (it : IsMade (seen planned.current) (seen planned.other) bytes planned.files plan) where
+    (it : MakesFiles (seen planned.current) (seen planned.other) bytes planned.files plan) where
   abbrev framed_by : List ℕ
   framed_by = planned.files.frame.items
 
@@ -91,7 +82,7 @@ module _ {K : Type 0} (seen : K → List ℕ) (may_leave : K → List ℕ → Ty
         cut.durable some now begun file left)
 
   first_starts : (now : K)
-      → Begun seen may_leave is_usable is_clean is_mixing faults framed_by (start it.len)
+      → Begun seen may_leave is_usable is_clean is_mixing faults framed_by (start_over it.len)
       planned.current now
       → (file : List ℕ) → may_leave now file → MayStart Whole framed_by file
   first_starts now (inl failed) file left =
@@ -106,7 +97,7 @@ module _ {K : Type 0} (seen : K → List ℕ) (may_leave : K → List ℕ → Ty
   under_way begun =
       of_other (begun_of_other seen may_leave is_usable is_clean is_mixing faults framed_by
       (SetLen it.second_len ∷ [])
-      (on false (start it.len)) planned.current planned.other new.current new.other (
+      (on false (start_over it.len)) planned.current planned.other new.current new.other (
       subst (λ job. AreBegun seen may_leave is_usable is_clean is_mixing faults framed_by
       (steps job)
       planned.current planned.other new.current new.other) it.job begun.begun
@@ -119,7 +110,7 @@ module _ {K : Type 0} (seen : K → List ℕ) (may_leave : K → List ℕ → Ty
           × Done seen may_leave is_usable is_clean is_mixing faults framed_by
           (SetLen it.second_len ∷ []) planned.other middle
           × AreBegun seen may_leave is_usable is_clean is_mixing faults framed_by
-          (on false (start it.len))
+          (on false (start_over it.len))
           planned.current middle new.current new.other)
           → Both
       of_other (inl (inl failed, same)) = (
@@ -131,7 +122,7 @@ module _ {K : Type 0} (seen : K → List ℕ) (may_leave : K → List ℕ → Ty
       of_other (inl (inr more, same)) = absurd more.2
       of_other (inr later) =
           elim (begun_of_current seen may_leave is_usable is_clean is_mixing faults framed_by
-          (start it.len) []
+          (start_over it.len) []
           planned.current later.0 new.current new.other later.2) [
             | inl here ↦ (
               first_starts new.current here.0,
@@ -171,28 +162,29 @@ module _ {K : Type 0} (seen : K → List ℕ) (may_leave : K → List ℕ → Ty
             × Done seen may_leave is_usable is_clean is_mixing faults framed_by
             (SetLen it.second_len ∷ []) planned.other middle
             × AreDone seen may_leave is_usable is_clean is_mixing faults framed_by
-            (on false (start it.len))
+            (on false (start_over it.len))
             planned.current middle new.current new.other
         parts = done_of_other seen may_leave is_usable is_clean is_mixing faults framed_by
             (SetLen it.second_len ∷ [])
-            (on false (start it.len)) planned.current planned.other new.current new.other (
+            (on false (start_over it.len)) planned.current planned.other new.current new.other (
             subst (λ job. AreDone seen may_leave is_usable is_clean is_mixing faults framed_by
             (steps job)
             planned.current planned.other new.current new.other) it.job ends.done
             )
 
         rest : (middle : K)
-            × Done seen may_leave is_usable is_clean is_mixing faults framed_by (start it.len)
+            × Done seen may_leave is_usable is_clean is_mixing faults framed_by (start_over it.len)
             planned.current middle
             × ((new.current ≡ middle) × (new.other ≡ parts.0))
         rest = done_of_current seen may_leave is_usable is_clean is_mixing faults framed_by
-            (start it.len) []
+            (start_over it.len) []
             planned.current parts.0 new.current new.other parts.2
 
-        whole : Done seen may_leave is_usable is_clean is_mixing faults framed_by (start it.len)
+        whole : Done seen may_leave is_usable is_clean is_mixing faults framed_by
+            (start_over it.len)
             planned.current new.current
         whole = subst (Done seen may_leave is_usable is_clean is_mixing faults framed_by
-            (start it.len) planned.current)
+            (start_over it.len) planned.current)
             (sym rest.2.0) rest.1
 
         cut_other : IsDone seen may_leave is_usable is_clean is_mixing faults framed_by

@@ -1,11 +1,6 @@
 -- A file is read in one way at most, also where one bit of it has changed.
-use Rattle.std.proofs.Common.{◌≡◌, ◌≢◌, ◌⊎◌, ◌+◌, ◌^◌, ◌<◌, ◌++◌, ◌∙◌, ℕ, List, [], ◌∷◌, ap, append_assoc, inl, inr, length, refl, sym}
-use Rattle.std.proofs.lemmas.List.{length-append}
-use Rattle.std.specs.Int.{w64}
-use Rattle.batcher_codec.specs.Format.{number_bytes}
-use Rattle.batcher_file.specs.Checksums.{sealed}
-use Rattle.batcher_file.specs.Frames.{AreFrames, frame, frames, header}
-use Rattle.batcher_file.specs.Near.{IsNear}
+use Rattle.batcher_file.proofs.Words.{◌≡◌, ◌≢◌, ◌⊎◌, ◌+◌, ◌^◌, ◌<◌, ◌++◌, ◌∙◌, ℕ, List, [], ◌∷◌, ap, append_assoc, inl, inr, length, refl, sym, length-append}
+use Rattle.batcher_file.proofs.Words.{w64, number_bytes, sealed, AreFrames, frame, frames, header, IsNear}
 use Rattle.batcher_file.proofs.Distance.{near_parts, number_len, parts_same, same_number, sealed_apart}
 
 pub header_len : (number count : ℕ) → length (header number count) ≡ 16

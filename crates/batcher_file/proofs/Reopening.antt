@@ -1,26 +1,15 @@
 -- A log that is opened: what is read of its files, and what that comes to.
-use Rattle.std.proofs.Common.{◌≡◌, ◌∙◌, ℕ, Bool, true, false, List, [], ◌∷◌, inl, inr, refl, subst, sym}
-use Rattle.std.specs.Prelude.{IsTrue}
-use Rattle.sqlite_disk.specs.Disk.{Only}
-use Rattle.batcher_file.specs.Carrying.{IsBegun, IsCarriedOut, put_first}
-use Rattle.batcher_file.specs.Pairs.{Hold, HoldNone}
-use Rattle.batcher_file.specs.Plans.{IsOpened, Tidies}
-use Rattle.batcher_file.specs.Refusals.{IsRefused, IsWholeBefore, Shows}
-use Rattle.batcher_file.specs.Settled.{IsHonest, IsSynced, IsSettled, MayLeave, MayLose, rest_opens, rest_settled}
-use Rattle.batcher_file.specs.Steps.{AreBegun, AreDone, steps}
-use Rattle.batcher_file.specs.declared.files.TwoFiles.{TwoFiles}
-use Rattle.batcher_file.specs.declared.log.FileLog.{FileLog}
-use Rattle.batcher_file.specs.declared.opening.OpenFault.{OpenFault}
-use Rattle.batcher_file.specs.declared.opening.OpenFault.TheVariants.{Apart, Damaged, Empty, Failed, OutOfMemory, Taken, TooLong}
-use Rattle.batcher_file.specs.declared.steps.Plan.{Plan}
-use Rattle.batcher_file.specs.declared.steps.Step.{Step}
+use Rattle.batcher_file.proofs.Words.{◌≡◌, ◌∙◌, ℕ, Bool, true, false, List, [], ◌∷◌, inl, inr, refl, subst, sym, IsTrue, Only, IsBegun, IsCarriedOut, put_first}
+use Rattle.batcher_file.proofs.Words.{Hold, HoldNone, IsOpened, Tidies, IsUnopened, IsWholeBefore, FaultShows, AreHonestDisks, IsSynced, IsSettled, MayLeave}
+use Rattle.batcher_file.proofs.Words.{MayLose, rest_opens, rest_settled, AreBegun, AreDone, steps, TwoFiles, FileLog, OpenFault, Apart, Damaged, Empty, Failed}
+use Rattle.batcher_file.proofs.Words.{OutOfMemory, Taken, TooLong, Plan, Step}
 use Rattle.batcher_file.proofs.Logs.{tidy_leaves, tidy_loses, tidy_settled}
 use Rattle.batcher_file.proofs.Tidying.{tidied_hold}
 use Rattle.batcher_file.proofs.Turns.{turned}
 
 -- why two files aren't opened
-pub refused : (a b : List ℕ) (fault : OpenFault) → Shows (HoldNone a b) fault
-    → IsWholeBefore a b fault → IsRefused a b fault
+pub refused : (a b : List ℕ) (fault : OpenFault) → FaultShows (HoldNone a b) fault
+    → IsWholeBefore a b fault → IsUnopened a b fault
 refused a b OutOfMemory shows whole = tt
 refused a b Failed shows whole = tt
 refused a b Empty shows whole = shows
@@ -36,7 +25,7 @@ module _ {K : Type 0} (seen : K → List ℕ) (may_leave : K → List ℕ → Ty
   Settled = IsSettled seen may_leave is_usable is_clean
 
   abbrev Honest : FileLog K → Type 0
-  Honest = IsHonest seen may_leave is_usable is_clean
+  Honest = AreHonestDisks seen may_leave is_usable is_clean
 
   abbrev Leaves : FileLog K → List ℕ → Type 0
   Leaves = MayLeave seen may_leave is_usable is_clean

@@ -1,12 +1,8 @@
 -- Frames that are read one after the other, as a loop does.
-use Rattle.std.proofs.Common.{◌≡◌, ◌+◌, ◌-◌, ◌^◌, ◌<◌, ◌≤◌, ◌++◌, ◌∙◌, ℕ, List, [], ◌∷◌, Result, Err, ap, append_assoc, arith, inl, inr, length, refl, subst, sym}
-use Rattle.std.proofs.lemmas.List.{append-nil, length-append, length_push}
-use Rattle.std.specs.List.{concat}
-use Rattle.batcher_file.specs.Frames.{AreFrames, AreTwoFrames, Has, IsFrame, IsReadTo, frame, frame_format, frames}
-use Rattle.batcher_file.specs.declared.contents.Contents.{Contents}
-use Rattle.batcher_file.specs.declared.contents.Unreadable.{Unreadable}
+use Rattle.batcher_file.proofs.Words.{◌≡◌, ◌+◌, ◌-◌, ◌^◌, ◌<◌, ◌≤◌, ◌++◌, ◌∙◌, ℕ, List, [], ◌∷◌, Result, Err, ap, append_assoc, arith, inl, inr, length, refl}
+use Rattle.batcher_file.proofs.Words.{subst, sym, append-nil, length-append, length_push, concat, AreFrames, AreTwoFrames, HasFrames, IsFrame, IsReadTo, frame}
+use Rattle.batcher_file.proofs.Words.{frame_format, frames, Contents, Unreadable, IsClosed, IsOpenGate}
 use Rattle.batcher_file.specs.declared.contents.Unreadable.TheVariants.{Damaged}
-use Rattle.batcher_file.specs.Opened.{IsClosed, IsOpen}
 use Rattle.batcher_file.proofs.OneReading.{one_frame}
 
 pub frames_push : (number : ℕ) (all : List (List ℕ)) (bytes : List ℕ)
@@ -45,7 +41,7 @@ pub record IsSoFar (file : List ℕ) (first next : ℕ) (bytes left : List ℕ) 
   pub bytes_are : bytes ≡ concat all
 
 module _ (file : List ℕ) (first next : ℕ) (bytes left : List ℕ) (so_far : IsSoFar file first next bytes left) where
-  pub one_more : (inside after more : List ℕ) → IsOpen next left inside after
+  pub one_more : (inside after more : List ℕ) → IsOpenGate next left inside after
       → more ≡ bytes ++ inside
       → IsSoFar file first (next + 1) more after
   one_more inside after more gate is =
@@ -64,7 +60,7 @@ module _ (file : List ℕ) (first next : ℕ) (bytes left : List ℕ) (so_far : 
   pub read_to : (end at : ℕ) → end ≡ length file - length left → end ≡ at
       → ((number gate : ℕ) (inside after rest : List ℕ) → file ≡ gate ∷ rest
       → IsFrame number inside after rest → first ≡ number)
-      → (next < 2 ^ 63 → (inside after : List ℕ) → IsOpen next left inside after → ⊥)
+      → (next < 2 ^ 63 → (inside after : List ℕ) → IsOpenGate next left inside after → ⊥)
       → IsReadTo file at
   read_to end at is same found stops = record {
     first = first;
@@ -134,7 +130,7 @@ goes_on number (x ∷ xs) (y ∷ ys) left tail vx vy same =
 
 -- Where the next frame isn't there, and no closed gate that ends some, the file has none that end.
 module _ (file : List ℕ) (first next : ℕ) (bytes left : List ℕ) (so_far : IsSoFar file first next bytes left)
-    (number : ℕ) (all : List (List ℕ)) (has : Has number all file) (same : first ≡ number) where
+    (number : ℕ) (all : List (List ℕ)) (has : HasFrames number all file) (same : first ≡ number) where
   on : GoesOn first so_far.all all left (0 ∷ has.rest)
   on = goes_on first so_far.all all left has.rest so_far.values
       (subst (λ n. AreFrames n all) (sym same) has.values)
@@ -144,7 +140,7 @@ module _ (file : List ℕ) (first next : ℕ) (bytes left : List ℕ) (so_far : 
   too_many most =
       absurd (omega (arith, so_far.next_is, has.few, same, ap length on.all, length-append so_far.all on.more))
 
-  pub neither : ((inside after : List ℕ) → IsOpen next left inside after → ⊥)
+  pub neither : ((inside after : List ℕ) → IsOpenGate next left inside after → ⊥)
       → (IsClosed next left → next ≡ first) → ⊥
   neither not_open not_closed = of_more on.more on.all on.values on.parts
     where
@@ -191,14 +187,14 @@ first_in number (x ∷ all) gate rest file some values parts =
       framed = record { value = values.0; parts = refl };
     }
 
-pub has_first : (number : ℕ) (all : List (List ℕ)) (file : List ℕ) → Has number all file
+pub has_first : (number : ℕ) (all : List (List ℕ)) (file : List ℕ) → HasFrames number all file
     → HasFirst number file
 has_first number all file has = first_in number all 0 has.rest file has.some has.values has.parts
 
 -- So a file that is refused has no frames that end.
 module _ (file : List ℕ) (first next : ℕ) (bytes left : List ℕ) (so_far : IsSoFar file first next bytes left)
     (found : (number gate : ℕ) (inside after rest : List ℕ) → file ≡ gate ∷ rest → IsFrame number inside after rest → first ≡ number)
-    (number : ℕ) (all : List (List ℕ)) (has : Has number all file) where
+    (number : ℕ) (all : List (List ℕ)) (has : HasFrames number all file) where
   same_first : first ≡ number
   same_first =
       let it = has_first number all file has in
@@ -207,7 +203,7 @@ module _ (file : List ℕ) (first next : ℕ) (bytes left : List ℕ) (so_far : 
   pub not_too_many : 2 ^ 63 ≤ next → ⊥
   not_too_many = too_many file first next bytes left so_far number all has same_first
 
-  pub not_damaged : ((inside after : List ℕ) → IsOpen next left inside after → ⊥)
+  pub not_damaged : ((inside after : List ℕ) → IsOpenGate next left inside after → ⊥)
       × (IsClosed next left → ⊥) → ⊥
   not_damaged none = neither file first next bytes left so_far number all has same_first none.0 (λ is. absurd (none.1 is))
 
@@ -221,7 +217,7 @@ module _ (file : List ℕ) (first next : ℕ) (bytes left : List ℕ) (so_far : 
 
 -- a gate that is closed isn't open
 pub closed_not_open : (next : ℕ) (left inside after : List ℕ) → IsClosed next left
-    → IsOpen next left inside after → ⊥
+    → IsOpenGate next left inside after → ⊥
 closed_not_open next left inside after closed is = gates is.rest closed.rest (sym is.parts ∙ closed.parts)
   where
     gates : (a b : List ℕ) → 255 ∷ a ≡ 0 ∷ b → ⊥

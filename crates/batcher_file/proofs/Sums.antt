@@ -1,14 +1,7 @@
 -- A checksum finds each byte that has changed.
-use Rattle.std.proofs.Common.{◌≡◌, ◌+◌, ◌*◌, ◌%◌, ◌/◌, ◌^◌, ◌<◌, ◌++◌, ◌∙◌, ℕ, suc, List, [], ◌∷◌, ap, arith, refl, sym}
-use Rattle.std.specs.Prelude.{bit_xor}
-use Rattle.std.specs.List.{fold}
-use Rattle.std.specs.Int.{bit_at}
-use Rattle.std.proofs.lemmas.List.Sums.{fold-append}
-use Rattle.std.proofs.lemmas.Nat.{mod_below, mul-mod_first, xor_comm, xor_lt}
-use Rattle.std.proofs.lemmas.Nat.Bits.{bit_at_xor, same_from_bits}
-use Rattle.batcher_codec.specs.Exact.{AreBytes-rest}
-use Rattle.batcher_codec.specs.Format.{AreBytes}
-use Rattle.batcher_file.specs.Checksums.{checksum, summed}
+use Rattle.batcher_file.proofs.Words.{◌≡◌, ◌+◌, ◌*◌, ◌%◌, ◌/◌, ◌^◌, ◌<◌, ◌++◌, ◌∙◌, ℕ, suc, List, [], ◌∷◌, ap, arith, refl, sym, bit_xor, fold, bit_at}
+use Rattle.batcher_file.proofs.Words.{fold-append, mod_below, mul-mod_first, xor_comm, xor_lt, bit_at_xor, same_from_bits, AreBytes-rest, AreBytes, checksum}
+use Rattle.batcher_file.proofs.Words.{summed}
 
 xor_cancel_left : (a b c : ℕ) → bit_xor a b ≡ bit_xor a c → b ≡ c
 xor_cancel_left a b c same =

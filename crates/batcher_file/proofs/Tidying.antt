@@ -1,10 +1,7 @@
 -- Two files that are being opened, or made.
-use Rattle.std.proofs.Common.{◌≡◌, ◌+◌, ◌≤◌, ◌++◌, ◌∙◌, ℕ, List, [], ◌∷◌, ap, append_assoc, arith, drop, inl, inr, length, min, refl, subst, sym, take}
-use Rattle.std.proofs.lemmas.List.{append-nil, drop_all, length-append, take_all, take_at}
-use Rattle.std.specs.List.{concat}
-use Rattle.batcher_file.specs.Disks.{IsBlank}
-use Rattle.batcher_file.specs.Frames.{Has, frames}
-use Rattle.batcher_file.specs.Pairs.{Hold, IsOlder, IsOther, IsTidied, IsTornIntoTwo, Opens}
+use Rattle.batcher_file.proofs.Words.{◌≡◌, ◌+◌, ◌≤◌, ◌++◌, ◌∙◌, ℕ, List, [], ◌∷◌, ap, append_assoc, arith, drop, inl, inr, length, min, refl, subst, sym, take}
+use Rattle.batcher_file.proofs.Words.{append-nil, drop_all, length-append, take_all, take_at, concat, IsBlank, HasFrames, frames, Hold, IsOlder, IsOther}
+use Rattle.batcher_file.proofs.Words.{IsTidied, IsTornIntoTwo, CanBeOpened}
 use Rattle.batcher_file.proofs.SoFar.{HasFirst, first_in, has_first}
 use Rattle.batcher_file.proofs.Turns.{first_not_blank, held, one_first, one_list}
 
@@ -61,7 +58,7 @@ module _ (first next end len : ℕ) (bytes a b : List ℕ) (it : IsTidied a b fi
   abbrev IsThat : List (List ℕ) → Type 0
   IsThat ys = ys ≡ it.contents.all
 
-  reads : (n : ℕ) (ys : List (List ℕ)) → Has n ys file → (n ≡ first) × IsThat ys
+  reads : (n : ℕ) (ys : List (List ℕ)) → HasFrames n ys file → (n ≡ first) × IsThat ys
   reads n ys has = (
     one_first n first file (has_first n ys file has) starts,
     one_list first n it.contents.all ys 0 (drop (end + 1) file) file it.contents.has.values
@@ -75,9 +72,9 @@ module _ (first next end len : ℕ) (bytes a b : List ℕ) (it : IsTidied a b fi
       here.bytes_are ∙ ap concat here.one ∙ sym it.contents.bytes_are
 
   -- and it can be found again.
-  pub tidy_opens : (IsTornIntoTwo next file → ⊥) → Opens file other
+  pub tidy_opens : (IsTornIntoTwo next file → ⊥) → CanBeOpened file other
   tidy_opens whole =
-      let has : Has first it.contents.all file = record {
+      let has : HasFrames first it.contents.all file = record {
         some = it.contents.has.some;
         few = it.contents.has.few;
         values = it.contents.has.values;

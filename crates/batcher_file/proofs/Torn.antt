@@ -1,8 +1,8 @@
 -- What torn writes leave around a gate.
-use Rattle.std.proofs.Common.{◌≡◌, ◌⊎◌, ◌+◌, ◌<◌, ◌≤◌, ◌++◌, ◌∙◌, ℕ, List, [], ◌∷◌, ap, append_assoc, arith, drop, get_or, inl, inr, length, refl, subst, sym, take}
-use Rattle.std.proofs.lemmas.List.{append-nil, drop-drop, drop_all, drop_at, drop_more, get_or-drop, get_or-take, get_or_at, get_or_default, length-append, length-drop, length-take, same_lists, take-append-drop, take_at}
-use Rattle.sqlite_disk.specs.Disk.{Cut, Holds, Mixed, Only, Torn}
-use Rattle.batcher_file.specs.Disks.{IsShutting, MayHave}
+use Rattle.batcher_file.proofs.Words.{◌≡◌, ◌⊎◌, ◌+◌, ◌<◌, ◌≤◌, ◌++◌, ◌∙◌, ℕ, List, [], ◌∷◌, ap, append_assoc, arith, drop, get_or, inl, inr, length, refl}
+use Rattle.batcher_file.proofs.Words.{subst, sym, take, append-nil, drop-drop, drop_all, drop_at, drop_more, get_or-drop, get_or-take, get_or_at}
+use Rattle.batcher_file.proofs.Words.{get_or_default, length-append, length-drop, length-take, same_lists, take-append-drop, take_at, Cut, Holds, Mixed, Only}
+use Rattle.batcher_file.proofs.Words.{Torn, IsShutting, MayHave}
 
 -- what is before a torn write stays
 front_kept : (at n : ℕ) (old new : List ℕ) (k : ℕ) → Torn at n old new → k ≤ at → k ≤ length old

@@ -1,15 +1,8 @@
 -- What two files that take turns hold, also after a crash.
-use Rattle.std.proofs.Common.{◌≡◌, ◌≢◌, ◌⊎◌, ◌+◌, ◌^◌, ◌<◌, ◌≤◌, ◌++◌, ◌∙◌, ℕ, List, [], ◌∷◌, ap, append_assoc, arith, inl, inr, length, refl, subst, sym}
-use Rattle.std.proofs.lemmas.Bool.{cases_eq}
-use Rattle.std.proofs.lemmas.List.{append-nil, length-append, length_push}
-use Rattle.std.specs.List.{concat}
-use Rattle.batcher_codec.specs.Exact.{ok_is}
-use Rattle.batcher_file.specs.Disks.{IsBlank, MayBe, MayHave, MayRetire}
-use Rattle.batcher_file.specs.Frames.{AreFrames, AreTwoFrames, Has, frame, frame_format, frames, header}
-use Rattle.batcher_file.specs.Pairs.{AreCurrent, Hold, HoldNone, HoldOne, IsOlder, IsOther, IsTornIntoTwo, Opens}
-use Rattle.std.specs.Int.{w64}
-use Rattle.batcher_codec.specs.Format.{number_bytes}
-use Rattle.batcher_file.specs.Checksums.{checksum, sealed}
+use Rattle.batcher_file.proofs.Words.{◌≡◌, ◌≢◌, ◌⊎◌, ◌+◌, ◌^◌, ◌<◌, ◌≤◌, ◌++◌, ◌∙◌, ℕ, List, [], ◌∷◌, ap, append_assoc, arith, inl, inr, length, refl, subst}
+use Rattle.batcher_file.proofs.Words.{sym, cases_eq, append-nil, length-append, length_push, concat, ok_is, IsBlank, MayBe, MayHave, MayRetire, AreFrames}
+use Rattle.batcher_file.proofs.Words.{AreTwoFrames, HasFrames, frame, frame_format, frames, header, AreCurrent, Hold, HoldNone, HoldOne, IsOlder, IsOther}
+use Rattle.batcher_file.proofs.Words.{IsTornIntoTwo, CanBeOpened, w64, number_bytes, checksum, sealed}
 use Rattle.batcher_file.proofs.Distance.{number_len}
 use Rattle.batcher_file.proofs.Exact.{frame_read}
 use Rattle.batcher_file.proofs.OneReading.{IsShut, one_reading}
@@ -30,7 +23,7 @@ closed = not_open 0 (λ e. absurd (omega (arith, e)))
 -- a file is read in one way
 pub one_list : (m n : ℕ) (xs ys : List (List ℕ)) (g : ℕ) (s file : List ℕ) → AreFrames m xs
     → g ≢ 255
-    → file ≡ frames m xs ++ g ∷ s → Has n ys file → ys ≡ xs
+    → file ≡ frames m xs ++ g ∷ s → HasFrames n ys file → ys ≡ xs
 one_list m n xs ys g s file values shut parts has =
     sym (one_reading Never never_differs m n xs ys g 0 s has.rest values has.values
     (not_open g shut) closed (inl (sym parts ∙ has.parts)))
@@ -48,11 +41,12 @@ one_first m n file a b =
     ok_is ((m, a.inside), a.after) ((n, b.inside), b.after) (sym read_a ∙ ap frame_format.decoding rests ∙ read_b) in
     ap (λ (p : (ℕ × List ℕ) × List ℕ). p.0.0) both
 
-pub one_number : (m n : ℕ) (xs ys : List (List ℕ)) (file : List ℕ) → Has m xs file
-    → Has n ys file → m ≡ n
+pub one_number : (m n : ℕ) (xs ys : List (List ℕ)) (file : List ℕ) → HasFrames m xs file
+    → HasFrames n ys file → m ≡ n
 one_number m n xs ys file x y = one_first m n file (has_first m xs file x) (has_first n ys file y)
 
-pub same_list : (m n : ℕ) (xs ys : List (List ℕ)) (file : List ℕ) → Has m xs file → Has n ys file
+pub same_list : (m n : ℕ) (xs ys : List (List ℕ)) (file : List ℕ) → HasFrames m xs file
+    → HasFrames n ys file
     → ys ≡ xs
 same_list m n xs ys file x y = one_list m n xs ys 0 x.rest file x.values (λ e. absurd (omega (arith, e))) x.parts y
 
@@ -77,7 +71,8 @@ first_not_blank n file it blank =
     gates : (r s : List ℕ) → 255 ∷ r ≡ 15 ∷ s → ⊥
     gates r s e = absurd cc
 
-pub not_blank : (n : ℕ) (ys : List (List ℕ)) (file : List ℕ) → Has n ys file → IsBlank file → ⊥
+pub not_blank : (n : ℕ) (ys : List (List ℕ)) (file : List ℕ) → HasFrames n ys file → IsBlank file
+    → ⊥
 not_blank n ys file has blank = first_not_blank n file (has_first n ys file has) blank
 
 pub none_in_nothing : (n : ℕ) → AreTwoFrames n [] → ⊥
@@ -86,7 +81,7 @@ none_in_nothing n two =
 
 -- The file in use, by what can be read in it.
 module _ (first : ℕ) (current other : List ℕ) (IsOne : List (List ℕ) → Type 0)
-    (reads : (n : ℕ) (ys : List (List ℕ)) → Has n ys current → (n ≡ first) × IsOne ys)
+    (reads : (n : ℕ) (ys : List (List ℕ)) → HasFrames n ys current → (n ≡ first) × IsOne ys)
     (used : IsBlank current → ⊥) (other_is : IsOther first other) where
   pub record IsHeld (bytes : List ℕ) : Type 0 where
     pub all : List (List ℕ)
@@ -116,7 +111,7 @@ module _ (first : ℕ) (current other : List ℕ) (IsOne : List (List ℕ) → T
   held bytes (inr it) = absurd (not_other bytes it)
 
 -- what is found where nothing is under way
-module _ (first : ℕ) (all : List (List ℕ)) (current other : List ℕ) (has : Has first all current) (other_is : IsOther first other) where
+module _ (first : ℕ) (all : List (List ℕ)) (current other : List ℕ) (has : HasFrames first all current) (other_is : IsOther first other) where
   pub at_rest : (bytes : List ℕ) → Hold current other bytes → bytes ≡ concat all
   at_rest bytes hold =
       let it = held first current other (λ ys. ys ≡ all)
@@ -141,7 +136,7 @@ hold_one a b x y (inr it) other =
 -- a file that has one frame more
 pub has_all : (first : ℕ) (all : List (List ℕ)) (new : List ℕ) → 0 < length all
     → first + length all + 1 < 2 ^ 63 → AreFrames first all → length new < 2 ^ 64 → (file : List ℕ)
-    → file ≡ frames first (all ++ new ∷ []) ++ 0 ∷ [] → Has first (all ++ new ∷ []) file
+    → file ≡ frames first (all ++ new ∷ []) ++ 0 ∷ [] → HasFrames first (all ++ new ∷ []) file
 has_all first all new some few values len file parts = record {
   some = omega (arith, length_push all new);
   few = omega (arith, length_push all new);
@@ -153,7 +148,7 @@ has_all first all new some few values len file parts = record {
 
 -- a file that has just one
 pub has_just : (next : ℕ) (new : List ℕ) → next + 1 < 2 ^ 63 → length new < 2 ^ 64 → (file : List ℕ)
-    → file ≡ frames next (new ∷ []) ++ 0 ∷ [] → Has next (new ∷ []) file
+    → file ≡ frames next (new ∷ []) ++ 0 ∷ [] → HasFrames next (new ∷ []) file
 has_just next new few len file parts = record {
   some = omega arith;
   few = omega arith;
@@ -188,7 +183,7 @@ module _ (Whole : Type 0) (first : ℕ) (all : List (List ℕ)) (new current oth
     | inr gate ↦ first_in first all gate.now _ current some values gate.parts
   ]
 
-  reads : (n : ℕ) (ys : List (List ℕ)) → Has n ys current → (n ≡ first) × IsEither ys
+  reads : (n : ℕ) (ys : List (List ℕ)) → HasFrames n ys current → (n ≡ first) × IsEither ys
   reads n ys has = (
     one_first n first current (has_first n ys current has) starts,
     elim may [
@@ -213,7 +208,7 @@ module _ (Whole : Type 0) (first : ℕ) (all : List (List ℕ)) (new current oth
       ]
 
   has_old : (rest : List ℕ) → current ≡ frames first all ++ 0 ∷ rest
-      → (IsTornIntoTwo (first + length all) current → ⊥) → Has first all current
+      → (IsTornIntoTwo (first + length all) current → ⊥) → HasFrames first all current
   has_old rest parts whole = record {
     some = some;
     few = omega arith;
@@ -223,10 +218,11 @@ module _ (Whole : Type 0) (first : ℕ) (all : List (List ℕ)) (new current oth
     alone = λ two. whole (record { front = frames first all; rest = rest; parts = parts; two = two });
   }
 
-  has_more : current ≡ frames first More ++ 0 ∷ [] → Has first More current
+  has_more : current ≡ frames first More ++ 0 ∷ [] → HasFrames first More current
   has_more parts = has_all first all new some few values new_len current parts
 
-  pub added_opens : Whole → (IsTornIntoTwo (first + length all) current → ⊥) → Opens current other
+  pub added_opens : Whole → (IsTornIntoTwo (first + length all) current → ⊥)
+      → CanBeOpened current other
   added_opens finishes whole = elim may [
     | inl before ↦ opened all (has_old before.rest before.parts whole)
     | inr gate ↦ elim (gate.either finishes) [
@@ -234,7 +230,7 @@ module _ (Whole : Type 0) (first : ℕ) (all : List (List ℕ)) (new current oth
       | inr is ↦ opened More (has_more (gate.parts ∙ ap (λ (g : ℕ). frames first all ++ g ∷ (frame (first + length all) new ++ 0 ∷ [])) is ∙ more_is))
     ]
   ] where
-    opened : (ys : List (List ℕ)) → Has first ys current → Opens current other
+    opened : (ys : List (List ℕ)) → HasFrames first ys current → CanBeOpened current other
     opened ys has = record {
       bytes = concat ys;
       hold = inl (record { first = first; all = ys; has = has; other_is = other_is; bytes_are = refl });
@@ -242,7 +238,7 @@ module _ (Whole : Type 0) (first : ℕ) (all : List (List ℕ)) (new current oth
 
 -- while the other file is made anew
 module _ (Whole : Type 0) (first : ℕ) (all : List (List ℕ)) (new current old other : List ℕ)
-    (few : first + length all + 1 < 2 ^ 63) (new_len : length new < 2 ^ 64) (has : Has first all current)
+    (few : first + length all + 1 < 2 ^ 63) (new_len : length new < 2 ^ 64) (has : HasFrames first all current)
     (short : (length old ≤ 1) ⊎ IsOlder first old)
     (may : MayBe Whole old (frame (first + length all) new ++ 0 ∷ []) other) where
   abbrev next : ℕ
@@ -251,7 +247,8 @@ module _ (Whole : Type 0) (first : ℕ) (all : List (List ℕ)) (new current old
   one_is : 255 ∷ (frame next new ++ 0 ∷ []) ≡ frames next (new ∷ []) ++ 0 ∷ []
   one_is = ap (λ t. 255 ∷ (t ++ 0 ∷ [])) (sym (append-nil (frame next new)))
 
-  has_one : (file : List ℕ) → file ≡ 255 ∷ (frame next new ++ 0 ∷ []) → Has next (new ∷ []) file
+  has_one : (file : List ℕ) → file ≡ 255 ∷ (frame next new ++ 0 ∷ [])
+      → HasFrames next (new ∷ []) file
   has_one file parts = has_just next new few new_len file (parts ∙ one_is)
 
   pub is_older : IsOlder next current
@@ -290,7 +287,7 @@ module _ (Whole : Type 0) (first : ℕ) (all : List (List ℕ)) (new current old
                 shutting.now.parts ∙ ap (λ (g : ℕ). g ∷ shutting.rest) (gate_is shutting.now.now shutting.rest shutting.now.parts ∙ sym gate)
                 ∙ sym shutting.old_is in
                 let number : it.first ≡ before.number =
-                one_number it.first before.number it.all before.all old (subst (Has it.first it.all) same it.has) before.has in
+                one_number it.first before.number it.all before.all old (subst (HasFrames it.first it.all) same it.has) before.has in
                 absurd (omega (arith, number, before.next, due, has.some, before.has.some))
           ]
         where
@@ -307,13 +304,13 @@ module _ (Whole : Type 0) (first : ℕ) (all : List (List ℕ)) (new current old
   renewed_leaves bytes (inl it) = inl (it.bytes_are ∙ ap concat (same_list first it.first all it.all current has it.has))
   renewed_leaves bytes (inr it) = inr (renewed bytes it)
 
-  pub renewed_opens : Whole → Opens current other
+  pub renewed_opens : Whole → CanBeOpened current other
   renewed_opens finishes = of_may may
     where
-      with_other : IsOther first other → Opens current other
+      with_other : IsOther first other → CanBeOpened current other
       with_other is = record { bytes = concat all; hold = inl (record { first = first; all = all; has = has; other_is = is; bytes_are = refl }) }
 
-      of_may : MayBe Whole old (frame next new ++ 0 ∷ []) other → Opens current other
+      of_may : MayBe Whole old (frame next new ++ 0 ∷ []) other → CanBeOpened current other
       of_may (inl blank) = with_other (inl blank)
       of_may (inr (inl shutting)) = elim (shutting.now.either finishes) [
         | inl stays ↦
@@ -337,9 +334,9 @@ module _ (Whole : Type 0) (first : ℕ) (all : List (List ℕ)) (new current old
 
 -- while the file that was in use before is emptied
 module _ (Whole : Type 0) (first : ℕ) (all : List (List ℕ)) (current old other : List ℕ)
-    (has : Has first all current) (before : IsOlder first old) (may : MayRetire Whole old other) where
+    (has : HasFrames first all current) (before : IsOlder first old) (may : MayRetire Whole old other) where
   abbrev Reads : Type 0
-  Reads = (n : ℕ) (ys : List (List ℕ)) → Has n ys other → n ≡ before.number
+  Reads = (n : ℕ) (ys : List (List ℕ)) → HasFrames n ys other → n ≡ before.number
 
   -- if anything is read there, it is what was there
   reads_old : Reads
@@ -355,7 +352,7 @@ module _ (Whole : Type 0) (first : ℕ) (all : List (List ℕ)) (current old oth
         let same : other ≡ old =
         shutting.now.parts ∙ ap (λ (g : ℕ). g ∷ shutting.rest) (gate_now ∙ sym gate_was)
         ∙ sym shutting.old_is in
-        one_number n before.number ys before.all old (subst (Has n ys) same there) before.has
+        one_number n before.number ys before.all old (subst (HasFrames n ys) same there) before.has
   ] where
     head : (g : ℕ) (r s : List ℕ) → g ∷ r ≡ 255 ∷ s → g ≡ 255
     head g r s e = cc
@@ -380,7 +377,7 @@ module _ (Whole : Type 0) (first : ℕ) (all : List (List ℕ)) (current old oth
         ))
   ]
 
-  pub retired_opens : Whole → Opens current other
+  pub retired_opens : Whole → CanBeOpened current other
   retired_opens finishes = elim may [
     | inl blank ↦ with_other (inl blank)
     | inr shutting ↦ elim (shutting.now.either finishes) [
@@ -395,7 +392,7 @@ module _ (Whole : Type 0) (first : ℕ) (all : List (List ℕ)) (current old oth
           })))
     ]
   ] where
-    with_other : IsOther first other → Opens current other
+    with_other : IsOther first other → CanBeOpened current other
     with_other is = record {
       bytes = concat all;
       hold = inl (record {

@@ -1,16 +1,11 @@
 -- What a log is after bytes were added, or have replaced others, and what a crash leaves.
-use Rattle.std.proofs.Common.{◌≡◌, ◌⊎◌, ◌+◌, ◌-◌, ◌^◌, ◌<◌, ◌≤◌, ◌++◌, ◌∙◌, ℕ, Bool, List, [], ◌∷◌, ap, append_assoc, arith, inl, inr, length, refl, subst, sym, take}
-use Rattle.std.proofs.lemmas.List.{append-nil, length-append, length-take, length_push, take_all, take_at}
-use Rattle.std.specs.List.{concat}
-use Rattle.std.specs.Prelude.{IsTrue}
-use Rattle.sqlite_disk.specs.Disk.{Only}
-use Rattle.batcher_file.specs.Disks.{IsKept, MayBe, MayHave, MayRetire}
-use Rattle.batcher_file.specs.Frames.{Has, frame, frames}
-use Rattle.batcher_file.specs.Pairs.{AreAtRest, Hold, HoldNone, IsOlder, IsOther, IsTidied, IsTornIntoTwo}
-use Rattle.batcher_file.specs.Settled.{IsSettled}
-use Rattle.batcher_file.specs.declared.log.FileLog.{FileLog}
+use Rattle.batcher_file.proofs.Words.{◌≡◌, ◌⊎◌, ◌+◌, ◌-◌, ◌^◌, ◌<◌, ◌≤◌, ◌++◌, ◌∙◌, ℕ, Bool, List, [], ◌∷◌, ap, append_assoc, arith, inl, inr, length, refl}
+use Rattle.batcher_file.proofs.Words.{subst, sym, take, append-nil, length-append, length-take, length_push, take_all, take_at, concat, IsTrue, Only}
+use Rattle.batcher_file.proofs.Words.{IsSyncedAs, MayBe, MayHave, MayRetire, HasFrames, frame, frames, AreAtRest, Hold, HoldNone, IsOlder, IsOther, IsTidied}
+use Rattle.batcher_file.proofs.Words.{IsTornIntoTwo, IsSettled, FileLog}
 use Rattle.batcher_file.proofs.SoFar.{concat_push}
-use Rattle.batcher_file.proofs.Turns.{added_leaves, added_opens, at_rest, has_all, has_just, more_is, none_in_nothing, renewed_leaves, renewed_opens, retired_leaves, retired_opens}
+use Rattle.batcher_file.proofs.Turns.{added_leaves, added_opens, at_rest, has_all, has_just, more_is, none_in_nothing, renewed_leaves, renewed_opens}
+use Rattle.batcher_file.proofs.Turns.{retired_leaves, retired_opens}
 
 as_other : (first : ℕ) (file : List ℕ) → (length file ≤ 1) ⊎ IsOlder first file → IsOther first file
 as_other first file (inl le) = inl (inl le)
@@ -23,7 +18,7 @@ module _ {K : Type 0} (seen : K → List ℕ) (may_leave : K → List ℕ → Ty
 
   -- two files as they are to be between two calls
   pub made : (current other : K) (bytes : List ℕ) (next end first : ℕ) (all : List (List ℕ))
-      → Has first all (seen current) → seen current ≡ frames first all ++ 0 ∷ []
+      → HasFrames first all (seen current) → seen current ≡ frames first all ++ 0 ∷ []
       → Only (seen current) (may_leave current) → (length (seen other) ≤ 1)
       ⊎ IsOlder first (seen other)
       → Only (seen other) (may_leave other) → next ≡ first + length all
@@ -58,7 +53,7 @@ module _ {K : Type 0} (seen : K → List ℕ) (may_leave : K → List ℕ → Ty
 
     module _ (current : K) (clean : IsTrue (is_clean current) → IsTrue (is_clean old.current)) where
       pub add_leaves : ((front : List ℕ) (gate : ℕ) → length front ≡ old.files.end
-          → IsKept seen may_leave old.current (front ++ gate ∷ []) → (file : List ℕ)
+          → IsSyncedAs seen may_leave old.current (front ++ gate ∷ []) → (file : List ℕ)
           → may_leave current file
           → MayHave Whole front gate frame_is file)
           → IsTrue (is_clean current) × IsTrue (is_clean old.other)
@@ -76,7 +71,7 @@ module _ {K : Type 0} (seen : K → List ℕ) (may_leave : K → List ℕ → Ty
           rw (rest.bytes_are) found
 
       pub add_opens : ((front : List ℕ) (gate : ℕ) → length front ≡ old.files.end
-          → IsKept seen may_leave old.current (front ++ gate ∷ []) → (file : List ℕ)
+          → IsSyncedAs seen may_leave old.current (front ++ gate ∷ []) → (file : List ℕ)
           → may_leave current file
           → MayHave Whole front gate frame_is file)
           → IsTrue (is_clean current) × IsTrue (is_clean old.other) → Whole
@@ -95,8 +90,8 @@ module _ {K : Type 0} (seen : K → List ℕ) (may_leave : K → List ℕ → Ty
 
       pub add_settles : (more : List ℕ) (end : ℕ)
           → ((front : List ℕ) (gate : ℕ) → length front ≡ old.files.end
-          → IsKept seen may_leave old.current (front ++ gate ∷ [])
-          → IsKept seen may_leave current (front ++ 255 ∷ frame_is))
+          → IsSyncedAs seen may_leave old.current (front ++ gate ∷ [])
+          → IsSyncedAs seen may_leave current (front ++ 255 ∷ frame_is))
           → more ≡ old.files.bytes.items ++ bytes → end ≡ old.files.end + length frame_is
           → IsTrue (is_clean current) × IsTrue (is_clean old.other)
           → Rest current old.other more (old.files.next + 1) end
@@ -133,7 +128,7 @@ module _ {K : Type 0} (seen : K → List ℕ) (may_leave : K → List ℕ → Ty
           let may = leaves rest.other_kept renewed renewed_left in
           let here : MayBe Whole (seen old.other) (frame (rest.first + length rest.all) bytes ++ 0 ∷ []) renewed =
           subst (λ (t : List ℕ). MayBe Whole (seen old.other) t renewed) (frame_as rest) may in
-          let has : Has rest.first rest.all file = subst (Has rest.first rest.all) (sym (rest.current_kept file file_left)) rest.has in
+          let has : HasFrames rest.first rest.all file = subst (HasFrames rest.first rest.all) (sym (rest.current_kept file file_left)) rest.has in
           let found = renewed_leaves Whole rest.first rest.all bytes file (seen old.other) renewed (few_as rest) len has rest.short here left hold in
           rw (rest.bytes_are) found
 
@@ -148,19 +143,19 @@ module _ {K : Type 0} (seen : K → List ℕ) (may_leave : K → List ℕ → Ty
           let may = leaves rest.other_kept renewed renewed_left in
           let here : MayBe Whole (seen old.other) (frame (rest.first + length rest.all) bytes ++ 0 ∷ []) renewed =
           subst (λ (t : List ℕ). MayBe Whole (seen old.other) t renewed) (frame_as rest) may in
-          let has : Has rest.first rest.all file = subst (Has rest.first rest.all) (sym (rest.current_kept file file_left)) rest.has in
+          let has : HasFrames rest.first rest.all file = subst (HasFrames rest.first rest.all) (sym (rest.current_kept file file_left)) rest.has in
           let opens = renewed_opens Whole rest.first rest.all bytes file (seen old.other) renewed (few_as rest) len has rest.short here finishes in
           none opens.bytes opens.hold
 
       -- what the renewed file has, and the one before it
-      renewed_has : (rest : OldRest) → IsKept seen may_leave other (255 ∷ frame_is)
+      renewed_has : (rest : OldRest) → IsSyncedAs seen may_leave other (255 ∷ frame_is)
           → seen other ≡ frames (rest.first + length rest.all) (bytes ∷ []) ++ 0 ∷ []
       renewed_has rest kept =
           kept.same ∙ ap (λ (t : List ℕ). 255 ∷ t) (frame_as rest)
           ∙ ap (λ (t : List ℕ). 255 ∷ (t ++ 0 ∷ []))
           (sym (append-nil (frame (rest.first + length rest.all) bytes)))
 
-      module _ (kept : IsKept seen may_leave other (255 ∷ frame_is)) (retired : K)
+      module _ (kept : IsSyncedAs seen may_leave other (255 ∷ frame_is)) (retired : K)
           (clean_retired : IsTrue (is_clean retired) → IsTrue (is_clean old.current)) where
         abbrev Retires : Type 0
         Retires = Only (seen old.current) (may_leave old.current) → (file : List ℕ)
@@ -198,7 +193,7 @@ module _ {K : Type 0} (seen : K → List ℕ) (may_leave : K → List ℕ → Ty
             none opens.bytes opens.hold
 
         pub renew_settles : (now : List ℕ) (end : ℕ) → now ≡ bytes
-            → IsKept seen may_leave retired (15 ∷ []) → end ≡ length frame_is
+            → IsSyncedAs seen may_leave retired (15 ∷ []) → end ≡ length frame_is
             → IsTrue (is_clean other) × IsTrue (is_clean retired)
             → Rest other retired now (old.files.next + 1) end
         renew_settles now end now_is gone end_is honest =
@@ -222,8 +217,8 @@ module _ {K : Type 0} (seen : K → List ℕ) (may_leave : K → List ℕ → Ty
       (len : ℕ)
       → IsTidied (seen current) (seen other) first next end bytes len
       → (end + 1 ≤ length (seen current)
-      → IsKept seen may_leave cut_current (take (end + 1) (seen current)))
-      → (len ≤ length (seen other) → IsKept seen may_leave cut_other (take len (seen other)))
+      → IsSyncedAs seen may_leave cut_current (take (end + 1) (seen current)))
+      → (len ≤ length (seen other) → IsSyncedAs seen may_leave cut_other (take len (seen other)))
       → Rest cut_current cut_other bytes next end
   tidied current other cut_current cut_other first next end bytes len it cuts cuts_other =
       let all = it.contents.all in
@@ -243,7 +238,7 @@ module _ {K : Type 0} (seen : K → List ℕ) (may_leave : K → List ℕ → Ty
         | inr older ↦ omega (arith, older.1)
       ] in
       let other_kept = cuts_other within in
-      let now : Has first all (seen cut_current) = record {
+      let now : HasFrames first all (seen cut_current) = record {
         some = has.some;
         few = has.few;
         values = has.values;
@@ -265,8 +260,9 @@ module _ {K : Type 0} (seen : K → List ℕ) (may_leave : K → List ℕ → Ty
   -- and as they are made
   pub begun : (current other : K) (bytes frame_is now old : List ℕ) (end len : ℕ)
       → length bytes < 2 ^ 64
-      → frame_is ≡ frame 1 bytes ++ 0 ∷ [] → IsKept seen may_leave current (255 ∷ frame_is)
-      → IsKept seen may_leave other (take len old) → len ≤ 1 → end ≡ length frame_is → now ≡ bytes
+      → frame_is ≡ frame 1 bytes ++ 0 ∷ [] → IsSyncedAs seen may_leave current (255 ∷ frame_is)
+      → IsSyncedAs seen may_leave other (take len old) → len ≤ 1 → end ≡ length frame_is
+      → now ≡ bytes
       → Rest current other now 2 end
   begun current other bytes frame_is now old end len bytes_len framed kept other_kept short end_is now_is =
       let whole : seen current ≡ frames 1 (bytes ∷ []) ++ 0 ∷ [] =

@@ -2,8 +2,8 @@
 use Rattle.std.specs.Prelude.{◌++◌, ◌*◌, ◌%◌, ◌^◌, ℕ, List, Ok, Err, bit_xor, if◌then◌else◌, nat_eq}
 use Rattle.std.specs.List.{fold}
 use Rattle.std.specs.Int.{w64}
-use Rattle.batcher_codec.specs.Format.{◌>>=◌, Format, number_bytes, u64_format}
-use Rattle.batcher_codec.specs.declared.fault.DecodeFault.TheVariants.{Malformed}
+use Rattle.batcher_bytes.specs.Format.{◌>>=◌, Format, number_bytes, u64_format}
+use Rattle.batcher_bytes.specs.declared.fault.DecodeFault.TheVariants.{Malformed}
 
 -- one byte more
 abbrev pub summed : ℕ → ℕ → ℕ

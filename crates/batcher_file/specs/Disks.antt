@@ -4,7 +4,7 @@ use Rattle.sqlite_disk.specs.Disk.{Only}
 use Rattle.batcher_file.specs.Frames.{open_gate}
 
 -- the file is this, all of it on the disk
-pub record IsKept {K : Type 0} (seen : K → List ℕ) (may_leave : K → List ℕ → Type 0) (disk : K)
+pub record IsSyncedAs {K : Type 0} (seen : K → List ℕ) (may_leave : K → List ℕ → Type 0) (disk : K)
     (file : List ℕ) : Type 0 where
   pub same : seen disk ≡ file
   pub durable : Only (seen disk) (may_leave disk)

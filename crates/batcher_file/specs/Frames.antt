@@ -2,7 +2,7 @@
 use Rattle.std.specs.Prelude.{◌≡◌, ◌+◌, ◌<◌, ◌^◌, ◌++◌, ℕ, List, [], ◌∷◌, Ok, length}
 use Rattle.std.specs.List.{concat}
 use Rattle.std.specs.Int.{w64}
-use Rattle.batcher_codec.specs.Format.{◌>>=◌, Format, fixed, number_bytes, pair, u64_format}
+use Rattle.batcher_bytes.specs.Format.{◌>>=◌, Format, fixed, number_bytes, pair, u64_format}
 use Rattle.batcher_file.specs.Checksums.{sealed, sealed_format}
 
 -- a gate that is open, and one that is closed
@@ -55,7 +55,7 @@ pub record AreTwoFrames (number : ℕ) (bytes : List ℕ) : Type 0 where
 
 -- A file has these frames, and behind them a gate that is closed. What is behind that was never
 -- part of the file, so that no two frames are there.
-pub record Has (number : ℕ) (all : List (List ℕ)) (file : List ℕ) : Type 0 where
+pub record HasFrames (number : ℕ) (all : List (List ℕ)) (file : List ℕ) : Type 0 where
   pub some : 0 < length all
   pub few : number + length all < 2 ^ 63
   pub values : AreFrames number all
@@ -67,7 +67,7 @@ pub record Has (number : ℕ) (all : List (List ℕ)) (file : List ℕ) : Type 0
 -- and of the next
 pub record AreContents (file : List ℕ) (first next end : ℕ) (bytes : List ℕ) : Type 0 where
   pub all : List (List ℕ)
-  pub has : Has first all file
+  pub has : HasFrames first all file
   pub next_is : next ≡ first + length all
   pub end_is : end ≡ length (frames first all)
   pub bytes_are : bytes ≡ concat all
@@ -87,4 +87,4 @@ pub record IsReadTo (file : List ℕ) (at : ℕ) : Type 0 where
 
 -- No frames that end can be read in it.
 abbrev pub IsUnread : List ℕ → Type 0
-IsUnread file = (first : ℕ) (all : List (List ℕ)) → Has first all file → ⊥
+IsUnread file = (first : ℕ) (all : List (List ℕ)) → HasFrames first all file → ⊥

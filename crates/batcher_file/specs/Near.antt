@@ -1,6 +1,6 @@
 -- Bytes of which one has changed.
 use Rattle.std.specs.Prelude.{◌≡◌, ◌⊎◌, ◌++◌, ℕ, List, ◌∷◌}
-use Rattle.batcher_codec.specs.Format.{AreBytes}
+use Rattle.batcher_bytes.specs.Format.{AreBytes}
 
 -- the same bytes, but for one
 pub record IsChanged (By : ℕ → ℕ → Type 0) (old new : List ℕ) : Type 0 where

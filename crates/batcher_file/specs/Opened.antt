@@ -6,7 +6,7 @@ use Rattle.batcher_file.specs.declared.contents.Gate.TheVariants.{Closed, Damage
 
 module _ (due : ℕ) (bytes : List ℕ) where
   -- an open gate with the frame that is due behind it, and what follows
-  pub record IsOpen (inside after : List ℕ) : Type 0 where
+  pub record IsOpenGate (inside after : List ℕ) : Type 0 where
     pub rest : List ℕ
     pub parts : bytes ≡ open_gate ∷ rest
     pub framed : IsFrame due inside after rest
@@ -17,7 +17,7 @@ module _ (due : ℕ) (bytes : List ℕ) where
     pub parts : bytes ≡ closed_gate ∷ rest
     pub alone : AreTwoFrames due rest → ⊥
 
-  abbrev pub Opens : Gate → Type 0
-  Opens (Open inside after) = IsOpen inside.now after.now
-  Opens Closed = IsClosed
-  Opens Damaged = ((inside after : List ℕ) → IsOpen inside after → ⊥) × (IsClosed → ⊥)
+  abbrev pub GateOpens : Gate → Type 0
+  GateOpens (Open inside after) = IsOpenGate inside.now after.now
+  GateOpens Closed = IsClosed
+  GateOpens Damaged = ((inside after : List ℕ) → IsOpenGate inside after → ⊥) × (IsClosed → ⊥)

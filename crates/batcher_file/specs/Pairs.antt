@@ -1,15 +1,16 @@
 -- What is in two files that take turns: one is in use, and the other was before it.
-use Rattle.std.specs.Prelude.{◌≡◌, ◌≤◌, ◌+◌, ◌⊎◌, ◌++◌, ◌∷◌, [], ℕ, Bool, true, false, List, length, min}
+use Rattle.std.specs.Prelude.{◌≡◌, ◌≤◌, ◌+◌, ◌⊎◌, ◌++◌, ◌∷◌, [], ℕ, Bool, true, false, List, length}
+use Rattle.std.specs.Prelude.{min}
 use Rattle.std.specs.List.{concat}
 use Rattle.sqlite_disk.specs.Disk.{Only}
 use Rattle.batcher_file.specs.Disks.{IsBlank}
-use Rattle.batcher_file.specs.Frames.{AreContents, AreTwoFrames, Has, closed_gate, frames}
+use Rattle.batcher_file.specs.Frames.{AreContents, AreTwoFrames, HasFrames, closed_gate, frames}
 
 -- a file whose frames end where those from this number on begin
 pub record IsOlder (first : ℕ) (file : List ℕ) : Type 0 where
   pub number : ℕ
   pub all : List (List ℕ)
-  pub has : Has number all file
+  pub has : HasFrames number all file
   pub next : number + length all ≡ first
 
 abbrev pub IsOther : ℕ → List ℕ → Type 0
@@ -19,7 +20,7 @@ IsOther first file = IsBlank file ⊎ IsOlder first file
 pub record AreCurrent (current other bytes : List ℕ) : Type 0 where
   pub first : ℕ
   pub all : List (List ℕ)
-  pub has : Has first all current
+  pub has : HasFrames first all current
   pub other_is : IsOther first other
   pub bytes_are : bytes ≡ concat all
 
@@ -28,7 +29,7 @@ abbrev pub Hold : List ℕ → List ℕ → List ℕ → Type 0
 Hold a b bytes = AreCurrent a b bytes ⊎ AreCurrent b a bytes
 
 -- Two files that hold something, so that they can be opened.
-pub record Opens (a b : List ℕ) : Type 0 where
+pub record CanBeOpened (a b : List ℕ) : Type 0 where
   pub bytes : List ℕ
   pub hold : Hold a b bytes
 
@@ -46,7 +47,7 @@ pub record AreAtRest {K : Type 0} (seen : K → List ℕ) (may_leave : K → Lis
     (current other : K) (bytes : List ℕ) (next end : ℕ) : Type 0 where
   pub first : ℕ
   pub all : List (List ℕ)
-  pub has : Has first all (seen current)
+  pub has : HasFrames first all (seen current)
   pub parts : seen current ≡ frames first all ++ closed_gate ∷ []
   pub current_kept : Only (seen current) (may_leave current)
   pub short : (length (seen other) ≤ 1) ⊎ IsOlder first (seen other)

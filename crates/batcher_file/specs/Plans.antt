@@ -1,5 +1,6 @@
 -- What a plan is made for.
-use Rattle.std.specs.Prelude.{◌≡◌, ◌<◌, ◌≤◌, ◌+◌, ◌-◌, ◌^◌, ◌++◌, ◌∷◌, [], ℕ, Bool, true, false, List, length, min}
+use Rattle.std.specs.Prelude.{◌≡◌, ◌<◌, ◌≤◌, ◌+◌, ◌-◌, ◌^◌, ◌++◌, ◌∷◌, [], ℕ, Bool, true, false}
+use Rattle.std.specs.Prelude.{List, length, min}
 use Rattle.batcher_file.specs.Disks.{IsBlank}
 use Rattle.batcher_file.specs.Frames.{closed_gate, frame}
 use Rattle.batcher_file.specs.Pairs.{IsTidied}
@@ -10,7 +11,7 @@ use Rattle.batcher_file.specs.declared.steps.Job.TheVariants.{Add, Replace, Star
 use Rattle.batcher_file.specs.declared.steps.Plan.{Plan}
 
 -- bytes, and where they end, are as before
-pub record IsSame (old new : TwoFiles) : Type 0 where
+pub record SameBytes (old new : TwoFiles) : Type 0 where
   pub bytes : new.bytes.items ≡ old.bytes.items
   pub next : new.next ≡ old.next
   pub end : new.end ≡ old.end
@@ -57,7 +58,7 @@ IsOpened a b false plan new = Tidies a b plan new
 IsOpened a b true plan new = Tidies b a plan new
 
 -- Two files that have nothing in them are to have these bytes.
-pub record IsMade (first second bytes : List ℕ) (new : TwoFiles) (plan : Plan) : Type 0 where
+pub record MakesFiles (first second bytes : List ℕ) (new : TwoFiles) (plan : Plan) : Type 0 where
   pub blank : IsBlank first
   pub second_blank : IsBlank second
   pub short : length bytes ≤ 2 ^ 40

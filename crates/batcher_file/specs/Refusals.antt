@@ -3,15 +3,16 @@ use Rattle.std.specs.Prelude.{◌<◌, ◌^◌, ◌⊎◌, ℕ, true, false, Lis
 use Rattle.batcher_file.specs.Frames.{IsReadTo}
 use Rattle.batcher_file.specs.Pairs.{HoldNone}
 use Rattle.batcher_file.specs.declared.opening.OpenFault.{OpenFault}
-use Rattle.batcher_file.specs.declared.opening.OpenFault.TheVariants.{Apart, Damaged, Empty, Failed, OutOfMemory, Taken, TooLong}
+use Rattle.batcher_file.specs.declared.opening.OpenFault.TheVariants.{Apart, Damaged, Empty, Failed}
+use Rattle.batcher_file.specs.declared.opening.OpenFault.TheVariants.{OutOfMemory, Taken, TooLong}
 
 -- what a fault shows of the files, once they are read: memory may be out, or they are at fault
-abbrev pub Shows : Type 0 → OpenFault → Type 0
-Shows Files OutOfMemory = Unit {0}
-Shows Files Empty = Files
-Shows Files (Damaged in_second at) = Files
-Shows Files Apart = Files
-Shows Files fault = ⊥
+abbrev pub FaultShows : Type 0 → OpenFault → Type 0
+FaultShows Files OutOfMemory = Unit {0}
+FaultShows Files Empty = Files
+FaultShows Files (Damaged in_second at) = Files
+FaultShows Files Apart = Files
+FaultShows Files fault = ⊥
 
 -- the frames before the damage are whole
 abbrev pub IsWholeBefore : List ℕ → List ℕ → OpenFault → Type 0
@@ -32,12 +33,12 @@ IsOfMaking Taken = Unit {0}
 IsOfMaking fault = IsOfReading fault
 
 -- why files aren't opened: but for memory and the disk, they hold nothing, or one is too long
-abbrev pub IsRefused : List ℕ → List ℕ → OpenFault → Type 0
-IsRefused a b OutOfMemory = Unit {0}
-IsRefused a b Failed = Unit {0}
-IsRefused a b Empty = HoldNone a b
-IsRefused a b (Damaged false at) = HoldNone a b × IsReadTo a at
-IsRefused a b (Damaged true at) = HoldNone a b × IsReadTo b at
-IsRefused a b Apart = HoldNone a b
-IsRefused a b TooLong = (2 ^ 42 < length a) ⊎ (2 ^ 42 < length b)
-IsRefused a b fault = ⊥
+abbrev pub IsUnopened : List ℕ → List ℕ → OpenFault → Type 0
+IsUnopened a b OutOfMemory = Unit {0}
+IsUnopened a b Failed = Unit {0}
+IsUnopened a b Empty = HoldNone a b
+IsUnopened a b (Damaged false at) = HoldNone a b × IsReadTo a at
+IsUnopened a b (Damaged true at) = HoldNone a b × IsReadTo b at
+IsUnopened a b Apart = HoldNone a b
+IsUnopened a b TooLong = (2 ^ 42 < length a) ⊎ (2 ^ 42 < length b)
+IsUnopened a b fault = ⊥

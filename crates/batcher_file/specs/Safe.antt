@@ -3,8 +3,8 @@ use Rattle.std.specs.Prelude.{◌≡◌, ◌⊎◌, ℕ, Bool, List}
 use Rattle.sqlite_disk.specs.Disk.{Only}
 use Rattle.batcher_file.specs.Carrying.{IsBegun, IsCarriedOut}
 use Rattle.batcher_file.specs.Pairs.{AreAtRest}
-use Rattle.batcher_file.specs.Plans.{IsMade, Tidies}
-use Rattle.batcher_file.specs.Settled.{IsHonest, IsSettled, MayLeave, MayLose}
+use Rattle.batcher_file.specs.Plans.{MakesFiles, Tidies}
+use Rattle.batcher_file.specs.Settled.{AreHonestDisks, IsSettled, MayLeave, MayLose}
 use Rattle.batcher_file.specs.declared.files.TwoFiles.{TwoFiles}
 use Rattle.batcher_file.specs.declared.log.FileLog.{FileLog}
 use Rattle.batcher_file.specs.declared.steps.Plan.{Plan}
@@ -29,13 +29,13 @@ module _ {K : Type 0} (seen : K → List ℕ) (may_leave : K → List ℕ → Ty
     pub leaves : (old new : FileLog K) (bytes left : List ℕ) (files : TwoFiles) (plan : Plan)
         → IsSettled seen may_leave is_usable is_clean old → IsPlanned old.files bytes files plan
         → IsBegun seen may_leave is_usable is_clean is_mixing faults plan (planned old files) new
-        → IsHonest seen may_leave is_usable is_clean new
+        → AreHonestDisks seen may_leave is_usable is_clean new
         → MayLeave seen may_leave is_usable is_clean new left
         → (left ≡ old.files.bytes.items) ⊎ (left ≡ after old.files.bytes.items bytes)
     pub opens : (old new : FileLog K) (bytes : List ℕ) (files : TwoFiles) (plan : Plan)
         → IsSettled seen may_leave is_usable is_clean old → IsPlanned old.files bytes files plan
         → IsBegun seen may_leave is_usable is_clean is_mixing faults plan (planned old files) new
-        → IsHonest seen may_leave is_usable is_clean new
+        → AreHonestDisks seen may_leave is_usable is_clean new
         → MayLose seen may_leave is_usable is_clean is_mixing new → ⊥
 
   -- Of plans that tidy what was found: what was found is all that is left, at each moment.
@@ -65,13 +65,13 @@ module _ {K : Type 0} (seen : K → List ℕ) (may_leave : K → List ℕ → Ty
     pub settled : (log new : FileLog K) (bytes : List ℕ) (plan : Plan)
         → Only (seen log.current) (may_leave log.current)
         → Only (seen log.other) (may_leave log.other)
-        → IsMade (seen log.current) (seen log.other) bytes log.files plan
+        → MakesFiles (seen log.current) (seen log.other) bytes log.files plan
         → IsCarriedOut seen may_leave is_usable is_clean is_mixing faults plan log new
         → AreAtRest seen may_leave new.current new.other new.files.bytes.items new.files.next
         new.files.end × (new.files.bytes.items ≡ bytes)
     pub leaves : (log new : FileLog K) (bytes left : List ℕ) (plan : Plan)
         → Only (seen log.current) (may_leave log.current)
         → Only (seen log.other) (may_leave log.other)
-        → IsMade (seen log.current) (seen log.other) bytes log.files plan
+        → MakesFiles (seen log.current) (seen log.other) bytes log.files plan
         → IsBegun seen may_leave is_usable is_clean is_mixing faults plan log new
         → MayLeave seen may_leave is_usable is_clean new left → left ≡ bytes

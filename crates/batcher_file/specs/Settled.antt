@@ -8,13 +8,13 @@ use Rattle.batcher_file.specs.declared.log.FileLog.{FileLog}
 module _ {K : Type 0} (seen : K → List ℕ) (may_leave : K → List ℕ → Type 0)
     (is_usable is_clean : K → Bool) where
   -- Neither disk has told a lie.
-  abbrev pub IsHonest : FileLog K → Type 0
-  IsHonest log = IsTrue (is_clean log.current) × IsTrue (is_clean log.other)
+  abbrev pub AreHonestDisks : FileLog K → Type 0
+  AreHonestDisks log = IsTrue (is_clean log.current) × IsTrue (is_clean log.other)
 
   pub record IsSettled (log : FileLog K) : Type 0 where
     pub current_usable : IsTrue (is_usable log.current)
     pub other_usable : IsTrue (is_usable log.other)
-    pub rest : IsHonest log
+    pub rest : AreHonestDisks log
         → AreAtRest seen may_leave log.current log.other log.files.bytes.items log.files.next
         log.files.end
 
@@ -47,7 +47,7 @@ module _ {K : Type 0} (seen : K → List ℕ) (may_leave : K → List ℕ → Ty
   HasFailed faults log = (0 < faults log.current) ⊎ (0 < faults log.other)
 
   -- What is there is found after a crash, and nothing else.
-  pub rest_settled : (log : FileLog K) (left : List ℕ) → IsHonest log → IsSettled log
+  pub rest_settled : (log : FileLog K) (left : List ℕ) → AreHonestDisks log → IsSettled log
       → MayLeave log left → left ≡ log.files.bytes.items
   rest_settled log left honest settled may =
       let rest = settled.rest honest in
@@ -56,7 +56,8 @@ module _ {K : Type 0} (seen : K → List ℕ) (may_leave : K → List ℕ → Ty
         ← rest.other_kept may.other may.other_left,
       ) may.hold)
 
-  pub rest_stays : ((disk : K) → may_leave disk (seen disk)) → (log : FileLog K) → IsHonest log
+  pub rest_stays : ((disk : K) → may_leave disk (seen disk)) → (log : FileLog K)
+      → AreHonestDisks log
       → IsSettled log → MayLeave log log.files.bytes.items
   rest_stays stay log honest settled = record {
     current = seen log.current;
@@ -66,7 +67,7 @@ module _ {K : Type 0} (seen : K → List ℕ) (may_leave : K → List ℕ → Ty
     hold = (settled.rest honest).hold;
   }
 
-  pub rest_opens : (is_mixing : K → Bool) (log : FileLog K) → IsHonest log → IsSettled log
+  pub rest_opens : (is_mixing : K → Bool) (log : FileLog K) → AreHonestDisks log → IsSettled log
       → MayLose is_mixing log → ⊥
   rest_opens is_mixing log honest settled lose =
       let rest = settled.rest honest in

@@ -1,5 +1,6 @@
 -- What is to be done to two files, one step after the other, and what it comes to.
-use Rattle.std.specs.Prelude.{◌≡◌, ◌<◌, ◌+◌, ◌^◌, ◌⊎◌, ◌++◌, ◌∷◌, [], ℕ, Bool, true, false, List, IsTrue, drop, length, map}
+use Rattle.std.specs.Prelude.{◌≡◌, ◌<◌, ◌+◌, ◌^◌, ◌⊎◌, ◌++◌, ◌∷◌, [], ℕ, Bool, true, false, List}
+use Rattle.std.specs.Prelude.{IsTrue, drop, length, map}
 use Rattle.sqlite_disk.specs.Disk.{Cut, Follows, Holds, Mixed, Only, Torn}
 use Rattle.batcher_file.specs.Disks.{unused_gate}
 use Rattle.batcher_file.specs.Frames.{open_gate}
@@ -19,8 +20,8 @@ retire = Byte 0 unused_gate ∷ SetLen 1 ∷ []
 abbrev pub renew : List Step
 renew = retire ++ add 0 1
 
-abbrev pub start : ℕ → List Step
-start len = SetLen len ∷ renew
+abbrev pub start_over : ℕ → List Step
+start_over len = SetLen len ∷ renew
 
 -- each step, and whether it is one of the other file
 abbrev pub on : Bool → List Step → List (Bool × Step)
@@ -30,7 +31,7 @@ abbrev pub steps : Job → List (Bool × Step)
 steps (Add gate behind) = on false (add gate behind)
 steps Replace = on true renew ++ on false retire
 steps (Tidy len other_len) = on false (SetLen len ∷ []) ++ on true (SetLen other_len ∷ [])
-steps (Start len other_len) = on true (SetLen other_len ∷ []) ++ on false (start len)
+steps (Start len other_len) = on true (SetLen other_len ∷ []) ++ on false (start_over len)
 
 -- Of a disk: what steps have done to it. Behind each step it is synced.
 module _ {K : Type 0} (seen : K → List ℕ) (may_leave : K → List ℕ → Type 0)
@@ -48,21 +49,21 @@ module _ {K : Type 0} (seen : K → List ℕ) (may_leave : K → List ℕ → Ty
   Mixes (SetLen len) = Cut len
 
   -- its offsets are numbers of 64 bits
-  abbrev pub Fits : Step → Type 0
-  Fits (Frame at) = at + length frame < 2 ^ 64
-  Fits (Byte at byte) = at + 1 < 2 ^ 64
-  Fits (SetLen len) = Unit {0}
+  abbrev pub IsAddressable : Step → Type 0
+  IsAddressable (Frame at) = at + length frame < 2 ^ 64
+  IsAddressable (Byte at byte) = at + 1 < 2 ^ 64
+  IsAddressable (SetLen len) = Unit {0}
 
   -- what is there once it is done
-  abbrev pub IsThere : Step → List ℕ → Type 0
-  IsThere (Frame at) file = 0 < length frame → Holds file at frame
-  IsThere (Byte at byte) file = Holds file at (byte ∷ [])
-  IsThere (SetLen len) file = length file ≡ len
+  abbrev pub IsStepDone : Step → List ℕ → Type 0
+  IsStepDone (Frame at) file = 0 < length frame → Holds file at frame
+  IsStepDone (Byte at byte) file = Holds file at (byte ∷ [])
+  IsStepDone (SetLen len) file = length file ≡ len
 
   -- a step was begun
   pub record IsTried (step : Step) (old new : K) : Type 0 where
     pub crash : Follows (Touches step) (may_leave old) (may_leave new)
-    pub mixed : IsTrue (is_mixing old) → Fits step
+    pub mixed : IsTrue (is_mixing old) → IsAddressable step
         → Follows (Mixes step) (may_leave old) (may_leave new)
     pub clean : IsTrue (is_clean new) → IsTrue (is_clean old)
 
@@ -74,7 +75,7 @@ module _ {K : Type 0} (seen : K → List ℕ) (may_leave : K → List ℕ → Ty
   pub record IsDone (step : Step) (old new : K) : Type 0 where
     pub tried : IsTried step old new
     pub touched : Touches step (seen old) (seen new)
-    pub there : IsThere step (seen new)
+    pub there : IsStepDone step (seen new)
     pub durable : Only (seen new) (may_leave new)
     pub usable : IsTrue (is_usable new)
 

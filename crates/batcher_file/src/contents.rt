@@ -1,8 +1,8 @@
-// What is in a file.
+//! What is in a file: frames, up to a gate that is closed.
 
 ghost use Rattle.std.specs.Prelude.{◌≡◌, ◌∷◌, ◌+◌, ◌<◌, ◌^◌, Err, IfOk, List, MatchBool, Ok, ℕ};
 ghost use Rattle.batcher_file.specs.Frames.{AreContents, AreTwoFrames, IsFrame, IsReadTo, IsUnread};
-ghost use Rattle.batcher_file.specs.Opened.{Opens};
+ghost use Rattle.batcher_file.specs.Opened.{GateOpens};
 ghost use Rattle.batcher_file.specs.declared.contents.Unreadable.TheVariants.{Damaged};
 
 use crate::frame::{CLOSED, OPEN, frame_due, frame_in};
@@ -70,7 +70,7 @@ fn are_two_frames(bytes: &[u8], due: u64) -> bool
 // What is at the gate that the bytes begin with, where this number is due.
 fn gate_of(bytes: &[u8], due: u64) -> Gate<'_>
     requires { due + 1 < 2 ^ 64 }
-    ensures { Opens due bytes.now result }
+    ensures { GateOpens due bytes.now result }
 {
     match bytes {
         [OPEN, rest @ ..] => match frame_due(rest, due) {

@@ -1,7 +1,7 @@
 //! A log whose power goes, over disks that can be made to crash.
 
 ghost use Rattle.std.specs.Prelude.{◌≡◌, Err, List, OnOk, ℕ};
-ghost use Rattle.batcher_file.specs.Settled.{HasFailed, IsHonest, IsSettled, MayLeave};
+ghost use Rattle.batcher_file.specs.Settled.{HasFailed, AreHonestDisks, IsSettled, MayLeave};
 ghost use Rattle.batcher_file.specs.declared.opening.OpenFault.TheVariants.{Failed};
 
 use crate::log::FileLog;
@@ -16,19 +16,20 @@ impl<K: Crash + Drop> FileLog<K> {
             K.Disk.is_clean self.new) }
         // What is found is what the crash may have left.
         ensures found { OnOk result
-            (IsHonest K.Disk.seen K.Disk.may_leave K.Disk.is_usable K.Disk.is_clean self.new
+            (AreHonestDisks K.Disk.seen K.Disk.may_leave K.Disk.is_usable K.Disk.is_clean self.new
             → MayLeave K.Disk.seen K.Disk.may_leave K.Disk.is_usable K.Disk.is_clean self.old
             self.new.files.bytes.items) }
         // Whatever it answers, another crash leaves nothing that this one couldn't have left.
         ensures leaves { (left : List ℕ)
-            → IsHonest K.Disk.seen K.Disk.may_leave K.Disk.is_usable K.Disk.is_clean self.new
+            → AreHonestDisks K.Disk.seen K.Disk.may_leave K.Disk.is_usable K.Disk.is_clean self.new
             → MayLeave K.Disk.seen K.Disk.may_leave K.Disk.is_usable K.Disk.is_clean self.new left
             → MayLeave K.Disk.seen K.Disk.may_leave K.Disk.is_usable K.Disk.is_clean self.old
             left }
         ensures failed { result ≡ Err Failed → HasFailed K.Disk.seen K.Disk.may_leave
             K.Disk.is_usable K.Disk.is_clean K.Disk.faults self.new }
-        ensures honest { IsHonest K.Disk.seen K.Disk.may_leave K.Disk.is_usable K.Disk.is_clean
-            self.new → IsHonest K.Disk.seen K.Disk.may_leave K.Disk.is_usable K.Disk.is_clean
+        ensures honest { AreHonestDisks K.Disk.seen K.Disk.may_leave K.Disk.is_usable
+            K.Disk.is_clean
+            self.new → AreHonestDisks K.Disk.seen K.Disk.may_leave K.Disk.is_usable K.Disk.is_clean
             self.old }
     {
         self.current.crash();

@@ -1,15 +1,17 @@
 //! What is in two files that take turns, and what is to be done to them. Here nothing is done.
 
-ghost use Rattle.std.specs.Prelude.{◌≡◌, ◌<◌, ◌≤◌, ◌-◌, ◌^◌, ◌⊎◌, Err, IfErr, IfOk, List, OnErr, length};
+ghost use Rattle.std.specs.Prelude.{◌≡◌, ◌<◌, ◌≤◌, ◌-◌, ◌^◌, ◌⊎◌, Err, IfErr, IfOk, List, OnErr};
+ghost use Rattle.std.specs.Prelude.{length};
 ghost use Rattle.batcher_file.specs.Pairs.{HoldNone};
-ghost use Rattle.batcher_file.specs.Plans.{IsAddition, IsMade, IsOpened, IsReplacement, IsSame, IsTaken};
-ghost use Rattle.batcher_file.specs.Refusals.{IsWholeBefore, Shows};
-ghost use Rattle.batcher_log.specs.declared.LogFault.TheVariants.{Failed, Full};
+ghost use Rattle.batcher_file.specs.Plans.{IsAddition, MakesFiles, IsOpened, IsReplacement};
+ghost use Rattle.batcher_file.specs.Plans.{SameBytes, IsTaken};
+ghost use Rattle.batcher_file.specs.Refusals.{IsWholeBefore, FaultShows};
+ghost use Rattle.batcher_bytes.specs.declared.log.LogFault.TheVariants.{Failed, Full};
 
 use crate::frame::put_frame;
 use crate::opening::{OpenFault, in_use, is_blank, left_of};
 use crate::steps::{Job, Plan};
-use batcher_log::LogFault;
+use batcher_bytes::LogFault;
 use std::alloc::Global;
 
 // A file has at most so many bytes, and so has what is added to it at once.
@@ -46,9 +48,9 @@ impl TwoFiles {
     /// second is the one in use.
     pub fn open(&mut self, first: &[u8], second: &[u8]) -> Result<(bool, Plan), OpenFault>
         ensures found { IfOk result (λ it. IsOpened first.now second.now it.0 it.1 self.new) }
-        ensures refused { IfErr result (Shows (HoldNone first.now second.now)) }
+        ensures refused { IfErr result (FaultShows (HoldNone first.now second.now)) }
         ensures damage { IfErr result (IsWholeBefore first.now second.now) }
-        ensures kept { OnErr result (IsSame self.old self.new) }
+        ensures kept { OnErr result (SameBytes self.old self.new) }
     {
         let (contents, is_turned) = in_use(self.alloc, first, second)?;
         let other = if is_turned { first } else { second };
@@ -66,9 +68,9 @@ impl TwoFiles {
     /// What is to be done to two files that have these bytes, so that they have others. The first
     /// is the one in use.
     pub fn create(&mut self, first: &[u8], second: &[u8], bytes: &[u8]) -> Result<Plan, OpenFault>
-        ensures made { IfOk result (IsMade first.now second.now bytes.now self.new) }
+        ensures made { IfOk result (MakesFiles first.now second.now bytes.now self.new) }
         ensures taken { IfErr result (IsTaken first.now second.now) }
-        ensures kept { OnErr result (IsSame self.old self.new) }
+        ensures kept { OnErr result (SameBytes self.old self.new) }
     {
         if !is_blank(first) || !is_blank(second) {
             return Err(OpenFault::Taken);
@@ -90,7 +92,7 @@ impl TwoFiles {
     /// What is to be done so that these bytes are behind the others.
     pub fn append(&mut self, bytes: &[u8]) -> Result<Plan, LogFault>
         ensures added { IfOk result (IsAddition self.old bytes.now self.new) }
-        ensures kept { OnErr result (IsSame self.old self.new) }
+        ensures kept { OnErr result (SameBytes self.old self.new) }
         ensures full { result ≡ Err Full → (2 ^ 63 - 2 ≤ self.old.next) ⊎ (2 ^ 40 < self.old.end)
             ⊎ (2 ^ 40 < length bytes.now) }
         ensures cause { result ≡ Err Failed → ⊥ }
@@ -117,7 +119,7 @@ impl TwoFiles {
     /// file is the one in use.
     pub fn replace(&mut self, bytes: &[u8]) -> Result<Plan, LogFault>
         ensures replaced { IfOk result (IsReplacement self.old bytes.now self.new) }
-        ensures kept { OnErr result (IsSame self.old self.new) }
+        ensures kept { OnErr result (SameBytes self.old self.new) }
         ensures full { result ≡ Err Full → (2 ^ 63 - 2 ≤ self.old.next)
             ⊎ (2 ^ 40 < length bytes.now) }
         ensures cause { result ≡ Err Failed → ⊥ }

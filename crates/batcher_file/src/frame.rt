@@ -1,13 +1,14 @@
-// A frame: a number and how many bytes there are, with their checksum, and the bytes with theirs.
+//! A frame: a number and how many bytes there are, with their checksum, and the bytes with theirs.
 
-ghost use Rattle.std.specs.Prelude.{◌≡◌, ◌++◌, ◌∷◌, [], IfOk, IfSome, List, None, OnErr, OnOk, length, ℕ};
+ghost use Rattle.std.specs.Prelude.{◌≡◌, ◌++◌, ◌∷◌, [], IfOk, IfSome, List, None, OnErr, OnOk};
+ghost use Rattle.std.specs.Prelude.{length, ℕ};
 ghost use Rattle.std.specs.List.{fold};
 ghost use Rattle.std.specs.Int.{w64};
-ghost use Rattle.batcher_codec.specs.Format.{Decodes, StartsWith, number_bytes};
+ghost use Rattle.batcher_bytes.specs.Format.{Decodes, StartsWith, number_bytes};
 ghost use Rattle.batcher_file.specs.Checksums.{checksum, summed};
 ghost use Rattle.batcher_file.specs.Frames.{IsFrame, closed_gate, frame, frame_format, header};
 
-use batcher_codec::{Codec, DecodeFault};
+use batcher_bytes::{Codec, DecodeFault};
 use std::alloc::AllocError;
 
 /// Before a frame.

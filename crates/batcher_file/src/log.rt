@@ -2,11 +2,12 @@
 
 ghost use Rattle.std.specs.Prelude.{◌≡◌, IsTrue, OnErr, OnOk};
 ghost use Rattle.batcher_file.specs.Carrying.{IsBegun, IsCarriedOut, put_first};
-ghost use Rattle.batcher_file.specs.Settled.{HasFailed, IsHonest, IsSettled, MayLeave, MayLose};
+ghost use Rattle.batcher_file.specs.Settled.{HasFailed, AreHonestDisks, IsSettled, MayLeave};
+ghost use Rattle.batcher_file.specs.Settled.{MayLose};
 
 use crate::files::TwoFiles;
 use crate::steps::{Plan, carry_out};
-use batcher_log::{Log, LogFault};
+use batcher_bytes::{Log, LogFault};
 use sqlite_disk::Disk;
 use std::io;
 
@@ -55,7 +56,7 @@ impl<K: Disk + Drop> Log for FileLog<K> {
 
     ghost may_lose = { MayLose K.seen K.may_leave K.is_usable K.is_clean K.is_mixing };
 
-    ghost is_honest = { IsHonest K.seen K.may_leave K.is_usable K.is_clean };
+    ghost is_honest = { AreHonestDisks K.seen K.may_leave K.is_usable K.is_clean };
 
     ghost has_failed = { HasFailed K.seen K.may_leave K.is_usable K.is_clean K.faults };
 

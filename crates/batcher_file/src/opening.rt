@@ -1,13 +1,18 @@
 //! Opening a log that a crash may have left, and making a new one.
 
-ghost use Rattle.std.specs.Prelude.{◌≡◌, ◌+◌, ◌≤◌, ◌<◌, ◌^◌, ◌⊎◌, Err, IfErr, IfOk, IsTrue, List, MatchBool, OnOk, false, length, min, ℕ};
+ghost use Rattle.std.specs.Prelude.{◌≡◌, ◌+◌, ◌≤◌, ◌<◌, ◌^◌, ◌⊎◌, Err, IfErr, IfOk, IsTrue, List};
+ghost use Rattle.std.specs.Prelude.{MatchBool, OnOk, false, length, min, ℕ};
 ghost use Rattle.sqlite_disk.specs.Disk.{Only};
 ghost use Rattle.batcher_file.specs.Disks.{IsBlank};
 ghost use Rattle.batcher_file.specs.Frames.{AreContents, IsUnread};
 ghost use Rattle.batcher_file.specs.Pairs.{Hold, HoldNone, IsFound};
-ghost use Rattle.batcher_file.specs.Settled.{HasFailed, IsHonest, IsSynced, IsSettled, MayLeave, MayLose};
-ghost use Rattle.batcher_file.specs.Refusals.{IsOfMaking, IsOfReading, IsRefused, IsWholeBefore, Shows};
-ghost use Rattle.batcher_file.specs.declared.opening.OpenFault.TheVariants.{Damaged, Failed, OutOfMemory, Taken, TooLong};
+ghost use Rattle.batcher_file.specs.Settled.{HasFailed, AreHonestDisks, IsSynced, IsSettled};
+ghost use Rattle.batcher_file.specs.Settled.{MayLeave, MayLose};
+ghost use Rattle.batcher_file.specs.Refusals.{IsOfMaking, IsOfReading, IsUnopened, IsWholeBefore};
+ghost use Rattle.batcher_file.specs.Refusals.{FaultShows};
+ghost use Rattle.batcher_file.specs.declared.opening.OpenFault.TheVariants.{Damaged, Failed};
+ghost use Rattle.batcher_file.specs.declared.opening.OpenFault.TheVariants.{OutOfMemory, Taken};
+ghost use Rattle.batcher_file.specs.declared.opening.OpenFault.TheVariants.{TooLong};
 
 use crate::contents::{Contents, Unreadable, contents_of};
 use crate::files::TwoFiles;
@@ -61,7 +66,7 @@ pub fn is_blank(file: &[u8]) -> bool
 fn side(alloc: Global, file: &[u8], in_second: bool) -> Result<Contents, OpenFault>
     ensures found { IfOk result (λ it.
         AreContents file.now it.first it.next it.end it.bytes.items) }
-    ensures refused { IfErr result (Shows (IsUnread file.now)) }
+    ensures refused { IfErr result (FaultShows (IsUnread file.now)) }
     ensures damage { IfErr result (IsWholeBefore file.now file.now) }
     ensures side { (second : _) (at : ℕ) → result ≡ Err (Damaged second at) → second ≡ in_second }
 {
@@ -76,7 +81,7 @@ fn side(alloc: Global, file: &[u8], in_second: bool) -> Result<Contents, OpenFau
 pub fn in_use(alloc: Global, a: &[u8], b: &[u8]) -> Result<(Contents, bool), OpenFault>
     ensures found { IfOk result (λ it. IsFound a.now b.now it.1 it.0.first it.0.next it.0.end
         it.0.bytes.items) }
-    ensures refused { IfErr result (Shows (HoldNone a.now b.now)) }
+    ensures refused { IfErr result (FaultShows (HoldNone a.now b.now)) }
     ensures damage { IfErr result (IsWholeBefore a.now b.now) }
 {
     if is_blank(a) {
@@ -173,26 +178,27 @@ impl<K: Disk + Drop> FileLog<K> {
     pub fn open(&mut self) -> Result<(), OpenFault>
         ensures settled { OnOk result
             (IsSettled K.seen K.may_leave K.is_usable K.is_clean self.new) }
-        ensures found { OnOk result (IsHonest K.seen K.may_leave K.is_usable K.is_clean self.new
+        ensures found { OnOk result
+            (AreHonestDisks K.seen K.may_leave K.is_usable K.is_clean self.new
             → Hold (K.seen self.old.current) (K.seen self.old.other) self.new.files.bytes.items) }
         ensures refused { IfErr result (λ fault.
-            IsHonest K.seen K.may_leave K.is_usable K.is_clean self.new
-            → IsRefused (K.seen self.old.current) (K.seen self.old.other) fault) }
+            AreHonestDisks K.seen K.may_leave K.is_usable K.is_clean self.new
+            → IsUnopened (K.seen self.old.current) (K.seen self.old.other) fault) }
         // Whatever it answers, a crash leaves nothing that it couldn't have left before.
         ensures leaves { (left : List ℕ)
-            → IsHonest K.seen K.may_leave K.is_usable K.is_clean self.new
+            → AreHonestDisks K.seen K.may_leave K.is_usable K.is_clean self.new
             → MayLeave K.seen K.may_leave K.is_usable K.is_clean self.new left
             → MayLeave K.seen K.may_leave K.is_usable K.is_clean self.old left }
         // And what was there can be opened again.
         ensures opens { (bytes : List ℕ)
             → IsSynced K.seen K.may_leave K.is_usable K.is_clean self.old bytes
-            → IsHonest K.seen K.may_leave K.is_usable K.is_clean self.new
+            → AreHonestDisks K.seen K.may_leave K.is_usable K.is_clean self.new
             → MayLose K.seen K.may_leave K.is_usable K.is_clean K.is_mixing self.new → ⊥ }
         ensures failed { result ≡ Err Failed → (K.is_usable self.old.current ≡ false)
             ⊎ (K.is_usable self.old.other ≡ false)
             ⊎ HasFailed K.seen K.may_leave K.is_usable K.is_clean K.faults self.new }
-        ensures honest { IsHonest K.seen K.may_leave K.is_usable K.is_clean self.new
-            → IsHonest K.seen K.may_leave K.is_usable K.is_clean self.old }
+        ensures honest { AreHonestDisks K.seen K.may_leave K.is_usable K.is_clean self.new
+            → AreHonestDisks K.seen K.may_leave K.is_usable K.is_clean self.old }
     {
         let first = read_all(self.files.alloc, &mut self.current)?;
         let second = read_all(self.files.alloc, &mut self.other)?;
@@ -212,16 +218,17 @@ impl<K: Disk + Drop> FileLog<K> {
         ensures settled { OnOk result
             (IsSettled K.seen K.may_leave K.is_usable K.is_clean self.new) }
         ensures bytes { OnOk result (self.new.files.bytes.items ≡ bytes.now) }
-        ensures blank { OnOk result (IsHonest K.seen K.may_leave K.is_usable K.is_clean self.new
+        ensures blank { OnOk result
+            (AreHonestDisks K.seen K.may_leave K.is_usable K.is_clean self.new
             → IsBlank (K.seen self.old.current) × IsBlank (K.seen self.old.other)) }
         ensures cause { IfErr result IsOfMaking }
         ensures taken { result ≡ Err Taken
-            → IsHonest K.seen K.may_leave K.is_usable K.is_clean self.new
+            → AreHonestDisks K.seen K.may_leave K.is_usable K.is_clean self.new
             → IsBlank (K.seen self.old.current) × IsBlank (K.seen self.old.other) → ⊥ }
         // Whatever it answers, a crash leaves nothing but these bytes that it couldn't have left
         // before.
         ensures leaves { (left : List ℕ)
-            → IsHonest K.seen K.may_leave K.is_usable K.is_clean self.new
+            → AreHonestDisks K.seen K.may_leave K.is_usable K.is_clean self.new
             → MayLeave K.seen K.may_leave K.is_usable K.is_clean self.new left
             → MayLeave K.seen K.may_leave K.is_usable K.is_clean self.old left
             ⊎ (left ≡ bytes.now) }

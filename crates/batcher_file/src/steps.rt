@@ -1,7 +1,8 @@
 //! What is to be done to two files, as a value. A step is a write that is waited for.
 
 ghost use Rattle.std.specs.Prelude.{◌≡◌, ◌<◌, IsTrue, OnErr, OnOk, drop, slice_get};
-ghost use Rattle.batcher_file.specs.Steps.{AreBegun, AreDone, IsDone, IsFailed, IsOneOn, IsThere, IsTried, Touches, steps};
+ghost use Rattle.batcher_file.specs.Steps.{AreBegun, AreDone, IsDone, IsFailed, IsOneOn};
+ghost use Rattle.batcher_file.specs.Steps.{IsStepDone, IsTried, Touches, steps};
 
 use crate::frame::{OPEN, UNUSED};
 use sqlite_disk::Disk;
@@ -89,7 +90,7 @@ fn begin_step<K: Disk>(disk: &mut K, step: Step, frame: &[u8]) -> io::Result<()>
         frame.now step disk.old disk.new }
     ensures touched { Touches K.seen K.may_leave K.is_usable K.is_clean K.is_mixing K.faults
         frame.now step (K.seen disk.old) (K.seen disk.new) }
-    ensures there { OnOk result (IsThere K.seen K.may_leave K.is_usable K.is_clean K.is_mixing
+    ensures there { OnOk result (IsStepDone K.seen K.may_leave K.is_usable K.is_clean K.is_mixing
         K.faults frame.now step (K.seen disk.new)) }
     ensures usable { IsTrue (K.is_usable disk.new) }
     ensures failed { OnErr result (0 < K.faults disk.new) }

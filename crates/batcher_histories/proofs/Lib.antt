@@ -1,5 +1,15 @@
+pub mod Words
 pub mod History
 pub mod KnownLemmas
 pub mod Correctness
 pub mod Simulation
 pub mod Memory
+pub mod Runs
+pub mod Headline
+pub mod AnswerFacts
+pub mod Quorums
+pub mod Certificates
+pub mod Blocks
+pub mod Order
+pub mod Pairs
+pub mod Examples

@@ -2,20 +2,34 @@
 -- fault of an own vote.
 use Rattle.std.specs.Prelude.{Bool, true, false, cond, ◌&&◌, ◌==◌, Option, Some, None}
 use Rattle.batcher_types.specs.declared.messages.Vote.{Vote}
-use Rattle.batcher_types.specs.declared.messages.Vote.TheVariants.{Notarize as NotarizeVote, Nullify as NullifyVote, Finalize as FinalizeVote}
+use Rattle.batcher_types.specs.declared.messages.Vote.TheVariants.{Notarize as NotarizeVote}
+use Rattle.batcher_types.specs.declared.messages.Vote.TheVariants.{Nullify as NullifyVote}
+use Rattle.batcher_types.specs.declared.messages.Vote.TheVariants.{Finalize as FinalizeVote}
 use Rattle.batcher_types.specs.declared.messages.Kind.{Kind}
-use Rattle.batcher_types.specs.declared.messages.Kind.TheVariants.{Notarization, Nullification, Finalization}
+use Rattle.batcher_types.specs.declared.messages.Kind.TheVariants.{Notarization, Nullification}
+use Rattle.batcher_types.specs.declared.messages.Kind.TheVariants.{Finalization}
 use Rattle.batcher_types.specs.declared.messages.Activity.{Activity}
-use Rattle.batcher_types.specs.declared.messages.Activity.TheVariants.{Notarize as ReportNotarize, Nullify as ReportNullify, Finalize as ReportFinalize, ConflictingNotarize as ReportConflictingNotarize}
-use Rattle.batcher_types.specs.declared.messages.Activity.TheVariants.{ConflictingFinalize as ReportConflictingFinalize, NullifyFinalize as ReportNullifyFinalize}
+use Rattle.batcher_types.specs.declared.messages.Activity.TheVariants.{Notarize as ReportNotarize}
+use Rattle.batcher_types.specs.declared.messages.Activity.TheVariants.{Nullify as ReportNullify}
+use Rattle.batcher_types.specs.declared.messages.Activity.TheVariants.{Finalize as ReportFinalize}
+use Rattle.batcher_types.specs.declared.messages.Activity.TheVariants.{ConflictingNotarize as ReportConflictingNotarize}
+use Rattle.batcher_types.specs.declared.messages.Activity.TheVariants.{ConflictingFinalize as ReportConflictingFinalize}
+use Rattle.batcher_types.specs.declared.messages.Activity.TheVariants.{NullifyFinalize as ReportNullifyFinalize}
 use Rattle.batcher_histories.specs.declared.answers.BlockReason.{BlockReason}
-use Rattle.batcher_histories.specs.declared.answers.BlockReason.TheVariants.{NotarizeSignerMismatch, NullifySignerMismatch, FinalizeSignerMismatch, ConflictingNotarize, ConflictingNullify, ConflictingFinalize, InvalidSignature}
+use Rattle.batcher_histories.specs.declared.answers.BlockReason.TheVariants.{NotarizeSignerMismatch}
+use Rattle.batcher_histories.specs.declared.answers.BlockReason.TheVariants.{NullifySignerMismatch}
+use Rattle.batcher_histories.specs.declared.answers.BlockReason.TheVariants.{FinalizeSignerMismatch}
+use Rattle.batcher_histories.specs.declared.answers.BlockReason.TheVariants.{ConflictingNotarize}
+use Rattle.batcher_histories.specs.declared.answers.BlockReason.TheVariants.{ConflictingNullify}
+use Rattle.batcher_histories.specs.declared.answers.BlockReason.TheVariants.{ConflictingFinalize}
+use Rattle.batcher_histories.specs.declared.answers.BlockReason.TheVariants.{InvalidSignature}
 use Rattle.batcher_histories.specs.declared.answers.BlockReason.TheVariants.{NullifyAfterFinalize}
 use Rattle.batcher_histories.specs.declared.answers.BlockReason.TheVariants.{FinalizeAfterNullify}
 use Rattle.batcher_histories.specs.declared.answers.Admission.{Admission}
 use Rattle.batcher_votes.specs.declared.votes.Outcome.{Outcome}
 use Rattle.batcher_votes.specs.declared.votes.Outcome.TheVariants.{Added, Duplicate, Conflicting}
-use Rattle.batcher_types.specs.Votes.{kind_of, signer_of, attestation_of, subject_of, same_proposal, same_subject}
+use Rattle.batcher_types.specs.Votes.{kind_of, signer_of, attestation_of, subject_of, same_proposal}
+use Rattle.batcher_types.specs.Votes.{same_subject}
 
 abbrev pub mismatch_reason : Kind → BlockReason
 mismatch_reason Notarization = NotarizeSignerMismatch

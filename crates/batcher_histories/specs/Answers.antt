@@ -1,21 +1,38 @@
 -- What may be answered to a call after a history.
-use Rattle.std.specs.Prelude.{◌≡◌, ℕ, Bool, true, false, not, ◌&&◌, ◌||◌, List, [], ◌∷◌, Option, Some, None, is_some, is_none, Result, Ok, Err, ⊤}
+use Rattle.std.specs.Prelude.{◌≡◌, ℕ, Bool, true, false, not, ◌&&◌, ◌||◌, List, [], ◌∷◌, Option}
+use Rattle.std.specs.Prelude.{Some, None, is_some, is_none, Result, Ok, Err, ⊤}
 use Rattle.std.specs.Result.{result_ok}
 use Rattle.batcher_types.specs.declared.positions.Participant.{Participant}
 use Rattle.batcher_types.specs.declared.messages.Proposal.{Proposal}
 use Rattle.batcher_types.specs.declared.messages.Vote.{Vote}
 use Rattle.batcher_types.specs.declared.messages.Certificate.{Certificate}
-use Rattle.batcher_types.specs.declared.messages.Certificate.TheVariants.{Notarization as NotarizationCertificate, Nullification as NullificationCertificate, Finalization as FinalizationCertificate}
+use Rattle.batcher_types.specs.declared.messages.Certificate.TheVariants.{Notarization as NotarizationCertificate}
+use Rattle.batcher_types.specs.declared.messages.Certificate.TheVariants.{Nullification as NullificationCertificate}
+use Rattle.batcher_types.specs.declared.messages.Certificate.TheVariants.{Finalization as FinalizationCertificate}
 use Rattle.batcher_types.specs.declared.messages.Kind.{Kind}
-use Rattle.batcher_types.specs.declared.messages.Kind.TheVariants.{Notarization, Nullification, Finalization}
+use Rattle.batcher_types.specs.declared.messages.Kind.TheVariants.{Notarization, Nullification}
+use Rattle.batcher_types.specs.declared.messages.Kind.TheVariants.{Finalization}
 use Rattle.batcher_histories.specs.declared.answers.Admission.{Admission}
 use Rattle.batcher_histories.specs.declared.answers.OwnFault.{OwnFault}
 use Rattle.batcher_votes.specs.declared.votes.Outcome.{Outcome}
 use Rattle.batcher_histories.specs.declared.calls.Call.{Call}
-use Rattle.batcher_histories.specs.declared.calls.Call.TheVariants.{Network as NetworkCall, Own as OwnCall, Certificate as CertificateCall, Leader as LeaderCall, Construct as ConstructCall, Forward as ForwardCall, Missing as MissingCall}
+use Rattle.batcher_histories.specs.declared.calls.Call.TheVariants.{Network as NetworkCall}
+use Rattle.batcher_histories.specs.declared.calls.Call.TheVariants.{Own as OwnCall}
+use Rattle.batcher_histories.specs.declared.calls.Call.TheVariants.{Certificate as CertificateCall}
+use Rattle.batcher_histories.specs.declared.calls.Call.TheVariants.{Leader as LeaderCall}
+use Rattle.batcher_histories.specs.declared.calls.Call.TheVariants.{Construct as ConstructCall}
+use Rattle.batcher_histories.specs.declared.calls.Call.TheVariants.{Forward as ForwardCall}
+use Rattle.batcher_histories.specs.declared.calls.Call.TheVariants.{Missing as MissingCall}
 use Rattle.batcher_histories.specs.declared.answers.Answer.{Answer}
-use Rattle.batcher_histories.specs.declared.answers.Answer.TheVariants.{OutOfMemory, Network as NetworkAnswer, Own as OwnAnswer, OwnRefused, Certificate as CertificateAnswer, Leader as LeaderAnswer, Construct as ConstructAnswer}
-use Rattle.batcher_histories.specs.declared.answers.Answer.TheVariants.{Forward as ForwardAnswer, Missing as MissingAnswer}
+use Rattle.batcher_histories.specs.declared.answers.Answer.TheVariants.{OutOfMemory}
+use Rattle.batcher_histories.specs.declared.answers.Answer.TheVariants.{Network as NetworkAnswer}
+use Rattle.batcher_histories.specs.declared.answers.Answer.TheVariants.{Own as OwnAnswer}
+use Rattle.batcher_histories.specs.declared.answers.Answer.TheVariants.{OwnRefused}
+use Rattle.batcher_histories.specs.declared.answers.Answer.TheVariants.{Certificate as CertificateAnswer}
+use Rattle.batcher_histories.specs.declared.answers.Answer.TheVariants.{Leader as LeaderAnswer}
+use Rattle.batcher_histories.specs.declared.answers.Answer.TheVariants.{Construct as ConstructAnswer}
+use Rattle.batcher_histories.specs.declared.answers.Answer.TheVariants.{Forward as ForwardAnswer}
+use Rattle.batcher_histories.specs.declared.answers.Answer.TheVariants.{Missing as MissingAnswer}
 use Rattle.batcher_histories.specs.Config.{Config, participants_in}
 use Rattle.batcher_types.specs.Votes.{kind_of, signer_of}
 use Rattle.batcher_votes.specs.ProposalStates.{replaces}
@@ -24,7 +41,8 @@ use Rattle.batcher_histories.specs.Runs.{MayCall}
 use Rattle.batcher_types.specs.Lists.{is_empty, is_some_and}
 use Rattle.batcher_histories.specs.History.{History, is_made, history_after}
 use Rattle.batcher_histories.specs.FirstVotes.{first_vote}
-use Rattle.batcher_histories.specs.Selection.{leader_of, selection, selected_proposal, is_released, votes_restored_by}
+use Rattle.batcher_histories.specs.Selection.{leader_of, selection, selected_proposal, is_released}
+use Rattle.batcher_histories.specs.Selection.{votes_restored_by}
 use Rattle.batcher_histories.specs.Comparison.{known_after}
 use Rattle.batcher_histories.specs.Known.{network_by, own_by, forward_by, missing_by}
 use Rattle.batcher_histories.specs.Eligible.{ready_kind}

@@ -1,6 +1,7 @@
 -- One attempt of a round at a certificate, as far as a history determines it: the scheme may choose
 -- between a certificate at once and one that leaves bad votes out.
-use Rattle.std.specs.Prelude.{◌≡◌, ◌≢◌, ◌+◌, ◌<◌, ◌≤◌, ◌⊎◌, ℕ, Bool, true, false, not, cond, ◌&&◌, nat_le, List, [], ◌++◌, length, is_some, IfSome, filter, map}
+use Rattle.std.specs.Prelude.{◌≡◌, ◌≢◌, ◌+◌, ◌<◌, ◌≤◌, ◌⊎◌, ℕ, Bool, true, false, not, cond, ◌&&◌}
+use Rattle.std.specs.Prelude.{nat_le, List, [], ◌++◌, length, is_some, IfSome, filter, map}
 use Rattle.std.specs.List.{list_all}
 use Rattle.batcher_types.specs.declared.positions.Participant.{Participant}
 use Rattle.batcher_types.specs.declared.messages.Subject.{Subject}

@@ -1,6 +1,7 @@
 -- Votes compared with the selected proposal once their kind is released, and what is known after a
 -- history.
-use Rattle.std.specs.Prelude.{ℕ, Option, Some, None, Bool, not, ◌&&◌, List, [], ◌∷◌, ◌++◌, is_some, is_none, filter}
+use Rattle.std.specs.Prelude.{ℕ, Option, Some, None, Bool, not, ◌&&◌, List, [], ◌∷◌, ◌++◌, is_some}
+use Rattle.std.specs.Prelude.{is_none, filter}
 use Rattle.std.specs.List.{list_any}
 use Rattle.batcher_types.specs.declared.messages.Proposal.{Proposal}
 use Rattle.batcher_types.specs.declared.messages.Vote.{Vote}
@@ -13,12 +14,13 @@ use Rattle.batcher_types.specs.Lists.{is_empty, is_some_and}
 use Rattle.batcher_types.specs.Votes.{kind_of, signer_of, is_vote_of, has_proposals, is_for}
 use Rattle.batcher_histories.specs.History.{Event, History, cast_votes}
 use Rattle.batcher_histories.specs.FirstVotes.{first_votes, first_vote, opposite_vote}
-use Rattle.batcher_histories.specs.Selection.{leader_of, was_forwarded, selection, selected_proposal, is_released}
+use Rattle.batcher_histories.specs.Selection.{leader_of, was_forwarded, selection}
+use Rattle.batcher_histories.specs.Selection.{selected_proposal, is_released}
 
 module _ {D K G C : Type 0} (x : Config D K G C) where
-  -- A vote that a call casts is compared where its kind is released and a proposal is selected, by
-  -- the evidence of the call
-  -- at the latest. It need not be added, but its signer's opposite vote must not exclude it.
+  -- A notarize or finalize that a call casts is compared where its kind was released before the
+  -- call, and a proposal is selected after it. It need not be added, but its signer's opposite vote
+  -- must not exclude it.
   abbrev pub is_compared : History D K G C → Event D K G C → Vote G D → Bool
   is_compared past event vote =
       (has_proposals (kind_of vote) && is_released x past (kind_of vote))

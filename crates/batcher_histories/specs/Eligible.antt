@@ -1,6 +1,7 @@
 -- The votes that can still make a certificate: counted, eligible, proven and fresh ones, and which
 -- kind is ready.
-use Rattle.std.specs.Prelude.{ℕ, Bool, not, cond, ◌&&◌, ◌||◌, ◌==◌, List, [], ◌∷◌, Option, Some, None, filter, map}
+use Rattle.std.specs.Prelude.{ℕ, Bool, not, cond, ◌&&◌, ◌||◌, ◌==◌, List, [], ◌∷◌, Option, Some}
+use Rattle.std.specs.Prelude.{None, filter, map}
 use Rattle.std.specs.List.{list_any}
 use Rattle.std.specs.Option.{option_map_or}
 use Rattle.batcher_types.specs.declared.messages.Proposal.{Proposal}
@@ -10,7 +11,8 @@ use Rattle.batcher_types.specs.declared.messages.Certificate.{Certificate}
 use Rattle.batcher_votes.specs.declared.verifier.Batch.{Batch}
 use Rattle.batcher_histories.specs.Config.{Config, quorum_in}
 use Rattle.batcher_types.specs.Lists.{is_some_and}
-use Rattle.batcher_types.specs.Votes.{is_kind, kind_of, signer_of, subject_of, attestation_of, has_proposals, is_of_kind, is_vote_of, is_for, is_eligible}
+use Rattle.batcher_types.specs.Votes.{is_kind, kind_of, signer_of, subject_of, attestation_of}
+use Rattle.batcher_types.specs.Votes.{has_proposals, is_of_kind, is_vote_of, is_for, is_eligible}
 use Rattle.batcher_votes.specs.TrackerSteps.{is_skipped}
 use Rattle.batcher_votes.specs.VerifierSteps.{is_enough}
 use Rattle.batcher_histories.specs.Known.{first_ready}

@@ -1,27 +1,37 @@
 -- What is known of the votes of a round, and what is answered by it. What a round holds says it,
 -- and so does the history of its calls.
-use Rattle.std.specs.Prelude.{ℕ, Bool, true, false, not, cond, ◌||◌, ◌==◌, List, Option, Some, None, Result, Ok, Err, filter, map}
+use Rattle.std.specs.Prelude.{ℕ, Bool, true, false, not, cond, ◌||◌, ◌==◌, List, Option, Some, None}
+use Rattle.std.specs.Prelude.{Result, Ok, Err, filter, map}
 use Rattle.std.specs.List.{range_with_len}
 use Rattle.batcher_types.specs.declared.positions.Participant.{Participant}
 use Rattle.batcher_types.specs.declared.messages.Proposal.{Proposal}
 use Rattle.batcher_types.specs.declared.messages.Vote.{Vote}
 use Rattle.batcher_types.specs.declared.messages.Kind.{Kind}
-use Rattle.batcher_types.specs.declared.messages.Kind.TheVariants.{Notarization, Nullification, Finalization}
+use Rattle.batcher_types.specs.declared.messages.Kind.TheVariants.{Notarization, Nullification}
+use Rattle.batcher_types.specs.declared.messages.Kind.TheVariants.{Finalization}
 use Rattle.batcher_votes.specs.declared.verifier.ProposalState.{ProposalState}
 use Rattle.batcher_votes.specs.declared.votes.Outcome.{Outcome}
 use Rattle.batcher_votes.specs.declared.votes.Outcome.TheVariants.{Added, Duplicate, Conflicting}
 use Rattle.batcher_histories.specs.declared.answers.Admission.{Admission}
 use Rattle.batcher_histories.specs.declared.answers.BlockReason.TheVariants.{UnknownParticipant}
 use Rattle.batcher_histories.specs.declared.answers.OwnFault.{OwnFault}
-use Rattle.batcher_histories.specs.declared.answers.OwnFault.TheVariants.{DuplicateNotarize, DuplicateFinalize, Conflicting as ConflictingFault, NullifyAfterFinalize, FinalizeAfterNullify}
+use Rattle.batcher_histories.specs.declared.answers.OwnFault.TheVariants.{DuplicateNotarize}
+use Rattle.batcher_histories.specs.declared.answers.OwnFault.TheVariants.{DuplicateFinalize}
+use Rattle.batcher_histories.specs.declared.answers.OwnFault.TheVariants.{Conflicting as ConflictingFault}
+use Rattle.batcher_histories.specs.declared.answers.OwnFault.TheVariants.{NullifyAfterFinalize}
+use Rattle.batcher_histories.specs.declared.answers.OwnFault.TheVariants.{FinalizeAfterNullify}
 use Rattle.batcher_types.specs.Keys.{participant}
 use Rattle.batcher_types.specs.Lists.{is_some_and}
 use Rattle.batcher_types.specs.Votes.{kind_of, signer_of}
 use Rattle.batcher_votes.specs.ProposalStates.{proposal_of}
 use Rattle.batcher_votes.specs.RoundState.{of_kind, Facts, RoundState}
-use Rattle.batcher_votes.specs.TrackerSteps.{Observed, unseen, in_full, as_facts, observed, observed_opposite, is_seen_for, conflicts_with, outcome_by}
+use Rattle.batcher_votes.specs.TrackerSteps.{Observed, unseen, in_full, as_facts, observed}
+use Rattle.batcher_votes.specs.TrackerSteps.{observed_opposite, is_seen_for, conflicts_with}
+use Rattle.batcher_votes.specs.TrackerSteps.{outcome_by}
 use Rattle.batcher_histories.specs.Config.{Config, sender_in}
-use Rattle.batcher_histories.specs.Admissions.{addition, refusal, block_for, mismatch_reason, conflict_reason, admission_after, admission_after_facts, admission_beside}
+use Rattle.batcher_histories.specs.Admissions.{addition, refusal, block_for, mismatch_reason}
+use Rattle.batcher_histories.specs.Admissions.{conflict_reason, admission_after}
+use Rattle.batcher_histories.specs.Admissions.{admission_after_facts, admission_beside}
 
 pub record Known (G D : Type 0) : Type 0 where
   pub leader : Option Participant

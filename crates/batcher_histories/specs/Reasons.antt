@@ -1,9 +1,16 @@
 -- The texts of the reasons for a block.
 use Rattle.std.specs.Prelude.{ℕ, List, codes}
 use Rattle.batcher_histories.specs.declared.answers.BlockReason.{BlockReason}
-use Rattle.batcher_histories.specs.declared.answers.BlockReason.TheVariants.{UnknownParticipant, NotarizeSignerMismatch, NullifySignerMismatch, FinalizeSignerMismatch, ConflictingNotarize, ConflictingNullify, ConflictingFinalize}
+use Rattle.batcher_histories.specs.declared.answers.BlockReason.TheVariants.{UnknownParticipant}
+use Rattle.batcher_histories.specs.declared.answers.BlockReason.TheVariants.{NotarizeSignerMismatch}
+use Rattle.batcher_histories.specs.declared.answers.BlockReason.TheVariants.{NullifySignerMismatch}
+use Rattle.batcher_histories.specs.declared.answers.BlockReason.TheVariants.{FinalizeSignerMismatch}
+use Rattle.batcher_histories.specs.declared.answers.BlockReason.TheVariants.{ConflictingNotarize}
+use Rattle.batcher_histories.specs.declared.answers.BlockReason.TheVariants.{ConflictingNullify}
+use Rattle.batcher_histories.specs.declared.answers.BlockReason.TheVariants.{ConflictingFinalize}
 use Rattle.batcher_histories.specs.declared.answers.BlockReason.TheVariants.{InvalidSignature}
-use Rattle.batcher_histories.specs.declared.answers.BlockReason.TheVariants.{NullifyAfterFinalize, FinalizeAfterNullify}
+use Rattle.batcher_histories.specs.declared.answers.BlockReason.TheVariants.{NullifyAfterFinalize}
+use Rattle.batcher_histories.specs.declared.answers.BlockReason.TheVariants.{FinalizeAfterNullify}
 
 abbrev pub text_of : BlockReason → List ℕ
 text_of UnknownParticipant = codes "unknown participant"

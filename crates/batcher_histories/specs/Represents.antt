@@ -1,5 +1,6 @@
 -- When what a round holds represents a history, and how it goes on with one more call.
-use Rattle.std.specs.Prelude.{◌≡◌, Bool, cond, MatchBool, ◌&&◌, List, [], ◌∷◌, ◌++◌, Some, is_some, IfSome, filter, map}
+use Rattle.std.specs.Prelude.{◌≡◌, Bool, cond, MatchBool, ◌&&◌, List, [], ◌∷◌, ◌++◌, Some, is_some}
+use Rattle.std.specs.Prelude.{IfSome, filter, map}
 use Rattle.batcher_types.specs.declared.messages.Vote.{Vote}
 use Rattle.batcher_types.specs.declared.messages.Kind.{Kind}
 use Rattle.batcher_histories.specs.declared.answers.Answer.{Answer}
@@ -8,9 +9,11 @@ use Rattle.batcher_types.specs.Ascending.{ordered_by}
 use Rattle.batcher_types.specs.Lists.{SameElements, is_some_and}
 use Rattle.batcher_types.specs.Votes.{is_kind, signer_of, is_of_kind}
 use Rattle.batcher_votes.specs.RoundState.{of_kind, RoundState}
-use Rattle.batcher_histories.specs.History.{Event, History, is_made, own_votes, sent_votes, batch_given}
+use Rattle.batcher_histories.specs.History.{Event, History, is_made, own_votes, sent_votes}
+use Rattle.batcher_histories.specs.History.{batch_given}
 use Rattle.batcher_histories.specs.FirstVotes.{first_votes, is_free}
-use Rattle.batcher_histories.specs.Selection.{leader_of, selection, was_forwarded, is_certified, is_released, is_restored}
+use Rattle.batcher_histories.specs.Selection.{leader_of, selection, was_forwarded, is_certified}
+use Rattle.batcher_histories.specs.Selection.{is_released, is_restored}
 use Rattle.batcher_histories.specs.Comparison.{facts_of}
 use Rattle.batcher_histories.specs.Eligible.{proven_votes, fresh_votes, eligible_among, ready_kind}
 use Rattle.batcher_histories.specs.Attempts.{Attempt, left_verified}

@@ -1,5 +1,6 @@
 -- Whole runs of a round's calls, step by step.
-use Rattle.std.specs.Prelude.{⊤, ◌≡◌, ◌||◌, true, cond, List, [], ◌∷◌, Option, Some, None, is_some, is_ok, Result, Ok, Err, IfSome}
+use Rattle.std.specs.Prelude.{⊤, ◌≡◌, ◌||◌, true, cond, List, [], ◌∷◌, Option, Some, None, is_some}
+use Rattle.std.specs.Prelude.{is_ok, Result, Ok, Err, IfSome}
 use Rattle.std.specs.List.{filter_map, zip}
 use Rattle.rand_core.specs.Stream.{Stream}
 use Rattle.batcher_types.specs.declared.positions.Participant.{Participant}
@@ -9,17 +10,31 @@ use Rattle.batcher_types.specs.declared.messages.Vote.{Vote}
 use Rattle.batcher_types.specs.declared.messages.Certificate.{Certificate}
 use Rattle.batcher_votes.specs.declared.verifier.LeaderFault.{LeaderFault}
 use Rattle.batcher_histories.specs.declared.calls.Call.{Call}
-use Rattle.batcher_histories.specs.declared.calls.Call.TheVariants.{Network as NetworkCall, Own as OwnCall, Certificate as CertificateCall, Leader as LeaderCall, Construct as ConstructCall, Forward as ForwardCall, Missing as MissingCall}
+use Rattle.batcher_histories.specs.declared.calls.Call.TheVariants.{Network as NetworkCall}
+use Rattle.batcher_histories.specs.declared.calls.Call.TheVariants.{Own as OwnCall}
+use Rattle.batcher_histories.specs.declared.calls.Call.TheVariants.{Certificate as CertificateCall}
+use Rattle.batcher_histories.specs.declared.calls.Call.TheVariants.{Leader as LeaderCall}
+use Rattle.batcher_histories.specs.declared.calls.Call.TheVariants.{Construct as ConstructCall}
+use Rattle.batcher_histories.specs.declared.calls.Call.TheVariants.{Forward as ForwardCall}
+use Rattle.batcher_histories.specs.declared.calls.Call.TheVariants.{Missing as MissingCall}
 use Rattle.batcher_histories.specs.declared.answers.Answer.{Answer}
-use Rattle.batcher_histories.specs.declared.answers.Answer.TheVariants.{Network as NetworkAnswer, Own as OwnAnswer, OwnRefused, Certificate as CertificateAnswer, Leader as LeaderAnswer, Construct as ConstructAnswer}
+use Rattle.batcher_histories.specs.declared.answers.Answer.TheVariants.{Network as NetworkAnswer}
+use Rattle.batcher_histories.specs.declared.answers.Answer.TheVariants.{Own as OwnAnswer}
+use Rattle.batcher_histories.specs.declared.answers.Answer.TheVariants.{OwnRefused}
+use Rattle.batcher_histories.specs.declared.answers.Answer.TheVariants.{Certificate as CertificateAnswer}
+use Rattle.batcher_histories.specs.declared.answers.Answer.TheVariants.{Leader as LeaderAnswer}
+use Rattle.batcher_histories.specs.declared.answers.Answer.TheVariants.{Construct as ConstructAnswer}
 use Rattle.batcher_histories.specs.declared.answers.Answer.TheVariants.{Forward as ForwardAnswer}
-use Rattle.batcher_histories.specs.declared.answers.Answer.TheVariants.{Missing as MissingAnswer, OutOfMemory}
+use Rattle.batcher_histories.specs.declared.answers.Answer.TheVariants.{Missing as MissingAnswer}
+use Rattle.batcher_histories.specs.declared.answers.Answer.TheVariants.{OutOfMemory}
 use Rattle.batcher_types.specs.Meaning.{Meaning}
 use Rattle.batcher_histories.specs.Config.{Config, participants_in}
 use Rattle.batcher_votes.specs.RoundState.{RoundState}
 use Rattle.batcher_types.specs.Votes.{subject_of, attestation_of, subject_certified, round_in}
 use Rattle.batcher_votes.specs.Verifiers.{certifies_itself}
-use Rattle.batcher_histories.specs.Steps.{leader_set_answer, forward_answer, missing_in, own_result, AfterLeader, AfterNetwork, AfterOwn, AfterCertificate, AfterConstruct}
+use Rattle.batcher_histories.specs.Steps.{leader_set_answer, forward_answer, missing_in, own_result}
+use Rattle.batcher_histories.specs.Steps.{AfterLeader, AfterNetwork, AfterOwn, AfterCertificate}
+use Rattle.batcher_histories.specs.Steps.{AfterConstruct}
 
 module _ {D K G C : Type 0} (x : Config D K G C) where
   -- nothing changed

@@ -1,5 +1,6 @@
 -- The leader, the selected proposal with its source, what was certified, forwarded and released.
-use Rattle.std.specs.Prelude.{Bool, false, not, cond, ◌&&◌, List, [], ◌∷◌, ◌++◌, Option, Some, None, is_some, option_and_then, filter}
+use Rattle.std.specs.Prelude.{Bool, false, not, cond, ◌&&◌, List, [], ◌∷◌, ◌++◌, Option, Some, None}
+use Rattle.std.specs.Prelude.{is_some, option_and_then, filter}
 use Rattle.std.specs.List.{list_any}
 use Rattle.std.specs.Option.{option_or}
 use Rattle.batcher_types.specs.declared.positions.Participant.{Participant}
@@ -10,14 +11,18 @@ use Rattle.batcher_types.specs.declared.messages.Certificate.{Certificate}
 use Rattle.batcher_types.specs.declared.messages.Kind.{Kind}
 use Rattle.batcher_types.specs.declared.messages.Kind.TheVariants.{Notarization}
 use Rattle.batcher_votes.specs.declared.verifier.ProposalState.{ProposalState}
-use Rattle.batcher_votes.specs.declared.verifier.ProposalState.TheVariants.{Unknown, Leader as LeadersProposal, Certificate as FixedProposal}
+use Rattle.batcher_votes.specs.declared.verifier.ProposalState.TheVariants.{Unknown}
+use Rattle.batcher_votes.specs.declared.verifier.ProposalState.TheVariants.{Leader as LeadersProposal}
+use Rattle.batcher_votes.specs.declared.verifier.ProposalState.TheVariants.{Certificate as FixedProposal}
 use Rattle.batcher_histories.specs.declared.calls.Call.{Call}
-use Rattle.batcher_histories.specs.declared.calls.Call.TheVariants.{Own as OwnCall, Leader as LeaderCall}
+use Rattle.batcher_histories.specs.declared.calls.Call.TheVariants.{Own as OwnCall}
+use Rattle.batcher_histories.specs.declared.calls.Call.TheVariants.{Leader as LeaderCall}
 use Rattle.batcher_histories.specs.declared.answers.Answer.{Answer}
 use Rattle.batcher_histories.specs.declared.answers.Answer.TheVariants.{Forward as ForwardAnswer}
 use Rattle.batcher_histories.specs.Config.{Config}
 use Rattle.batcher_types.specs.Lists.{is_some_and}
-use Rattle.batcher_types.specs.Votes.{is_kind, kind_of, subject_of, proposal_in, kind_certified, subject_certified, is_for}
+use Rattle.batcher_types.specs.Votes.{is_kind, kind_of, subject_of, proposal_in, kind_certified}
+use Rattle.batcher_types.specs.Votes.{subject_certified, is_for}
 use Rattle.batcher_votes.specs.ProposalStates.{proposal_of, replaces}
 use Rattle.batcher_votes.specs.TrackerSteps.{is_skipped, is_released_in}
 use Rattle.batcher_histories.specs.History.{Event, History, recorded_certificate, certificate_given}

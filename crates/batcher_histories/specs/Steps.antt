@@ -1,11 +1,15 @@
 -- What each call of a round answers and changes, by what the round holds alone.
-use Rattle.std.specs.Prelude.{◌≡◌, ◌≤◌, ℕ, Bool, true, false, not, cond, ◌&&◌, ◌==◌, List, [], length, Option, Some, None, is_some, Result, Ok, Err, MatchBool, filter}
+use Rattle.std.specs.Prelude.{◌≡◌, ◌≤◌, ℕ, Bool, true, false, not, cond, ◌&&◌, ◌==◌, List, []}
+use Rattle.std.specs.Prelude.{length, Option, Some, None, is_some, Result, Ok, Err, MatchBool}
+use Rattle.std.specs.Prelude.{filter}
 use Rattle.rand_core.specs.Stream.{Stream}
 use Rattle.batcher_types.specs.declared.positions.Participant.{Participant}
 use Rattle.batcher_types.specs.declared.messages.Proposal.{Proposal}
 use Rattle.batcher_types.specs.declared.messages.Certificate.{Certificate}
 use Rattle.batcher_types.specs.declared.messages.Vote.{Vote}
-use Rattle.batcher_types.specs.declared.messages.Vote.TheVariants.{Notarize as NotarizeVote, Nullify as NullifyVote, Finalize as FinalizeVote}
+use Rattle.batcher_types.specs.declared.messages.Vote.TheVariants.{Notarize as NotarizeVote}
+use Rattle.batcher_types.specs.declared.messages.Vote.TheVariants.{Nullify as NullifyVote}
+use Rattle.batcher_types.specs.declared.messages.Vote.TheVariants.{Finalize as FinalizeVote}
 use Rattle.batcher_types.specs.declared.messages.Kind.{Kind}
 use Rattle.batcher_types.specs.declared.messages.Kind.TheVariants.{Notarization, Finalization}
 use Rattle.batcher_histories.specs.declared.answers.Admission.{Admission}
@@ -23,14 +27,23 @@ use Rattle.batcher_types.specs.Lists.{is_some_and}
 use Rattle.batcher_types.specs.Quorum.{quorum_of}
 use Rattle.batcher_types.specs.Meaning.{Meaning}
 use Rattle.batcher_histories.specs.Config.{Config, quorum_in, sender_in}
-pub use Rattle.batcher_histories.specs.Known.{is_participant, opposite_fault, duplicate_result, unopposed_result, own_result_by, admission_by, admission_named}
-use Rattle.batcher_histories.specs.Known.{known_in, forward_by, has_block_by, missing_by, own_by, network_by, first_ready}
-use Rattle.batcher_types.specs.Votes.{is_kind, kind_of, signer_of, proposal_in, subject_of, kind_certified, subject_certified, is_eligible}
-use Rattle.batcher_votes.specs.ProposalStates.{proposal_of, is_fixed, updated, same_selected}
+pub use Rattle.batcher_histories.specs.Known.{is_participant, opposite_fault, duplicate_result}
+pub use Rattle.batcher_histories.specs.Known.{unopposed_result, own_result_by, admission_by}
+pub use Rattle.batcher_histories.specs.Known.{admission_named}
+use Rattle.batcher_histories.specs.Known.{known_in, forward_by, has_block_by, missing_by, own_by}
+use Rattle.batcher_histories.specs.Known.{network_by, first_ready}
+use Rattle.batcher_types.specs.Votes.{is_kind, kind_of, signer_of, proposal_in, subject_of}
+use Rattle.batcher_types.specs.Votes.{kind_certified, subject_certified, is_eligible}
+use Rattle.batcher_votes.specs.ProposalStates.{proposal_of, is_fixed, updated, fixes, same_selected}
 use Rattle.batcher_votes.specs.RoundState.{of_kind, VerifierState, TrackerView, RoundState}
-use Rattle.batcher_votes.specs.TrackerSteps.{Observed, unseen, in_full, as_facts, is_seen, observed, observed_opposite, kept_vote, RecordsKind, ReleasesKind, nothing_tracked, is_released_in}
-use Rattle.batcher_votes.specs.VerifierSteps.{nothing_buffered, AddsVote, SetsLeader, SetsProposal, MayFix, CompletesKind, TriesKind, is_ready, restored_by_fix, selected_in}
-use Rattle.batcher_histories.specs.Admissions.{report_of, admission_after, admission_after_facts, admission_beside}
+use Rattle.batcher_votes.specs.TrackerSteps.{Observed, unseen, in_full, as_facts, is_seen, observed}
+use Rattle.batcher_votes.specs.TrackerSteps.{observed_opposite, kept_vote, RecordsKind}
+use Rattle.batcher_votes.specs.TrackerSteps.{ReleasesKind, nothing_tracked, is_released_in}
+use Rattle.batcher_votes.specs.VerifierSteps.{nothing_buffered, AddsVote, SetsLeader, SetsProposal}
+use Rattle.batcher_votes.specs.VerifierSteps.{MayFix, CompletesKind, TriesKind, is_ready}
+use Rattle.batcher_votes.specs.VerifierSteps.{restored_by_fix, selected_in}
+use Rattle.batcher_histories.specs.Admissions.{report_of, admission_after, admission_after_facts}
+use Rattle.batcher_histories.specs.Admissions.{admission_beside}
 use Rattle.batcher_votes.specs.Soundness.{BuffersOnlyKept}
 
 module _ {G D : Type 0} where
@@ -67,8 +80,8 @@ abbrev pub forward_answer : {G D : Type 0} → RoundState G D → Participant �
 forward_answer held me = forward_by (known_in held) me
 
 -- whether a participant is known to have the proposal's block
-abbrev pub has_block : {G D : Type 0} → (D → D → Bool) → RoundState G D → ℕ → Proposal D → Bool
-has_block same held i p = has_block_by same (λ kind j. observed held.tracked kind j) i p
+abbrev pub has_block_held : {G D : Type 0} → (D → D → Bool) → RoundState G D → ℕ → Proposal D → Bool
+has_block_held same held i p = has_block_by same (λ kind j. observed held.tracked kind j) i p
 
 -- the participants, of so many, that aren't known to have it
 abbrev pub missing_in : {G D : Type 0} → (D → D → Bool) → RoundState G D → Proposal D → ℕ

@@ -1,24 +1,14 @@
 -- Votes that were written one after the other.
-use Rattle.std.proofs.Common.{◌≡◌, ◌+◌, ◌-◌, ◌<◌, ◌≤◌, ◌++◌, ◌∙◌, ℕ, Bool, true, false, List, [], ap, arith, get_or, inl, inr, length, refl, subst, sym, take}
-use Rattle.std.specs.Cmp.{IsEquivalence}
-use Rattle.std.specs.Prelude.{Contains}
-use Rattle.std.proofs.lemmas.Bool.{cases_lt}
-use Rattle.std.proofs.lemmas.List.{get_or-append-add, get_or-append_right, get_or-take, get_or_append_left, get_or_default, length-append, length-take, take-append-le, take-take, take_all}
-use Rattle.std.proofs.Math.Seq.{take-append-add}
-use Rattle.std.proofs.lemmas.List.Elements.{All-append, All-contains}
-use Rattle.batcher.specs.Reports.{subjects_contradict}
-use Rattle.batcher_journal.specs.Answers.{MayFollow}
-use Rattle.batcher_journal.specs.Contradictions.{AreCompatible, AreSignedOnce, IsFree, LeavesFree}
-use Rattle.batcher_journal.specs.Floors.{is_over}
+use Rattle.batcher_journal.proofs.Words.{◌≡◌, ◌+◌, ◌-◌, ◌<◌, ◌≤◌, ◌++◌, ◌∙◌, ℕ, Bool, true, false, List, [], ap, arith, get_or, inl, inr, length, refl, subst}
+use Rattle.batcher_journal.proofs.Words.{sym, take, IsEquivalence, Contains, cases_lt, get_or-append-add, get_or-append_right, get_or-take, get_or_append_left}
+use Rattle.batcher_journal.proofs.Words.{get_or_default, length-append, length-take, take-append-le, take-take, take_all, take-append-add, All-append}
+use Rattle.batcher_journal.proofs.Words.{All-contains, subjects_contradict, MayBeWrittenBehind, AreCompatible, AreSignedOnce, IsFree, LeavesFree, is_over}
+use Rattle.batcher_journal.proofs.Words.{subject_of, Subject, Vote, Round}
 use Rattle.batcher_journal.proofs.Symmetric.{contradict_symmetric, contradicts_not_itself, subjects_symmetric}
-use Rattle.batcher_types.specs.Votes.{subject_of}
-use Rattle.batcher_types.specs.declared.messages.Subject.{Subject}
-use Rattle.batcher_types.specs.declared.messages.Vote.{Vote}
-use Rattle.batcher_types.specs.declared.positions.Round.{Round}
 
 module _ {G D : Type 0} (same : D → D → Bool) (floor : Round) where
   abbrev Follow : List (Vote G D) → List (Vote G D) → Type 0
-  Follow = MayFollow same floor
+  Follow = MayBeWrittenBehind same floor
 
   -- a loop goes on
   pub more_follow : (old votes : List (Vote G D)) (i : ℕ) (vote : Vote G D) → i < length votes

@@ -1,20 +1,10 @@
 -- An index of votes by their rounds.
-use Rattle.std.proofs.Common.{◌≡◌, ◌+◌, ◌-◌, ◌<◌, ◌≤◌, ◌++◌, ◌∙◌, ℕ, Bool, true, false, List, ap, arith, get_or, inl, inr, length, subst, sym, take, drop}
-use Rattle.std.specs.Cmp.{IsEquivalence}
-use Rattle.std.specs.Prelude.{All, Contains}
-use Rattle.std.proofs.lemmas.Bool.{cases_lt}
-use Rattle.std.proofs.lemmas.List.{get_or_append_left, get_or_default, get_or-take, length-append, length-drop, length-take, take-append-drop, take_all}
-use Rattle.std.proofs.lemmas.List.Elements.{All-append, All-contains}
-use Rattle.batcher_journal.specs.Contradictions.{IsFree, LeavesFree, Meets}
-use Rattle.batcher_journal.specs.Floors.{is_below}
-use Rattle.batcher_journal.specs.Index.{AreByRounds, IsIndex, Points}
-use Rattle.batcher_journal.specs.declared.indexed.Entry.{Entry}
+use Rattle.batcher_journal.proofs.Words.{◌≡◌, ◌+◌, ◌-◌, ◌<◌, ◌≤◌, ◌++◌, ◌∙◌, ℕ, Bool, true, false, List, ap, arith, get_or, inl, inr, length, subst, sym, take}
+use Rattle.batcher_journal.proofs.Words.{drop, IsEquivalence, All, Contains, cases_lt, get_or_append_left, get_or_default, get_or-take, length-append}
+use Rattle.batcher_journal.proofs.Words.{length-drop, length-take, take-append-drop, take_all, All-append, All-contains, IsFree, LeavesFree, BarsSubject}
+use Rattle.batcher_journal.proofs.Words.{is_below, AreByRounds, IsIndex, Points, Entry, round_in, subject_of, Subject, Vote, Round}
 use Rattle.batcher_journal.proofs.Rounds.{earlier_below, no_contradiction, not_itself, not_reversed, other_subject, still_over}
 use Rattle.batcher_journal.proofs.Symmetric.{contradict_symmetric, subjects_symmetric}
-use Rattle.batcher_types.specs.Votes.{round_in, subject_of}
-use Rattle.batcher_types.specs.declared.messages.Subject.{Subject}
-use Rattle.batcher_types.specs.declared.messages.Vote.{Vote}
-use Rattle.batcher_types.specs.declared.positions.Round.{Round}
 
 -- an entry for where there is none
 abbrev pub nowhere : Entry
@@ -266,7 +256,7 @@ not_both e = absurd cc
 
 -- A vote that meets a subject doesn't leave it free.
 pub met_not_free : {G D : Type 0} (same : D → D → Bool) (votes : List (Vote G D))
-    (subject : Subject D) (vote : Vote G D) → Meets same votes subject vote
+    (subject : Subject D) (vote : Vote G D) → BarsSubject same votes subject vote
     → IsFree same votes subject → ⊥
 met_not_free same votes subject vote (there, inl for_it) free =
     absurd (not_both (sym for_it ∙ (All-contains (LeavesFree same subject) votes vote free there).0))

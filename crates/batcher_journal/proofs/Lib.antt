@@ -1,3 +1,4 @@
+pub mod Words
 pub mod Symmetric
 pub mod Texts
 pub mod Sorting

@@ -1,25 +1,14 @@
 -- No two votes that were handed out contradict each other, over any life.
-use Rattle.std.proofs.Common.{◌≡◌, ◌⊎◌, ◌++◌, ◌∙◌, zero, suc, Bool, true, false, not, List, [], ◌∷◌, ap, arith, get_or, inl, inr, refl, subst, sym}
-use Rattle.std.specs.Cmp.{IsEquivalence}
-use Rattle.std.specs.List.{filter}
-use Rattle.std.specs.Prelude.{All, Contains}
-use Rattle.std.proofs.lemmas.List.Elements.{All-append, All-contains, All-nil, All-weaker, Contains-append_cases, Contains-append_left, Contains-append_right}
-use Rattle.std.proofs.lemmas.List.{get_or_default}
-use Rattle.batcher.specs.Reports.{subjects_contradict}
-use Rattle.batcher_journal.specs.Answers.{Answers, MayFollow}
-use Rattle.batcher_journal.specs.Contradictions.{AreCompatible, AreSignedOnce}
-use Rattle.batcher_journal.specs.Floors.{from_floor, is_below, is_over}
-use Rattle.batcher_journal.specs.Lives.{Asks, Breaks, BreaksRaising, Crashes, Event, IsKept, Life, NeverContradicts, Opens, Raises, Step, World, Writes, handed_after}
-use Rattle.batcher_journal.specs.declared.journal.Answer.{Answer}
-use Rattle.batcher_journal.specs.declared.journal.Answer.TheVariants.{Closed, Known, Over, Refused, Sign}
+use Rattle.batcher_journal.proofs.Words.{◌≡◌, ◌⊎◌, ◌++◌, ◌∙◌, zero, suc, Bool, true, false, not, List, [], ◌∷◌, ap, arith, get_or, inl, inr, refl, subst, sym}
+use Rattle.batcher_journal.proofs.Words.{IsEquivalence, filter, All, Contains, All-append, All-contains, All-nil, All-weaker, Contains-append_cases}
+use Rattle.batcher_journal.proofs.Words.{Contains-append_left, Contains-append_right, get_or_default, subjects_contradict, Answers, MayBeWrittenBehind}
+use Rattle.batcher_journal.proofs.Words.{AreCompatible, AreSignedOnce, from_floor, is_below, is_over, Asks, Breaks, BreaksRaising, Crashes, JournalEvent}
+use Rattle.batcher_journal.proofs.Words.{IsKept, JournalLife, NeverContradicts, Opens, Raises, Step, World, Writes, handed_after, Answer, Closed, Known, Over}
+use Rattle.batcher_journal.proofs.Words.{Refused, Sign, round_in, subject_of, Subject, Vote, Round}
 use Rattle.batcher_journal.proofs.Following.{compatible, followed, once}
 use Rattle.batcher_journal.proofs.Symmetric.{contradict_symmetric, subjects_symmetric}
 use Rattle.batcher_journal.proofs.Raises.{left_follow}
 use Rattle.batcher_journal.proofs.Rounds.{no_contradiction, other_subject, still_over}
-use Rattle.batcher_types.specs.Votes.{round_in, subject_of}
-use Rattle.batcher_types.specs.declared.messages.Subject.{Subject}
-use Rattle.batcher_types.specs.declared.messages.Vote.{Vote}
-use Rattle.batcher_types.specs.declared.positions.Round.{Round}
 
 pub contains_filter : {X : Type 0} (p : X → Bool) (xs : List X) (x : X) → Contains xs x → p x ≡ true
     → Contains (filter p xs) x
@@ -38,12 +27,13 @@ wrong e = absurd cc
 
 module _ {G D : Type 0} (same : D → D → Bool) (laws : IsEquivalence same) where
   -- a vote that is there isn't of a round that is over
-  above : (floor : Round) (disk : List (Vote G D)) (vote : Vote G D) → MayFollow same floor [] disk
+  above : (floor : Round) (disk : List (Vote G D)) (vote : Vote G D)
+      → MayBeWrittenBehind same floor [] disk
       → Contains disk vote → is_over floor vote ≡ false
   above floor disk vote follows there = (follows there.0 vote there.1 (sym there.2)).1
 
   -- Votes that are on a disk, and others that were handed out before and are over.
-  module _ (floor : Round) (disk handed all : List (Vote G D)) (follows : MayFollow same floor [] disk)
+  module _ (floor : Round) (disk handed all : List (Vote G D)) (follows : MayBeWrittenBehind same floor [] disk)
       (were : AreCompatible same handed) (one : AreSignedOnce same handed)
       (each : (x : Vote G D) → Contains all x
       → Contains disk x ⊎ ((is_over floor x ≡ true) × Contains handed x)) where
@@ -76,7 +66,7 @@ module _ {G D : Type 0} (same : D → D → Bool) (laws : IsEquivalence same) wh
 
   -- what holds at each moment of a life
   record Holds (floor : Round) (disk handed : List (Vote G D)) : Type 0 where
-    follows : MayFollow same floor [] disk
+    follows : MayBeWrittenBehind same floor [] disk
     compatible_ : AreCompatible same handed
     once_ : AreSignedOnce same handed
     kept : All (IsKept floor disk) handed
@@ -108,7 +98,7 @@ module _ {G D : Type 0} (same : D → D → Bool) (laws : IsEquivalence same) wh
 
   -- votes are written
   writes : (floor : Round) (disk handed votes : List (Vote G D)) → Holds floor disk handed
-      → MayFollow same floor disk votes → Holds floor (disk ++ votes) handed
+      → MayBeWrittenBehind same floor disk votes → Holds floor (disk ++ votes) handed
   writes floor disk handed votes holds follows = record {
     follows = followed same floor disk votes holds.follows follows;
     compatible_ = holds.compatible_;
@@ -155,7 +145,7 @@ module _ {G D : Type 0} (same : D → D → Bool) (laws : IsEquivalence same) wh
   asked floor disk false handed subject Over holds answers = holds
   asked floor disk false handed subject Closed holds answers = holds
 
-  step_holds : (old : World G D) (event : Event G D) (new : World G D)
+  step_holds : (old : World G D) (event : JournalEvent G D) (new : World G D)
       → Holds old.floor old.disk old.handed → Step same old event new
       → Holds new.floor new.disk new.handed
   step_holds old (Asks subject answer) new holds step =
@@ -177,8 +167,8 @@ module _ {G D : Type 0} (same : D → D → Bool) (laws : IsEquivalence same) wh
   step_holds old Crashes new holds step = rw (step.0.0, step.0.1, step.2) holds
   step_holds old Opens new holds step = rw (step.0.0, step.0.1, step.2) holds
 
-  life_holds : (events : List (Event G D)) (start end : World G D)
-      → Holds start.floor start.disk start.handed → Life same start events end
+  life_holds : (events : List (JournalEvent G D)) (start end : World G D)
+      → Holds start.floor start.disk start.handed → JournalLife same start events end
       → Holds end.floor end.disk end.handed
   life_holds [] start end holds life = subst (λ w. Holds w.floor w.disk w.handed) (sym life) holds
   life_holds (event ∷ events) start end holds life =

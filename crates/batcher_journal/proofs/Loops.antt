@@ -1,11 +1,6 @@
 -- What holds of all votes of a list, as a loop goes over it.
-use Rattle.std.proofs.Common.{◌≡◌, ◌+◌, ◌<◌, ◌≤◌, ℕ, Bool, List, [], ◌∷◌, get_or, length, subst, sym, take}
-use Rattle.std.specs.Prelude.{All}
-use Rattle.std.proofs.lemmas.List.{take_all, take_more}
-use Rattle.std.proofs.lemmas.List.Elements.{All-append, All-cons, All-nil}
-use Rattle.batcher_journal.specs.Contradictions.{IsFree, LeavesFree}
-use Rattle.batcher_types.specs.declared.messages.Subject.{Subject}
-use Rattle.batcher_types.specs.declared.messages.Vote.{Vote}
+use Rattle.batcher_journal.proofs.Words.{◌≡◌, ◌+◌, ◌<◌, ◌≤◌, ℕ, Bool, List, [], ◌∷◌, get_or, length, subst, sym, take, All, take_all, take_more, All-append}
+use Rattle.batcher_journal.proofs.Words.{All-cons, All-nil, IsFree, LeavesFree, Subject, Vote}
 
 module _ {G D : Type 0} (same : D → D → Bool) (votes : List (Vote G D)) (subject : Subject D) (i : ℕ) where
   pub one_more : (vote : Vote G D) → i < length votes → vote ≡ get_or votes i vote

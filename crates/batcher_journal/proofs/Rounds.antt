@@ -1,13 +1,7 @@
 -- Votes of a round that is over, and votes that aren't.
-use Rattle.std.proofs.Common.{◌≡◌, ◌⊎◌, ◌&&◌, ◌||◌, ◌∙◌, ◌<◌, Bool, true, false, arith, eqb, inl, inr, ltb, refl, sym}
-use Rattle.std.proofs.lemmas.Bool.{cases_eq, cases_lt, eq-eqb, eqb-true, ltb-true, lt-ltb}
-use Rattle.batcher.specs.Reports.{subjects_contradict}
-use Rattle.batcher_journal.specs.Floors.{is_below}
-use Rattle.batcher_types.specs.Votes.{round_in, same_proposal, same_round, same_subject}
-use Rattle.batcher_types.specs.declared.messages.Proposal.{Proposal}
-use Rattle.batcher_types.specs.declared.messages.Subject.{Subject}
-use Rattle.batcher_types.specs.declared.messages.Subject.TheVariants.{Notarize, Nullify, Finalize}
-use Rattle.batcher_types.specs.declared.positions.Round.{Round}
+use Rattle.batcher_journal.proofs.Words.{◌≡◌, ◌⊎◌, ◌&&◌, ◌||◌, ◌∙◌, ◌<◌, Bool, true, false, arith, eqb, inl, inr, ltb, refl, sym, cases_eq, cases_lt, eq-eqb}
+use Rattle.batcher_journal.proofs.Words.{eqb-true, ltb-true, lt-ltb, subjects_contradict, is_below, round_in, same_proposal, same_round, same_subject, Proposal}
+use Rattle.batcher_journal.proofs.Words.{Subject, Notarize, Nullify, Finalize, Round}
 
 both : (a b : Bool) → (a && b) ≡ true → (a ≡ true) × (b ≡ true)
 both true b e = (refl, e)

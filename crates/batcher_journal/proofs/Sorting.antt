@@ -1,15 +1,9 @@
 -- Which votes and certificates records have.
-use Rattle.std.proofs.Common.{◌≡◌, ◌<◌, ◌++◌, ◌∙◌, Fits, ℕ, List, [], ◌∷◌, Ok, Err, ap, append_assoc, arith, drop, get_or, length, map, refl, subst, sym, w8}
-use Rattle.std.proofs.lemmas.List.{append-nil, drop_all, take_all}
-use Rattle.std.proofs.lemmas.Grind.{flat_map-append}
-use Rattle.batcher_codec.specs.Format.{Format, IsExact}
-use Rattle.batcher_codec.specs.declared.fault.DecodeFault.{DecodeFault}
-use Rattle.batcher_journal.specs.Ready.{first_of}
-use Rattle.batcher_journal.specs.Records.{AreRecords, Certified, Certifies, HasRecords, Record, Voted, certificates_of, certified_format, record_bytes, record_format, records_of, records_text, votes_of}
-use Rattle.batcher_journal.specs.Text.{Contents, IsText, OwnerFields, owner_format}
+use Rattle.batcher_journal.proofs.Words.{◌≡◌, ◌<◌, ◌++◌, ◌∙◌, Fits, ℕ, List, [], ◌∷◌, Ok, Err, ap, append_assoc, arith, drop, get_or, length, map, refl, subst}
+use Rattle.batcher_journal.proofs.Words.{sym, w8, append-nil, drop_all, take_all, flat_map-append, Format, IsExact, DecodeFault, first_of, AreRecords}
+use Rattle.batcher_journal.proofs.Words.{Certified, Certifies, HasRecords, Record, Voted, certificates_of, certified_format, record_bytes, record_format}
+use Rattle.batcher_journal.proofs.Words.{records_of, records_text, votes_of, Contents, IsText, OwnerFields, owner_format, Vote, Round}
 use Rattle.batcher_journal.proofs.Texts.{IsReadSoFar, one_more, record_is_exact, record_some, shorter, unread}
-use Rattle.batcher_types.specs.declared.messages.Vote.{Vote}
-use Rattle.batcher_types.specs.declared.positions.Round.{Round}
 
 certificates_alone : (G D : Type 0) (its : List Certified)
     → certificates_of {G = G} {D = D} (map Certifies its) ≡ its

@@ -1,18 +1,10 @@
 -- The parts of a journal's bytes.
-use Rattle.std.proofs.Common.{◌≡◌, ◌++◌, ◌∙◌, Fits, ℕ, Bool, List, [], Ok, Err, ap, arith, get_or, subst, sym, w8}
-use Rattle.std.proofs.lemmas.List.{append-nil}
-use Rattle.batcher_codec.specs.Exact.{AreBytes-rest, bytes_is_exact, ok_is, pair_is_exact, u32_is_exact}
-use Rattle.batcher_codec.specs.Format.{AreBytes, Format, IsExact, bytes_format, pair, u32_format}
-use Rattle.batcher_codec.specs.Lawful.{versioned_is_exact}
-use Rattle.batcher_codec.specs.declared.fault.DecodeFault.{DecodeFault}
-use Rattle.batcher_types.specs.declared.messages.Vote.{Vote}
-use Rattle.batcher_types.specs.declared.positions.Round.{Round}
-use Rattle.batcher_journal.specs.Answers.{MayFollow}
-use Rattle.batcher_journal.specs.Causes.{Cause, IsOneText, Unfollowed}
-use Rattle.batcher_journal.specs.Records.{AreRecords, Certified, HasRecords, Record, certificates_of, certified_format, record_format, records_text, votes_of}
-use Rattle.batcher_journal.specs.Text.{Contents, IsText, OwnerFields, owner_format}
-use Rattle.batcher_journal.specs.declared.journal.OpenFault.{OpenFault}
-use Rattle.batcher_journal.specs.declared.journal.OpenFault.TheVariants.{Contradiction, Malformed, NotBegun, OtherKeys, OtherLengths, OtherNamespace, OtherParticipant, OtherVersion, OutOfMemory}
+use Rattle.batcher_journal.proofs.Words.{◌≡◌, ◌++◌, ◌∙◌, Fits, ℕ, Bool, List, [], Ok, Err, ap, arith, get_or, subst, sym, w8, append-nil, AreBytes-rest}
+use Rattle.batcher_journal.proofs.Words.{bytes_is_exact, ok_is, pair_is_exact, u32_is_exact, AreBytes, Format, IsExact, bytes_format, pair, u32_format}
+use Rattle.batcher_journal.proofs.Words.{versioned_is_exact, DecodeFault, Vote, Round, MayBeWrittenBehind, Cause, IsOneText, Unfollowed, AreRecords, Certified}
+use Rattle.batcher_journal.proofs.Words.{HasRecords, Record, certificates_of, certified_format, record_format, records_text, votes_of, Contents, IsText}
+use Rattle.batcher_journal.proofs.Words.{OwnerFields, owner_format, OpenFault, Contradiction, Malformed, NotBegun, OtherKeys, OtherLengths, OtherNamespace}
+use Rattle.batcher_journal.proofs.Words.{OtherParticipant, OtherVersion, OutOfMemory}
 use Rattle.batcher_journal.proofs.Sorting.{same_contents}
 use Rattle.batcher_journal.proofs.Texts.{certified_is_exact, one_list, record_is_exact, record_some}
 
@@ -72,8 +64,8 @@ module _ {G D : Type 0} (f : Format (Vote G D)) (exact : IsExact f) (written : L
         no_records none = none it.records it.values (ap (λ (p : Certified × List ℕ). p.1) whole)
 
         pub no_follow : (same : D → D → Bool) (votes : List (Vote G D)) (its : List Certified)
-            → HasRecords f after votes its [] → (MayFollow same at [] votes → ⊥)
-            → MayFollow same contents.floor [] contents.votes → ⊥
+            → HasRecords f after votes its [] → (MayBeWrittenBehind same at [] votes → ⊥)
+            → MayBeWrittenBehind same contents.floor [] contents.votes → ⊥
         no_follow same votes its read none follows =
             let list : it.records ≡ read.records =
             one_list (record_format f) (record_is_exact f exact) (record_some f) it.records read.records it.values read.values
@@ -81,7 +73,7 @@ module _ {G D : Type 0} (f : Format (Vote G D)) (exact : IsExact f) (written : L
             let list_is : contents.votes ≡ votes =
             it.votes_are ∙ ap votes_of list ∙ sym read.votes_are in
             let place_is : contents.floor ≡ at = sym (ap (λ (p : Certified × List ℕ). p.0.0) whole) in
-            none (subst (λ r. MayFollow same r [] votes) place_is (subst (MayFollow same contents.floor []) list_is follows))
+            none (subst (λ r. MayBeWrittenBehind same r [] votes) place_is (subst (MayBeWrittenBehind same contents.floor []) list_is follows))
 
   -- votes that aren't a journal's are of none with this owner
   pub refused : (owner other : OwnerFields) (rest : List ℕ)

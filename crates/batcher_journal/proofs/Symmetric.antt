@@ -1,13 +1,7 @@
 -- Whether two subjects contradict each other doesn't depend on their order, and none contradicts itself.
-use Rattle.std.proofs.Common.{◌≡◌, ◌&&◌, ◌∙◌, ℕ, Bool, true, false, not, ap, eq-eqb, eqb, inl, inr, refl, sym}
-use Rattle.std.specs.Cmp.{IsEquivalence}
-use Rattle.std.proofs.lemmas.Bool.{cases_eq, ne_eqb}
-use Rattle.batcher.specs.Reports.{subjects_contradict}
-use Rattle.batcher_types.specs.Votes.{same_proposal, same_round, same_subject}
-use Rattle.batcher_types.specs.declared.messages.Proposal.{Proposal}
-use Rattle.batcher_types.specs.declared.messages.Subject.{Subject}
-use Rattle.batcher_types.specs.declared.messages.Subject.TheVariants.{Notarize, Nullify, Finalize}
-use Rattle.batcher_types.specs.declared.positions.Round.{Round}
+use Rattle.batcher_journal.proofs.Words.{◌≡◌, ◌&&◌, ◌∙◌, ℕ, Bool, true, false, not, ap, eqb, inl, inr, refl, sym, IsEquivalence, cases_eq, ne_eqb}
+use Rattle.batcher_journal.proofs.Words.{subjects_contradict, same_proposal, same_round, same_subject, Proposal, Subject, Notarize, Nullify, Finalize, Round}
+use Rattle.std.proofs.Common.{eq-eqb}
 
 eqb_symmetric : (a b : ℕ) → eqb a b ≡ eqb b a
 eqb_symmetric a b =

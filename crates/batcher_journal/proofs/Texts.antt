@@ -1,14 +1,8 @@
 -- Records that are written and read one after the other, as a loop does.
-use Rattle.std.proofs.Common.{◌≡◌, ◌<◌, ◌++◌, ◌∙◌, Fits, ℕ, zero, suc, List, [], ◌∷◌, Ok, Err, ap, append_assoc, arith, get_or, length, refl, subst, sym, w8}
-use Rattle.std.proofs.lemmas.List.{append-nil, flat_map_more, length-append}
-use Rattle.std.specs.List.{AllByRecursion, flat_map}
-use Rattle.batcher_codec.specs.Exact.{AreBytes-rest, bind_ok, bytes_is_exact, exact_is_prefix_free, ok_is, pair_is_exact}
-use Rattle.batcher_codec.specs.Format.{AreBytes, Format, IsExact, bytes_format}
-use Rattle.batcher_codec.specs.Lawful.{round_is_exact}
-use Rattle.batcher_codec.specs.Messages.{round_format}
-use Rattle.batcher_codec.specs.declared.fault.DecodeFault.{DecodeFault}
-use Rattle.batcher_journal.specs.Records.{Certifies, Record, Voted, certified_format, record_at, record_bytes, record_format}
-use Rattle.batcher_types.specs.declared.messages.Vote.{Vote}
+use Rattle.batcher_journal.proofs.Words.{◌≡◌, ◌<◌, ◌++◌, ◌∙◌, Fits, ℕ, zero, suc, List, [], ◌∷◌, Ok, Err, ap, append_assoc, arith, get_or, length, refl, subst}
+use Rattle.batcher_journal.proofs.Words.{sym, w8, append-nil, flat_map_more, length-append, AllByRecursion, flat_map, AreBytes-rest, bind_ok, bytes_is_exact}
+use Rattle.batcher_journal.proofs.Words.{exact_is_prefix_free, ok_is, pair_is_exact, AreBytes, Format, IsExact, bytes_format, round_is_exact, round_format}
+use Rattle.batcher_journal.proofs.Words.{DecodeFault, Certifies, Record, Voted, certified_format, record_at, record_bytes, record_format, Vote}
 
 pub certified_is_exact : IsExact certified_format
 certified_is_exact = pair_is_exact round_format bytes_format round_is_exact bytes_is_exact

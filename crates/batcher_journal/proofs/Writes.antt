@@ -1,15 +1,11 @@
 -- A journal in which votes and certificates were written.
-use Rattle.std.proofs.Common.{◌≡◌, ◌⊎◌, ◌++◌, ◌∙◌, ℕ, Bool, List, [], ap, append_assoc, arith, drop, inl, inr, length, subst, sym, take}
-use Rattle.std.proofs.lemmas.List.{take-append-drop, take_all}
-use Rattle.batcher_codec.specs.Format.{Format}
-use Rattle.batcher_journal.specs.Answers.{MayFollow}
-use Rattle.batcher_journal.specs.Ready.{IsReady, first_of, with_more}
-use Rattle.batcher_journal.specs.Records.{AreRecords, Certified, Record, certificates_of, certified_format, record_format, records_of, records_text, votes_of}
-use Rattle.batcher_journal.specs.Text.{Contents, IsText, owner_format}
+use Rattle.batcher_journal.proofs.Words.{◌≡◌, ◌⊎◌, ◌++◌, ◌∙◌, ℕ, Bool, List, [], ap, append_assoc, arith, drop, inl, inr, length, subst, sym, take}
+use Rattle.batcher_journal.proofs.Words.{take-append-drop, take_all, Format, MayBeWrittenBehind, IsReady, first_of, with_more, AreRecords, Certified, Record}
+use Rattle.batcher_journal.proofs.Words.{certificates_of, certified_format, record_format, records_of, records_text, votes_of, Contents, IsText, owner_format}
+use Rattle.batcher_journal.proofs.Words.{Vote}
 use Rattle.batcher_journal.proofs.Following.{followed}
 use Rattle.batcher_journal.proofs.Sorting.{all_of, certificates_append, certificates_are, made, text_append, votes_append, votes_are}
 use Rattle.batcher_journal.proofs.Texts.{values_append}
-use Rattle.batcher_types.specs.declared.messages.Vote.{Vote}
 
 -- Behind a text are more records.
 pub more_text : {G D : Type 0} (f : Format (Vote G D)) (old new : List ℕ) (contents : Contents G D)
@@ -44,10 +40,10 @@ module _ {G D L : Type 0} (f : Format (Vote G D)) (same : D → D → Bool) (is_
   stays left is = subst (λ t. IsText f t contents) (sym is) ready.text
 
   pub write_leaves : (votes : List (Vote G D)) (its : List Certified) (left : List ℕ)
-      → MayFollow same contents.floor contents.votes votes
+      → MayBeWrittenBehind same contents.floor contents.votes votes
       → (left ≡ written log) ⊎ ((left ≡ written log ++ records_text f (records_of votes its))
       × AreRecords f (records_of votes its))
-      → IsText f left contents ⊎ (MayFollow same contents.floor contents.votes votes
+      → IsText f left contents ⊎ (MayBeWrittenBehind same contents.floor contents.votes votes
       × IsText f left (with_more contents votes its))
   write_leaves votes its left follows (inl is) = inl (stays left is)
   write_leaves votes its left follows (inr (is, values)) =
@@ -57,7 +53,7 @@ module _ {G D L : Type 0} (f : Format (Vote G D)) (same : D → D → Bool) (is_
       → after ≡ with_more contents votes its → is_settled new
       → written new ≡ written log ++ records_text f (records_of votes its)
       → AreRecords f (records_of votes its)
-      → MayFollow same contents.floor contents.votes votes
+      → MayBeWrittenBehind same contents.floor contents.votes votes
       → IsReady f same is_settled written new after
   ready_more new votes its after after_is settled is values follows =
       subst (IsReady f same is_settled written new) (sym after_is) (record {
@@ -103,7 +99,7 @@ with_values f old left first room out bytes records none same out_is values byte
 pub ready_opened : {G D L : Type 0} (f : Format (Vote G D)) (same : D → D → Bool)
     (is_settled : L → Type 0) (written : L → List ℕ) (log : L) (contents : Contents G D) (n : ℕ)
     → n ≡ length contents.certificates → is_settled log → IsText f (written log) contents
-    → MayFollow same contents.floor [] contents.votes
+    → MayBeWrittenBehind same contents.floor [] contents.votes
     → IsReady f same is_settled written log (first_of n contents)
 ready_opened f same is_settled written log contents n is settled text follows =
     subst (IsReady f same is_settled written log) (sym (all_of n contents is))

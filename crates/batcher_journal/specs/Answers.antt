@@ -1,5 +1,6 @@
 -- What a journal answers, by the votes that it has.
-use Rattle.std.specs.Prelude.{◌≡◌, ◌<◌, ◌++◌, ℕ, Bool, true, false, List, Contains, length, slice_index_or, take}
+use Rattle.std.specs.Prelude.{◌≡◌, ◌<◌, ◌++◌, ℕ, Bool, true, false, List, Contains, length}
+use Rattle.std.specs.Prelude.{slice_index_or, take}
 use Rattle.batcher_types.specs.Votes.{round_in, same_subject, subject_of}
 use Rattle.batcher_types.specs.declared.messages.Subject.{Subject}
 use Rattle.batcher_types.specs.declared.messages.Vote.{Vote}
@@ -8,7 +9,8 @@ use Rattle.batcher.specs.Reports.{subjects_contradict}
 use Rattle.batcher_journal.specs.Contradictions.{IsFree}
 use Rattle.batcher_journal.specs.Floors.{is_below, is_over}
 use Rattle.batcher_journal.specs.declared.journal.Answer.{Answer}
-use Rattle.batcher_journal.specs.declared.journal.Answer.TheVariants.{Closed, Known, Over, Refused, Sign}
+use Rattle.batcher_journal.specs.declared.journal.Answer.TheVariants.{Closed, Known, Over, Refused}
+use Rattle.batcher_journal.specs.declared.journal.Answer.TheVariants.{Sign}
 
 module _ {G D : Type 0} (same : D → D → Bool) (floor : Round) where
   -- Of a subject: it is to be signed just where its round isn't over, no vote is for it and none
@@ -26,7 +28,7 @@ module _ {G D : Type 0} (same : D → D → Bool) (floor : Round) where
   Answers is_open votes subject answer = ⊥
 
   -- Votes may be written behind others: each is to be signed as those before it are there.
-  abbrev pub MayFollow : List (Vote G D) → List (Vote G D) → Type 0
-  MayFollow old votes = (i : ℕ) (vote : Vote G D) → i < length votes
+  abbrev pub MayBeWrittenBehind : List (Vote G D) → List (Vote G D) → Type 0
+  MayBeWrittenBehind old votes = (i : ℕ) (vote : Vote G D) → i < length votes
       → vote ≡ slice_index_or votes i vote
       → IsFree same (old ++ take i votes) (subject_of vote) × (is_over floor vote ≡ false)

@@ -1,13 +1,18 @@
 -- Why a journal isn't opened.
 use Rattle.std.specs.Prelude.{◌≡◌, ◌≢◌, ◌⊎◌, ℕ, Bool, List, [], Ok, Err}
-use Rattle.batcher_codec.specs.Format.{Format}
-use Rattle.batcher_codec.specs.declared.fault.DecodeFault.TheVariants.{Version}
+use Rattle.batcher_bytes.specs.Format.{Format}
+use Rattle.batcher_bytes.specs.declared.fault.DecodeFault.TheVariants.{Version}
 use Rattle.batcher_types.specs.declared.messages.Vote.{Vote}
 use Rattle.batcher_types.specs.declared.positions.Round.{Round}
-use Rattle.batcher_journal.specs.Answers.{MayFollow}
+use Rattle.batcher_journal.specs.Answers.{MayBeWrittenBehind}
 use Rattle.batcher_journal.specs.Text.{Contents, IsText, OwnerFields, owner_format}
 use Rattle.batcher_journal.specs.declared.journal.OpenFault.{OpenFault}
-use Rattle.batcher_journal.specs.declared.journal.OpenFault.TheVariants.{Contradiction, Malformed, NotBegun, OtherKeys, OtherLengths, OtherNamespace, OtherParticipant, OtherVersion, OutOfMemory}
+use Rattle.batcher_journal.specs.declared.journal.OpenFault.TheVariants.{Contradiction, Malformed}
+use Rattle.batcher_journal.specs.declared.journal.OpenFault.TheVariants.{NotBegun, OtherKeys}
+use Rattle.batcher_journal.specs.declared.journal.OpenFault.TheVariants.{OtherLengths}
+use Rattle.batcher_journal.specs.declared.journal.OpenFault.TheVariants.{OtherNamespace}
+use Rattle.batcher_journal.specs.declared.journal.OpenFault.TheVariants.{OtherParticipant}
+use Rattle.batcher_journal.specs.declared.journal.OpenFault.TheVariants.{OtherVersion, OutOfMemory}
 
 -- what differs between two owners, by the fault
 abbrev pub Differ : OwnerFields → OwnerFields → OpenFault → Type 0
@@ -21,7 +26,7 @@ Differ x y fault = ⊥
 abbrev pub Unfollowed : {G D : Type 0} → (D → D → Bool) → Round → List (Vote G D) → OpenFault
     → Type 0
 Unfollowed same floor votes OutOfMemory = Unit {0}
-Unfollowed same floor votes Contradiction = MayFollow same floor [] votes → ⊥
+Unfollowed same floor votes Contradiction = MayBeWrittenBehind same floor [] votes → ⊥
 Unfollowed same floor votes fault = ⊥
 
 -- the bytes are of another owner
@@ -39,7 +44,8 @@ module _ {G D : Type 0} (format : Format (Vote G D)) (written : List ℕ) (owner
   Cause same Malformed = (contents : Contents G D) → contents.owner ≡ owner
       → IsText format written contents → ⊥
   Cause same Contradiction = (contents : Contents G D) → contents.owner ≡ owner
-      → IsText format written contents → MayFollow same contents.floor [] contents.votes → ⊥
+      → IsText format written contents → MayBeWrittenBehind same contents.floor [] contents.votes
+      → ⊥
   Cause same fault = IsAnothers written owner fault
 
 -- Bytes are of one journal at most, with one owner and one contents.

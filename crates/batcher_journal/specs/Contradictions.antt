@@ -12,8 +12,8 @@ module _ {G D : Type 0} (same : D → D → Bool) where
       × (subjects_contradict same (subject_of vote) subject ≡ false)
 
   -- a vote among them that is for the subject, or contradicts it
-  abbrev pub Meets : List (Vote G D) → Subject D → Vote G D → Type 0
-  Meets votes subject vote = Contains votes vote
+  abbrev pub BarsSubject : List (Vote G D) → Subject D → Vote G D → Type 0
+  BarsSubject votes subject vote = Contains votes vote
       × ((same_subject same (subject_of vote) subject ≡ true)
       ⊎ (subjects_contradict same (subject_of vote) subject ≡ true))
 

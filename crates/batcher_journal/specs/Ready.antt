@@ -2,8 +2,8 @@
 use Rattle.std.specs.Prelude.{◌≡◌, ◌⊎◌, ◌++◌, ℕ, Bool, true, false, List, [], ◌∷◌, take}
 use Rattle.batcher_types.specs.declared.messages.Vote.{Vote}
 use Rattle.batcher_types.specs.declared.positions.Round.{Round}
-use Rattle.batcher_codec.specs.Format.{Format}
-use Rattle.batcher_journal.specs.Answers.{MayFollow}
+use Rattle.batcher_bytes.specs.Format.{Format}
+use Rattle.batcher_journal.specs.Answers.{MayBeWrittenBehind}
 use Rattle.batcher_journal.specs.Floors.{certified_from, from_floor, is_below}
 use Rattle.batcher_journal.specs.Records.{Certified}
 use Rattle.batcher_journal.specs.Text.{Contents, IsText, OwnerFields}
@@ -48,9 +48,9 @@ module _ {G D : Type 0} where
   }
 
   -- what a floor leaves of votes and certificates
-  abbrev pub left_by : OwnerFields → Round → List ℕ → List (Vote G D) → List Certified
+  abbrev pub left_by_floor : OwnerFields → Round → List ℕ → List (Vote G D) → List Certified
       → Contents G D
-  left_by owner floor finalization votes certificates = record {
+  left_by_floor owner floor finalization votes certificates = record {
     owner = owner;
     floor = floor;
     finalization = finalization;
@@ -61,7 +61,7 @@ module _ {G D : Type 0} where
   -- its floor is another, and what is of rounds before that is forgotten
   abbrev pub raised : Contents G D → List Certified → OwnerFields → Round → List ℕ → Contents G D
   raised old unwritten owner floor finalization =
-      left_by owner floor finalization old.votes (old.certificates ++ unwritten)
+      left_by_floor owner floor finalization old.votes (old.certificates ++ unwritten)
 
 module _ {G D L : Type 0} (format : Format (Vote G D)) (same : D → D → Bool) where
   -- What is in the log is what is known, of which nothing is under way, and each
@@ -70,7 +70,7 @@ module _ {G D L : Type 0} (format : Format (Vote G D)) (same : D → D → Bool)
       (contents : Contents G D) : Type 0 where
     pub settled : is_settled log
     pub text : IsText format (written log) contents
-    pub followed : MayFollow same contents.floor [] contents.votes
+    pub followed : MayBeWrittenBehind same contents.floor [] contents.votes
 
   -- what it has is on the disk, where nothing is under way
   abbrev pub IsOnDisk : (L → Type 0) → (L → List ℕ) → JournalView G D L → Type 0
@@ -80,7 +80,7 @@ module _ {G D L : Type 0} (format : Format (Vote G D)) (same : D → D → Bool)
   -- A crash leaves what was there, or that and these votes, which may follow.
   abbrev pub WriteLeaves : JournalView G D L → List (Vote G D) → List ℕ → Type 0
   WriteLeaves old votes left = IsText format left old.contents
-      ⊎ (MayFollow same old.contents.floor old.contents.votes votes
+      ⊎ (MayBeWrittenBehind same old.contents.floor old.contents.votes votes
       × IsText format left (with_more old.contents votes old.unwritten))
 
   -- A crash leaves what was there, or what a floor that isn't lower leaves of it.
@@ -97,7 +97,7 @@ module _ {G D L : Type 0} where
     pub is_open : new.is_open ≡ old.is_open
 
   -- it has these contents, all of them written, and is open
-  pub record Has (new : JournalView G D L) (contents : Contents G D) : Type 0 where
+  pub record HasContents (new : JournalView G D L) (contents : Contents G D) : Type 0 where
     pub contents_are : new.contents ≡ contents
     pub all_written : new.unwritten ≡ []
     pub is_open : new.is_open ≡ true

@@ -2,10 +2,10 @@
 -- certificate.
 use Rattle.std.specs.Prelude.{◌≡◌, ◌++◌, ℕ, zero, suc, List, [], ◌∷◌, Result, Ok, Err, map}
 use Rattle.std.specs.List.{AllByRecursion, flat_map}
-use Rattle.batcher_codec.specs.declared.fault.DecodeFault.{DecodeFault}
-use Rattle.batcher_codec.specs.declared.fault.DecodeFault.TheVariants.{Kind, Short}
-use Rattle.batcher_codec.specs.Format.{◌>>=◌, Format, bytes_format, pair}
-use Rattle.batcher_codec.specs.Messages.{round_format}
+use Rattle.batcher_bytes.specs.declared.fault.DecodeFault.{DecodeFault}
+use Rattle.batcher_bytes.specs.declared.fault.DecodeFault.TheVariants.{Kind, Short}
+use Rattle.batcher_bytes.specs.Format.{◌>>=◌, Format, bytes_format, pair}
+use Rattle.batcher_bytes.specs.Messages.{round_format}
 use Rattle.batcher_types.specs.declared.messages.Vote.{Vote}
 use Rattle.batcher_types.specs.declared.positions.Round.{Round}
 

@@ -2,9 +2,10 @@
 use Rattle.std.specs.Prelude.{◌≡◌, ◌++◌, ℕ, List}
 use Rattle.batcher_types.specs.declared.messages.Vote.{Vote}
 use Rattle.batcher_types.specs.declared.positions.Round.{Round}
-use Rattle.batcher_codec.specs.Format.{Format, bytes_format, pair, u32_format}
-use Rattle.batcher_codec.specs.Messages.{versioned}
-use Rattle.batcher_journal.specs.Records.{AreRecords, Certified, Record, certificates_of, certified_format, records_text, votes_of}
+use Rattle.batcher_bytes.specs.Format.{Format, bytes_format, pair, u32_format}
+use Rattle.batcher_bytes.specs.Messages.{versioned}
+use Rattle.batcher_journal.specs.Records.{AreRecords, Certified, Record, certificates_of}
+use Rattle.batcher_journal.specs.Records.{certified_format, records_text, votes_of}
 use Rattle.batcher_journal.specs.declared.owner.Owner.{Owner}
 
 -- the lengths of a digest and of a signature, the participant, the keys and the namespace

@@ -1,7 +1,7 @@
-// What votes say of a subject.
+//! What a journal's votes say of a subject that is asked about.
 
 ghost use Rattle.std.specs.Prelude.{◌≡◌, MatchBool, true};
-ghost use Rattle.batcher_journal.specs.Answers.{Answers, MayFollow};
+ghost use Rattle.batcher_journal.specs.Answers.{Answers, MayBeWrittenBehind};
 ghost use Rattle.batcher_journal.specs.Floors.{is_below};
 
 use crate::indexed::{IndexedVotes, find_among};
@@ -45,8 +45,8 @@ pub fn may_follow<G: Copy, D: Digest>(
     floor: Round,
     votes: &[Vote<G, D>],
 ) -> bool
-    ensures { MatchBool result (MayFollow D.eq floor old.now votes.now)
-        (MayFollow D.eq floor old.now votes.now → ⊥) }
+    ensures { MatchBool result (MayBeWrittenBehind D.eq floor old.now votes.now)
+        (MayBeWrittenBehind D.eq floor old.now votes.now → ⊥) }
 {
     for i in 0..votes.len() {
         let subject = votes[i].subject();

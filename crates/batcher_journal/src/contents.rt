@@ -1,11 +1,11 @@
-// What is in the bytes of a journal.
+//! What is in the bytes of a journal.
 
 ghost use Rattle.std.specs.Prelude.{◌≡◌, ◌++◌, [], IfErr, IfOk, List, ℕ, OnOk};
-ghost use Rattle.batcher_codec.specs.Messages.{vote_format};
-ghost use Rattle.batcher_journal.specs.Answers.{MayFollow};
+ghost use Rattle.batcher_bytes.specs.Messages.{vote_format};
+ghost use Rattle.batcher_journal.specs.Answers.{MayBeWrittenBehind};
 ghost use Rattle.batcher_journal.specs.Causes.{Cause, Differ, Unfollowed};
 ghost use Rattle.batcher_journal.specs.Floors.{certified_from, from_floor};
-ghost use Rattle.batcher_journal.specs.Ready.{begun, left_by};
+ghost use Rattle.batcher_journal.specs.Ready.{begun, left_by_floor};
 ghost use Rattle.batcher_journal.specs.Seen.{contents_of};
 ghost use Rattle.batcher_journal.specs.Text.{IsText, fields_of};
 
@@ -14,7 +14,7 @@ use crate::indexed::IndexedVotes;
 use crate::journal::OpenFault;
 use crate::owner::{Owner, Whose, owner_in, put_owner};
 use crate::records::{Certified, Records, certified_in, put_certified, put_records, records_in};
-use batcher_codec::{Codec, DecodeError, DecodeFault};
+use batcher_bytes::{Codec, DecodeError, DecodeFault};
 use batcher_types::messages::{Digest, Vote};
 use batcher_types::positions::Round;
 use std::alloc::{AllocError, Global};
@@ -59,7 +59,7 @@ fn indexed<G: Copy, D: Digest>(
     votes: &[Vote<G, D>],
 ) -> Result<IndexedVotes<G, D>, OpenFault>
     ensures found { IfOk result (λ it. it ≡ votes.now) }
-    ensures followed { OnOk result (MayFollow D.eq floor [] votes.now) }
+    ensures followed { OnOk result (MayBeWrittenBehind D.eq floor [] votes.now) }
     ensures refused { IfErr result (Unfollowed D.eq floor votes.now) }
 {
     let mut all = IndexedVotes::of(Vec::new(alloc));
@@ -87,7 +87,7 @@ pub fn kept_in<G: Codec, D: Digest + Codec>(
     ensures found { IfOk result (λ it.
         IsText (vote_format G.format D.format) bytes.now (contents_of it)) }
     ensures owner { IfOk result (λ it. it.owner ≡ fields_of owner.now) }
-    ensures followed { IfOk result (λ it. MayFollow D.eq it.floor [] it.votes) }
+    ensures followed { IfOk result (λ it. MayBeWrittenBehind D.eq it.floor [] it.votes) }
     ensures refused { IfErr result (Cause (vote_format G.format D.format) bytes.now
         (fields_of owner.now) D.eq) }
 {
@@ -162,7 +162,7 @@ pub fn raise<G: Codec, D: Digest + Codec>(
     ensures text { IfOk result (λ it. IsText (vote_format G.format D.format) it.text.items
         (contents_of it.kept)) }
     ensures kept { IfOk result (λ it. contents_of it.kept
-        ≡ left_by (fields_of owner.now) floor finalization.now votes.now certificates.now) }
+        ≡ left_by_floor (fields_of owner.now) floor finalization.now votes.now certificates.now) }
 {
     let kept = Kept {
         owner: Whose::of(alloc, owner)?,

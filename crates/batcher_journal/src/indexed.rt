@@ -1,8 +1,10 @@
 //! Votes, with where those of each round are.
 
-ghost use Rattle.std.specs.Prelude.{◌≡◌, ◌⊎◌, ◌<◌, ◌≤◌, ◌+◌, ◌++◌, ◌∷◌, [], IfSome, List, MatchBool, None, OnErr, OnOk, false, length, slice_index_or, take, true, ℕ};
+ghost use Rattle.std.specs.Prelude.{◌≡◌, ◌⊎◌, ◌<◌, ◌≤◌, ◌+◌, ◌++◌, ◌∷◌, [], IfSome, List};
+ghost use Rattle.std.specs.Prelude.{MatchBool, None, OnErr, OnOk, false, length, slice_index_or};
+ghost use Rattle.std.specs.Prelude.{take, true, ℕ};
 ghost use Rattle.batcher.specs.Reports.{subjects_contradict};
-ghost use Rattle.batcher_journal.specs.Contradictions.{IsFree, LeavesFree, Meets};
+ghost use Rattle.batcher_journal.specs.Contradictions.{IsFree, LeavesFree, BarsSubject};
 ghost use Rattle.batcher_journal.specs.Floors.{is_below};
 ghost use Rattle.batcher_journal.specs.Index.{AreByRounds, IsIndex};
 ghost use Rattle.batcher_journal.specs.declared.indexed.Entry.{Entry};
@@ -94,7 +96,7 @@ impl<G: Copy, D: Digest> IndexedVotes<G, D> {
 
     /// A vote that is for the subject, or contradicts it.
     pub fn find(&self, subject: &Subject<D>) -> Option<Vote<G, D>>
-        ensures some { IfSome result (Meets D.eq self.now subject.now) }
+        ensures some { IfSome result (BarsSubject D.eq self.now subject.now) }
         ensures none { result ≡ None → IsFree D.eq self.now subject.now }
     {
         match find_indexed(&self.votes, &self.index, subject) {
@@ -131,7 +133,7 @@ pub fn find_among<G: Copy, D: Digest>(
     votes: &[Vote<G, D>],
     subject: &Subject<D>,
 ) -> Option<Vote<G, D>>
-    ensures some { IfSome result (Meets D.eq votes.now subject.now) }
+    ensures some { IfSome result (BarsSubject D.eq votes.now subject.now) }
     ensures none { result ≡ None → IsFree D.eq votes.now subject.now }
 {
     for vote in votes {
@@ -149,7 +151,7 @@ fn find_indexed<G: Copy, D: Digest>(
     subject: &Subject<D>,
 ) -> Option<Vote<G, D>>
     requires { IsIndex votes.now index.now }
-    ensures some { IfSome result (Meets D.eq votes.now subject.now) }
+    ensures some { IfSome result (BarsSubject D.eq votes.now subject.now) }
     ensures none { result ≡ None → IsFree D.eq (take (length index.now) votes.now) subject.now }
 {
     let round = subject.round();

@@ -1,27 +1,38 @@
 //! The journal of a validator's own votes.
 
-ghost use Rattle.std.specs.Prelude.{◌≡◌, ◌≢◌, ◌⊎◌, ◌++◌, ◌≤◌, [], Err, IfErr, IfOk, List, OnErr, OnOk, drop, length, ℕ, true, false};
-ghost use Rattle.batcher_codec.specs.Messages.{vote_format};
-ghost use Rattle.batcher_journal.specs.Answers.{Answers, MayFollow};
+ghost use Rattle.std.specs.Prelude.{◌≡◌, ◌≢◌, ◌⊎◌, ◌++◌, ◌≤◌, [], Err, IfErr, IfOk, List, OnErr};
+ghost use Rattle.std.specs.Prelude.{OnOk, drop, length, ℕ, true, false};
+ghost use Rattle.batcher_bytes.specs.Messages.{vote_format};
+ghost use Rattle.batcher_journal.specs.Answers.{Answers, MayBeWrittenBehind};
 ghost use Rattle.batcher_journal.specs.Causes.{Cause, IsOneText};
 ghost use Rattle.batcher_journal.specs.Floors.{is_below};
 ghost use Rattle.batcher_journal.specs.Lives.{NeverContradicts};
-ghost use Rattle.batcher_journal.specs.Ready.{Has, IsAsBefore, IsOnDisk, Keeps, RaiseLeaves, WriteLeaves, begun, raised, with_more};
+ghost use Rattle.batcher_journal.specs.Ready.{HasContents, IsAsBefore, IsOnDisk, Keeps};
+ghost use Rattle.batcher_journal.specs.Ready.{RaiseLeaves, WriteLeaves, begun, raised, with_more};
 ghost use Rattle.batcher_journal.specs.Records.{AreRecords, records_of, records_text};
 ghost use Rattle.batcher_journal.specs.Text.{IsText, fields_of};
-ghost use Rattle.batcher_journal.specs.declared.journal.BeginFault.TheVariants.{Failed as BeginFailed, OutOfMemory as BeginMemory, Taken};
-ghost use Rattle.batcher_journal.specs.declared.journal.RaiseFault.TheVariants.{Closed as RaiseClosed, Full as RaiseFull, Lower, OutOfMemory as RaiseMemory};
-ghost use Rattle.batcher_journal.specs.declared.journal.WriteFault.TheVariants.{Closed as WriteClosed, Full as NoRoom, NotFree, OutOfMemory as NoMemory};
-ghost use Rattle.batcher_log.specs.declared.LogFault.TheVariants.{Failed as LogFailed, Full as LogFull, OutOfMemory as LogMemory};
-ghost use Rattle.batcher_log.specs.Copies.{KeepsCopy, all_copied};
+ghost use Rattle.batcher_journal.specs.declared.journal.BeginFault.TheVariants.{Failed as BeginFailed};
+ghost use Rattle.batcher_journal.specs.declared.journal.BeginFault.TheVariants.{OutOfMemory as BeginMemory};
+ghost use Rattle.batcher_journal.specs.declared.journal.BeginFault.TheVariants.{Taken};
+ghost use Rattle.batcher_journal.specs.declared.journal.RaiseFault.TheVariants.{Closed as RaiseClosed};
+ghost use Rattle.batcher_journal.specs.declared.journal.RaiseFault.TheVariants.{Full as RaiseFull};
+ghost use Rattle.batcher_journal.specs.declared.journal.RaiseFault.TheVariants.{Lower};
+ghost use Rattle.batcher_journal.specs.declared.journal.RaiseFault.TheVariants.{OutOfMemory as RaiseMemory};
+ghost use Rattle.batcher_journal.specs.declared.journal.WriteFault.TheVariants.{Closed as WriteClosed};
+ghost use Rattle.batcher_journal.specs.declared.journal.WriteFault.TheVariants.{Full as NoRoom};
+ghost use Rattle.batcher_journal.specs.declared.journal.WriteFault.TheVariants.{NotFree};
+ghost use Rattle.batcher_journal.specs.declared.journal.WriteFault.TheVariants.{OutOfMemory as NoMemory};
+ghost use Rattle.batcher_bytes.specs.declared.log.LogFault.TheVariants.{Failed as LogFailed};
+ghost use Rattle.batcher_bytes.specs.declared.log.LogFault.TheVariants.{Full as LogFull};
+ghost use Rattle.batcher_bytes.specs.declared.log.LogFault.TheVariants.{OutOfMemory as LogMemory};
+ghost use Rattle.batcher_bytes.specs.Copies.{KeepsCopy, all_copied};
 
 use crate::asking::{answer_of, is_before, may_follow};
 use crate::contents::{Kept, Raised, first_text, kept_in, raise};
 use crate::indexed::IndexedVotes;
 use crate::owner::{Owner, Whose};
 use crate::records::{Certified, put_records};
-use batcher_codec::Codec;
-use batcher_log::{CopiedLog, Log, LogFault};
+use batcher_bytes::{Codec, CopiedLog, Log, LogFault};
 use batcher_types::messages::{Digest, Subject, Vote};
 use batcher_types::positions::{Participant, Round};
 use std::alloc::{AllocError, Global};
@@ -131,7 +142,7 @@ pub struct Journal<G: Codec, D: Digest + Codec, L: Log> {
 
 impl<G: Codec, D: Digest + Codec, L: Log> Model for Journal<G, D, L> {
     ghost use Rattle.std.specs.Prelude.{◌≡◌, ◌≤◌, drop, length, true};
-    ghost use Rattle.batcher_codec.specs.Messages.{vote_format};
+    ghost use Rattle.batcher_bytes.specs.Messages.{vote_format};
     ghost use Rattle.batcher_journal.specs.Ready.{IsReady, JournalView, first_of};
     ghost use Rattle.batcher_journal.specs.Seen.{contents_of};
 
@@ -234,7 +245,7 @@ impl<G: Codec, D: Digest + Codec, L: Log> Journal<G, D, L> {
         ensures on_disk { self.now.is_open ≡ true → IsOnDisk (vote_format G.format D.format) D.eq
             L.is_settled L.written self.now }
         ensures followed { self.now.is_open ≡ true
-            → MayFollow D.eq self.now.contents.floor [] self.now.contents.votes }
+            → MayBeWrittenBehind D.eq self.now.contents.floor [] self.now.contents.votes }
     {
         self.is_open
     }
@@ -304,13 +315,13 @@ impl<G: Codec, D: Digest + Codec, L: Log> Journal<G, D, L> {
     /// the votes may be sent.
     pub fn write(&mut self, votes: &[Vote<G, D>]) -> Result<(), WriteFault>
         ensures written { OnOk result ((self.old.is_open ≡ true)
-            × MayFollow D.eq self.old.contents.floor self.old.contents.votes votes.now
-            × Has self.new (with_more self.old.contents votes.now self.old.unwritten)) }
+            × MayBeWrittenBehind D.eq self.old.contents.floor self.old.contents.votes votes.now
+            × HasContents self.new (with_more self.old.contents votes.now self.old.unwritten)) }
         ensures on_disk { OnOk result (IsOnDisk (vote_format G.format D.format) D.eq
             L.is_settled L.written self.new) }
         ensures memory { result ≡ Err NoMemory → IsAsBefore self.old self.new }
         ensures full { result ≡ Err NoRoom → IsAsBefore self.old self.new }
-        ensures not_free { result ≡ Err NotFree → (self.new ≡ self.old) × (MayFollow D.eq
+        ensures not_free { result ≡ Err NotFree → (self.new ≡ self.old) × (MayBeWrittenBehind D.eq
             self.old.contents.floor self.old.contents.votes votes.now → ⊥) }
         ensures closed { result ≡ Err WriteClosed → (self.new.is_open ≡ false)
             × ((self.old.is_open ≡ false) ⊎ L.has_failed self.new.log) }
@@ -352,7 +363,7 @@ impl<G: Codec, D: Digest + Codec, L: Log> Journal<G, D, L> {
     /// is forgotten, and nothing more is signed there. At `Ok` all of it is on the disk.
     pub fn raise_floor(&mut self, floor: Round, finalization: &[u8]) -> Result<(), RaiseFault>
         ensures raised { OnOk result ((self.old.is_open ≡ true)
-            × (is_below self.old.contents.floor floor ≡ false) × Has self.new
+            × (is_below self.old.contents.floor floor ≡ false) × HasContents self.new
             (raised self.old.contents self.old.unwritten self.old.contents.owner floor
             finalization.now)) }
         ensures on_disk { OnOk result (IsOnDisk (vote_format G.format D.format) D.eq
@@ -392,7 +403,7 @@ impl<G: Codec, D: Digest + Codec, L: Log> Journal<G, D, L> {
         finalization: &[u8],
     ) -> Result<(), RaiseFault>
         ensures raised { OnOk result ((self.old.is_open ≡ true)
-            × (is_below self.old.contents.floor floor ≡ false) × Has self.new
+            × (is_below self.old.contents.floor floor ≡ false) × HasContents self.new
             (raised self.old.contents self.old.unwritten (fields_of owner.now) floor
             finalization.now)) }
         ensures on_disk { OnOk result (IsOnDisk (vote_format G.format D.format) D.eq

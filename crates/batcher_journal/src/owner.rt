@@ -1,10 +1,10 @@
 //! Whose journal it is.
 
 ghost use Rattle.std.specs.Prelude.{◌≡◌, ◌++◌, IfOk, List, ℕ, OnErr, OnOk};
-ghost use Rattle.batcher_codec.specs.Format.{Decodes, StartsWith};
+ghost use Rattle.batcher_bytes.specs.Format.{Decodes, StartsWith};
 ghost use Rattle.batcher_journal.specs.Text.{OwnerFields, fields_of, owner_format};
 
-use batcher_codec::{Codec, DecodeFault, VERSION, decode_bytes, encode_bytes};
+use batcher_bytes::{Codec, DecodeFault, VERSION, decode_bytes, encode_bytes};
 use batcher_types::positions::Participant;
 use std::alloc::{AllocError, Global};
 use std::marker::Model;
@@ -74,7 +74,7 @@ impl Whose {
 }
 
 /// Writes whose journal it is. An `Err` may leave some of it there.
-#[tactic(auto, using(batcher_codec::specs::Starting::starts))]
+#[tactic(auto, using(batcher_bytes::specs::Starting::starts))]
 pub fn put_owner(owner: &Owner, out: &mut Vec<u8>) -> Result<(), AllocError>
     ensures ok { OnOk result
         (out.new.items ≡ out.old.items ++ owner_format.encoding (fields_of owner.now)) }

@@ -1,13 +1,15 @@
 //! Certificates that are kept beside the votes, and the bytes of both.
 
 ghost use Rattle.std.specs.Prelude.{◌≡◌, ◌++◌, ◌∷◌, [], Err, IfOk, List, ℕ, OnErr, OnOk, map};
-ghost use Rattle.batcher_codec.specs.Format.{Decodes, StartsWith};
-ghost use Rattle.batcher_codec.specs.Messages.{vote_format};
-ghost use Rattle.batcher_codec.specs.declared.fault.DecodeError.TheVariants.{Fault};
-ghost use Rattle.batcher_journal.specs.Records.{AreRecords, Certifies, HasRecords, Voted, certificates_of, certified_format, record_bytes, record_format, records_of, records_text, votes_of};
+ghost use Rattle.batcher_bytes.specs.Format.{Decodes, StartsWith};
+ghost use Rattle.batcher_bytes.specs.Messages.{vote_format};
+ghost use Rattle.batcher_bytes.specs.declared.fault.DecodeError.TheVariants.{Fault};
+ghost use Rattle.batcher_journal.specs.Records.{AreRecords, Certifies, HasRecords, Voted};
+ghost use Rattle.batcher_journal.specs.Records.{certificates_of, certified_format, record_bytes};
+ghost use Rattle.batcher_journal.specs.Records.{record_format, records_of, records_text, votes_of};
 ghost use Rattle.batcher_journal.specs.Seen.{seen};
 
-use batcher_codec::{Codec, DecodeError, DecodeFault, decode_bytes, encode_bytes};
+use batcher_bytes::{Codec, DecodeError, DecodeFault, decode_bytes, encode_bytes};
 use batcher_types::messages::Vote;
 use batcher_types::positions::Round;
 use std::alloc::{AllocError, Global};
@@ -52,7 +54,7 @@ impl Certified {
 }
 
 /// Writes a round and the bytes of a certificate. An `Err` may leave some of it there.
-#[tactic(auto, using(batcher_codec::specs::Starting::starts))]
+#[tactic(auto, using(batcher_bytes::specs::Starting::starts))]
 pub fn put_certified(round: Round, bytes: &[u8], out: &mut Vec<u8>) -> Result<(), AllocError>
     ensures ok { OnOk result
         (out.new.items ≡ out.old.items ++ certified_format.encoding (round, bytes.now)) }
@@ -73,7 +75,7 @@ pub fn certified_in(bytes: &[u8]) -> Result<(Round, &[u8], &[u8]), DecodeFault>
 }
 
 // Writes the record of a vote.
-#[tactic(auto, using(batcher_codec::specs::Starting::starts))]
+#[tactic(auto, using(batcher_bytes::specs::Starting::starts))]
 fn put_vote<G: Codec, D: Codec>(vote: &Vote<G, D>, out: &mut Vec<u8>) -> Result<(), AllocError>
     ensures ok { OnOk result (out.new.items
         ≡ out.old.items ++ record_bytes (vote_format G.format D.format) (Voted vote.now)) }

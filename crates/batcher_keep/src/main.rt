@@ -5,9 +5,9 @@
 ghost use Rattle.std.specs.Prelude.{IfOk, IfSome, OnOk};
 
 use anyhow::{Result, bail};
+use batcher_bytes::Log;
 use batcher_file::{FileLog, OpenFault as FileFault};
 use batcher_journal::{Answer, Journal, Owner, Unopened};
-use batcher_log::Log;
 use batcher_types::messages::{Attestation, Proposal, Sha256Digest, Subject, Vote};
 use batcher_types::positions::{Epoch, Participant, Round, View};
 use sqlite_std_file::{File, OpenError, Unknown, open};

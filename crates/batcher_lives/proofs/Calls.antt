@@ -1,23 +1,9 @@
 -- What a call comes to.
-use Rattle.std.proofs.Common.{◌≡◌, ◌⊎◌, ◌++◌, ◌∙◌, ℕ, Bool, true, false, List, [], ◌∷◌, Err, Result, inl, inr, refl, subst, sym}
-use Rattle.std.specs.Prelude.{All}
-use Rattle.batcher_codec.specs.Format.{Format}
-use Rattle.batcher_journal.specs.Answers.{Answers, MayFollow}
-use Rattle.batcher_journal.specs.Causes.{IsOneText}
-use Rattle.batcher_journal.specs.Contradictions.{AreCompatible, AreSignedOnce}
-use Rattle.batcher_journal.specs.Floors.{is_below}
-use Rattle.batcher_journal.specs.Lives.{IsKept, NeverContradicts}
-use Rattle.batcher_journal.specs.Ready.{Has, IsAsBefore, IsOnDisk, JournalView, RaiseLeaves, WriteLeaves, begun, raised, with_more}
-use Rattle.batcher_journal.specs.Text.{Contents, IsText, OwnerFields}
-use Rattle.batcher_journal.specs.declared.journal.Answer.TheVariants.{Known}
-use Rattle.batcher_journal.specs.declared.journal.RaiseFault.{RaiseFault}
-use Rattle.batcher_journal.specs.declared.journal.RaiseFault.TheVariants.{Closed as RaiseClosed, Full as RaiseFull, Lower, OutOfMemory as RaiseMemory}
-use Rattle.batcher_journal.specs.declared.journal.WriteFault.{WriteFault}
-use Rattle.batcher_journal.specs.declared.journal.WriteFault.TheVariants.{Closed as WriteClosed, Full as NoRoom, NotFree, OutOfMemory as NoMemory}
-use Rattle.batcher_types.specs.declared.messages.Subject.{Subject}
-use Rattle.batcher_types.specs.declared.messages.Vote.{Vote}
-use Rattle.batcher_types.specs.declared.positions.Round.{Round}
-use Rattle.batcher_lives.specs.Living.{IsOpen, IsReached, IsShut, IsSomewhere, start, world}
+use Rattle.batcher_lives.proofs.Words.{◌≡◌, ◌⊎◌, ◌++◌, ◌∙◌, ℕ, Bool, true, false, List, [], ◌∷◌, Err, Result, inl, inr, refl, subst, sym, All, Format, Answers}
+use Rattle.batcher_lives.proofs.Words.{MayBeWrittenBehind, IsOneText, AreCompatible, AreSignedOnce, is_below, IsKept, NeverContradicts, HasContents, IsAsBefore}
+use Rattle.batcher_lives.proofs.Words.{IsOnDisk, JournalView, RaiseLeaves, WriteLeaves, begun, raised, with_more, Contents, IsText, OwnerFields, Known}
+use Rattle.batcher_lives.proofs.Words.{RaiseFault, RaiseClosed, RaiseFull, Lower, RaiseMemory, WriteFault, WriteClosed, NoRoom, NotFree, NoMemory, Subject}
+use Rattle.batcher_lives.proofs.Words.{Vote, Round, LeadsToOpen, IsReached, IsShut, IsSomewhere, just_begun, world}
 use Rattle.batcher_lives.proofs.Events.{asked, begins, broke, broke_raising, crashed, opened, rose, wrote}
 
 not_both : {A : Type 0} (b : Bool) → b ≡ true → b ≡ false → A
@@ -35,10 +21,10 @@ raise_fault fault = Err fault
 module _ {G D L : Type 0} (f : Format (Vote G D)) (same : D → D → Bool)
     (is_honest : L → Type 0) (may_leave : L → List ℕ → Type 0) (first : Round) where
   pub ask_open : (journal : JournalView G D L) (handed : List (Vote G D)) (subject : Subject D)
-      (vote : Vote G D) → IsOpen f same is_honest may_leave first journal handed
+      (vote : Vote G D) → LeadsToOpen f same is_honest may_leave first journal handed
       → Answers same journal.contents.floor journal.is_open journal.contents.votes subject
       (Known vote)
-      → IsOpen f same is_honest may_leave first journal (handed ++ vote ∷ [])
+      → LeadsToOpen f same is_honest may_leave first journal (handed ++ vote ∷ [])
   ask_open journal handed subject vote old answers = record {
     reached = λ is_open honest.
         asked same first handed journal.contents.floor journal.contents.votes (old.reached is_open honest) subject vote
@@ -51,7 +37,7 @@ module _ {G D L : Type 0} (f : Format (Vote G D)) (same : D → D → Bool)
     (is_honest : L → Type 0) (may_leave : L → List ℕ → Type 0) (has_failed : L → Type 0)
     (first : Round) (one : IsOneText f) where
   abbrev Open : JournalView G D L → List (Vote G D) → Type 0
-  Open = IsOpen f same is_honest may_leave first
+  Open = LeadsToOpen f same is_honest may_leave first
 
   abbrev Shut : L → List (Vote G D) → Type 0
   Shut = IsShut f same is_honest may_leave first
@@ -78,8 +64,8 @@ module _ {G D L : Type 0} (f : Format (Vote G D)) (same : D → D → Bool)
     }
 
     pub write_ok : (votes : List (Vote G D)) → old.is_open ≡ true
-        → MayFollow same old.contents.floor old.contents.votes votes
-        → Has new (with_more old.contents votes old.unwritten) → Open new (handed ++ votes)
+        → MayBeWrittenBehind same old.contents.floor old.contents.votes votes
+        → HasContents new (with_more old.contents votes old.unwritten) → Open new (handed ++ votes)
     write_ok votes was_open follows has = record {
       reached = λ held honestly.
           subst (Reached (handed ++ votes) true) (sym has.contents_are)
@@ -89,7 +75,8 @@ module _ {G D L : Type 0} (f : Format (Vote G D)) (same : D → D → Bool)
 
     pub raise_ok : (owner : OwnerFields) (to : Round) (finalization : List ℕ) → old.is_open ≡ true
         → is_below old.contents.floor to ≡ false
-        → Has new (raised old.contents old.unwritten owner to finalization) → Open new handed
+        → HasContents new (raised old.contents old.unwritten owner to finalization)
+        → Open new handed
     raise_ok owner to finalization was_open up has = record {
       reached = λ held honestly.
           subst (Reached handed true) (sym has.contents_are)
@@ -135,7 +122,7 @@ module _ {G D L : Type 0} (f : Format (Vote G D)) (same : D → D → Bool)
         → (write_fault fault ≡ write_fault NoMemory → IsAsBefore old new)
         → (write_fault fault ≡ write_fault NoRoom → IsAsBefore old new)
         → (write_fault fault ≡ write_fault NotFree → (new ≡ old)
-        × (MayFollow same old.contents.floor old.contents.votes votes → ⊥))
+        × (MayBeWrittenBehind same old.contents.floor old.contents.votes votes → ⊥))
         → (write_fault fault ≡ write_fault WriteClosed → (new.is_open ≡ false)
         × ((old.is_open ≡ false) ⊎ has_failed new.log))
         → (old.is_open ≡ false → (write_fault fault ≡ write_fault WriteClosed) × (new ≡ old))
@@ -149,7 +136,7 @@ module _ {G D L : Type 0} (f : Format (Vote G D)) (same : D → D → Bool)
     write_err votes NotFree memory full not_free closed shut leaves =
         subst (λ j. Open j handed) (sym (not_free refl).0) was
     write_err votes WriteClosed memory full not_free closed shut leaves =
-        failed (MayFollow same old.contents.floor old.contents.votes votes) (with_more old.contents votes old.unwritten)
+        failed (MayBeWrittenBehind same old.contents.floor old.contents.votes votes) (with_more old.contents votes old.unwritten)
         (λ follows there. broke same first handed old.contents.floor old.contents.votes there votes follows)
         (λ e. (shut e).1) leaves (closed refl).0
 
@@ -267,15 +254,15 @@ module _ {G D L : Type 0} (f : Format (Vote G D)) (same : D → D → Bool)
   pub all_compatible : AreCompatible same handed
   all_compatible =
       let it = lived.somewhere honestly in
-      (never it.reached.events (start same first) (world same first handed it.is_open it.floor it.disk) refl refl it.reached.life).0
+      (never it.reached.events (just_begun same first) (world same first handed it.is_open it.floor it.disk) refl refl it.reached.life).0
 
   pub all_once : AreSignedOnce same handed
   all_once =
       let it = lived.somewhere honestly in
-      (never it.reached.events (start same first) (world same first handed it.is_open it.floor it.disk) refl refl it.reached.life).1
+      (never it.reached.events (just_begun same first) (world same first handed it.is_open it.floor it.disk) refl refl it.reached.life).1
 
   pub all_kept : (left : List ℕ) → may_leave log left → (contents : Contents G D)
       → IsText f left contents → All (IsKept contents.floor contents.votes) handed
   all_kept left may contents text =
       let it = lived.leaves honestly left may contents text in
-      (never it.events (start same first) (world same first handed false contents.floor contents.votes) refl refl it.life).2
+      (never it.events (just_begun same first) (world same first handed false contents.floor contents.votes) refl refl it.life).2

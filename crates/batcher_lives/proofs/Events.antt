@@ -1,25 +1,19 @@
 -- One event more.
-use Rattle.std.proofs.Common.{◌≡◌, ◌++◌, Bool, true, false, List, [], ◌∷◌, inr, refl, subst}
-use Rattle.batcher_journal.specs.Answers.{Answers, MayFollow}
-use Rattle.batcher_journal.specs.Floors.{from_floor, is_below}
-use Rattle.batcher_journal.specs.Lives.{Asks, Breaks, BreaksRaising, Crashes, Event, Life, Opens, Raises, Step, World, Writes}
-use Rattle.batcher_journal.specs.declared.journal.Answer.TheVariants.{Known}
-use Rattle.batcher_types.specs.declared.messages.Subject.{Subject}
-use Rattle.batcher_types.specs.declared.messages.Vote.{Vote}
-use Rattle.batcher_types.specs.declared.positions.Round.{Round}
-use Rattle.batcher_lives.specs.Living.{IsReached, start, world}
+use Rattle.batcher_lives.proofs.Words.{◌≡◌, ◌++◌, Bool, true, false, List, [], ◌∷◌, inr, refl, subst, Answers, MayBeWrittenBehind, from_floor, is_below, Asks}
+use Rattle.batcher_lives.proofs.Words.{Breaks, BreaksRaising, Crashes, JournalEvent, JournalLife, Opens, Raises, Step, World, Writes, Known, Subject, Vote}
+use Rattle.batcher_lives.proofs.Words.{Round, IsReached, just_begun, world}
 
 module _ {G D : Type 0} (same : D → D → Bool) where
-  more : (events : List (Event G D)) (old middle new : World G D) (event : Event G D)
-      → Life same old events middle → Step same middle event new
-      → Life same old (events ++ event ∷ []) new
+  more : (events : List (JournalEvent G D)) (old middle new : World G D) (event : JournalEvent G D)
+      → JournalLife same old events middle → Step same middle event new
+      → JournalLife same old (events ++ event ∷ []) new
   more [] old middle new event life step = (new, subst (λ m. Step same m event new) life step, refl)
   more (first ∷ events) old middle new event (next, one, life) step =
       (next, one, more events next middle new event life step)
 
   module _ (first : Round) (handed : List (Vote G D)) (is_open : Bool) (floor : Round) (disk : List (Vote G D))
       (reached : IsReached same first handed is_open floor disk) where
-    goes_on : (event : Event G D) (new_handed : List (Vote G D)) (new_open : Bool)
+    goes_on : (event : JournalEvent G D) (new_handed : List (Vote G D)) (new_open : Bool)
         (new_floor : Round)
         (new_disk : List (Vote G D))
         → Step same (world same first handed is_open floor disk) event
@@ -27,7 +21,7 @@ module _ {G D : Type 0} (same : D → D → Bool) where
         → IsReached same first new_handed new_open new_floor new_disk
     goes_on event new_handed new_open new_floor new_disk step = record {
       events = reached.events ++ event ∷ [];
-      life = more reached.events (start same first) (world same first handed is_open floor disk)
+      life = more reached.events (just_begun same first) (world same first handed is_open floor disk)
           (world same first new_handed new_open new_floor new_disk) event reached.life step;
     }
 
@@ -47,13 +41,13 @@ module _ {G D : Type 0} (same : D → D → Bool) where
         goes_on first handed true floor disk reached (Asks subject (Known vote)) (handed ++ vote ∷ []) true floor disk
         (answers, (refl, refl), refl, refl)
 
-    pub wrote : (votes : List (Vote G D)) → MayFollow same floor disk votes
+    pub wrote : (votes : List (Vote G D)) → MayBeWrittenBehind same floor disk votes
         → IsReached same first (handed ++ votes) true floor (disk ++ votes)
     wrote votes follows =
         goes_on first handed true floor disk reached (Writes votes) (handed ++ votes) true floor (disk ++ votes)
         (refl, (follows, refl, refl), refl, refl)
 
-    pub broke : (votes : List (Vote G D)) → MayFollow same floor disk votes
+    pub broke : (votes : List (Vote G D)) → MayBeWrittenBehind same floor disk votes
         → IsReached same first handed false floor (disk ++ votes)
     broke votes follows =
         goes_on first handed true floor disk reached (Breaks votes) handed false floor (disk ++ votes)

@@ -1,2 +1,3 @@
+pub mod Words
 pub mod Events
 pub mod Calls

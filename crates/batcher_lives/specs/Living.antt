@@ -1,7 +1,7 @@
 -- In the middle of a life: what the calls so far have come to, as events.
 use Rattle.std.specs.Prelude.{◌≡◌, ℕ, Bool, true, false, List, []}
-use Rattle.batcher_codec.specs.Format.{Format}
-use Rattle.batcher_journal.specs.Lives.{Event, Life, World}
+use Rattle.batcher_bytes.specs.Format.{Format}
+use Rattle.batcher_journal.specs.Lives.{JournalEvent, JournalLife, World}
 use Rattle.batcher_journal.specs.Ready.{JournalView}
 use Rattle.batcher_journal.specs.Text.{Contents, IsText}
 use Rattle.batcher_types.specs.declared.messages.Vote.{Vote}
@@ -19,14 +19,14 @@ module _ {G D : Type 0} (same : D → D → Bool) (first : Round) where
   }
 
   -- a journal that was just begun
-  abbrev pub start : World G D
-  start = world [] true first []
+  abbrev pub just_begun : World G D
+  just_begun = world [] true first []
 
   -- Some events lead there.
   pub record IsReached (handed : List (Vote G D)) (is_open : Bool) (floor : Round)
       (disk : List (Vote G D)) : Type 0 where
-    pub events : List (Event G D)
-    pub life : Life same start events (world handed is_open floor disk)
+    pub events : List (JournalEvent G D)
+    pub life : JournalLife same just_begun events (world handed is_open floor disk)
 
   -- Some events lead to these votes that were handed out.
   pub record IsSomewhere (handed : List (Vote G D)) : Type 0 where
@@ -45,11 +45,11 @@ module _ {G D L : Type 0} (format : Format (Vote G D)) (same : D → D → Bool)
         → IsReached same first handed false contents.floor contents.votes
 
   -- They lead to the journal that is open.
-  pub record IsOpen (journal : JournalView G D L) (handed : List (Vote G D)) : Type 0 where
+  pub record LeadsToOpen (journal : JournalView G D L) (handed : List (Vote G D)) : Type 0 where
     pub reached : journal.is_open ≡ true → is_honest journal.log
         → IsReached same first handed true journal.contents.floor journal.contents.votes
     pub closed : journal.is_open ≡ false → IsShut journal.log handed
 
   abbrev pub IsLived : Place G D L → List (Vote G D) → Type 0
-  IsLived (Open journal) handed = IsOpen journal handed
+  IsLived (Open journal) handed = LeadsToOpen journal handed
   IsLived (Shut log) handed = IsShut log handed

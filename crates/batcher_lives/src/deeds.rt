@@ -1,8 +1,7 @@
 //! What a validator does with its journal, and what happens to it.
 
-use batcher_codec::Codec;
+use batcher_bytes::{Codec, Log};
 use batcher_journal::{Journal, Owner};
-use batcher_log::Log;
 use batcher_types::messages::{Digest, Subject, Vote};
 use batcher_types::positions::Round;
 

@@ -1,10 +1,10 @@
 //! A disk in memory that fails where it is asked to.
 
 ghost use Rattle.std.specs.Prelude.{◌≡◌, [], Err, true, false};
-ghost use Rattle.batcher_log.specs.declared.LogFault.TheVariants.{Failed};
+ghost use Rattle.batcher_bytes.specs.declared.log.LogFault.TheVariants.{Failed};
 
 use crate::restart::Restart;
-use batcher_log::{Log, LogFault, MemoryLog};
+use batcher_bytes::{Log, LogFault, MemoryLog};
 use std::alloc::Global;
 
 /// What becomes of one call that writes.

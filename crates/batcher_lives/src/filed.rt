@@ -1,8 +1,8 @@
 //! A log in two files, whose power goes and comes back.
 
 use crate::restart::Restart;
+use batcher_bytes::LogFault;
 use batcher_file::FileLog;
-use batcher_log::LogFault;
 use sqlite_disk::Crash;
 
 impl<K: Crash + Drop> Restart for FileLog<K> {

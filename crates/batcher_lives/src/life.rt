@@ -1,20 +1,19 @@
 //! A life, played.
 
 ghost use Rattle.std.specs.Prelude.{◌≡◌, [], All, List, ℕ};
-ghost use Rattle.batcher_codec.specs.Messages.{vote_format};
+ghost use Rattle.batcher_bytes.specs.Messages.{vote_format};
 ghost use Rattle.batcher_journal.specs.Contradictions.{AreCompatible, AreSignedOnce};
 ghost use Rattle.batcher_journal.specs.Lives.{IsKept};
 ghost use Rattle.batcher_journal.specs.Text.{Contents, IsText};
-ghost use Rattle.batcher_lives.specs.Living.{IsLived, IsOpen, IsShut};
+ghost use Rattle.batcher_lives.specs.Living.{IsLived, LeadsToOpen, IsShut};
 ghost use Rattle.batcher_types.specs.declared.positions.Round.{Round};
 
 use crate::deeds::{Deed, Lived, Place};
 use crate::restart::Restart;
-use batcher_codec::Codec;
+use batcher_bytes::{Codec, Log};
 use batcher_journal::{
     Answer, Journal, Owner, Unopened, bytes_are_of_one_journal, handed_out_never_contradict,
 };
-use batcher_log::Log;
 use batcher_types::messages::{Digest, Subject, Vote};
 use batcher_types::positions::Round;
 use std::alloc::Global;
@@ -26,9 +25,9 @@ fn ask<G: Codec, D: Digest + Codec, L: Log>(
     subject: &Subject<D>,
 )
     ensures { (floor : Round)
-        → IsOpen (vote_format G.format D.format) D.eq L.is_honest L.may_leave floor journal.now
+        → LeadsToOpen (vote_format G.format D.format) D.eq L.is_honest L.may_leave floor journal.now
         handed.old.items
-        → IsOpen (vote_format G.format D.format) D.eq L.is_honest L.may_leave floor journal.now
+        → LeadsToOpen (vote_format G.format D.format) D.eq L.is_honest L.may_leave floor journal.now
         handed.new.items }
 {
     match journal.ask(subject) {
@@ -47,9 +46,9 @@ fn write<G: Codec, D: Digest + Codec, L: Log>(
     votes: &[Vote<G, D>],
 )
     ensures { (floor : Round)
-        → IsOpen (vote_format G.format D.format) D.eq L.is_honest L.may_leave floor journal.old
+        → LeadsToOpen (vote_format G.format D.format) D.eq L.is_honest L.may_leave floor journal.old
         handed.old.items
-        → IsOpen (vote_format G.format D.format) D.eq L.is_honest L.may_leave floor journal.new
+        → LeadsToOpen (vote_format G.format D.format) D.eq L.is_honest L.may_leave floor journal.new
         handed.new.items }
 {
     bytes_are_of_one_journal::<G, D>();
@@ -72,9 +71,9 @@ fn raise<G: Codec, D: Digest + Codec, L: Log>(
     finalization: &[u8],
 )
     ensures { (floor : Round) (handed : List _)
-        → IsOpen (vote_format G.format D.format) D.eq L.is_honest L.may_leave floor journal.old
+        → LeadsToOpen (vote_format G.format D.format) D.eq L.is_honest L.may_leave floor journal.old
         handed
-        → IsOpen (vote_format G.format D.format) D.eq L.is_honest L.may_leave floor journal.new
+        → LeadsToOpen (vote_format G.format D.format) D.eq L.is_honest L.may_leave floor journal.new
         handed }
 {
     bytes_are_of_one_journal::<G, D>();
@@ -135,9 +134,9 @@ fn act<G: Codec, D: Digest + Codec, L: Log>(
     deed: &Deed<G, D>,
 )
     ensures { (floor : Round)
-        → IsOpen (vote_format G.format D.format) D.eq L.is_honest L.may_leave floor journal.old
+        → LeadsToOpen (vote_format G.format D.format) D.eq L.is_honest L.may_leave floor journal.old
         handed.old.items
-        → IsOpen (vote_format G.format D.format) D.eq L.is_honest L.may_leave floor journal.new
+        → LeadsToOpen (vote_format G.format D.format) D.eq L.is_honest L.may_leave floor journal.new
         handed.new.items }
 {
     match deed {

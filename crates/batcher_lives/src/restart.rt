@@ -2,7 +2,7 @@
 
 ghost use Rattle.std.specs.Prelude.{◌≡◌, List, OnErr, OnOk, ℕ};
 
-use batcher_log::{Log, LogFault};
+use batcher_bytes::{Log, LogFault};
 
 /// A log whose power goes and comes back. Where a disk fails inside a call, and then the power
 /// goes, that is a crash inside the call.

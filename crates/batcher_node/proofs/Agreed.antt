@@ -1,18 +1,8 @@
 -- Votes of one view that are to be sent don't exclude each other.
-use Rattle.std.proofs.Common.{◌≡◌, ◌==◌, ◌≤◌, ◌∙◌, ℕ, Bool, true, false, cond, ◌&&◌, [], ◌∷◌, ◌++◌, Option, Some, ap, append_assoc, arith, refl, sym}
-use Rattle.batcher.proofs.CountLemmas.{count-append}
-use Rattle.batcher.specs.Honest.{OwnAddedAgree, own_added_by, own_votes_added}
-use Rattle.batcher.specs.History.{Event, History}
-use Rattle.batcher.specs.Lists.{count}
-use Rattle.batcher.specs.Steps.{is_added}
-use Rattle.batcher.specs.Votes.{excludes}
-use Rattle.batcher.specs.messages.Activity.{Activity}
-use Rattle.batcher.specs.messages.Vote.{Vote}
-use Rattle.batcher.specs.votes.Outcome.{Outcome}
-use Rattle.batcher_node.specs.Events.{NodeEvent, NodeHistory, view_history, view_history_by, vote_cast}
-use Rattle.batcher_node.specs.Nodes.{NodeConfig}
-use Rattle.batcher_node.specs.Represents.{AreNamed, IsNamed}
-use Rattle.batcher_node.specs.Sending.{ToSendAgree, to_send_by, view_of, votes_to_send}
+use Rattle.batcher_node.proofs.Words.{◌≡◌, ◌==◌, ◌≤◌, ◌∙◌, ℕ, Bool, true, false, cond, ◌&&◌, [], ◌∷◌, ◌++◌, Option, Some, ap, append_assoc, arith, refl, sym}
+use Rattle.batcher_node.proofs.Words.{count-append, OwnAddedAgree, own_added_by, own_votes_added, Event, History, count, is_added, excludes, Activity, Vote}
+use Rattle.batcher_node.proofs.Words.{Outcome, NodeEvent, NodeHistory, view_history, view_history_by, vote_cast, NodeConfig, AreNamed, IsNamed, ToSendAgree}
+use Rattle.batcher_node.proofs.Words.{to_send_by, view_of, votes_to_send}
 use Rattle.batcher_node.proofs.SendingViews.{cast_event, in_view, reported_is_added}
 
 module _ {D K G C : Type 0} where

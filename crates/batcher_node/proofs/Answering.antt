@@ -1,54 +1,18 @@
 -- Each sort of event, as a call of its view's round.
-use Rattle.std.proofs.Common.{◌≡◌, ◌≢◌, ◌≤◌, ◌<◌, ℕ, Bool, true, false, not, cond, ◌&&◌, ◌==◌, List, [], ◌∷◌, Option, Some, None, Ok, refl, sym, ap, ◌∙◌, subst, arith, eqb, is_some, inl, inr, length}
-use Rattle.std.specs.Prelude.{MatchOption, IfSome}
-use Rattle.std.specs.List.{list_any}
-use Rattle.std.specs.Option.{option_map, option_or}
-use Rattle.batcher.specs.Lists.{is_some_and, is_empty}
-use Rattle.batcher.specs.answers.OwnFault.{OwnFault}
-use Rattle.batcher.specs.Votes.{kind_certified}
-use Rattle.batcher.specs.Steps.{fault_or_memory, unopposed_result}
-use Rattle.batcher.specs.Selection.{is_certified, is_released}
-use Rattle.batcher.specs.messages.Kind.{Kind}
-use Rattle.batcher.specs.messages.Kind.TheVariants.{Notarization, Nullification, Finalization}
-use Rattle.batcher.specs.votes.Outcome.TheVariants.{Added}
-use Rattle.batcher.specs.answers.OwnFault.TheVariants.{OutOfMemory as OutOfMemoryFault}
-use Rattle.batcher.specs.Answers.{needs_memory, own_answer}
-use Rattle.batcher.specs.calls.Call.{Call}
-use Rattle.batcher.specs.RoundContracts.{ForEachHistory}
-use Rattle.std.specs.declared.cmp.Ordering.{Ordering}
-use Rattle.std.proofs.lemmas.Bool.{eq-eqb, false≢true}
-use Rattle.batcher.specs.messages.Vote.{Vote}
-use Rattle.batcher.specs.messages.Certificate.{Certificate}
-use Rattle.batcher.specs.answers.Admission.{Admission}
-use Rattle.batcher.specs.calls.Call.TheVariants.{Network as NetworkCall, Certificate as CertificateCall, Own as OwnCall, Leader as LeaderCall, Construct as ConstructCall, Forward as ForwardCall}
-use Rattle.batcher.specs.answers.Answer.TheVariants.{Network as NetworkAnswer, Certificate as CertificateAnswer, Own as OwnAnswer, Leader as LeaderAnswer, Construct as ConstructAnswer, Forward as ForwardAnswer}
-use Rattle.batcher.specs.positions.Round.{Round}
-use Rattle.batcher.specs.Meaning.{Meaning}
-use Rattle.batcher.specs.Votes.{subject_of, subject_certified, round_in, kind_of}
-use Rattle.batcher.specs.Represents.{Represents}
-use Rattle.batcher.specs.RoundState.{RoundView}
-use Rattle.batcher.specs.History.{Event}
-use Rattle.batcher.specs.messages.Activity.{Activity}
-use Rattle.batcher.specs.messages.Proposal.{Proposal}
-use Rattle.batcher.specs.votes.Outcome.{Outcome}
-use Rattle.batcher.specs.verifier.Batch.{Batch}
-use Rattle.batcher.specs.positions.Participant.{Participant}
-use Rattle.batcher.specs.RoundContracts.{round_config}
-use Rattle.batcher_node.specs.declared.answers.Receipt.TheVariants.{Answered, Outside, Dropped}
-use Rattle.batcher_node.specs.declared.answers.Cause.{Cause}
-use Rattle.batcher_node.specs.declared.answers.Cause.TheVariants.{Vote as ForVote, Certificate as ForCertificate, Signature as ForSignature}
-use Rattle.batcher_node.specs.declared.answers.Verdict.TheVariants.{Recorded, Forged, Known}
-use Rattle.batcher_node.specs.declared.answers.Cast.{Cast}
-use Rattle.batcher.specs.Verifiers.{certifies_itself}
-use Rattle.batcher.specs.Answers.{certificate_answer}
-use Rattle.batcher_node.specs.declared.window.Window.{Window}
-use Rattle.batcher_node.specs.Windows.{contains, numbered, is_of, entered, finalized}
-use Rattle.batcher_node.specs.declared.slot.Slot.{Slot}
-use Rattle.batcher.specs.positions.Epoch.{Epoch}
-use Rattle.batcher_node.specs.Events.{NodeEvent, vote_came, certificate_came, vote_cast, view_entered, view_finalized, constructed, proposal_forwarded}
-use Rattle.batcher_node.specs.Events.{NodeHistory, view_history, at_view, peer_in, is_peer, cause_by, invalid_in}
-use Rattle.batcher_node.specs.Nodes.{NodeView, NodeConfig, node_config, cause_at, slot_at, fresh_round, MakesCall, MakesCallThere, NeedsThere, IsNext, IsTended, HasChanged}
-use Rattle.batcher_node.specs.Represents.{NodeRepresents, receipt, receipt_from, is_within, config_of, is_due, ViewRepresents, Meets, SimulatesCast, SimulatesForward, MayNeedIn, NextMayNeed, cast_by}
+use Rattle.batcher_node.proofs.Words.{◌≡◌, ◌≢◌, ◌≤◌, ◌<◌, ℕ, Bool, true, false, not, cond, ◌&&◌, ◌==◌, List, [], ◌∷◌, Option, Some, None, Ok, refl, sym, ap}
+use Rattle.batcher_node.proofs.Words.{◌∙◌, subst, arith, eqb, is_some, inl, inr, length, MatchOption, IfSome, list_any, option_map, option_or, is_some_and}
+use Rattle.batcher_node.proofs.Words.{is_empty, OwnFault, kind_certified, fault_or_memory, unopposed_result, is_certified, is_released, Kind, Notarization}
+use Rattle.batcher_node.proofs.Words.{Nullification, Finalization, Added, OutOfMemoryFault, needs_memory, own_answer, Call, ForEachHistory, Ordering, eq-eqb}
+use Rattle.batcher_node.proofs.Words.{false≢true, Vote, Certificate, Admission, NetworkCall, CertificateCall, OwnCall, LeaderCall, ConstructCall, ForwardCall}
+use Rattle.batcher_node.proofs.Words.{NetworkAnswer, CertificateAnswer, OwnAnswer, LeaderAnswer, ConstructAnswer, ForwardAnswer, Round, Meaning, subject_of}
+use Rattle.batcher_node.proofs.Words.{subject_certified, round_in, kind_of, Represents, RoundView, Event, Activity, Proposal, Outcome, Batch, Participant}
+use Rattle.batcher_node.proofs.Words.{round_config, Answered, Outside, Dropped, Cause, ForVote, ForCertificate, ForSignature, Recorded, Forged, Known, Cast}
+use Rattle.batcher_node.proofs.Words.{certifies_itself, certificate_answer, Window, contains, numbered, is_of, entered, finalized, Slot, Epoch, NodeEvent}
+use Rattle.batcher_node.proofs.Words.{vote_came, certificate_came, vote_cast, view_entered, view_finalized, constructed, proposal_forwarded, NodeHistory}
+use Rattle.batcher_node.proofs.Words.{view_history, at_view, peer_in, is_peer, cause_by, invalid_in, NodeView, NodeConfig, node_config, cause_at, slot_at}
+use Rattle.batcher_node.proofs.Words.{fresh_round, MakesCall, MakesCallThere, NeedsThere, IsNext, IsTended, HasChanged, NodeRepresents, receipt, receipt_from}
+use Rattle.batcher_node.proofs.Words.{is_within, config_of, is_to_be_tried, ViewRepresents, NodeMeets, SimulatesCast, SimulatesForward, MayNeedIn, NextMayNeed}
+use Rattle.batcher_node.proofs.Words.{cast_by}
 use Rattle.batcher_node.proofs.Calling.{NamesFault}
 use Rattle.batcher_node.proofs.Representation.{told_one, told_none, config_by}
 
@@ -357,7 +321,7 @@ module _ {S D K G C : Type 0} (meaning : S → Meaning D K G C) (compare_keys : 
 
   -- the round of a view that has changed is due
   due_if_changed : (h : NodeRepresents x past old) (view : ℕ) → old.window.finalized ≤ view
-      → (t : HasChanged (slot_at old.rounds view)) → is_due (view_history view past) ≡ true
+      → (t : HasChanged (slot_at old.rounds view)) → is_to_be_tried (view_history view past) ≡ true
   due_if_changed h view within t =
       sym (subst (λ o. MatchOption o (view_history view past ≡ []) (ViewRepresents x past view)) t.there
       (h.views view within)).changed_is ∙ t.changed
@@ -365,13 +329,13 @@ module _ {S D K G C : Type 0} (meaning : S → Meaning D K G C) (compare_keys : 
   -- one that hasn't isn't
   pub rests_if_unchanged : (h : NodeRepresents x past old) (view : ℕ) → old.window.finalized ≤ view
       → IfSome (slot_at old.rounds view) (λ slot. slot.changed ≡ false)
-      → is_due (view_history view past) ≡ false
+      → is_to_be_tried (view_history view past) ≡ false
   rests_if_unchanged h view within unchanged =
       by_slot (slot_at old.rounds view) unchanged (h.views view within) where
         by_slot : (o : Option (Slot (RoundView S G D))) → IfSome o (λ slot. slot.changed ≡ false)
             → MatchOption o (view_history view past ≡ []) (ViewRepresents x past view)
-            → is_due (view_history view past) ≡ false
-        by_slot None unchanged none = ap is_due none
+            → is_to_be_tried (view_history view past) ≡ false
+        by_slot None unchanged none = ap is_to_be_tried none
         by_slot (Some slot) unchanged represents = sym represents.changed_is ∙ unchanged
 
   pub construction_told : (view : ℕ) (given : Option (Batch (Certificate C D))) (participants : ℕ)
@@ -476,7 +440,7 @@ module _ {S D K G C : Type 0} (meaning : S → Meaning D K G C) (compare_keys : 
   forwards_there given answer is new participants tended makes_call window blocked =
       subst (λ g. SimulatesForward y old view me g new) (sym is)
       (subst (λ o. MatchOption o ((answer ≡ None) × (new ≡ old))
-      (λ slot. Meets y old (proposal_forwarded view me answer) new)) (sym makes_call.there)
+      (λ slot. NodeMeets y old (proposal_forwarded view me answer) new)) (sym makes_call.there)
       (λ past. forwarded_told meaning compare_keys same_signature same_digest past old new view me
       answer participants tended makes_call window blocked))
 
@@ -487,7 +451,7 @@ module _ {S D K G C : Type 0} (meaning : S → Meaning D K G C) (compare_keys : 
       → rounds ≡ old.rounds → SimulatesForward y old view me given new
   forwards_nothing given is absent new rounds left same =
       subst (λ o. MatchOption o ((given ≡ None) × (new ≡ old))
-      (λ slot. Meets y old (proposal_forwarded view me given) new))
+      (λ slot. NodeMeets y old (proposal_forwarded view me given) new))
       (sym absent) (is, left ∙ ap (λ r. record old { rounds = r }) same)
 
 -- What a round may need by its history, its view needs by that of the node.

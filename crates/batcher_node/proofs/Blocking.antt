@@ -1,9 +1,6 @@
 -- Why participants are blocked, by their indices.
-use Rattle.std.proofs.Common.{◌≡◌, ◌≤◌, ◌<◌, ◌==◌, ℕ, zero, suc, Bool, true, false, cond, List, [], ◌∷◌, Option, Some, None, refl, sym, ap, ◌∙◌, set, length, is_some, arith}
-use Rattle.std.specs.Option.{option_or}
-use Rattle.std.proofs.lemmas.Bool.{true≢false}
-use Rattle.batcher_node.specs.declared.answers.Cause.{Cause}
-use Rattle.batcher_node.specs.Nodes.{cause_at}
+use Rattle.batcher_node.proofs.Words.{◌≡◌, ◌≤◌, ◌<◌, ◌==◌, ℕ, zero, suc, Bool, true, false, cond, List, [], ◌∷◌, Option, Some, None, refl, sym, ap, ◌∙◌, set}
+use Rattle.batcher_node.proofs.Words.{length, is_some, arith, option_or, true≢false, Cause, cause_at}
 use Rattle.batcher_node.proofs.Answering.{or_none}
 
 apart_beyond : (n p i : ℕ) → n ≤ p → i < n → (p == i) ≡ false

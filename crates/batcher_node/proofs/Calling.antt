@@ -1,39 +1,11 @@
 -- What a map of rounds has once one of them was called.
-use Rattle.std.proofs.Common.{◌≡◌, ◌≢◌, ℕ, Bool, true, false, cond, not, is_some, Option, Some, None, [], Result, Ok, Err, refl, sym, ap, ◌∙◌, subst, inl, inr}
-use Rattle.std.specs.Prelude.{OnErr, IfOk, IfErr, IsErrAnd, is_err, ◌==◌, IfSome, MatchOption}
-use Rattle.std.proofs.lemmas.Bool.{true≢false}
-use Rattle.batcher.specs.positions.Participant.{Participant}
-use Rattle.std.specs.declared.cmp.Ordering.{Ordering}
-use Rattle.std.specs.declared.cmp.Ordering.TheVariants.{Less, Equal, Greater}
-use Rattle.std.specs.Ordering.{nat_cmp, is_eq}
-use Rattle.std.specs.BTreeMap.{BTreeMap, get}
-use Rattle.std.specs.Map.{lookup}
-use Rattle.std.proofs.lemmas.Map.Lookups.{exact_unsigned}
-use Rattle.batcher.specs.messages.Certificate.{Certificate}
-use Rattle.batcher.specs.messages.Kind.{Kind}
-use Rattle.batcher.specs.messages.Kind.TheVariants.{Notarization, Nullification, Finalization}
-use Rattle.batcher.specs.messages.Vote.{Vote}
-use Rattle.batcher.specs.verifier.Batch.{Batch}
-use Rattle.batcher.specs.verifier.LeaderFault.{LeaderFault}
-use Rattle.batcher.specs.verifier.LeaderFault.TheVariants.{LeaderChanged}
-use Rattle.batcher.specs.votes.Outcome.TheVariants.{Added}
-use Rattle.batcher.specs.calls.Call.{Call}
-use Rattle.batcher.specs.calls.Call.TheVariants.{Construct as ConstructCall, Own as OwnCall}
-use Rattle.batcher.specs.answers.Answer.{Answer}
-use Rattle.batcher.specs.answers.Answer.TheVariants.{Construct as ConstructAnswer}
-use Rattle.batcher.specs.answers.OwnFault.{OwnFault}
-use Rattle.batcher.specs.answers.OwnFault.TheVariants.{OutOfMemory as OutOfMemoryFault}
-use Rattle.batcher.specs.Config.{Config}
-use Rattle.batcher.specs.Answers.{own_answer}
-use Rattle.batcher.specs.Selection.{is_released}
-use Rattle.batcher.specs.Steps.{fault_or_memory, unopposed_result, leader_set_answer}
-use Rattle.batcher.specs.Votes.{kind_of}
-use Rattle.batcher.specs.Answers.{needs_memory}
-use Rattle.batcher.specs.RoundState.{RoundView, SameRound}
-use Rattle.batcher.specs.RoundContracts.{SimulatesAlways, SimulatesOnOk, ForEachHistory}
-use Rattle.batcher.specs.Represents.{Represents}
-use Rattle.batcher_node.specs.declared.slot.Slot.{Slot}
-use Rattle.batcher_node.specs.Nodes.{MakesCall, NeedsThere, Refuses, IsLedByAnother, due_after}
+use Rattle.batcher_node.proofs.Words.{◌≡◌, ◌≢◌, ℕ, Bool, true, false, cond, not, is_some, Option, Some, None, [], Result, Ok, Err, refl, sym, ap, ◌∙◌, subst}
+use Rattle.batcher_node.proofs.Words.{inl, inr, OnErr, IfOk, IfErr, IsErrAnd, is_err, ◌==◌, IfSome, MatchOption, true≢false, Participant, Ordering, Less, Equal}
+use Rattle.batcher_node.proofs.Words.{Greater, nat_cmp, is_eq, BTreeMap, get, lookup, exact_unsigned, Certificate, Kind, Notarization, Nullification}
+use Rattle.batcher_node.proofs.Words.{Finalization, Vote, Batch, LeaderFault, LeaderChanged, Added, Call, ConstructCall, OwnCall, Answer, ConstructAnswer}
+use Rattle.batcher_node.proofs.Words.{OwnFault, OutOfMemoryFault, Config, own_answer, is_released, fault_or_memory, unopposed_result, leader_set_answer}
+use Rattle.batcher_node.proofs.Words.{kind_of, needs_memory, RoundView, SameRound, SimulatesAlways, SimulatesOnOk, ForEachHistory, Represents, Slot, MakesCall}
+use Rattle.batcher_node.proofs.Words.{NeedsThere, Refuses, IsLedByAnother, due_after}
 
 unequal_is : (o : Ordering) → (o ≡ Equal → ⊥) → is_eq o ≡ false
 unequal_is Less apart = refl

@@ -1,29 +1,12 @@
 -- What whoever is blocked did, and what each node has for it: a history that it represents.
-use Rattle.std.proofs.Common.{◌≡◌, ◌<◌, ◌==◌, ◌||◌, ℕ, zero, suc, Bool, true, false, cond, List, [], ◌∷◌, Option, Some, None, refl, sym, ap, ◌∙◌, subst, length, is_some, arith}
-use Rattle.std.specs.Prelude.{IfSome}
-use Rattle.std.specs.List.{list_any, AllPass}
-use Rattle.std.specs.Option.{option_map, option_or}
-use Rattle.std.proofs.lemmas.Bool.{false≢true, eqb-true}
-use Rattle.std.proofs.lemmas.List.Elements.{All-head, All-tail}
-use Rattle.batcher.specs.positions.Participant.{Participant}
-use Rattle.batcher.specs.messages.Vote.{Vote}
-use Rattle.batcher.specs.messages.Certificate.{Certificate}
-use Rattle.batcher.specs.verifier.Batch.{Batch}
-use Rattle.batcher.specs.answers.Admission.{Admission}
-use Rattle.batcher.specs.answers.BlockReason.{BlockReason}
-use Rattle.batcher.specs.Lists.{is_some_and}
-use Rattle.batcher.specs.Honest.{sent_bad_vote}
-use Rattle.batcher.specs.Promises.{gave_cause}
-use Rattle.batcher.specs.Eligible.{ready_kind}
-use Rattle.batcher.specs.Votes.{subject_of, round_in}
-use Rattle.batcher_node.specs.declared.answers.Receipt.TheVariants.{Answered, Outside, Dropped, Unknown}
-use Rattle.batcher_node.specs.declared.answers.Verdict.TheVariants.{Recorded, Forged, Known}
-use Rattle.batcher_node.specs.declared.answers.Cause.{Cause}
-use Rattle.batcher_node.specs.declared.answers.Cause.TheVariants.{Vote as ForVote, Certificate as ForCertificate, Signature as ForSignature}
-use Rattle.batcher_node.specs.Events.{NodeEvent, started, vote_came, certificate_came, vote_cast, view_entered, view_finalized, constructed, proposal_forwarded, NodeHistory, view_history, peer_in, is_peer, cause_by, cause_in}
-use Rattle.batcher_node.specs.Nodes.{NodeView, NodeConfig, cause_at}
-use Rattle.batcher_node.specs.Represents.{NodeRepresents, HasHistory, ForEachNodeHistory, ForSomeNodeHistory, config_of}
-use Rattle.batcher_node.specs.NodePromises.{IsForCause, AreForCause, GaveCauseFor, HadGivenCause}
+use Rattle.batcher_node.proofs.Words.{◌≡◌, ◌<◌, ◌==◌, ◌||◌, ℕ, zero, suc, Bool, true, false, cond, List, [], ◌∷◌, Option, Some, None, refl, sym, ap, ◌∙◌, subst}
+use Rattle.batcher_node.proofs.Words.{length, is_some, arith, IfSome, list_any, AllPass, option_map, option_or, false≢true, eqb-true, All-head, All-tail}
+use Rattle.batcher_node.proofs.Words.{Participant, Vote, Certificate, Batch, Admission, BlockReason, is_some_and, sent_bad_vote, gave_cause, ready_kind}
+use Rattle.batcher_node.proofs.Words.{subject_of, round_in, Answered, Outside, Dropped, Unknown, Recorded, Forged, Known, Cause, ForVote, ForCertificate}
+use Rattle.batcher_node.proofs.Words.{ForSignature, NodeEvent, started, vote_came, certificate_came, vote_cast, view_entered, view_finalized, constructed}
+use Rattle.batcher_node.proofs.Words.{proposal_forwarded, NodeHistory, view_history, peer_in, is_peer, cause_by, cause_in, NodeView, NodeConfig, cause_at}
+use Rattle.batcher_node.proofs.Words.{NodeRepresents, HasHistory, ForEachNodeHistory, ForSomeNodeHistory, config_of, IsForCause, AreForCause, GaveCauseFor}
+use Rattle.batcher_node.proofs.Words.{HadGivenCause}
 use Rattle.batcher_node.proofs.Finding.{some_is, some_same}
 
 -- what passes a test is there

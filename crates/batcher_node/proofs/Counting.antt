@@ -1,21 +1,8 @@
 -- How many rounds a window can have.
-use Rattle.std.proofs.Common.{◌≡◌, ◌≤◌, ◌<◌, ◌+◌, ℕ, Bool, true, false, cond, List, [], ◌∷◌, length, Option, Some, None, refl, ap, ◌∙◌, subst, arith}
-use Rattle.std.specs.Prelude.{IfSome, nat_lt}
-use Rattle.std.specs.Ordering.{nat_cmp, is_eq, is_gt}
-use Rattle.std.specs.declared.cmp.Ordering.TheVariants.{Less, Equal, Greater}
-use Rattle.std.specs.Cmp.{nat_cmp_is}
-use Rattle.std.specs.BTreeMap.{is_at}
-use Rattle.std.specs.Map.{keys_of}
-use Rattle.std.specs.List.{AllByRecursion}
-use Rattle.std.specs.List.Sorted.{IsStrictlySortedBy}
-use Rattle.std.proofs.lemmas.Bool.{true≢false}
-use Rattle.std.proofs.lemmas.Map.Keys.{sorted_head, sorted_tail}
-use Rattle.batcher.specs.RoundState.{RoundView}
-use Rattle.batcher.specs.positions.Epoch.{Epoch}
-use Rattle.batcher_node.specs.declared.slot.Slot.{Slot}
-use Rattle.batcher_node.specs.declared.window.Window.{Window}
-use Rattle.batcher_node.specs.Windows.{contains, width}
-use Rattle.batcher_node.specs.Nodes.{slot_at, IsTended}
+use Rattle.batcher_node.proofs.Words.{◌≡◌, ◌≤◌, ◌<◌, ◌+◌, ℕ, Bool, true, false, cond, List, [], ◌∷◌, length, Option, Some, None, refl, ap, ◌∙◌, subst, arith}
+use Rattle.batcher_node.proofs.Words.{IfSome, nat_lt, nat_cmp, is_eq, is_gt, Less, Equal, Greater, nat_cmp_is, is_at, keys_of, AllByRecursion}
+use Rattle.batcher_node.proofs.Words.{IsStrictlySortedBy, true≢false, sorted_head, sorted_tail, RoundView, Epoch, Slot, Window, contains, width, slot_at}
+use Rattle.batcher_node.proofs.Words.{IsTended}
 use Rattle.batcher_node.proofs.Finding.{at_itself}
 
 less_by : (k y : ℕ) (a b : Bool) → nat_lt k y ≡ a → nat_lt y k ≡ b → nat_cmp k y ≡ Less → k < y

@@ -1,9 +1,6 @@
 -- The entries of a map from a number on.
-use Rattle.std.proofs.Common.{◌≡◌, ◌≤◌, ◌<◌, ℕ, Bool, true, false, cond, List, [], ◌∷◌, Some, None, refl, sym, ap, ◌∙◌, arith}
-use Rattle.std.specs.Prelude.{nat_le, filter}
-use Rattle.std.specs.Ordering.{nat_cmp}
-use Rattle.std.specs.BTreeMap.{is_at}
-use Rattle.batcher_node.specs.Nodes.{slot_at}
+use Rattle.batcher_node.proofs.Words.{◌≡◌, ◌≤◌, ◌<◌, ℕ, Bool, true, false, cond, List, [], ◌∷◌, Some, None, refl, sym, ap, ◌∙◌, arith, nat_le, filter, nat_cmp}
+use Rattle.batcher_node.proofs.Words.{is_at, slot_at}
 use Rattle.batcher_node.proofs.Calling.{not_at}
 
 -- an entry that is dropped is at no view from there on

@@ -1,15 +1,6 @@
 -- How often a view is in a heap of them.
-use Rattle.std.proofs.Common.{◌≡◌, ◌<◌, ◌+◌, ◌==◌, ℕ, false, cond, List, [], ◌∷◌, refl, ap, sym, ◌∙◌, arith}
-use Rattle.std.specs.Prelude.{sum_by}
-use Rattle.std.specs.BinaryHeap.{IsUpperBound}
-use Rattle.std.specs.declared.cmp.Reverse.{Reverse}
-use Rattle.std.specs.List.Sorted.{IsPermutation}
-use Rattle.std.specs.Ordering.{nat_cmp}
-use Rattle.std.proofs.lemmas.List.Sorted.{sum_by-IsPermutation}
-use Rattle.std.proofs.lemmas.List.Sums.{sum_by-cons}
-use Rattle.std.proofs.lemmas.Map.Keys.{ge_from_not_lt}
-use Rattle.std.proofs.lemmas.Bool.Decides.{nat_tests}
-use Rattle.batcher_node.specs.Due.{times}
+use Rattle.batcher_node.proofs.Words.{◌≡◌, ◌<◌, ◌+◌, ◌==◌, ℕ, false, cond, List, [], ◌∷◌, refl, ap, sym, ◌∙◌, arith, sum_by, IsUpperBound, Reverse}
+use Rattle.batcher_node.proofs.Words.{IsPermutation, nat_cmp, sum_by-IsPermutation, sum_by-cons, ge_from_not_lt, nat_tests, times}
 
 times_sum : (xs : List (Reverse ℕ)) (view : ℕ)
     → times xs view ≡ sum_by (λ v. cond (v.0 == view) 1 0) xs

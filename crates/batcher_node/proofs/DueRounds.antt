@@ -1,19 +1,7 @@
 -- Views that changed, listed in a heap beside the map of rounds.
-use Rattle.std.proofs.Common.{◌≡◌, ◌≢◌, ◌<◌, ◌≤◌, ◌+◌, ◌==◌, ◌&&◌, not, ℕ, Bool, true, false, cond, nat_lt, List, [], ◌∷◌, Option, Some, None, length, refl, ap, sym, ◌∙◌, subst, arith, add-one}
-use Rattle.std.specs.Prelude.{IfSome}
-use Rattle.std.specs.Ordering.{nat_cmp, is_eq}
-use Rattle.std.specs.declared.cmp.Ordering.TheVariants.{Less, Equal, Greater}
-use Rattle.std.specs.declared.cmp.Ordering.{Ordering}
-use Rattle.std.proofs.lemmas.Map.Lookups.{exact_unsigned}
-use Rattle.std.specs.BTreeMap.{is_at}
-use Rattle.std.specs.declared.cmp.Reverse.{Reverse}
-use Rattle.std.proofs.lemmas.Bool.{true≢false, eqb-true}
-use Rattle.std.proofs.lemmas.Option.{none-some}
-use Rattle.std.proofs.lemmas.Bool.Decides.{nat_tests}
-use Rattle.batcher_node.specs.declared.slot.Slot.{Slot}
-use Rattle.batcher_node.specs.Due.{times}
-use Rattle.batcher_node.specs.Due.{ListsChanged, times_due}
-use Rattle.batcher_node.specs.Nodes.{slot_at, HasChanged, IsNext}
+use Rattle.batcher_node.proofs.Words.{◌≡◌, ◌≢◌, ◌<◌, ◌≤◌, ◌+◌, ◌==◌, ◌&&◌, not, ℕ, Bool, true, false, cond, nat_lt, List, [], ◌∷◌, Option, Some, None, length}
+use Rattle.batcher_node.proofs.Words.{refl, ap, sym, ◌∙◌, subst, arith, add-one, IfSome, nat_cmp, is_eq, Less, Equal, Greater, Ordering, exact_unsigned, is_at}
+use Rattle.batcher_node.proofs.Words.{Reverse, true≢false, eqb-true, none-some, nat_tests, Slot, times, ListsChanged, times_due, slot_at, HasChanged, IsNext}
 
 itself : (n : ℕ) (b : Bool) → (n == n) ≡ b → b ≡ true
 itself n true e = refl

@@ -1,11 +1,5 @@
 -- Options, and a look-up at a key itself.
-use Rattle.std.proofs.Common.{◌≡◌, ◌≢◌, ℕ, true, Some, None, refl, sym, ap, is_some}
-use Rattle.std.specs.Option.{unwrap_or}
-use Rattle.std.specs.Ordering.{nat_cmp, is_eq}
-use Rattle.std.specs.Cmp.{nat_cmp_is}
-use Rattle.std.specs.declared.cmp.Ordering.TheVariants.{Equal}
-use Rattle.std.specs.BTreeMap.{is_at}
-use Rattle.std.proofs.lemmas.Bool.{true≢false}
+use Rattle.batcher_node.proofs.Words.{◌≡◌, ◌≢◌, ℕ, true, Some, None, refl, sym, ap, is_some, unwrap_or, nat_cmp, is_eq, nat_cmp_is, Equal, is_at, true≢false}
 
 pub some_is : {X : Type 0} {x : X} → Some x ≢ None
 some_is h = true≢false (ap is_some h)

@@ -1,19 +1,7 @@
 -- A node stays one where it was asked for a proposal to hand on.
-use Rattle.std.proofs.Common.{◌≡◌, ◌∷◌, ℕ, Bool, true, List, Option, Some, None, refl, sym, subst, inl, length}
-use Rattle.std.specs.Prelude.{IfSome, IfNone}
-use Rattle.std.specs.declared.cmp.Ordering.{Ordering}
-use Rattle.batcher.specs.positions.Participant.{Participant}
-use Rattle.batcher.specs.messages.Proposal.{Proposal}
-use Rattle.batcher.specs.calls.Call.TheVariants.{Forward as ForwardCall}
-use Rattle.batcher.specs.answers.Answer.TheVariants.{Forward as ForwardAnswer}
-use Rattle.batcher.specs.Meaning.{Meaning}
-use Rattle.batcher.specs.RoundState.{RoundView}
-use Rattle.batcher.specs.RoundContracts.{round_config}
-use Rattle.batcher_node.specs.declared.slot.Slot.{Slot}
-use Rattle.batcher_node.specs.Windows.{contains, numbered}
-use Rattle.batcher_node.specs.Events.{proposal_forwarded}
-use Rattle.batcher_node.specs.Nodes.{NodeView, MakesCallThere, slot_at}
-use Rattle.batcher_node.specs.Represents.{IsNode}
+use Rattle.batcher_node.proofs.Words.{◌≡◌, ◌∷◌, ℕ, Bool, true, List, Option, Some, None, refl, sym, subst, inl, length, IfSome, IfNone, Ordering, Participant}
+use Rattle.batcher_node.proofs.Words.{Proposal, ForwardCall, ForwardAnswer, Meaning, RoundView, round_config, Slot, contains, numbered, proposal_forwarded}
+use Rattle.batcher_node.proofs.Words.{NodeView, MakesCallThere, slot_at, IsNode}
 use Rattle.batcher_node.proofs.Calling.{if_some}
 use Rattle.batcher_node.proofs.Tending.{still_tended}
 use Rattle.batcher_node.proofs.Answering.{forwarded_told}

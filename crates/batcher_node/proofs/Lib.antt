@@ -1,3 +1,4 @@
+pub mod Words
 pub mod Calling
 pub mod Finding
 mod Listing

@@ -1,11 +1,6 @@
 -- The numbers of a node's views are those with a slot.
-use Rattle.std.proofs.Common.{◌≡◌, ◌==◌, ◌||◌, ◌∙◌, ℕ, Bool, true, false, cond, List, [], ◌∷◌, Option, Some, refl, ap, is_some, arith}
-use Rattle.std.specs.List.{list_any}
-use Rattle.std.specs.Ordering.{nat_cmp}
-use Rattle.std.specs.BTreeMap.{is_at}
-use Rattle.std.specs.Map.{keys_of}
-use Rattle.std.proofs.lemmas.Bool.Decides.{nat_tests}
-use Rattle.batcher_node.specs.Nodes.{slot_at}
+use Rattle.batcher_node.proofs.Words.{◌≡◌, ◌==◌, ◌||◌, ◌∙◌, ℕ, Bool, true, false, cond, List, [], ◌∷◌, Option, Some, refl, ap, is_some, arith, list_any}
+use Rattle.batcher_node.proofs.Words.{nat_cmp, is_at, keys_of, nat_tests, slot_at}
 
 is_view : (view number : ℕ) → (number == view) ≡ is_at (nat_cmp view) number
 is_view view number = grind (arith, nat_tests)

@@ -1,9 +1,5 @@
 -- One view at most is next.
-use Rattle.std.proofs.Common.{◌≡◌, ◌<◌, ℕ, false, List, sym, ◌∙◌, subst, arith}
-use Rattle.std.specs.Prelude.{IfSome}
-use Rattle.std.proofs.lemmas.Bool.{false≢true}
-use Rattle.batcher_node.specs.Nodes.{IsNext}
-use Rattle.batcher_node.specs.declared.slot.Slot.{Slot}
+use Rattle.batcher_node.proofs.Words.{◌≡◌, ◌<◌, ℕ, false, List, sym, ◌∙◌, subst, arith, IfSome, false≢true, IsNext, Slot}
 
 module _ {R : Type 0} where
   not_both : (rounds : List (ℕ × Slot R)) (one other : ℕ) → IsNext rounds one

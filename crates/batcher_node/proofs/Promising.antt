@@ -1,34 +1,12 @@
 -- From a node that represents a history to what is promised of it.
-use Rattle.std.proofs.Common.{◌≡◌, ◌≤◌, ◌==◌, ℕ, Bool, true, false, cond, [], ◌∷◌, ◌++◌, refl, sym, ap, ◌∙◌, subst, length}
-use Rattle.std.specs.Prelude.{is_some, Option, Some, None}
-use Rattle.std.proofs.lemmas.Bool.{false≢true, eqb-true}
-use Rattle.batcher.specs.messages.Kind.{Kind}
-use Rattle.batcher.specs.CertificateTiming.{is_due as is_kind_due}
-use Rattle.batcher.specs.calls.Call.{Call}
-use Rattle.batcher.specs.answers.Answer.{Answer}
-use Rattle.batcher.specs.calls.Call.TheVariants.{Network as NetworkCall, Construct as ConstructCall}
-use Rattle.batcher.specs.answers.Answer.TheVariants.{Network as NetworkAnswer, Construct as ConstructAnswer}
-use Rattle.batcher.specs.positions.Round.{Round}
-use Rattle.std.specs.List.{AllPass}
-use Rattle.batcher.specs.Lists.{is_some_and}
-use Rattle.batcher.specs.Eligible.{ready_kind}
-use Rattle.batcher.specs.Honest.{sent_bad_vote, NamesForOwnVotes}
-use Rattle.batcher.specs.positions.Participant.{Participant}
-use Rattle.batcher.specs.Config.{Config}
-use Rattle.batcher.specs.Lists.{is_empty}
-use Rattle.batcher.specs.Votes.{subject_of, round_in}
-use Rattle.batcher.specs.History.{Event, History}
-use Rattle.batcher.specs.Answers.{IsPossible}
-use Rattle.batcher.specs.Promises.{AtEachVote, AtEachEvent, IsBlockedForCause, gave_cause, ends_in_constructions}
-use Rattle.batcher.specs.RunContract.{IsPromised}
-use Rattle.batcher_node.specs.declared.answers.Receipt.{Receipt}
-use Rattle.batcher_node.specs.declared.answers.Receipt.TheVariants.{Answered, Outside, Dropped, Unknown}
-use Rattle.batcher_node.specs.declared.answers.Verdict.{Verdict}
-use Rattle.batcher_node.specs.declared.answers.Verdict.TheVariants.{Recorded, Forged, Known}
-use Rattle.batcher_node.specs.Events.{NodeEvent, started, vote_came, certificate_came, vote_cast, view_entered, view_finalized, constructed, proposal_forwarded, NodeHistory, at_view, view_history, view_history_by, peer_in, cause_in}
-use Rattle.batcher_node.specs.Nodes.{NodeConfig}
-use Rattle.batcher_node.specs.Represents.{config_of, is_due, receipt_from, is_within, IsNamed, AreNamed}
-use Rattle.batcher_node.specs.NodePromises.{IsForCause, AreForCause, IsNodePromised}
+use Rattle.batcher_node.proofs.Words.{◌≡◌, ◌≤◌, ◌==◌, ℕ, Bool, true, false, cond, [], ◌∷◌, ◌++◌, refl, sym, ap, ◌∙◌, subst, length, is_some, Option, Some, None}
+use Rattle.batcher_node.proofs.Words.{false≢true, eqb-true, Kind, is_due, Call, Answer, NetworkCall, ConstructCall, NetworkAnswer, ConstructAnswer, Round}
+use Rattle.batcher_node.proofs.Words.{AllPass, is_some_and, ready_kind, sent_bad_vote, NamesForOwnVotes, Participant, Config, is_empty, subject_of, round_in}
+use Rattle.batcher_node.proofs.Words.{Event, History, IsPossible, AtEachVote, AtEachEvent, IsBlockedForCause, gave_cause, ends_in_constructions, IsPromised}
+use Rattle.batcher_node.proofs.Words.{Receipt, Answered, Outside, Dropped, Unknown, Verdict, Recorded, Forged, Known, NodeEvent, started, vote_came}
+use Rattle.batcher_node.proofs.Words.{certificate_came, vote_cast, view_entered, view_finalized, constructed, proposal_forwarded, NodeHistory, at_view}
+use Rattle.batcher_node.proofs.Words.{view_history, view_history_by, peer_in, cause_in, NodeConfig, config_of, is_to_be_tried, receipt_from, is_within, IsNamed}
+use Rattle.batcher_node.proofs.Words.{AreNamed, IsForCause, AreForCause, IsNodePromised}
 use Rattle.batcher_node.proofs.Rested.{rested, few_before}
 use Rattle.batcher_node.proofs.Representation.{config_stays}
 use Rattle.batcher_node.proofs.Agreed.{sent_agree}
@@ -171,7 +149,7 @@ module _ {D K G C : Type 0} (x : NodeConfig D K G C)
       few_at number view _ _ (view_history view past) before
       (λ same. few_before (view_history view past)
       (promised past view (possible view)).promises.constructions_rest
-      (ap (λ v. is_due (view_history v past)) (sym (eqb-true number view same)) ∙ named.0))
+      (ap (λ v. is_to_be_tried (view_history v past)) (sym (eqb-true number view same)) ∙ named.0))
   few_after past (started window) named possible view before = before
   few_after past (view_finalized number) named possible view before = before
   few_after past (vote_came peer vote Outside) named possible view before = before
@@ -194,8 +172,8 @@ module _ {D K G C : Type 0} (x : NodeConfig D K G C)
   -- a view at rest is complete
   rested_there : 1 ≤ length x.meaning.participants → (past : NodeHistory D K G C) (view : ℕ)
       → IsPossible (config_of x past view) (view_history view past)
-      → is_due (view_history view past) ≡ false
-      → (kind : Kind) → is_kind_due (config_of x past view) (view_history view past) kind ≡ false
+      → is_to_be_tried (view_history view past) ≡ false
+      → (kind : Kind) → is_due (config_of x past view) (view_history view past) kind ≡ false
   rested_there some past view possible rests kind =
       let p = promised past view possible in
       rested (config_of x past view) (view_history view past) kind some possible

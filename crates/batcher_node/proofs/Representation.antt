@@ -1,24 +1,10 @@
 -- How a node goes on representing its history: one view's round made a call, or none did.
-use Rattle.std.proofs.Common.{◌≡◌, ◌≢◌, ◌≤◌, ◌<◌, ◌⊎◌, length, inl, inr, ℕ, Bool, false, cond, [], ◌∷◌, ◌++◌, Option, Some, None, refl, sym, ap, ◌∙◌, subst, arith, ⊎_elim}
-use Rattle.std.specs.Prelude.{MatchOption, IfSome}
-use Rattle.std.specs.Option.{option_or}
-use Rattle.std.specs.declared.cmp.Ordering.{Ordering}
-use Rattle.std.proofs.lemmas.Bool.{cases_eq}
-use Rattle.batcher.specs.calls.Call.{Call}
-use Rattle.batcher.specs.answers.Answer.{Answer}
-use Rattle.batcher.specs.Meaning.{Meaning}
-use Rattle.batcher.specs.Config.{Config, config}
-use Rattle.batcher.specs.Lists.{is_empty}
-use Rattle.batcher.specs.RoundState.{RoundView}
-use Rattle.batcher.specs.History.{History}
-use Rattle.batcher.specs.Answers.{IsPossible, MayAnswer}
-use Rattle.batcher.specs.RoundContracts.{round_config}
-use Rattle.batcher.specs.Represents.{Represents}
-use Rattle.batcher_node.specs.declared.slot.Slot.{Slot}
-use Rattle.batcher_node.specs.Windows.{mode_now, numbered}
-use Rattle.batcher_node.specs.Events.{NodeEvent, NodeHistory, view_history, view_history_by, window_in, window_after, cause_by}
-use Rattle.batcher_node.specs.Nodes.{NodeView, NodeConfig, node_config, cause_at, due_after, slot_at, fresh_round, MakesCall, MakesCallThere, MakesCallFresh, GoesOn}
-use Rattle.batcher_node.specs.Represents.{mode_of, config_of, is_due, IsNamed, ViewRepresents, NodeRepresents}
+use Rattle.batcher_node.proofs.Words.{◌≡◌, ◌≢◌, ◌≤◌, ◌<◌, ◌⊎◌, length, inl, inr, ℕ, Bool, false, cond, [], ◌∷◌, ◌++◌, Option, Some, None, refl, sym, ap, ◌∙◌}
+use Rattle.batcher_node.proofs.Words.{subst, arith, ⊎_elim, MatchOption, IfSome, option_or, Ordering, cases_eq, Call, Answer, Meaning, Config, config, is_empty}
+use Rattle.batcher_node.proofs.Words.{RoundView, History, IsPossible, MayAnswer, round_config, Represents, Slot, mode_now, numbered, NodeEvent, NodeHistory}
+use Rattle.batcher_node.proofs.Words.{view_history, view_history_by, window_in, window_after, cause_by, NodeView, NodeConfig, node_config, cause_at, due_after}
+use Rattle.batcher_node.proofs.Words.{slot_at, fresh_round, MakesCall, MakesCallThere, MakesCallFresh, ViewGoesOn, mode_of, config_of, is_to_be_tried, IsNamed}
+use Rattle.batcher_node.proofs.Words.{ViewRepresents, NodeRepresents}
 
 module _ {D K G C : Type 0} (x : NodeConfig D K G C) where
   -- where nothing was said in a view, its round would be made now
@@ -75,7 +61,7 @@ module _ {D K G C : Type 0} (x : NodeConfig D K G C) where
         record {
           begun = some;
           mode_is = h.mode_is ∙ sym (mode_stays past event view some);
-          changed_is = h.changed_is ∙ ap is_due (sym told_same);
+          changed_is = h.changed_is ∙ ap is_to_be_tried (sym told_same);
           represents =
               subst (λ y. Represents y (view_history view (event ∷ past)) slot.round.holds)
               (sym (config_stays past event view some))
@@ -146,9 +132,9 @@ module _ {S D K G C : Type 0} (meaning : S → Meaning D K G C) (compare_keys : 
     slot : Slot (RoundView S G D)
     is_by : by slot.round ≡ config_of x past view
     mode_is : slot.round.mode ≡ mode_of x past view
-    changed_is : slot.changed ≡ is_due (view_history view past)
+    changed_is : slot.changed ≡ is_to_be_tried (view_history view past)
     represents : Represents (config_of x past view) (view_history view past) slot.round.holds
-    goes_on : GoesOn by (slot_at old.rounds) (slot_at new.rounds) view slot call answer
+    goes_on : ViewGoesOn by (slot_at old.rounds) (slot_at new.rounds) view slot call answer
 
   module _ (h : NodeRepresents x past old) (within : old.window.finalized ≤ view)
       (tended : IfSome (slot_at old.rounds view) (λ slot. (slot.round.scheme ≡ old.scheme)
@@ -181,7 +167,7 @@ module _ {S D K G C : Type 0} (meaning : S → Meaning D K G C) (compare_keys : 
           slot = record { round = fresh; changed = false };
           is_by = is;
           mode_is = mode;
-          changed_is = sym (ap is_due none);
+          changed_is = sym (ap is_to_be_tried none);
           represents = subst (λ t. Represents (config_of x past view) t fresh.holds) (sym none)
               (subst (λ y. Represents y [] fresh.holds) is t.fresh_represents);
           goes_on = t.goes_on;
@@ -223,7 +209,7 @@ module _ {S D K G C : Type 0} (meaning : S → Meaning D K G C) (compare_keys : 
         record {
           begun = begun_now;
           mode_is = t.goes_on.same.2 ∙ t.mode_is ∙ sym (mode_stays x past event view begun_now);
-          changed_is = ap (due_after (call, answer)) t.changed_is ∙ ap is_due (sym told_more);
+          changed_is = ap (due_after (call, answer)) t.changed_is ∙ ap is_to_be_tried (sym told_more);
           represents = represents_now t;
         }
 

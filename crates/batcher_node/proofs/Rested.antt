@@ -1,32 +1,14 @@
 -- A view at rest has lost no quorum.
-use Rattle.std.proofs.Common.{◌≡◌, ◌≤◌, ◌-◌, ◌/◌, ℕ, Bool, true, false, not, cond, ◌&&◌, List, [], ◌∷◌, ◌++◌, Option, Some, None, refl, sym, ap, ◌∙◌, arith, length}
-use Rattle.std.specs.Prelude.{nat_le, filter, find, option_and_then}
-use Rattle.std.specs.Option.{option_or}
-use Rattle.std.proofs.lemmas.Bool.{true≢false, false≢true, or_parts}
-use Rattle.batcher.specs.positions.Participant.{Participant}
-use Rattle.batcher.specs.messages.Proposal.{Proposal}
-use Rattle.batcher.specs.messages.Vote.{Vote}
-use Rattle.batcher.specs.messages.Kind.{Kind}
-use Rattle.batcher.specs.messages.Kind.TheVariants.{Notarization}
-use Rattle.batcher.specs.calls.Call.{Call}
-use Rattle.batcher.specs.calls.Call.TheVariants.{Network as NetworkCall, Own as OwnCall, Certificate as CertificateCall, Leader as LeaderCall, Construct as ConstructCall, Forward as ForwardCall, Missing as MissingCall}
-use Rattle.batcher.specs.answers.Answer.{Answer}
-use Rattle.batcher.specs.answers.Answer.TheVariants.{Network as NetworkAnswer, Own as OwnAnswer, OwnRefused, Certificate as CertificateAnswer, Leader as LeaderAnswer}
-use Rattle.batcher.specs.answers.Answer.TheVariants.{Construct as ConstructAnswer, Forward as ForwardAnswer, Missing as MissingAnswer, OutOfMemory}
-use Rattle.batcher.specs.Config.{Config, quorum_in, participants_in}
-use Rattle.batcher.specs.ProposalStates.{proposal_of}
-use Rattle.batcher.specs.TrackerSteps.{is_skipped}
-use Rattle.batcher.specs.Votes.{is_of_kind, is_vote_of, subject_of, proposal_in}
-use Rattle.batcher.specs.History.{Event, History, names_sender, cast_votes}
-use Rattle.batcher.specs.FirstVotes.{first_votes, is_free}
-use Rattle.batcher.specs.Selection.{selection_by, is_certified, fixed_proposal, fixing_evidence, leader_of, leader_named}
-use Rattle.batcher.specs.Eligible.{is_valid, is_counted}
-use Rattle.batcher.specs.Answers.{IsPossible}
-use Rattle.batcher.specs.Promises.{AtEachVote, AtEachEvent, IsAcceptedExactly, Rests, ends_in_constructions}
-use Rattle.batcher.specs.CertificateTiming.{LeavesNoneDue}
+use Rattle.batcher_node.proofs.Words.{◌≡◌, ◌≤◌, ◌-◌, ◌/◌, ℕ, Bool, true, false, not, cond, ◌&&◌, List, [], ◌∷◌, ◌++◌, Option, Some, None, refl, sym, ap, ◌∙◌}
+use Rattle.batcher_node.proofs.Words.{arith, length, nat_le, filter, find, option_and_then, option_or, true≢false, false≢true, or_parts, Participant, Proposal}
+use Rattle.batcher_node.proofs.Words.{Vote, Kind, Notarization, Call, NetworkCall, OwnCall, CertificateCall, LeaderCall, ConstructCall, ForwardCall}
+use Rattle.batcher_node.proofs.Words.{MissingCall, Answer, NetworkAnswer, OwnAnswer, OwnRefused, CertificateAnswer, LeaderAnswer, ConstructAnswer}
+use Rattle.batcher_node.proofs.Words.{ForwardAnswer, MissingAnswer, OutOfMemory, Config, quorum_in, participants_in, proposal_of, is_skipped, is_of_kind}
+use Rattle.batcher_node.proofs.Words.{is_vote_of, subject_of, proposal_in, Event, History, names_sender, cast_votes, first_votes, is_free, selection_by}
+use Rattle.batcher_node.proofs.Words.{is_certified, fixed_proposal, fixing_evidence, leader_of, leader_named, is_valid, is_counted, IsPossible, AtEachVote}
+use Rattle.batcher_node.proofs.Words.{AtEachEvent, IsAcceptedExactly, Rests, ends_in_constructions, LeavesNoneDue}
 use Rattle.batcher.specs.CertificateTiming as prompt
-use Rattle.batcher_node.specs.Nodes.{due_after}
-use Rattle.batcher_node.specs.Represents.{is_due}
+use Rattle.batcher_node.proofs.Words.{due_after, is_to_be_tried}
 use Rattle.batcher_node.proofs.Answering.{or_none}
 
 some_quorum : (n : ℕ) → 1 ≤ n → nat_le (n - (n - 1) / 3) 0 ≡ false
@@ -80,13 +62,13 @@ module _ {D K G C : Type 0} (y : Config D K G C) where
       → IsPossible y (event ∷ past)
       → AtEachVote (IsAcceptedExactly y) (event ∷ past)
       → AtEachEvent (LeavesNoneDue y) (event ∷ past)
-      → (is_due past ≡ false → prompt.is_due y past kind ≡ false)
-      → is_due (event ∷ past) ≡ false → prompt.is_due y (event ∷ past) kind ≡ false
+      → (is_to_be_tried past ≡ false → prompt.is_due y past kind ≡ false)
+      → is_to_be_tried (event ∷ past) ≡ false → prompt.is_due y (event ∷ past) kind ≡ false
   rested_after (NetworkCall sender vote, NetworkAnswer admission) past kind possible exact none before rests =
       unmoved (NetworkCall sender vote, NetworkAnswer admission) past kind refl refl refl
       (none_added past sender vote (names_sender y sender vote)
-      (sym exact.0 ∙ (or_parts admission.added (is_due past) rests).0))
-      ∙ before (or_parts admission.added (is_due past) rests).1
+      (sym exact.0 ∙ (or_parts admission.added (is_to_be_tried past) rests).0))
+      ∙ before (or_parts admission.added (is_to_be_tried past) rests).1
   rested_after (ConstructCall, ConstructAnswer None) past kind possible exact none before rests =
       unmoved (ConstructCall, ConstructAnswer None) past kind refl refl refl refl ∙ none.0 kind
   rested_after (ForwardCall me, ForwardAnswer given) past kind possible exact none before rests =
@@ -128,7 +110,7 @@ module _ {D K G C : Type 0} (y : Config D K G C) where
   -- Where a round has not to be looked at, no kind is due.
   pub rested : (past : History D K G C) (kind : Kind) → 1 ≤ participants_in y → IsPossible y past
       → AtEachVote (IsAcceptedExactly y) past → AtEachEvent (LeavesNoneDue y) past
-      → is_due past ≡ false → prompt.is_due y past kind ≡ false
+      → is_to_be_tried past ≡ false → prompt.is_due y past kind ≡ false
   rested [] kind some possible exact none rests =
       ap (λ n. nat_le (quorum_in y) n) (none_of (is_valid y) (is_valid y) (is_skipped y.mode))
       ∙ some_quorum (participants_in y) some
@@ -145,8 +127,8 @@ module _ {D K G C : Type 0} (y : Config D K G C) where
 module _ {D K G C : Type 0} where
   four_rest : (call : Call K G C D) (answer : Answer G C D) (past : History D K G C)
       → ends_in_constructions 4 ((call, answer) ∷ past) ≡ true → answer ≡ ConstructAnswer None
-      → is_due ((call, answer) ∷ past) ≡ false
-  four_rest ConstructCall answer past four is = ap (λ a. due_after {K = K} (ConstructCall, a) (is_due past)) is
+      → is_to_be_tried ((call, answer) ∷ past) ≡ false
+  four_rest ConstructCall answer past four is = ap (λ a. due_after {K = K} (ConstructCall, a) (is_to_be_tried past)) is
   four_rest (NetworkCall sender vote) answer past four is = absurd (false≢true four)
   four_rest (OwnCall vote) answer past four is = absurd (false≢true four)
   four_rest (CertificateCall certificate) answer past four is = absurd (false≢true four)
@@ -155,7 +137,7 @@ module _ {D K G C : Type 0} where
   four_rest (MissingCall proposal) answer past four is = absurd (false≢true four)
 
   -- A view that has to be looked at wasn't constructed four times in a row before.
-  pub few_before : (past : History D K G C) → AtEachEvent Rests past → is_due past ≡ true
+  pub few_before : (past : History D K G C) → AtEachEvent Rests past → is_to_be_tried past ≡ true
       → ends_in_constructions 4 past ≡ false
   few_before [] rests due = absurd (false≢true due)
   few_before ((call, answer) ∷ past) rests due =

@@ -1,34 +1,11 @@
 -- Who sends just what its own node answered as to be sent is blocked by no other node.
-use Rattle.std.proofs.Common.{◌≡◌, ◌==◌, ℕ, Bool, true, false, not, cond, [], ◌∷◌, Option, Some, None, is_some, refl, sym, ap, ◌∙◌, subst}
-use Rattle.std.specs.Prelude.{All}
-use Rattle.std.specs.List.{list_any, AllPass}
-use Rattle.std.specs.Option.{option_map, option_or}
-use Rattle.std.proofs.lemmas.Bool.{true≢false, false≢true, eqb-true}
-use Rattle.std.proofs.lemmas.List.Elements.{All-head, All-tail}
-use Rattle.std.proofs.lemmas.List.Sums.{list_all-from_AllPass}
-use Rattle.batcher.specs.positions.Participant.{Participant}
-use Rattle.batcher.specs.positions.Round.{Round}
-use Rattle.batcher.specs.messages.Kind.{Kind}
-use Rattle.batcher.specs.answers.BlockReason.{BlockReason}
-use Rattle.batcher.specs.votes.Mode.{Mode}
-use Rattle.batcher.specs.Lists.{is_some_and}
-use Rattle.batcher.specs.Votes.{signer_of, subject_of, attestation_of, round_in}
-use Rattle.batcher.specs.Eligible.{ready_kind}
-use Rattle.batcher.specs.Answers.{IsPossible}
-use Rattle.batcher.specs.Promises.{gave_cause}
-use Rattle.batcher.specs.Honest.{own_votes_added, sent_bad_vote}
-use Rattle.batcher.specs.RunContract.{IsPromised}
-use Rattle.batcher.specs.SentVotes.{SendersOfAddedGiveNoCause}
-use Rattle.batcher_node.specs.declared.answers.Receipt.TheVariants.{Answered}
-use Rattle.batcher_node.specs.declared.answers.Verdict.TheVariants.{Forged}
-use Rattle.batcher_node.specs.declared.answers.Cause.{Cause}
-use Rattle.batcher_node.specs.declared.answers.Cause.TheVariants.{Vote as ForVote, Certificate as ForCertificate, Signature as ForSignature}
-use Rattle.batcher_node.specs.Windows.{numbered}
-use Rattle.batcher_node.specs.Events.{NodeEvent, vote_came, certificate_came, constructed, NodeHistory, view_history, peer_in, is_peer, cause_by, cause_in}
-use Rattle.batcher_node.specs.Nodes.{NodeConfig}
-use Rattle.batcher_node.specs.Represents.{AreNamed, mode_of, config_of}
-use Rattle.batcher_node.specs.NodePromises.{IsForCause, AreForCause}
-use Rattle.batcher_node.specs.Sending.{votes_to_send, HearsOnly}
+use Rattle.batcher_node.proofs.Words.{◌≡◌, ◌==◌, ℕ, Bool, true, false, not, cond, [], ◌∷◌, Option, Some, None, is_some, refl, sym, ap, ◌∙◌, subst, All}
+use Rattle.batcher_node.proofs.Words.{list_any, AllPass, option_map, option_or, true≢false, false≢true, eqb-true, All-head, All-tail, list_all-from_AllPass}
+use Rattle.batcher_node.proofs.Words.{Participant, Round, Kind, BlockReason, Mode, is_some_and, signer_of, subject_of, attestation_of, round_in, ready_kind}
+use Rattle.batcher_node.proofs.Words.{IsPossible, gave_cause, own_votes_added, sent_bad_vote, IsPromised, SendersOfAddedGiveNoCause, Answered, Forged, Cause}
+use Rattle.batcher_node.proofs.Words.{ForVote, ForCertificate, ForSignature, numbered, NodeEvent, vote_came, certificate_came, constructed, NodeHistory}
+use Rattle.batcher_node.proofs.Words.{view_history, peer_in, is_peer, cause_by, cause_in, NodeConfig, AreNamed, mode_of, config_of, IsForCause, AreForCause}
+use Rattle.batcher_node.proofs.Words.{votes_to_send, HearsOnly}
 use Rattle.batcher_node.proofs.SendingViews.{none_of, own_attest, sent_none_bad, round_of, sends_added}
 
 -- the participant of which something is so

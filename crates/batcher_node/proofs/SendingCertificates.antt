@@ -1,24 +1,9 @@
 -- The certificates that a node recorded or gave certify what they name.
-use Rattle.std.proofs.Common.{◌≡◌, ℕ, Bool, true, false, cond, [], ◌∷◌, ◌++◌, Option, Some, None, is_some, refl, sym, ap, subst}
-use Rattle.std.specs.Prelude.{All}
-use Rattle.std.specs.List.{AllByRecursion}
-use Rattle.std.proofs.lemmas.Bool.{false≢true}
-use Rattle.std.proofs.lemmas.List.Elements.{All-from_recursion}
-use Rattle.batcher.specs.positions.Participant.{Participant}
-use Rattle.batcher.specs.positions.Round.{Round}
-use Rattle.batcher.specs.calls.Call.TheVariants.{Construct as ConstructCall}
-use Rattle.batcher.specs.answers.Answer.TheVariants.{Construct as ConstructAnswer}
-use Rattle.batcher.specs.Config.{Config}
-use Rattle.batcher.specs.History.{Event, History}
-use Rattle.batcher.specs.Promises.{AtEachEvent, GivesVerified}
-use Rattle.batcher_node.specs.declared.answers.Receipt.{Receipt}
-use Rattle.batcher_node.specs.declared.answers.Receipt.TheVariants.{Answered, Outside, Dropped}
-use Rattle.batcher_node.specs.declared.answers.Verdict.{Verdict}
-use Rattle.batcher_node.specs.declared.answers.Verdict.TheVariants.{Recorded, Forged, Known}
-use Rattle.batcher_node.specs.Events.{NodeEvent, certificate_came, constructed, NodeHistory, view_history, view_history_by, peer_in, cause_in}
-use Rattle.batcher_node.specs.Nodes.{NodeConfig}
-use Rattle.batcher_node.specs.Represents.{config_of, receipt_from, is_within, IsNamed, AreNamed}
-use Rattle.batcher_node.specs.Sending.{HoldsCertified}
+use Rattle.batcher_node.proofs.Words.{◌≡◌, ℕ, Bool, true, false, cond, [], ◌∷◌, ◌++◌, Option, Some, None, is_some, refl, sym, ap, subst, All, AllByRecursion}
+use Rattle.batcher_node.proofs.Words.{false≢true, All-from_recursion, Participant, Round, ConstructCall, ConstructAnswer, Config, Event, History, AtEachEvent}
+use Rattle.batcher_node.proofs.Words.{GivesVerified, Receipt, Answered, Outside, Dropped, Verdict, Recorded, Forged, Known, NodeEvent, certificate_came}
+use Rattle.batcher_node.proofs.Words.{constructed, NodeHistory, view_history, view_history_by, peer_in, cause_in, NodeConfig, config_of, receipt_from}
+use Rattle.batcher_node.proofs.Words.{is_within, IsNamed, AreNamed, HoldsCertified}
 use Rattle.batcher_node.proofs.Answering.{at_here}
 
 abbrev is_recorded : Receipt Verdict → Bool

@@ -1,23 +1,10 @@
 -- Another node goes on hearing of a participant just what its own answers as to be sent.
-use Rattle.std.proofs.Common.{◌≡◌, ◌==◌, ◌<◌, ℕ, Bool, true, ◌||◌, List, [], ◌∷◌, Some, None, refl, sym, ap, ◌∙◌, subst, length}
-use Rattle.std.specs.Prelude.{All}
-use Rattle.std.specs.List.{list_any}
-use Rattle.std.proofs.lemmas.Bool.{eq-eqb, or_right}
-use Rattle.std.proofs.lemmas.List.Elements.{All-cons, All-head, All-tail, All-nil}
-use Rattle.batcher.specs.messages.Vote.{Vote}
-use Rattle.batcher.specs.messages.Activity.{Activity}
-use Rattle.batcher.specs.answers.Admission.{Admission}
-use Rattle.batcher.specs.votes.Outcome.{Outcome}
-use Rattle.std.specs.declared.cmp.Ordering.{Ordering}
-use Rattle.batcher.specs.Meaning.{Meaning}
-use Rattle.batcher.specs.Votes.{signer_of}
-use Rattle.batcher.specs.Reports.{IsAmong}
-use Rattle.batcher_node.specs.declared.answers.Receipt.{Receipt}
-use Rattle.batcher_node.specs.Events.{NodeEvent, vote_came, certificate_came, vote_cast, NodeHistory}
-use Rattle.batcher_node.specs.declared.answers.Cast.TheVariants.{ToSend, Known}
-use Rattle.batcher_node.specs.Nodes.{NodeView, NodeConfig, SameNode, node_config, cause_at}
-use Rattle.batcher_node.specs.Represents.{NodeRepresents, Meets, SimulatesCast}
-use Rattle.batcher_node.specs.Sending.{votes_to_send, HearsOnly, SendsWhatIsToSend, HearsWhatIsToSend}
+use Rattle.batcher_node.proofs.Words.{◌≡◌, ◌==◌, ◌<◌, ℕ, Bool, true, ◌||◌, List, [], ◌∷◌, Some, None, refl, sym, ap, ◌∙◌, subst, length, All, list_any, eq-eqb}
+use Rattle.batcher_node.proofs.Words.{or_right, All-cons, All-head, All-tail, All-nil, Vote, Activity, Admission, Outcome, Ordering, Meaning, signer_of}
+use Rattle.batcher_node.proofs.Words.{IsAmong, Receipt, NodeEvent, vote_came, certificate_came, vote_cast, NodeHistory, ToSend, NodeView, NodeConfig, SameNode}
+use Rattle.batcher_node.proofs.Words.{node_config, cause_at, NodeRepresents, NodeMeets, SimulatesCast, votes_to_send, HearsOnly, SendsWhatIsToSend}
+use Rattle.batcher_node.proofs.Words.{HearsWhatIsToSend}
+use Rattle.batcher_node.specs.declared.answers.Cast.TheVariants.{Known}
 
 module _ {D K G C : Type 0} (y : NodeConfig D K G C) (i : ℕ) where
   among_more : (vote more : Vote G D) (votes : List (Vote G D)) → IsAmong vote votes
@@ -101,7 +88,7 @@ module _ {S D K G C : Type 0} (x y : NodeConfig D K G C) (own new other newer : 
   -- also where the other node hears it.
   pub keeps_heard : (vote : Vote G D) (report : Activity G D) (peer : K)
       (receipt : Receipt (Admission G D)) → SimulatesCast x own vote (ToSend report) new
-      → Meets y other (vote_came peer vote receipt) newer
+      → NodeMeets y other (vote_came peer vote receipt) newer
       → HearsWhatIsToSend x y own other (signer_of vote)
       → HearsWhatIsToSend x y new newer (signer_of vote)
   keeps_heard vote report peer receipt meets other_meets h =

@@ -1,41 +1,15 @@
 -- What each view of a node is given by a participant that sends just what its own node answered as
 -- to be sent.
-use Rattle.std.proofs.Common.{◌≡◌, ◌==◌, ℕ, Bool, true, false, not, cond, ◌&&◌, ◌||◌, List, [], ◌∷◌, ◌++◌, Option, Some, Ok, is_some, refl, sym, ap, ◌∙◌, subst, ⊎_elim}
-use Rattle.std.specs.List.{list_any, list_all, AllPass}
-use Rattle.std.specs.Prelude.{All}
-use Rattle.std.proofs.lemmas.Bool.{and_parts, and_from, or_cases, false_from_ne_true, true≢false, false≢true, eqb-true, cases_Bool, or_right}
-use Rattle.std.proofs.lemmas.List.Folds.{list_any-append}
-use Rattle.std.proofs.lemmas.List.Elements.{All-head, All-tail}
-use Rattle.std.proofs.lemmas.List.Sums.{list_all-from_AllPass}
-use Rattle.batcher.specs.positions.Participant.{Participant}
-use Rattle.batcher.specs.positions.Round.{Round}
-use Rattle.batcher.specs.messages.Vote.{Vote}
-use Rattle.batcher.specs.messages.Kind.{Kind}
-use Rattle.batcher.specs.messages.Activity.{Activity}
-use Rattle.batcher.specs.votes.Outcome.{Outcome}
-use Rattle.batcher.specs.votes.Outcome.TheVariants.{Added, Duplicate, Conflicting}
-use Rattle.batcher.specs.votes.Mode.{Mode}
-use Rattle.batcher.specs.calls.Call.TheVariants.{Network as NetworkCall, Own as OwnCall, Certificate as CertificateCall, Leader as LeaderCall, Construct as ConstructCall, Forward as ForwardCall}
-use Rattle.batcher.specs.answers.Answer.TheVariants.{Network as NetworkAnswer, Own as OwnAnswer, Certificate as CertificateAnswer, Leader as LeaderAnswer, Construct as ConstructAnswer, Forward as ForwardAnswer}
-use Rattle.batcher.specs.Lists.{is_some_and}
-use Rattle.batcher.specs.Votes.{signer_of, is_kind, kind_of, is_vote_of}
-use Rattle.batcher.specs.Config.{Config, config, sender_in}
-use Rattle.batcher.specs.Steps.{report_by, is_added}
-use Rattle.batcher.specs.Eligible.{is_valid}
-use Rattle.batcher.specs.History.{Event, History, sent_votes}
-use Rattle.batcher.specs.Answers.{IsPossible}
-use Rattle.batcher.specs.Runs.{MayCall}
-use Rattle.batcher.specs.Promises.{AtEachEvent}
-use Rattle.batcher.specs.Reports.{IsAmong}
-use Rattle.batcher.specs.Honest.{own_added_by, own_votes_added, votes_sent, sent_bad_vote}
-use Rattle.batcher.specs.SentVotes.{SendsAdded}
-use Rattle.batcher.proofs.ListLemmas.{any_more}
-use Rattle.batcher_node.specs.declared.answers.Receipt.TheVariants.{Answered}
-use Rattle.batcher_node.specs.declared.answers.Verdict.TheVariants.{Recorded}
-use Rattle.batcher_node.specs.Events.{NodeEvent, vote_came, certificate_came, vote_cast, view_entered, constructed, proposal_forwarded, NodeHistory, at_view, view_history, view_history_by}
-use Rattle.batcher_node.specs.Nodes.{NodeConfig}
-use Rattle.batcher_node.specs.Represents.{IsNamed, AreNamed}
-use Rattle.batcher_node.specs.Sending.{to_send_by, view_of, votes_to_send, HearsOnly}
+use Rattle.batcher_node.proofs.Words.{◌≡◌, ◌==◌, ℕ, Bool, true, false, not, cond, ◌&&◌, ◌||◌, List, [], ◌∷◌, ◌++◌, Option, Some, Ok, is_some, refl, sym, ap}
+use Rattle.batcher_node.proofs.Words.{◌∙◌, subst, ⊎_elim, list_any, list_all, AllPass, All, and_parts, and_from, or_cases, false_from_ne_true, true≢false}
+use Rattle.batcher_node.proofs.Words.{false≢true, eqb-true, cases_Bool, or_right, list_any-append, All-head, All-tail, list_all-from_AllPass, Participant}
+use Rattle.batcher_node.proofs.Words.{Round, Vote, Kind, Activity, Outcome, Added, Duplicate, Conflicting, Mode, NetworkCall, OwnCall, CertificateCall}
+use Rattle.batcher_node.proofs.Words.{LeaderCall, ConstructCall, ForwardCall, NetworkAnswer, OwnAnswer, CertificateAnswer, LeaderAnswer, ConstructAnswer}
+use Rattle.batcher_node.proofs.Words.{ForwardAnswer, is_some_and, signer_of, is_kind, kind_of, is_vote_of, Config, config, sender_in, report_by, is_added}
+use Rattle.batcher_node.proofs.Words.{is_valid, Event, History, sent_votes, IsPossible, MayCall, AtEachEvent, IsAmong, own_added_by, own_votes_added}
+use Rattle.batcher_node.proofs.Words.{votes_sent, sent_bad_vote, SendsAdded, any_more, Answered, Recorded, NodeEvent, vote_came, certificate_came, vote_cast}
+use Rattle.batcher_node.proofs.Words.{view_entered, constructed, proposal_forwarded, NodeHistory, at_view, view_history, view_history_by, NodeConfig, IsNamed}
+use Rattle.batcher_node.proofs.Words.{AreNamed, to_send_by, view_of, votes_to_send, HearsOnly}
 
 -- LISTS
 module _ {X : Type 0} where

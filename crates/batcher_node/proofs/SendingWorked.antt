@@ -1,12 +1,7 @@
 -- The examples of a participant that sends what is to be sent are computed.
-use Rattle.std.proofs.Common.{◌≡◌, ◌==◌, Bool, true, false, ◌||◌, refl, arith, ap}
-use Rattle.std.proofs.lemmas.List.Elements.{All-from_recursion}
-use Rattle.std.proofs.lemmas.List.Sums.{AllPass-from_list_all}
-use Rattle.std.proofs.lemmas.Bool.{or_left}
+use Rattle.batcher_node.proofs.Words.{◌≡◌, ◌==◌, Bool, true, false, ◌||◌, refl, arith, ap, All-from_recursion, AllPass-from_list_all, or_left, signer_of}
+use Rattle.batcher_node.proofs.Words.{votes_to_send, HearsOnly, of_four, sent, heard, SendingExamples}
 use Rattle.batcher.specs.Keys.{index_of}
-use Rattle.batcher.specs.Votes.{signer_of}
-use Rattle.batcher_node.specs.Sending.{votes_to_send, HearsOnly}
-use Rattle.batcher_node.specs.SendingExamples.{of_four, sent, heard, SendingExamples}
 
 second_of : (a b c : Bool) → b ≡ true → (a || (b || c)) ≡ true
 second_of true b c h = refl

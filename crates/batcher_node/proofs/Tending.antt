@@ -1,16 +1,6 @@
 -- Rounds stay tended where one of them was called.
-use Rattle.std.proofs.Common.{◌≡◌, ◌≢◌, ◌⊎◌, inl, inr, ⊎_elim, ℕ, Bool, true, List, sym, ◌∙◌, subst}
-use Rattle.std.specs.Prelude.{IfSome}
-use Rattle.std.proofs.lemmas.Bool.{cases_eq}
-use Rattle.batcher.specs.calls.Call.{Call}
-use Rattle.batcher.specs.answers.Answer.{Answer}
-use Rattle.batcher.specs.positions.Epoch.{Epoch}
-use Rattle.batcher.specs.Config.{Config}
-use Rattle.batcher.specs.RoundState.{RoundView}
-use Rattle.batcher_node.specs.declared.slot.Slot.{Slot}
-use Rattle.batcher_node.specs.declared.window.Window.{Window}
-use Rattle.batcher_node.specs.Windows.{contains, numbered}
-use Rattle.batcher_node.specs.Nodes.{IsTended, slot_at, fresh_round, MakesCall, MakesCallThere, MakesCallFresh}
+use Rattle.batcher_node.proofs.Words.{◌≡◌, ◌≢◌, ◌⊎◌, inl, inr, ⊎_elim, ℕ, Bool, true, List, sym, ◌∙◌, subst, IfSome, cases_eq, Call, Answer, Epoch, Config}
+use Rattle.batcher_node.proofs.Words.{RoundView, Slot, Window, contains, numbered, IsTended, slot_at, fresh_round, MakesCall, MakesCallThere, MakesCallFresh}
 use Rattle.batcher_node.proofs.Calling.{if_some}
 
 module _ {S D K G C : Type 0} (round_config : RoundView S G D → Config D K G C) (participants : ℕ)

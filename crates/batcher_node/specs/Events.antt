@@ -10,8 +10,15 @@ use Rattle.batcher.specs.messages.Proposal.{Proposal}
 use Rattle.batcher.specs.verifier.Batch.{Batch}
 use Rattle.batcher.specs.votes.Outcome.{Outcome}
 use Rattle.batcher.specs.answers.Admission.{Admission}
-use Rattle.batcher.specs.calls.Call.TheVariants.{Network as NetworkCall, Own as OwnCall, Certificate as CertificateCall, Leader as LeaderCall, Construct as ConstructCall, Forward as ForwardCall}
-use Rattle.batcher.specs.answers.Answer.TheVariants.{Network as NetworkAnswer, Own as OwnAnswer, Certificate as CertificateAnswer, Leader as LeaderAnswer, Construct as ConstructAnswer, Forward as ForwardAnswer}
+use Rattle.batcher.specs.calls.Call.TheVariants.{Network as NetworkCall, Own as OwnCall}
+use Rattle.batcher.specs.calls.Call.TheVariants.{Certificate as CertificateCall}
+use Rattle.batcher.specs.calls.Call.TheVariants.{Leader as LeaderCall, Construct as ConstructCall}
+use Rattle.batcher.specs.calls.Call.TheVariants.{Forward as ForwardCall}
+use Rattle.batcher.specs.answers.Answer.TheVariants.{Network as NetworkAnswer, Own as OwnAnswer}
+use Rattle.batcher.specs.answers.Answer.TheVariants.{Certificate as CertificateAnswer}
+use Rattle.batcher.specs.answers.Answer.TheVariants.{Leader as LeaderAnswer}
+use Rattle.batcher.specs.answers.Answer.TheVariants.{Construct as ConstructAnswer}
+use Rattle.batcher.specs.answers.Answer.TheVariants.{Forward as ForwardAnswer}
 use Rattle.batcher.specs.Lists.{is_some_and}
 use Rattle.batcher.specs.Keys.{index_of}
 use Rattle.batcher.specs.Votes.{subject_of, subject_certified, round_in}
@@ -22,7 +29,9 @@ use Rattle.batcher_node.specs.declared.answers.Receipt.TheVariants.{Answered}
 use Rattle.batcher_node.specs.declared.answers.Verdict.{Verdict}
 use Rattle.batcher_node.specs.declared.answers.Verdict.TheVariants.{Recorded, Forged}
 use Rattle.batcher_node.specs.declared.answers.Cause.{Cause}
-use Rattle.batcher_node.specs.declared.answers.Cause.TheVariants.{Vote as ForVote, Certificate as ForCertificate, Signature as ForSignature}
+use Rattle.batcher_node.specs.declared.answers.Cause.TheVariants.{Vote as ForVote}
+use Rattle.batcher_node.specs.declared.answers.Cause.TheVariants.{Certificate as ForCertificate}
+use Rattle.batcher_node.specs.declared.answers.Cause.TheVariants.{Signature as ForSignature}
 use Rattle.batcher_node.specs.Nodes.{NodeConfig}
 use Rattle.batcher_node.specs.Windows as windows
 

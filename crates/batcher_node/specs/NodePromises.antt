@@ -1,5 +1,6 @@
 -- What is promised of a node after any history of its calls.
-use Rattle.std.specs.Prelude.{◌≡◌, ◌≤◌, ⊤, ℕ, true, false, List, [], ◌∷◌, ◌++◌, length, Some, is_some, IfSome}
+use Rattle.std.specs.Prelude.{◌≡◌, ◌≤◌, ⊤, ℕ, true, false, List, [], ◌∷◌, ◌++◌, length, Some}
+use Rattle.std.specs.Prelude.{is_some, IfSome}
 use Rattle.std.specs.List.{AllPass}
 use Rattle.batcher.specs.Lists.{is_some_and}
 use Rattle.batcher.specs.Eligible.{ready_kind}
@@ -8,19 +9,21 @@ use Rattle.batcher.specs.positions.Participant.{Participant}
 use Rattle.batcher.specs.Config.{sender_in}
 use Rattle.batcher.specs.Votes.{subject_of, round_in}
 use Rattle.batcher.specs.Verifiers.{certifies_itself}
-use Rattle.batcher.specs.Promises.{gave_cause}
+use Rattle.batcher.specs.Promises.{gave_cause, ends_in_constructions}
 use Rattle.batcher.specs.messages.Certificate.{Certificate}
 use Rattle.batcher.specs.messages.Kind.{Kind}
-use Rattle.batcher.specs.Promises.{ends_in_constructions}
-use Rattle.batcher.specs.CertificateTiming.{is_due as is_kind_due}
+use Rattle.batcher.specs.CertificateTiming.{is_due}
 use Rattle.batcher.specs.RunContract.{IsPromised}
 use Rattle.batcher_node.specs.declared.answers.Receipt.TheVariants.{Answered}
 use Rattle.batcher_node.specs.declared.answers.Verdict.TheVariants.{Forged}
 use Rattle.batcher_node.specs.declared.answers.Cause.{Cause}
-use Rattle.batcher_node.specs.declared.answers.Cause.TheVariants.{Vote as ForVote, Certificate as ForCertificate, Signature as ForSignature}
-use Rattle.batcher_node.specs.Events.{NodeEvent, vote_came, certificate_came, constructed, NodeHistory, view_history, is_peer}
+use Rattle.batcher_node.specs.declared.answers.Cause.TheVariants.{Vote as ForVote}
+use Rattle.batcher_node.specs.declared.answers.Cause.TheVariants.{Certificate as ForCertificate}
+use Rattle.batcher_node.specs.declared.answers.Cause.TheVariants.{Signature as ForSignature}
+use Rattle.batcher_node.specs.Events.{NodeEvent, vote_came, certificate_came, constructed}
+use Rattle.batcher_node.specs.Events.{NodeHistory, view_history, is_peer}
 use Rattle.batcher_node.specs.Nodes.{NodeView, NodeConfig, IsAtRest, cause_at}
-use Rattle.batcher_node.specs.Represents.{NodeRepresents, config_of, is_due}
+use Rattle.batcher_node.specs.Represents.{NodeRepresents, config_of, is_to_be_tried}
 use Rattle.batcher_node.specs.Sending.{ToSendAgree}
 
 module _ {D K G C : Type 0} (x : NodeConfig D K G C) where
@@ -55,8 +58,8 @@ module _ {D K G C : Type 0} (x : NodeConfig D K G C) where
     -- A view that hasn't to be looked at has a certificate of each kind of which a quorum of votes
     -- that count is valid.
     pub rested_are_complete :
-        (view : ℕ) → is_due (view_history view past) ≡ false
-        → (kind : Kind) → is_kind_due (config_of x past view) (view_history view past) kind ≡ false
+        (view : ℕ) → is_to_be_tried (view_history view past) ≡ false
+        → (kind : Kind) → is_due (config_of x past view) (view_history view past) kind ≡ false
     -- No view is constructed five times in a row: it rests after four at most.
     pub few_in_a_row : (view : ℕ) → ends_in_constructions 5 (view_history view past) ≡ false
     -- No two votes that are to be sent contradict each other, of whatever views they are.
@@ -67,7 +70,7 @@ module _ {D K G C : Type 0} (x : NodeConfig D K G C) where
   abbrev pub IsComplete : {S : Type 0} → NodeHistory D K G C → NodeView S G D → Type 0
   IsComplete past node =
       (view : ℕ) → node.window.finalized ≤ view
-      → (kind : Kind) → is_kind_due (config_of x past view) (view_history view past) kind ≡ false
+      → (kind : Kind) → is_due (config_of x past view) (view_history view past) kind ≡ false
 
   -- In a view the participant of an index named another one, or contradicted itself.
   pub record VotedWithCause (past : NodeHistory D K G C) (i : ℕ) : Type 0 where

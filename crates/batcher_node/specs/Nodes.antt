@@ -1,5 +1,6 @@
 -- A node, as contracts see it, its configuration, and what one call of a view's round changes.
-use Rattle.std.specs.Prelude.{◌≡◌, ◌≢◌, ◌≤◌, ◌<◌, ◌⊎◌, ◌||◌, ⊤, ℕ, Bool, true, false, List, [], Option, Some, None, Err, IfSome, MatchOption, option_and_then}
+use Rattle.std.specs.Prelude.{◌≡◌, ◌≢◌, ◌≤◌, ◌<◌, ◌⊎◌, ◌||◌, ⊤, ℕ, Bool, true, false, List, []}
+use Rattle.std.specs.Prelude.{Option, Some, None, Err, IfSome, MatchOption, option_and_then}
 use Rattle.std.specs.List.{slice_get}
 use Rattle.std.specs.Ordering.{nat_cmp}
 use Rattle.std.specs.declared.cmp.Ordering.{Ordering}
@@ -10,9 +11,11 @@ use Rattle.batcher.specs.positions.Epoch.{Epoch}
 use Rattle.batcher.specs.positions.Participant.{Participant}
 use Rattle.batcher.specs.verifier.LeaderFault.TheVariants.{LeaderChanged as RoundLeaderChanged}
 use Rattle.batcher.specs.calls.Call.{Call}
-use Rattle.batcher.specs.calls.Call.TheVariants.{Network as NetworkCall, Construct as ConstructCall, Forward as ForwardCall}
+use Rattle.batcher.specs.calls.Call.TheVariants.{Network as NetworkCall, Construct as ConstructCall}
+use Rattle.batcher.specs.calls.Call.TheVariants.{Forward as ForwardCall}
 use Rattle.batcher.specs.answers.Answer.{Answer}
-use Rattle.batcher.specs.answers.Answer.TheVariants.{Network as NetworkAnswer, Construct as ConstructAnswer}
+use Rattle.batcher.specs.answers.Answer.TheVariants.{Network as NetworkAnswer}
+use Rattle.batcher.specs.answers.Answer.TheVariants.{Construct as ConstructAnswer}
 use Rattle.batcher.specs.messages.Certificate.{Certificate}
 use Rattle.batcher.specs.verifier.Batch.{Batch}
 use Rattle.batcher.specs.Meaning.{Meaning}
@@ -148,7 +151,8 @@ NeedsThere round_config at call =
 module _ {S D K G C : Type 0} (round_config : RoundView S G D → Config D K G C)
     (old new : ℕ → Option (Slot (RoundView S G D))) (view : ℕ) where
   -- A round was called: it goes on as its history says, and no other view has changed.
-  pub record GoesOn (before : Slot (RoundView S G D)) (call : Call K G C D) (answer : Answer G C D)
+  pub record ViewGoesOn (before : Slot (RoundView S G D)) (call : Call K G C D)
+      (answer : Answer G C D)
       : Type 0 where
     pub after : RoundView S G D
     pub same : SameRound before.round after
@@ -161,14 +165,14 @@ module _ {S D K G C : Type 0} (round_config : RoundView S G D → Config D K G C
   pub record MakesCallThere (call : Call K G C D) (answer : Answer G C D) : Type 0 where
     pub slot : Slot (RoundView S G D)
     pub there : old view ≡ Some slot
-    pub goes_on : GoesOn slot call answer
+    pub goes_on : ViewGoesOn slot call answer
 
   -- or there was none, and it is a fresh one.
   pub record MakesCallFresh (fresh : RoundView S G D) (call : Call K G C D) (answer : Answer G C D)
       : Type 0 where
     pub absent : old view ≡ None
     pub fresh_represents : Represents (round_config fresh) [] fresh.holds
-    pub goes_on : GoesOn (record { round = fresh; changed = false }) call answer
+    pub goes_on : ViewGoesOn (record { round = fresh; changed = false }) call answer
 
   abbrev pub MakesCall : RoundView S G D → Call K G C D → Answer G C D → Type 0
   MakesCall fresh call answer = MakesCallThere call answer ⊎ MakesCallFresh fresh call answer

@@ -1,5 +1,6 @@
 -- When a node represents a history of its calls, and how it goes on with one more.
-use Rattle.std.specs.Prelude.{◌≡◌, ◌≤◌, ◌<◌, ◌⊎◌, ⊤, ℕ, Bool, true, false, cond, [], ◌∷◌, length, Option, Some, None, is_some, is_none, Ok, MatchOption}
+use Rattle.std.specs.Prelude.{◌≡◌, ◌≤◌, ◌<◌, ◌⊎◌, ⊤, ℕ, Bool, true, false, cond, [], ◌∷◌, length}
+use Rattle.std.specs.Prelude.{Option, Some, None, is_some, is_none, Ok, MatchOption}
 use Rattle.std.specs.declared.cmp.Ordering.{Ordering}
 use Rattle.batcher.specs.positions.Participant.{Participant}
 use Rattle.batcher.specs.positions.Round.{Round}
@@ -18,25 +19,31 @@ use Rattle.batcher.specs.Selection.{is_certified, leader_of}
 use Rattle.batcher.specs.Verifiers.{certifies_itself}
 use Rattle.batcher.specs.RoundState.{RoundView}
 use Rattle.batcher.specs.History.{History}
-use Rattle.batcher.specs.Answers.{IsPossible, needs_memory, network_answer, own_answer, certificate_answer}
+use Rattle.batcher.specs.Answers.{IsPossible, needs_memory, network_answer, own_answer}
+use Rattle.batcher.specs.Answers.{certificate_answer}
 use Rattle.batcher.specs.calls.Call.{Call}
 use Rattle.batcher.specs.calls.Call.TheVariants.{Construct as ConstructCall}
 use Rattle.batcher.specs.Represents.{Represents}
 use Rattle.batcher_node.specs.declared.answers.Receipt.{Receipt}
-use Rattle.batcher_node.specs.declared.answers.Receipt.TheVariants.{Answered, Outside, Dropped, Unknown}
+use Rattle.batcher_node.specs.declared.answers.Receipt.TheVariants.{Answered, Outside, Dropped}
+use Rattle.batcher_node.specs.declared.answers.Receipt.TheVariants.{Unknown}
 use Rattle.batcher_node.specs.declared.answers.Verdict.{Verdict}
 use Rattle.batcher_node.specs.declared.answers.Verdict.TheVariants.{Recorded, Forged, Known}
 use Rattle.batcher_node.specs.declared.answers.Cast.{Cast}
-use Rattle.batcher_node.specs.declared.answers.Cast.TheVariants.{ToSend, Known as KnownVote, Outside as OutsideVote}
+use Rattle.batcher_node.specs.declared.answers.Cast.TheVariants.{ToSend, Known as KnownVote}
+use Rattle.batcher_node.specs.declared.answers.Cast.TheVariants.{Outside as OutsideVote}
 use Rattle.batcher_node.specs.declared.slot.Slot.{Slot}
 use Rattle.batcher_node.specs.Windows.{is_of, mode_now, numbered}
-use Rattle.batcher_node.specs.Events.{NodeEvent, started, vote_came, certificate_came, vote_cast, view_entered, view_finalized, constructed, proposal_forwarded, NodeHistory, view_history, peer_in, cause_in, window_in}
-use Rattle.batcher_node.specs.Nodes.{NodeView, NodeConfig, cause_at, due_after, slot_at, IsNext, IsTended, node_config}
+use Rattle.batcher_node.specs.Events.{NodeEvent, started, vote_came, certificate_came, vote_cast}
+use Rattle.batcher_node.specs.Events.{view_entered, view_finalized, constructed, proposal_forwarded}
+use Rattle.batcher_node.specs.Events.{NodeHistory, view_history, peer_in, cause_in, window_in}
+use Rattle.batcher_node.specs.Nodes.{NodeView, NodeConfig, cause_at, due_after, slot_at, IsNext}
+use Rattle.batcher_node.specs.Nodes.{IsTended, node_config}
 
 -- whether the round of a history has to be looked at
-abbrev pub is_due : {D K G C : Type 0} → History D K G C → Bool
-is_due [] = false
-is_due (event ∷ past) = due_after event (is_due past)
+abbrev pub is_to_be_tried : {D K G C : Type 0} → History D K G C → Bool
+is_to_be_tried [] = false
+is_to_be_tried (event ∷ past) = due_after event (is_to_be_tried past)
 
 -- An own vote is to be sent where it is reported.
 abbrev pub cast_by : {G D : Type 0} → Option (Activity G D) → Cast G D
@@ -101,9 +108,9 @@ module _ {D K G C : Type 0} (x : NodeConfig D K G C) where
       ((window_in past).finalized ≤ view)
       × (leader_set_answer (leader_of (view_history view past)) leader ≡ Ok tt)
   IsNamed past (constructed view given) =
-      (is_due (view_history view past) ≡ true)
+      (is_to_be_tried (view_history view past) ≡ true)
       × ((lower : ℕ) → (window_in past).finalized ≤ lower → lower < view
-      → is_due (view_history lower past) ≡ false)
+      → is_to_be_tried (view_history lower past) ≡ false)
   IsNamed past (proposal_forwarded view me given) = is_empty (view_history view past) ≡ false
   IsNamed past (started window) = past ≡ []
   IsNamed past (view_finalized view) = ⊤
@@ -118,7 +125,7 @@ module _ {D K G C : Type 0} (x : NodeConfig D K G C) where
       (slot : Slot (RoundView S G D)) : Type 0 where
     pub begun : is_empty (view_history view past) ≡ false
     pub mode_is : slot.round.mode ≡ mode_of past view
-    pub changed_is : slot.changed ≡ is_due (view_history view past)
+    pub changed_is : slot.changed ≡ is_to_be_tried (view_history view past)
     pub represents : Represents (config_of past view) (view_history view past) slot.round.holds
 
   -- A node represents a history where each view does by itself. From the finalized view on, a
@@ -144,8 +151,8 @@ module _ {D K G C : Type 0} (x : NodeConfig D K G C) where
 
   -- A call that is answered leaves a node that represents the longer history, whatever history it
   -- represented before.
-  abbrev pub Meets : {S : Type 0} → NodeView S G D → NodeEvent D K G C → NodeView S G D → Type 0
-  Meets old event new =
+  abbrev pub NodeMeets : {S : Type 0} → NodeView S G D → NodeEvent D K G C → NodeView S G D → Type 0
+  NodeMeets old event new =
       (past : NodeHistory D K G C) → NodeRepresents past old → NodeRepresents (event ∷ past) new
 
   -- What is said of each history that a node represents.
@@ -164,9 +171,9 @@ module _ {D K G C : Type 0} (x : NodeConfig D K G C) where
   abbrev pub SimulatesCast : {S : Type 0} → NodeView S G D → Vote G D → Cast G D → NodeView S G D
       → Type 0
   SimulatesCast old vote (ToSend report) new =
-      (outcome : Outcome) × Meets old (vote_cast vote outcome (Some report)) new
+      (outcome : Outcome) × NodeMeets old (vote_cast vote outcome (Some report)) new
   SimulatesCast old vote KnownVote new =
-      (outcome : Outcome) × Meets old (vote_cast vote outcome None) new
+      (outcome : Outcome) × NodeMeets old (vote_cast vote outcome None) new
   SimulatesCast old vote OutsideVote new =
       (is_of x.epoch old.window (round_in (subject_of vote)) ≡ false) × (new ≡ old)
 
@@ -177,17 +184,17 @@ module _ {D K G C : Type 0} (x : NodeConfig D K G C) where
       → NodeView S G D → Type 0
   SimulatesForward old view me given new =
       MatchOption (slot_at old.rounds view) ((given ≡ None) × (new ≡ old))
-      (λ slot. Meets old (proposal_forwarded view me given) new)
+      (λ slot. NodeMeets old (proposal_forwarded view me given) new)
 
   -- whether a message is looked at: its sender takes part and isn't blocked, and it is of the epoch
   -- and of a view in the window
-  abbrev pub is_free : {S : Type 0} → NodeView S G D → Option Participant → Bool
-  is_free node None = false
-  is_free node (Some i) = is_none (cause_at node.blocked i.0)
+  abbrev pub is_heard : {S : Type 0} → NodeView S G D → Option Participant → Bool
+  is_heard node None = false
+  is_heard node (Some i) = is_none (cause_at node.blocked i.0)
 
   abbrev pub IsHeard : {S : Type 0} → NodeView S G D → K → Round → Type 0
   IsHeard node peer number =
-      (is_free node (peer_in x peer) ≡ true) × (is_of x.epoch node.window number ≡ true)
+      (is_heard node (peer_in x peer) ≡ true) × (is_of x.epoch node.window number ≡ true)
 
   -- A call in a view may need memory: for a round, where the view has none, or as the history of
   -- the view says, whichever history the node represents.

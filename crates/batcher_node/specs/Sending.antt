@@ -1,5 +1,6 @@
 -- What comes of a participant that sends another node just what its own answered as to be sent.
-use Rattle.std.specs.Prelude.{◌≡◌, ◌==◌, ◌≤◌, ◌&&◌, ⊤, ℕ, Bool, true, false, List, [], ◌∷◌, ◌++◌, Some, All}
+use Rattle.std.specs.Prelude.{◌≡◌, ◌==◌, ◌≤◌, ◌&&◌, ⊤, ℕ, Bool, true, false, List, [], ◌∷◌, ◌++◌}
+use Rattle.std.specs.Prelude.{Some, All}
 use Rattle.std.specs.List.{AllPass}
 use Rattle.batcher.specs.messages.Vote.{Vote}
 use Rattle.batcher.specs.Lists.{count}
@@ -8,7 +9,8 @@ use Rattle.batcher.specs.Verifiers.{certifies_itself, BatchCertifies}
 use Rattle.batcher.specs.Reports.{IsAmong}
 use Rattle.batcher_node.specs.declared.answers.Receipt.TheVariants.{Answered}
 use Rattle.batcher_node.specs.declared.answers.Verdict.TheVariants.{Recorded}
-use Rattle.batcher_node.specs.Events.{NodeEvent, vote_came, certificate_came, vote_cast, constructed, NodeHistory, is_peer}
+use Rattle.batcher_node.specs.Events.{NodeEvent, vote_came, certificate_came, vote_cast}
+use Rattle.batcher_node.specs.Events.{constructed, NodeHistory, is_peer}
 use Rattle.batcher_node.specs.Nodes.{NodeView, NodeConfig}
 use Rattle.batcher_node.specs.Represents.{NodeRepresents}
 

@@ -6,12 +6,16 @@ use Rattle.batcher.specs.messages.Certificate.{Certificate}
 use Rattle.batcher.specs.messages.Certificate.TheVariants.{Nullification as NullificationCertificate}
 use Rattle.batcher.specs.votes.Outcome.{Outcome}
 use Rattle.batcher.specs.answers.OwnFault.{OwnFault}
-use Rattle.batcher.specs.answers.BlockReason.TheVariants.{ConflictingNotarize, NullifySignerMismatch}
+use Rattle.batcher.specs.answers.BlockReason.TheVariants.{ConflictingNotarize}
+use Rattle.batcher.specs.answers.BlockReason.TheVariants.{NullifySignerMismatch}
 use Rattle.batcher.specs.Steps.{report_by}
 use Rattle.batcher.specs.Answers.{network_answer, own_answer}
-use Rattle.batcher.specs.Examples.Answers.{TinyVote, listing, compare, the_round, notarize, nullify, finalize, nullification}
-use Rattle.batcher_node.specs.declared.answers.Cause.TheVariants.{Vote as ForVote, Certificate as ForCertificate}
-use Rattle.batcher_node.specs.Events.{NodeHistory, started, vote_came, certificate_came, vote_cast, view_entered, view_history, cause_in}
+use Rattle.batcher.specs.Examples.Answers.{TinyVote, listing, compare, the_round, notarize, nullify}
+use Rattle.batcher.specs.Examples.Answers.{finalize, nullification}
+use Rattle.batcher_node.specs.declared.answers.Cause.TheVariants.{Vote as ForVote}
+use Rattle.batcher_node.specs.declared.answers.Cause.TheVariants.{Certificate as ForCertificate}
+use Rattle.batcher_node.specs.Events.{NodeHistory, started, vote_came, certificate_came, vote_cast}
+use Rattle.batcher_node.specs.Events.{view_entered, view_history, cause_in}
 use Rattle.batcher_node.specs.Nodes.{NodeConfig}
 use Rattle.batcher_node.specs.Represents.{config_of, receipt, verdict, AreNamed}
 use Rattle.batcher_node.specs.Sending.{votes_to_send, SendsWhatIsToSend}
@@ -31,8 +35,8 @@ of_four =
     }
 
 -- a node that entered the view 1 of the votes, which 0 leads
-abbrev pub begun : TinyNodeHistory
-begun =
+abbrev pub just_entered : TinyNodeHistory
+just_entered =
     view_entered 1 (participant 0)
     ∷ started (record { finalized = 0; current = 0; ahead = 2 }) ∷ []
 
@@ -61,12 +65,13 @@ hear_certificate past peer certificate =
 
 -- The node of 1: it notarizes and nullifies, and asks for more that isn't to be sent.
 abbrev pub sent : TinyNodeHistory
-sent = cast (cast (cast (cast begun (notarize 1 1)) (nullify 1)) (nullify 1)) (finalize 1 1)
+sent = cast (cast (cast (cast just_entered (notarize 1 1)) (nullify 1)) (nullify 1)) (finalize 1 1)
 
 -- The node of 2: it casts its own, and hears 1, under whose key a certificate comes too.
 abbrev pub heard : TinyNodeHistory
 heard =
-    hear_certificate (hear (hear (cast begun (notarize 2 1)) 1 (nullify 1)) 1 (notarize 1 1)) 1
+    hear_certificate (hear (hear (cast just_entered (notarize 2 1)) 1 (nullify 1)) 1
+    (notarize 1 1)) 1
     nullification
 
 abbrev pub forgery : Certificate ℕ ℕ
@@ -88,4 +93,4 @@ pub record SendingExamples : Type 0 where
       cause_in of_four (hear heard 1 (notarize 1 2)) 1 ≡ Some (ForVote ConflictingNotarize)
   pub blocked_for_forgery :
       cause_in of_four
-      (hear_certificate (cast begun (notarize 2 1)) 1 forgery) 1 ≡ Some ForCertificate
+      (hear_certificate (cast just_entered (notarize 2 1)) 1 forgery) 1 ≡ Some ForCertificate

@@ -2,7 +2,9 @@
 use Rattle.std.specs.Prelude.{ℕ, true, false, List, codes}
 use Rattle.batcher.specs.Reasons.{text_of}
 use Rattle.batcher_node.specs.declared.answers.Cause.{Cause}
-use Rattle.batcher_node.specs.declared.answers.Cause.TheVariants.{Vote as ForVote, Certificate as ForCertificate, Signature as ForSignature}
+use Rattle.batcher_node.specs.declared.answers.Cause.TheVariants.{Vote as ForVote}
+use Rattle.batcher_node.specs.declared.answers.Cause.TheVariants.{Certificate as ForCertificate}
+use Rattle.batcher_node.specs.declared.answers.Cause.TheVariants.{Signature as ForSignature}
 use Rattle.batcher_node.specs.declared.answers.Verdict.{Verdict}
 use Rattle.batcher_node.specs.declared.answers.Verdict.TheVariants.{Recorded, Forged, Known}
 

@@ -1,7 +1,8 @@
 //! What a node answers.
 
 ghost use Rattle.std.specs.Prelude.{◌≡◌, Some};
-ghost use Rattle.batcher_node.specs.declared.answers.EnterFault.TheVariants.{OutOfMemory as OutOfMemoryFault, LeaderChanged as LeaderChangedFault};
+ghost use Rattle.batcher_node.specs.declared.answers.EnterFault.TheVariants.{OutOfMemory as OutOfMemoryFault};
+ghost use Rattle.batcher_node.specs.declared.answers.EnterFault.TheVariants.{LeaderChanged as LeaderChangedFault};
 ghost use Rattle.batcher_node.specs.Texts.{cause_text, verdict_text};
 
 use batcher::messages::Activity;

@@ -1,6 +1,8 @@
 //! A node: the rounds of a window of views, and the peers that are blocked in all of them.
 
-ghost use Rattle.std.specs.Prelude.{◌≡◌, ◌≤◌, ◌<◌, ◌∷◌, [], true, false, cond, ◌==◌, ℕ, length, map, IfOk, IfErr, OnOk, OnErr, IfSome, IfNone, Some, None, Ok, Err, is_some};
+ghost use Rattle.std.specs.Prelude.{◌≡◌, ◌≤◌, ◌<◌, ◌∷◌, [], true, false, cond, ◌==◌, ℕ, length};
+ghost use Rattle.std.specs.Prelude.{map, IfOk, IfErr, OnOk, OnErr, IfSome, IfNone, Some, None, Ok};
+ghost use Rattle.std.specs.Prelude.{Err, is_some};
 ghost use Rattle.std.specs.List.{list_any, range_with_len};
 ghost use Rattle.std.specs.Option.{option_map, option_copied, option_or};
 ghost use Rattle.std.specs.List.Sorted.{IsStrictlySortedBy};
@@ -8,14 +10,24 @@ ghost use Rattle.std.specs.Ordering.{nat_cmp};
 ghost use Rattle.batcher.specs.Votes.{subject_of, subject_certified, attestation_of, round_in};
 ghost use Rattle.batcher.specs.Verifiers.{certifies_itself, IfGiven};
 ghost use Rattle.batcher.specs.Answers.{own_answer};
-ghost use Rattle.batcher.specs.calls.Call.TheVariants.{Network as NetworkCall, Own as OwnCall, Certificate as CertificateCall};
+ghost use Rattle.batcher.specs.calls.Call.TheVariants.{Network as NetworkCall, Own as OwnCall};
+ghost use Rattle.batcher.specs.calls.Call.TheVariants.{Certificate as CertificateCall};
 ghost use Rattle.batcher.specs.Steps.{fault_or_memory};
-ghost use Rattle.batcher_node.specs.declared.answers.Cause.TheVariants.{Vote as ForVote, Signature as ForSignature};
-ghost use Rattle.batcher_node.specs.declared.answers.EnterFault.TheVariants.{Passed as PassedFault, LeaderChanged as LeaderChangedFault, OutOfMemory as OutOfMemoryFault};
+ghost use Rattle.batcher_node.specs.declared.answers.Cause.TheVariants.{Vote as ForVote};
+ghost use Rattle.batcher_node.specs.declared.answers.Cause.TheVariants.{Signature as ForSignature};
+ghost use Rattle.batcher_node.specs.declared.answers.EnterFault.TheVariants.{Passed as PassedFault};
+ghost use Rattle.batcher_node.specs.declared.answers.EnterFault.TheVariants.{LeaderChanged as LeaderChangedFault};
+ghost use Rattle.batcher_node.specs.declared.answers.EnterFault.TheVariants.{OutOfMemory as OutOfMemoryFault};
 ghost use Rattle.batcher_node.specs.Windows.{is_of, width, contains, numbered};
-ghost use Rattle.batcher_node.specs.Events.{peer_in, invalid_in, started, vote_came, certificate_came, view_entered, view_finalized, constructed, view_history};
-ghost use Rattle.batcher_node.specs.Nodes.{SameNode, IsAtRest, HasChanged, IsNext, Draws, IsLedByAnother, cause_at, slot_at};
-ghost use Rattle.batcher_node.specs.Represents.{cast_by, Meets, SimulatesCast, SimulatesForward, NodeRepresents, ForEachNodeHistory, IsHeard, MayNeedIn, NextMayNeed, config_of, ForSomeNodeHistory};
+ghost use Rattle.batcher_node.specs.Events.{peer_in, invalid_in, started, vote_came};
+ghost use Rattle.batcher_node.specs.Events.{certificate_came, view_entered, view_finalized};
+ghost use Rattle.batcher_node.specs.Events.{constructed, view_history};
+ghost use Rattle.batcher_node.specs.Nodes.{SameNode, IsAtRest, HasChanged, IsNext, Draws};
+ghost use Rattle.batcher_node.specs.Nodes.{IsLedByAnother, cause_at, slot_at};
+ghost use Rattle.batcher_node.specs.Represents.{cast_by, NodeMeets, SimulatesCast};
+ghost use Rattle.batcher_node.specs.Represents.{SimulatesForward, NodeRepresents};
+ghost use Rattle.batcher_node.specs.Represents.{ForEachNodeHistory, IsHeard, MayNeedIn};
+ghost use Rattle.batcher_node.specs.Represents.{NextMayNeed, config_of, ForSomeNodeHistory};
 ghost use Rattle.batcher_node.specs.Verdicts.{LooksAtThere, MayBeQuorumThere};
 ghost use Rattle.batcher.specs.VerifierSteps.{certificate_for};
 ghost use Rattle.batcher.specs.Verdicts.{BatchIsAssembled};
@@ -153,7 +165,8 @@ impl<S: Scheme<D>, D: Digest> Node<S, D> {
         peer: S::PublicKey,
         vote: Vote<S::Signature, D>,
     ) -> Result<Receipt<Admission<S::Signature, D>>, AllocError>
-        ensures meets { IfOk result (λ receipt. Meets (⟦<S as NodeConfigs<D>>⟧.of self.old) self.old
+        ensures meets { IfOk result
+            (λ receipt. NodeMeets (⟦<S as NodeConfigs<D>>⟧.of self.old) self.old
             (vote_came peer vote receipt) self.new) }
         ensures outside_stays { result ≡ Ok Receipt.Outside → self.new ≡ self.old }
         ensures dropped_stays { result ≡ Ok Receipt.Dropped → self.new ≡ self.old }
@@ -190,7 +203,8 @@ impl<S: Scheme<D>, D: Digest> Node<S, D> {
         peer: S::PublicKey,
         certificate: &Certificate<S::Certificate, D>,
     ) -> Result<Receipt<Verdict>, AllocError>
-        ensures meets { IfOk result (λ receipt. Meets (⟦<S as NodeConfigs<D>>⟧.of self.old) self.old
+        ensures meets { IfOk result
+            (λ receipt. NodeMeets (⟦<S as NodeConfigs<D>>⟧.of self.old) self.old
             (certificate_came peer certificate.now receipt) self.new) }
         ensures outside_stays { result ≡ Ok Receipt.Outside → self.new ≡ self.old }
         ensures dropped_stays { result ≡ Ok Receipt.Dropped → self.new ≡ self.old }
@@ -262,7 +276,7 @@ impl<S: Scheme<D>, D: Digest> Node<S, D> {
     /// Enters a view with its leader. Views that are passed over by it, and in which nothing was
     /// said, get skipped rounds where something is. A refusal leaves the node as it was.
     pub fn enter(&mut self, view: View, leader: Participant) -> Result<(), EnterFault>
-        ensures meets { OnOk result (Meets (⟦<S as NodeConfigs<D>>⟧.of self.old) self.old
+        ensures meets { OnOk result (NodeMeets (⟦<S as NodeConfigs<D>>⟧.of self.old) self.old
             (view_entered view.0 leader) self.new) }
         ensures passed { view.0 < self.old.window.finalized → result ≡ Err EnterFault.Passed }
         ensures not_passed { result ≡ Err EnterFault.Passed → view.0 < self.old.window.finalized }
@@ -284,7 +298,7 @@ impl<S: Scheme<D>, D: Digest> Node<S, D> {
     /// A view was finalized: the rounds before it are dropped, and the window begins with it. It
     /// takes no memory.
     pub fn finalize(&mut self, view: View)
-        ensures meets { Meets (⟦<S as NodeConfigs<D>>⟧.of self.old) self.old
+        ensures meets { NodeMeets (⟦<S as NodeConfigs<D>>⟧.of self.old) self.old
             (view_finalized view.0) self.new }
         ensures dropped { (other : ℕ) → other < view.0 → slot_at self.new.rounds other ≡ None }
         ensures same { SameNode self.old self.new }
@@ -303,7 +317,7 @@ impl<S: Scheme<D>, D: Digest> Node<S, D> {
         rng: &mut R,
     ) -> Result<Option<Construction<S::Certificate, D>>, AllocError>
         ensures meets { IfOk result (λ made. IfSome made (λ one.
-            Meets (⟦<S as NodeConfigs<D>>⟧.of self.old) self.old
+            NodeMeets (⟦<S as NodeConfigs<D>>⟧.of self.old) self.old
             (constructed one.view.0 one.batch) self.new)) }
         ensures next { IfOk result (λ made. IfSome made (λ one.
             IsNext self.old.rounds one.view.0)) }
@@ -456,7 +470,8 @@ where
         verdicts: &[bool],
     ) -> Result<Option<Construction<S::Certificate, D>>, AllocError>
         requires { verdicts.now ≡ map ((S.meaning self.old.scheme).attests subject) list.now }
-        ensures meets { IfGiven result (λ one. Meets (⟦<S as NodeConfigs<D>>⟧.of self.old) self.old
+        ensures meets { IfGiven result
+            (λ one. NodeMeets (⟦<S as NodeConfigs<D>>⟧.of self.old) self.old
             (constructed one.view.0 one.batch) self.new) }
         ensures gives { IfGiven result (λ one. is_some one.batch ≡ true) }
         ensures assembled { IfGiven result (λ one. IfSome one.batch
@@ -497,7 +512,8 @@ where
         certificate: S::Certificate,
     ) -> Option<Construction<S::Certificate, D>>
         requires { (S.meaning self.old.scheme).certifies subject certificate ≡ true }
-        ensures meets { IfSome result (λ one. Meets (⟦<S as NodeConfigs<D>>⟧.of self.old) self.old
+        ensures meets { IfSome result
+            (λ one. NodeMeets (⟦<S as NodeConfigs<D>>⟧.of self.old) self.old
             (constructed one.view.0 one.batch) self.new) }
         ensures gives { IfSome result (λ one. IfSome one.batch (λ batch. batch.certificate
             ≡ Some (certificate_for subject certificate))) }

@@ -1,6 +1,8 @@
 //! The rounds of a node's views, each of which takes what is said in its view.
 
-ghost use Rattle.std.specs.Prelude.{◌≡◌, ◌≢◌, ◌≤◌, ◌<◌, ℕ, false, length, [], None, find, map, is_some, true, Some, Ok, MatchOption, IfOk, IfErr, OnOk, OnErr, IfSome, IfNone};
+ghost use Rattle.std.specs.Prelude.{◌≡◌, ◌≢◌, ◌≤◌, ◌<◌, ℕ, false, length, [], None, find, map};
+ghost use Rattle.std.specs.Prelude.{is_some, true, Some, Ok, MatchOption, IfOk, IfErr, OnOk, OnErr};
+ghost use Rattle.std.specs.Prelude.{IfSome, IfNone};
 ghost use Rattle.std.specs.Option.{option_map};
 ghost use Rattle.std.specs.Ordering.{nat_cmp};
 ghost use Rattle.std.specs.Map.{keys_of};
@@ -8,15 +10,19 @@ ghost use Rattle.std.specs.List.Sorted.{IsStrictlySortedBy};
 ghost use Rattle.std.specs.BTreeMap.{get};
 ghost use Rattle.std.specs.BinaryHeap.{heap_items, heap_capacity};
 ghost use Rattle.batcher_node.specs.Due.{ListsChanged};
-ghost use Rattle.batcher.specs.calls.Call.TheVariants.{Construct as ConstructCall, Forward as ForwardCall};
-ghost use Rattle.batcher.specs.answers.Answer.TheVariants.{Construct as ConstructAnswer, Forward as ForwardAnswer};
+ghost use Rattle.batcher.specs.calls.Call.TheVariants.{Construct as ConstructCall};
+ghost use Rattle.batcher.specs.calls.Call.TheVariants.{Forward as ForwardCall};
+ghost use Rattle.batcher.specs.answers.Answer.TheVariants.{Construct as ConstructAnswer};
+ghost use Rattle.batcher.specs.answers.Answer.TheVariants.{Forward as ForwardAnswer};
 ghost use Rattle.batcher.specs.Runs.{MayCall};
 ghost use Rattle.batcher.specs.Represents.{Represents};
 ghost use Rattle.batcher.specs.RoundContracts.{ForEachHistory};
 ghost use Rattle.batcher.specs.Selection.{is_certified};
 ghost use Rattle.batcher.specs.Verifiers.{certifies_itself, IfGiven};
 ghost use Rattle.batcher_node.specs.Windows.{is_of, entered, finalized, numbered};
-ghost use Rattle.batcher_node.specs.Nodes.{fresh_round, IsNext, IsTended, MakesCall, MakesCallThere, NeedsThere, Refuses, Draws, HasChanged, IsAtRest, slot_at};
+ghost use Rattle.batcher_node.specs.Nodes.{fresh_round, IsNext, IsTended, MakesCall};
+ghost use Rattle.batcher_node.specs.Nodes.{MakesCallThere, NeedsThere, Refuses, Draws, HasChanged};
+ghost use Rattle.batcher_node.specs.Nodes.{IsAtRest, slot_at};
 ghost use Rattle.batcher_node.specs.Verdicts.{LooksAtThere, MayBeQuorumThere};
 ghost use Rattle.batcher.specs.VerifierSteps.{certificate_for};
 ghost use Rattle.batcher.specs.Verdicts.{BatchIsAssembled};

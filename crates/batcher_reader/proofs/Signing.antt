@@ -1,8 +1,6 @@
 -- Texts of bytes: each is the same as itself, and none is the same with a bit of its first byte
 -- flipped.
-use Rattle.std.proofs.Common.{◌≡◌, ℕ, true, List, [], ◌∷◌, refl}
-use Rattle.std.proofs.lemmas.Bool.{eq-eqb}
-use Rattle.batcher_types.specs.Hashed.{same_bytes}
+use Rattle.batcher_reader.proofs.Words.{◌≡◌, ℕ, true, List, [], ◌∷◌, refl, eq-eqb, same_bytes}
 
 pub same_itself : (xs : List ℕ) → same_bytes xs xs ≡ true
 same_itself [] = refl

@@ -4,10 +4,18 @@ use Rattle.batcher_types.specs.declared.positions.Round.{Round}
 use Rattle.batcher_types.specs.declared.messages.Proposal.{Proposal}
 use Rattle.batcher_types.specs.declared.messages.Sha256Digest.{Sha256Digest}
 use Rattle.batcher_types.specs.declared.messages.Subject.{Subject}
-use Rattle.batcher_types.specs.declared.messages.Subject.TheVariants.{Notarize as NotarizeSubject, Nullify as NullifySubject, Finalize as FinalizeSubject}
+use Rattle.batcher_types.specs.declared.messages.Subject.TheVariants.{Notarize as NotarizeSubject}
+use Rattle.batcher_types.specs.declared.messages.Subject.TheVariants.{Nullify as NullifySubject}
+use Rattle.batcher_types.specs.declared.messages.Subject.TheVariants.{Finalize as FinalizeSubject}
 use Rattle.batcher_types.specs.declared.scheme.keyed.Name.{Name}
 use Rattle.batcher_histories.specs.declared.calls.Call.{Call}
-use Rattle.batcher_histories.specs.declared.calls.Call.TheVariants.{Network as NetworkCall, Own as OwnCall, Certificate as CertificateCall, Leader as LeaderCall, Construct as ConstructCall, Forward as ForwardCall, Missing as MissingCall}
+use Rattle.batcher_histories.specs.declared.calls.Call.TheVariants.{Network as NetworkCall}
+use Rattle.batcher_histories.specs.declared.calls.Call.TheVariants.{Own as OwnCall}
+use Rattle.batcher_histories.specs.declared.calls.Call.TheVariants.{Certificate as CertificateCall}
+use Rattle.batcher_histories.specs.declared.calls.Call.TheVariants.{Leader as LeaderCall}
+use Rattle.batcher_histories.specs.declared.calls.Call.TheVariants.{Construct as ConstructCall}
+use Rattle.batcher_histories.specs.declared.calls.Call.TheVariants.{Forward as ForwardCall}
+use Rattle.batcher_histories.specs.declared.calls.Call.TheVariants.{Missing as MissingCall}
 use Rattle.batcher_types.specs.declared.messages.Vote.{Vote}
 use Rattle.batcher_types.specs.Meaning.{Meaning}
 use Rattle.batcher_types.specs.Votes.{signer_of, subject_of, attestation_of, subject_certified}
@@ -17,7 +25,9 @@ use Rattle.batcher_reader.specs.declared.script.Ballot.TheVariants.{Notarize, Nu
 use Rattle.batcher_reader.specs.declared.script.Signature.{Signature}
 use Rattle.batcher_reader.specs.declared.script.Signature.TheVariants.{Good, Bad}
 use Rattle.batcher_reader.specs.declared.script.Command.{Command}
-use Rattle.batcher_reader.specs.declared.script.Command.TheVariants.{Network, Own, Certificate, Leader, Construct, Forward, Missing}
+use Rattle.batcher_reader.specs.declared.script.Command.TheVariants.{Network, Own, Certificate}
+use Rattle.batcher_reader.specs.declared.script.Command.TheVariants.{Leader, Construct, Forward}
+use Rattle.batcher_reader.specs.declared.script.Command.TheVariants.{Missing}
 
 -- the round's proposal with parent view 0 and a payload of equal bytes
 abbrev pub proposal_for : Round → ℕ → Proposal Sha256Digest

@@ -12,7 +12,7 @@ use Rattle.batcher_types.specs.Hashed.{same_bytes}
 use Rattle.batcher_types.specs.Meaning.{Meaning}
 use Rattle.batcher_histories.specs.Config.{config}
 use Rattle.batcher_votes.specs.RoundState.{RoundState}
-use Rattle.batcher_promises.specs.RunContract.{IsRun}
+use Rattle.batcher_histories.specs.RunContract.{IsRun}
 
 -- The answers are those of a run of the calls on a fresh round of the number, in some mode and by
 -- some order of names.

@@ -1,6 +1,7 @@
 //! What a script stands for: the scheme of its round, and the calls of its commands.
 
-ghost use Rattle.std.specs.Prelude.{◌≡◌, ◌≤◌, ◌&&◌, ℕ, List, All, IfOk, length, nat_lt, true, false};
+ghost use Rattle.std.specs.Prelude.{◌≡◌, ◌≤◌, ◌&&◌, ℕ, List, All, IfOk, length, nat_lt, true};
+ghost use Rattle.std.specs.Prelude.{false};
 ghost use Rattle.std.specs.List.{AllPass, AllZip};
 ghost use Rattle.batcher_types.specs.declared.messages.Attestation.{Attestation as TheAttestation};
 ghost use Rattle.batcher_types.specs.Attestations.{IsQuorum};
@@ -8,11 +9,12 @@ ghost use Rattle.batcher_histories.specs.Runs.{MayCall};
 ghost use Rattle.batcher_types.specs.Hashed.{same_bytes};
 ghost use Rattle.batcher_votes.specs.Verifiers.{certifies_itself};
 ghost use Rattle.batcher_types.specs.Votes.{subject_certified};
-ghost use Rattle.batcher_reader.specs.Calls.{IsVoteOf, IsCallOf, is_good, proposal_for, subject_for};
-ghost use Rattle.batcher_reader.specs.Commands.{is_among};
+ghost use Rattle.batcher_reader.specs.Calls.{IsVoteOf, IsCallOf, is_good, proposal_for};
+ghost use Rattle.batcher_reader.specs.Calls.{subject_for};
+ghost use Rattle.batcher_reader.specs.Commands.{is_signer_among};
 
 use crate::script::{Ballot, Command, Signature};
-use batcher_run::run::Call;
+use batcher::run::Call;
 use batcher_types::messages::{Attestation, Certificate, Proposal, Sha256Digest, Subject, Vote};
 use batcher_types::positions::{self, Participant, Set, View, quorum};
 use batcher_types::scheme::{Keyed, Name, Scheme, Sealed};
@@ -65,7 +67,8 @@ pub fn calls_of<S: TestScheme>(
 ) -> Result<Vec<Call<Name, [u8; 32], S::Certificate, Sha256Digest>>, AllocError>
     requires some { 1 ≤ length (S.meaning scheme.now).participants }
     requires few { length (S.meaning scheme.now).participants ≤ 1000 }
-    requires among { AllPass (is_among (length (S.meaning scheme.now).participants)) commands.now }
+    requires among { AllPass
+        (is_signer_among (length (S.meaning scheme.now).participants)) commands.now }
     ensures each { IfOk result (λ calls. AllZip (IsCallOf (S.meaning scheme.now) round)
         commands.now calls.items) }
     ensures may { IfOk result (λ calls. All (MayCall (S.meaning scheme.now) round) calls.items) }
@@ -85,7 +88,7 @@ fn call<S: TestScheme>(
 ) -> Result<Call<Name, [u8; 32], S::Certificate, Sha256Digest>, AllocError>
     requires some { 1 ≤ length (S.meaning scheme.now).participants }
     requires few { length (S.meaning scheme.now).participants ≤ 1000 }
-    requires among { is_among (length (S.meaning scheme.now).participants) command ≡ true }
+    requires among { is_signer_among (length (S.meaning scheme.now).participants) command ≡ true }
     ensures each { IfOk result (IsCallOf (S.meaning scheme.now) round command) }
     ensures may { IfOk result (MayCall (S.meaning scheme.now) round) }
 {

@@ -2,8 +2,8 @@
 
 use crate::input::Stop;
 use crate::script::Opening;
+use batcher::run::Answer;
 use batcher_round::round::{Admission, BlockReason};
-use batcher_run::run::Answer;
 use batcher_types::messages::{Activity, Certificate, Proposal, Sha256Digest};
 use batcher_types::positions::{Participant, Participants, quorum};
 use batcher_types::scheme::Name;

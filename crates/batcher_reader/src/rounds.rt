@@ -3,13 +3,13 @@
 ghost use Rattle.std.specs.Prelude.{◌≡◌, true, length, IfOk};
 ghost use Rattle.std.specs.List.{list_all, AllZip};
 ghost use Rattle.batcher_reader.specs.Calls.{IsCallOf};
-ghost use Rattle.batcher_reader.specs.Commands.{is_among};
+ghost use Rattle.batcher_reader.specs.Commands.{is_signer_among};
 ghost use Rattle.batcher_reader.specs.ScriptRuns.{IsPlayed};
 
 use crate::calls::{TestScheme, calls_of};
 use crate::script::{Command, Opening};
+use batcher::run::{Answer, Call, run};
 use batcher_round::round::Round;
-use batcher_run::run::{Answer, Call, run};
 use batcher_types::messages::Sha256Digest;
 use batcher_types::scheme::{Counter, Name, names};
 use std::alloc::{AllocError, Global};
@@ -40,7 +40,7 @@ pub fn answer_all<S: TestScheme>(
 ) -> Result<Answered<S::Certificate>, AllocError>
     requires participants { length (S.meaning scheme.value).participants
         ≡ opening.now.participants }
-    requires among { list_all (is_among opening.now.participants) commands.now ≡ true }
+    requires among { list_all (is_signer_among opening.now.participants) commands.now ≡ true }
     ensures each { IfOk result (λ answered.
         AllZip (IsCallOf (S.meaning scheme.value) opening.now.round)
         commands.now answered.calls.items) }

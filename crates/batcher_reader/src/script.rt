@@ -3,7 +3,7 @@
 
 ghost use Rattle.std.specs.Prelude.{◌≤◌, ◌≡◌, true};
 ghost use Rattle.std.specs.Option.{option_map};
-ghost use Rattle.batcher_reader.specs.Commands.{is_among, are_among};
+ghost use Rattle.batcher_reader.specs.Commands.{is_signer_among, are_among};
 
 use batcher_types::positions::{Epoch, Round, View};
 use batcher_votes::votes::Mode;
@@ -191,7 +191,7 @@ impl Opening {
 impl Command {
     /// Whether an own vote is of one of so many participants.
     pub fn is_among(&self, participants: u32) -> bool
-        ensures { result ≡ is_among participants self.now }
+        ensures { result ≡ is_signer_among participants self.now }
     {
         match self {
             Command::Own { signer, ballot: _ } => *signer < participants,

@@ -1,22 +1,9 @@
 -- A construction by verdicts gives what the scheme assembles, if it gives a certificate.
-use Rattle.std.proofs.Common.{◌≡◌, ◌+◌, ap, sym, subst, refl, cond, ℕ, Bool, true, false, List, length, Option, Some, None, IfSome}
-use Rattle.std.specs.Prelude.{nat_le, filter}
-use Rattle.std.specs.List.{list_all}
-use Rattle.std.specs.Option.{option_map}
-use Rattle.rand_core.specs.Stream.{Stream}
-use Rattle.batcher_types.specs.Attempts.{AttemptResult, at_once, attempt_with, one_by_one}
-use Rattle.batcher_types.specs.Meaning.{Meaning}
-use Rattle.batcher_types.specs.declared.messages.Attestation.{Attestation}
-use Rattle.batcher_types.specs.declared.messages.Certificate.{Certificate}
-use Rattle.batcher_types.specs.declared.messages.Subject.{Subject}
-use Rattle.batcher_types.specs.declared.messages.Subject.TheVariants.{Notarize, Nullify, Finalize}
-use Rattle.batcher_votes.specs.RoundState.{RoundState}
+use Rattle.batcher_round.proofs.Words.{◌≡◌, ◌+◌, ap, sym, subst, refl, cond, ℕ, Bool, true, false, List, length, Option, Some, None, IfSome, nat_le, filter}
+use Rattle.batcher_round.proofs.Words.{list_all, option_map, Stream, AttemptResult, at_once, attempt_with, one_by_one, Meaning, Attestation, Certificate}
+use Rattle.batcher_round.proofs.Words.{Subject, Notarize, Nullify, Finalize, RoundState}
 use Rattle.batcher_votes.specs.Verdicts as votes
-use Rattle.batcher_votes.specs.VerifierSteps.{certificate_for}
-use Rattle.batcher_votes.specs.declared.verifier.Batch.{Batch}
-use Rattle.batcher_histories.specs.Config.{Config}
-use Rattle.batcher_histories.specs.Steps.{AfterBatch}
-use Rattle.batcher_round.specs.Verdicts.{IsAssembled, BatchIsAssembled, judged}
+use Rattle.batcher_round.proofs.Words.{certificate_for, Batch, Config, AfterBatch, IsAssembled, BatchIsAssembled, judged_config}
 
 module _ {D K G C : Type 0} (m : Meaning D K G C) (subject : Subject D) where
   abbrev IsOf : AttemptResult G C → Type 0
@@ -72,7 +59,7 @@ module _ {D K G C : Type 0} (m : Meaning D K G C) (subject : Subject D) where
 
 pub assembled_by_verdicts : {D K G C : Type 0} (x : Config D K G C) (old new : RoundState G D)
     (batch : Batch (Certificate C D)) (before after : Stream)
-    → AfterBatch (judged x) old before batch new after → BatchIsAssembled x.meaning batch
+    → AfterBatch (judged_config x) old before batch new after → BatchIsAssembled x.meaning batch
 assembled_by_verdicts x old new batch before after step =
     let tries = step.tried.tries in
     let made : IsOf x.meaning tries.subject tries.outcome =

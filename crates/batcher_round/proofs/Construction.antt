@@ -1,16 +1,7 @@
 -- A construction tries the first kind that is ready.
-use Rattle.std.specs.Prelude.{◌≡◌, Bool, true, false, Option, Some, None, is_some, Result, Ok, Err, IfOk}
-use Rattle.std.proofs.Common.{ap, refl, sym}
-use Rattle.rand_core.specs.Stream.{Stream}
-use Rattle.batcher_types.specs.declared.messages.Certificate.{Certificate}
-use Rattle.batcher_types.specs.declared.messages.Kind.{Kind}
-use Rattle.batcher_types.specs.declared.messages.Kind.TheVariants.{Notarization, Nullification, Finalization}
-use Rattle.batcher_votes.specs.declared.verifier.Batch.{Batch}
-use Rattle.batcher_votes.specs.RoundState.{RoundState, SameTracker, SameVerifier}
-use Rattle.batcher_votes.specs.Verifiers.{IfGiven}
-use Rattle.batcher_histories.specs.Config.{Config}
-use Rattle.batcher_histories.specs.Steps.{AfterConstruct, TriesHeld, is_ready_in, kind_tried}
-use Rattle.batcher_round.specs.BallotsView.{BallotsView, SameRoundState, round_with}
+use Rattle.batcher_round.proofs.Words.{◌≡◌, Bool, true, false, Option, Some, None, is_some, Result, Ok, Err, IfOk, ap, refl, sym, Stream, Certificate, Kind}
+use Rattle.batcher_round.proofs.Words.{Notarization, Nullification, Finalization, Batch, RoundState, SameTracker, SameVerifier, IfGiven, Config, AfterConstruct}
+use Rattle.batcher_round.proofs.Words.{TriesHeld, is_ready_in, kind_tried, BallotsView, SameRoundState, round_with}
 use Rattle.batcher_round.proofs.InRound.{tries_in_round}
 
 -- the votes of a round are those that they were

@@ -1,18 +1,8 @@
 -- What the votes of a round change, the round changes: whether its proposal was forwarded stays as
 -- it was.
-use Rattle.std.specs.Prelude.{◌≡◌, Bool, Option, Some, None, Result, Ok, Err, IfOk, OnOk, OnErr}
-use Rattle.std.proofs.Common.{ap, refl}
-use Rattle.rand_core.specs.Stream.{Stream}
-use Rattle.batcher_types.specs.declared.messages.Certificate.{Certificate}
-use Rattle.batcher_types.specs.declared.messages.Kind.{Kind}
-use Rattle.batcher_types.specs.declared.messages.Vote.{Vote}
-use Rattle.batcher_types.specs.declared.messages.Activity.{Activity}
-use Rattle.batcher_types.specs.declared.positions.Participant.{Participant}
-use Rattle.batcher_votes.specs.declared.verifier.Batch.{Batch}
-use Rattle.batcher_votes.specs.declared.votes.Outcome.{Outcome}
-use Rattle.batcher_votes.specs.RoundState.{VerifierState, RoundState}
-use Rattle.batcher_histories.specs.Config.{Config}
-use Rattle.batcher_histories.specs.Steps.{AfterCertificate, AfterGiven, AfterLeader, AfterOwn, TriesHeld}
+use Rattle.batcher_round.proofs.Words.{◌≡◌, Bool, Option, Some, None, Result, Ok, Err, IfOk, OnOk, OnErr, ap, refl, Stream, Certificate, Kind, Vote, Activity}
+use Rattle.batcher_round.proofs.Words.{Participant, Batch, Outcome, VerifierState, RoundState, Config, AfterCertificate, AfterGiven, AfterLeader, AfterOwn}
+use Rattle.batcher_round.proofs.Words.{TriesHeld}
 
 pub first_on_err : {A E : Type 0} (P Q : Type 0) (r : Result A E) → OnErr r (P × Q) → OnErr r P
 first_on_err P Q (Ok v) h = tt

@@ -1,3 +1,4 @@
+pub mod Words
 pub mod OwnVotes
 pub mod OwnCertificates
 pub mod InRound

@@ -1,37 +1,11 @@
 -- A round keeps and represents the same, whatever way its scheme has to give certificates at once:
 -- neither speaks of that. So a construction by verdicts from elsewhere is followed as any other.
-use Rattle.std.proofs.Common.{inl, inr, ◌≡◌, ◌≤◌, ◌+◌, ◌∙◌, length, subst, ℕ, Bool, true, [], ◌∷◌, List, Option, Some, None, IfSome, ap, sym, ⊎_elim}
-use Rattle.std.specs.Prelude.{option_and_then}
-use Rattle.std.specs.Option.{option_map_or}
-use Rattle.std.proofs.lemmas.Option.{none-some}
-use Rattle.rand_core.specs.Stream.{Stream}
-use Rattle.batcher_types.specs.declared.messages.Attestation.{Attestation}
-use Rattle.batcher_types.specs.declared.messages.Certificate.{Certificate}
-use Rattle.batcher_types.specs.declared.messages.Kind.{Kind}
-use Rattle.batcher_types.specs.declared.messages.Subject.{Subject}
-use Rattle.batcher_types.specs.declared.messages.Vote.{Vote}
-use Rattle.batcher_types.specs.declared.positions.Round.{Round}
-use Rattle.batcher_types.specs.Meaning.{Meaning, IsLawful}
-use Rattle.batcher_votes.specs.declared.verifier.Batch.{Batch}
-use Rattle.batcher_votes.specs.AttemptInputs.{pending_tried, verified_tried}
-use Rattle.batcher_votes.specs.RoundState.{RoundState, TrackerView, VerifierState}
-use Rattle.batcher_votes.specs.Soundness.{IsSound}
-use Rattle.batcher_votes.specs.Verifiers.{certifies_itself}
-use Rattle.batcher_votes.specs.VerifierSteps.{subject_tried}
-use Rattle.batcher_votes.proofs.VerifierLemmas.Verdicts.{no_stream}
-use Rattle.batcher_histories.specs.Answers.{IsPossible, MayAnswer}
-use Rattle.batcher_histories.specs.Attempts.{Attempt, AttemptAfter}
-use Rattle.batcher_histories.specs.Config.{Config, quorum_in}
-use Rattle.batcher_histories.specs.History.{History}
-use Rattle.batcher_histories.specs.Represents.{Represents, Simulates}
-use Rattle.batcher_histories.specs.Steps.{IsRight, AfterConstruct, TriesHeld, is_ready_in, kind_tried}
-use Rattle.batcher_histories.specs.declared.calls.Call.{Call}
-use Rattle.batcher_histories.specs.declared.calls.Call.TheVariants.{Construct as ConstructCall}
-use Rattle.batcher_histories.specs.declared.answers.Answer.{Answer}
-use Rattle.batcher_histories.specs.declared.answers.Answer.TheVariants.{Construct as ConstructAnswer}
-use Rattle.batcher_histories.proofs.History.Laws.{HasLaws, laws_by}
-use Rattle.batcher_histories.proofs.Simulation.Construct.{construct_simulates}
-use Rattle.batcher_round.specs.Verdicts.{LooksAtKind, LooksAtNext, MayBeQuorumOf, MayBeQuorumNext}
+use Rattle.batcher_round.proofs.Words.{inl, inr, ◌≡◌, ◌≤◌, ◌+◌, ◌∙◌, length, subst, ℕ, Bool, true, [], ◌∷◌, List, Option, Some, None, IfSome, ap, sym, ⊎_elim}
+use Rattle.batcher_round.proofs.Words.{option_and_then, option_map_or, none-some, Stream, Attestation, Certificate, Kind, Subject, Vote, Round, Meaning}
+use Rattle.batcher_round.proofs.Words.{IsLawful, Batch, pending_tried, verified_tried, RoundState, TrackerView, VerifierState, IsSound, certifies_itself}
+use Rattle.batcher_round.proofs.Words.{subject_tried, no_stream, IsPossible, MayAnswer, Attempt, AttemptAfter, Config, quorum_in, History, Represents}
+use Rattle.batcher_round.proofs.Words.{Simulates, IsRight, AfterConstruct, TriesHeld, is_ready_in, kind_tried, Call, ConstructCall, Answer, ConstructAnswer}
+use Rattle.batcher_round.proofs.Words.{HasLaws, laws_by, construct_simulates, LooksAtKind, LooksAtNext, MayBeQuorumOf, MayBeQuorumNext}
 use Rattle.batcher_round.proofs.InRound.{tries_in_round}
 
 module _ {D K G C : Type 0} (m : Meaning D K G C)

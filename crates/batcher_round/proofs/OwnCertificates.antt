@@ -1,27 +1,10 @@
 -- A certificate of the round's own making never puts its proposal in the place of another: votes
 -- for others don't wait.
-use Rattle.std.proofs.Common.{◌≡◌, ◌∙◌, ◌&&◌, ℕ, Bool, true, false, not, cond, [], is_none, Option, Some, None, refl, sym, ap, subst}
-use Rattle.std.proofs.lemmas.Option.{none-some}
-use Rattle.std.specs.Option.{option_map}
-use Rattle.rand_core.specs.Stream.{Stream}
-use Rattle.batcher_types.specs.Meaning.{Meaning}
-use Rattle.batcher_types.specs.declared.positions.Round.{Round}
-use Rattle.batcher_types.specs.declared.messages.Proposal.{Proposal}
-use Rattle.batcher_types.specs.declared.messages.Subject.{Subject}
-use Rattle.batcher_types.specs.declared.messages.Certificate.{Certificate}
-use Rattle.batcher_types.specs.declared.messages.Kind.{Kind}
-use Rattle.batcher_types.specs.declared.messages.Kind.TheVariants.{Notarization, Nullification, Finalization}
-use Rattle.batcher_types.specs.Votes.{has_proposals, proposal_in, same_proposal, subject_certified}
-use Rattle.batcher_types.proofs.VoteLemmas.{same_proposal-refl}
-use Rattle.batcher_votes.specs.declared.verifier.Batch.{Batch}
-use Rattle.batcher_votes.specs.declared.verifier.ProposalState.{ProposalState}
-use Rattle.batcher_votes.specs.declared.verifier.ProposalState.TheVariants.{Unknown, Leader as LeadersProposal, Certificate as FixedProposal}
-use Rattle.batcher_votes.specs.RoundState.{VerifierState, TrackerState, of_kind}
-use Rattle.batcher_votes.specs.ProposalStates.{proposal_of, replaces}
-use Rattle.batcher_votes.specs.VerifierSteps.{Buffers, MayFix, certificate_for, subject_from, subject_tried, TriesKind}
-use Rattle.batcher_votes.proofs.VerifierLemmas.Certificates.{made_about}
-use Rattle.batcher_histories.specs.Config.{Config}
-use Rattle.batcher_histories.specs.Steps.{Fixes}
+use Rattle.batcher_round.proofs.Words.{◌≡◌, ◌∙◌, ◌&&◌, ℕ, Bool, true, false, not, cond, [], is_none, Option, Some, None, refl, sym, ap, subst, none-some}
+use Rattle.batcher_round.proofs.Words.{option_map, Stream, Meaning, Round, Proposal, Subject, Certificate, Kind, Notarization, Nullification, Finalization}
+use Rattle.batcher_round.proofs.Words.{has_proposals, proposal_in, same_proposal, subject_certified, same_proposal-refl, Batch, ProposalState, Unknown}
+use Rattle.batcher_round.proofs.Words.{LeadersProposal, FixedProposal, VerifierState, TrackerState, of_kind, proposal_of, replaces, Buffers, MayFix}
+use Rattle.batcher_round.proofs.Words.{certificate_for, subject_from, subject_tried, TriesKind, made_about, Config, Fixes}
 
 some_is : {X : Type 0} (a b : X) → ◌≡◌ {A = Option X} (Some a) (Some b) → a ≡ b
 some_is a b h = cc

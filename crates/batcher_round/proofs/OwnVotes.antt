@@ -1,21 +1,9 @@
 -- An own vote, from what comes of it to what it changes.
-use Rattle.std.specs.Prelude.{MatchBool, IsOk}
-use Rattle.std.proofs.Common.{◌≡◌, ◌∙◌, Bool, true, false, ℕ, nat_lt, Option, Result, Ok, refl, sym, ap, subst}
-use Rattle.batcher_types.specs.declared.messages.Kind.{Kind}
-use Rattle.batcher_types.specs.declared.messages.Proposal.{Proposal}
-use Rattle.batcher_types.specs.declared.messages.Vote.{Vote}
-use Rattle.batcher_types.specs.Votes.{kind_of, signer_of}
-use Rattle.batcher_types.specs.Meaning.{Meaning}
-use Rattle.batcher_votes.specs.declared.votes.Outcome.{Outcome}
-use Rattle.batcher_votes.specs.RoundState.{of_kind, VerifierState, RoundState, TrackerView, SameTracker}
-use Rattle.batcher_votes.specs.ProposalStates.{proposal_of}
-use Rattle.batcher_votes.specs.TrackerSteps.{observed, observed_opposite, is_released_in, is_seen, outcome_of, outcome_by, RecordsKind}
-use Rattle.batcher_votes.specs.VerifierSteps.{AddsVote, MayFix}
-use Rattle.batcher_votes.specs.Soundness.{BuffersOnlyKept}
-use Rattle.batcher_histories.specs.Config.{Config}
-use Rattle.batcher_histories.specs.Steps.{IsRight, AfterOwn, own_result, fixed_by, is_added, is_kept, report_by}
-use Rattle.batcher_histories.proofs.Correctness.Admission.{IsNew, added_new, right_recorded, right_eligible}
-use Rattle.batcher_histories.proofs.Correctness.Own.{in_range, kept_outcome, own_step, result_is, right_fixed, same_kept, seen_before}
+use Rattle.batcher_round.proofs.Words.{MatchBool, IsOk, ◌≡◌, ◌∙◌, Bool, true, false, ℕ, nat_lt, Option, Result, Ok, refl, sym, ap, subst, Kind, Proposal, Vote}
+use Rattle.batcher_round.proofs.Words.{kind_of, signer_of, Meaning, Outcome, of_kind, VerifierState, RoundState, TrackerView, SameTracker, proposal_of}
+use Rattle.batcher_round.proofs.Words.{observed, observed_opposite, is_released_in, is_seen, outcome_of, outcome_by, RecordsKind, AddsVote, MayFix}
+use Rattle.batcher_round.proofs.Words.{BuffersOnlyKept, Config, IsRight, AfterOwn, own_result, fixed_by, is_added, is_kept, report_by, IsNew, added_new}
+use Rattle.batcher_round.proofs.Words.{right_recorded, right_eligible, in_range, kept_outcome, own_step, result_is, right_fixed, same_kept, seen_before}
 
 -- a tracker with more room
 pub right_moved : {D K G C : Type 0} (m : Meaning D K G C) (tracker moved : TrackerView G D)

@@ -7,7 +7,8 @@ use Rattle.batcher_types.specs.Meaning.{Meaning}
 use Rattle.batcher_types.specs.Votes.{kind_of, signer_of, subject_of, round_in}
 use Rattle.batcher_votes.specs.declared.votes.Outcome.{Outcome}
 use Rattle.batcher_votes.specs.VerifierSteps.{MayAddVote, selected_in}
-use Rattle.batcher_votes.specs.RoundState.{TrackerView, of_kind, VerifierView, RoundView, SameVerifier, SameTracker, round_of}
+use Rattle.batcher_votes.specs.RoundState.{TrackerView, of_kind, VerifierView, RoundView}
+use Rattle.batcher_votes.specs.RoundState.{SameVerifier, SameTracker, round_of}
 use Rattle.batcher_votes.specs.Soundness.{KeepsAllRoom}
 use Rattle.batcher_votes.specs.TrackerSteps.{RecordsKind}
 use Rattle.batcher_histories.specs.Admissions.{admission_of}

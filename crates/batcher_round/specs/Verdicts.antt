@@ -29,12 +29,12 @@ module _ {D K G C : Type 0} (m : Meaning D K G C) where
 
 module _ {D K G C : Type 0} (x : Config D K G C) where
   -- the round's configuration, where each pending attestation has a verdict
-  abbrev pub judged : Config D K G C
-  judged = record x { meaning = votes.judged x.meaning }
+  abbrev pub judged_config : Config D K G C
+  judged_config = record x { meaning = votes.judged x.meaning }
 
   -- the same where a certificate was made elsewhere
-  abbrev pub judged_with : C → Config D K G C
-  judged_with certificate = record x { meaning = votes.judged_with x.meaning certificate }
+  abbrev pub judged_config_with : C → Config D K G C
+  judged_config_with certificate = record x { meaning = votes.judged_with x.meaning certificate }
 
   -- The kind is ready. An attempt at it is about the subject, and looks at these pending
   -- attestations.

@@ -1,15 +1,33 @@
 //! One round: what it answers to votes, and the certificates that it makes of them.
 
-ghost use Rattle.std.specs.Prelude.{◌≡◌, ◌≤◌, ◌<◌, ◌||◌, ◌↔◌, ◌++◌, not, None, Some, true, false, [], length, map, is_some, if◌then◌else◌, Ok, Err, IfOk, IfErr, IfSome, OnOk, OnErr, IsTrue, IsOk};
+ghost use Rattle.std.specs.Prelude.{◌≡◌, ◌≤◌, ◌<◌, ◌||◌, ◌↔◌, ◌++◌, not, None, Some, true, false};
+ghost use Rattle.std.specs.Prelude.{[], length, map, is_some, if◌then◌else◌, Ok, Err, IfOk, IfErr};
+ghost use Rattle.std.specs.Prelude.{IfSome, OnOk, OnErr, IsTrue, IsOk};
 ghost use Rattle.std.specs.Option.{option_map};
-ghost use Rattle.batcher_round.specs.RoundWords.{NullifyKind, TheKind, IfGiven, attestation_of, subject_of, round_in, subject_certified, of_kind, kept_vote, selected_in, nothing_held, missing_in, leader_set_answer, forward_answer};
-ghost use Rattle.batcher_round.specs.RoundWords.{admission, SameRound, kind_tried, restored_with, own_result, fault_or_memory, is_added, has_block_held, has_block, is_certified, leader_of, selected_proposal, keeps_nullify, own_answer};
-ghost use Rattle.batcher_round.specs.RoundWords.{needs_memory, BatchCertifies, AfterLeader, AfterNetwork, AfterConstruct, AfterOwn, AfterCertificate, MayCall, ForEachHistory, SimulatesAlways, MeetsAlways, SimulatesOnOk};
-ghost use Rattle.batcher_round.specs.RoundWords.{IsRefusedForNeed, Represents, NetworkCall, OwnCall, ConstructCall, LeaderCall, ForwardCall, MissingCall, CertificateCall, NetworkAnswer, OwnAnswer, ConstructAnswer, LeaderAnswer};
-ghost use Rattle.batcher_round.specs.RoundWords.{ForwardAnswer, MissingAnswer, CertificateAnswer, OutOfMemoryFault, subject_next, pending_next, verified_next, quorum_of, fresh_votes, proven_votes};
+ghost use Rattle.batcher_round.specs.RoundWords.{NullifyKind, TheKind, IfGiven, attestation_of};
+ghost use Rattle.batcher_round.specs.RoundWords.{subject_of, round_in, subject_certified, of_kind};
+ghost use Rattle.batcher_round.specs.RoundWords.{kept_vote, selected_in, nothing_held, missing_in};
+ghost use Rattle.batcher_round.specs.RoundWords.{leader_set_answer, forward_answer, admission};
+ghost use Rattle.batcher_round.specs.RoundWords.{SameRound, kind_tried, restored_with, own_result};
+ghost use Rattle.batcher_round.specs.RoundWords.{fault_or_memory, is_added, has_block_held};
+ghost use Rattle.batcher_round.specs.RoundWords.{has_block, is_certified, leader_of};
+ghost use Rattle.batcher_round.specs.RoundWords.{selected_proposal, keeps_nullify, own_answer};
+ghost use Rattle.batcher_round.specs.RoundWords.{needs_memory, BatchCertifies, AfterLeader};
+ghost use Rattle.batcher_round.specs.RoundWords.{AfterNetwork, AfterConstruct, AfterOwn};
+ghost use Rattle.batcher_round.specs.RoundWords.{AfterCertificate, MayCall, ForEachHistory};
+ghost use Rattle.batcher_round.specs.RoundWords.{SimulatesAlways, MeetsAlways, SimulatesOnOk};
+ghost use Rattle.batcher_round.specs.RoundWords.{IsRefusedForNeed, Represents, NetworkCall};
+ghost use Rattle.batcher_round.specs.RoundWords.{OwnCall, ConstructCall, LeaderCall, ForwardCall};
+ghost use Rattle.batcher_round.specs.RoundWords.{MissingCall, CertificateCall, NetworkAnswer};
+ghost use Rattle.batcher_round.specs.RoundWords.{OwnAnswer, ConstructAnswer, LeaderAnswer};
+ghost use Rattle.batcher_round.specs.RoundWords.{ForwardAnswer, MissingAnswer, CertificateAnswer};
+ghost use Rattle.batcher_round.specs.RoundWords.{OutOfMemoryFault, subject_next, pending_next};
+ghost use Rattle.batcher_round.specs.RoundWords.{verified_next, quorum_of, fresh_votes};
+ghost use Rattle.batcher_round.specs.RoundWords.{proven_votes};
 ghost use Rattle.rand_core.specs.Stream.{Stream};
 ghost use Rattle.batcher_histories.specs.Steps.{is_ready_in};
-ghost use Rattle.batcher_round.specs.Verdicts.{judged, judged_with, BatchIsAssembled, LooksAtKind, LooksAtNext, MayBeQuorumNext};
+ghost use Rattle.batcher_round.specs.Verdicts.{judged_config, judged_config_with, BatchIsAssembled};
+ghost use Rattle.batcher_round.specs.Verdicts.{LooksAtKind, LooksAtNext, MayBeQuorumNext};
 ghost use Rattle.batcher_votes.specs.VerifierSteps.{certificate_for};
 ghost use Rattle.batcher_types.specs.Attestations.{index_of_signer};
 ghost use Rattle.batcher_types.specs.Lists.{EachOnce};
@@ -524,7 +542,8 @@ where
             subject list.now → IfOk result (λ given. is_some given ≡ true) }
         ensures stale { result ≡ Ok None → self.new ≡ self.old }
         ensures step { IfGiven result (λ batch. (stream : Stream)
-            → AfterConstruct (judged (⟦<S as RoundConfigs<D>>⟧.of self.old)) self.old.holds stream
+            → AfterConstruct (judged_config
+            (⟦<S as RoundConfigs<D>>⟧.of self.old)) self.old.holds stream
             (Some batch) self.new.holds stream) }
         ensures meets { IfGiven result (λ batch. SimulatesAlways ⟦<S as RoundConfigs<D>>⟧.of
             self.old (ConstructCall, ConstructAnswer (Some batch)) self.new.holds) }
@@ -564,7 +583,7 @@ where
         ensures gives { IfSome result (λ batch. batch.certificate
             ≡ Some (certificate_for subject certificate)) }
         ensures step { IfSome result (λ batch. (stream : Stream)
-            → AfterConstruct (judged_with (⟦<S as RoundConfigs<D>>⟧.of self.old) certificate)
+            → AfterConstruct (judged_config_with (⟦<S as RoundConfigs<D>>⟧.of self.old) certificate)
             self.old.holds stream (Some batch) self.new.holds stream) }
         ensures meets { IfSome result (λ batch. SimulatesAlways ⟦<S as RoundConfigs<D>>⟧.of
             self.old (ConstructCall, ConstructAnswer (Some batch)) self.new.holds) }

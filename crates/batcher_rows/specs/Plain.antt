@@ -1,5 +1,6 @@
 -- The scheme of the benchmark: what its signatures are, and what its certificates say.
-use Rattle.std.specs.Prelude.{ℕ, Bool, ◌+◌, ◌*◌, ◌%◌, ◌^◌, ◌&&◌, ◌==◌, bit_xor, nat_le, nat_lt, List, length, fold, Option, Some, None, if◌then◌else◌}
+use Rattle.std.specs.Prelude.{ℕ, Bool, ◌+◌, ◌*◌, ◌%◌, ◌^◌, ◌&&◌, ◌==◌, bit_xor, nat_le, nat_lt}
+use Rattle.std.specs.Prelude.{List, length, fold, Option, Some, None, if◌then◌else◌}
 use Rattle.std.specs.List.{list_all}
 use Rattle.rand_core.specs.Stream.{Stream}
 use Rattle.batcher.specs.Quorum.{quorum_of}
@@ -30,16 +31,17 @@ subject_word (Nullify round) = round_word 2 round
 subject_word (Finalize proposal) = proposal_word 3 proposal
 
 -- the first word of the signature of an index over a subject
-abbrev pub signature_of : Subject Sha256Digest → ℕ → ℕ
-signature_of subject signer = mixed (subject_word subject) signer
+abbrev pub signature_word : Subject Sha256Digest → ℕ → ℕ
+signature_word subject signer = mixed (subject_word subject) signer
 
 -- whether the attestation is one of n participants' over the subject with the word
 abbrev pub bears : {P : Type 0} → ℕ → ℕ → Attestation (Padded P) → Bool
 bears n word a = nat_lt a.signer.0 n && (a.signature.word == mixed word a.signer.0)
 
 -- whether the attestation is of the subject, among n participants
-abbrev pub is_signed : {P : Type 0} → ℕ → Subject Sha256Digest → Attestation (Padded P) → Bool
-is_signed n subject a = bears n (subject_word subject) a
+abbrev pub is_plainly_signed : {P : Type 0} → ℕ → Subject Sha256Digest → Attestation (Padded P)
+    → Bool
+is_plainly_signed n subject a = bears n (subject_word subject) a
 
 -- the sum of the first words of the signatures and a number
 abbrev pub sum_from : {P : Type 0} → ℕ → List (Attestation (Padded P)) → ℕ
@@ -52,13 +54,13 @@ tally_of earlier later =
     record { count = length earlier + length later; sum = sum_from (sum_from 0 earlier) later }
 
 -- whether it counts a quorum of n participants
-abbrev pub is_enough : ℕ → Tally → Bool
-is_enough n tally = nat_le 1 n && nat_le (quorum_of n) tally.count
+abbrev pub counts_a_quorum : ℕ → Tally → Bool
+counts_a_quorum n tally = nat_le 1 n && nat_le (quorum_of n) tally.count
 
 -- the certificate where all pending ones attest, and the stream, which is left as it was
 abbrev pub tallied_at_once : {P : Type 0} → ℕ → Subject Sha256Digest → List (Attestation (Padded P))
     → List (Attestation (Padded P)) → Stream → Option Tally × Stream
 tallied_at_once n subject pending verified stream = (
-  if list_all (is_signed n subject) pending then Some (tally_of verified pending) else None,
+  if list_all (is_plainly_signed n subject) pending then Some (tally_of verified pending) else None,
   stream,
 )

@@ -5,7 +5,9 @@ ghost use Rattle.std.specs.Prelude.{◌≡◌, ◌<◌, ℕ, true, length, IfOk,
 ghost use Rattle.std.specs.Result.{result_ok};
 ghost use Rattle.std.specs.List.{list_all};
 ghost use Rattle.batcher.specs.Attestations.{Sorts};
-ghost use Rattle.batcher_rows.specs.Plain.{mixed, round_word, proposal_word, subject_word, signature_of, bears, is_signed, sum_from, tally_of, is_enough, tallied_at_once};
+ghost use Rattle.batcher_rows.specs.Plain.{mixed, round_word, proposal_word, subject_word};
+ghost use Rattle.batcher_rows.specs.Plain.{signature_word, bears, is_plainly_signed, sum_from};
+ghost use Rattle.batcher_rows.specs.Plain.{tally_of, counts_a_quorum, tallied_at_once};
 
 use batcher::messages::{Attestation, Proposal, Sha256Digest, Subject};
 use batcher::positions::{Participant, Round, Set, quorum};
@@ -62,8 +64,8 @@ pub fn sign<P>(
     padding: P,
 ) -> Attestation<Padded<P>>
     ensures signer { result.signer ≡ signer }
-    ensures signature { result.signature.word ≡ signature_of subject signer.0 }
-    ensures attests { (n : ℕ) → signer.0 < n → is_signed n subject result ≡ true }
+    ensures signature { result.signature.word ≡ signature_word subject signer.0 }
+    ensures attests { (n : ℕ) → signer.0 < n → is_plainly_signed n subject result ≡ true }
 {
     Attestation {
         signer,
@@ -88,7 +90,7 @@ fn all_signed<P>(
     subject: Subject<Sha256Digest>,
     attestations: &[Attestation<Padded<P>>],
 ) -> bool
-    ensures { result ≡ list_all (is_signed n subject) attestations.now }
+    ensures { result ≡ list_all (is_plainly_signed n subject) attestations.now }
 {
     let word = subject_word(subject);
     attestations
@@ -102,7 +104,7 @@ fn verify_each<P: Copy>(
     subject: Subject<Sha256Digest>,
     pending: &[Attestation<Padded<P>>],
 ) -> Result<Verification<Padded<P>>, AllocError>
-    ensures { IfOk result (Sorts (is_signed n subject) pending.now) }
+    ensures { IfOk result (Sorts (is_plainly_signed n subject) pending.now) }
 {
     let word = subject_word(subject);
     let mut verified = Vec::new(alloc);
@@ -162,8 +164,8 @@ impl<P: Copy + Eq> Scheme<Sha256Digest> for Plain<P> {
     ghost meaning = { λ s. record {
       participants = s.participants;
       batchable = true;
-      attests = λ subject a. is_signed (length s.participants) subject a;
-      certifies = λ subject c. is_enough (length s.participants) c;
+      attests = λ subject a. is_plainly_signed (length s.participants) subject a;
+      certifies = λ subject c. counts_a_quorum (length s.participants) c;
       left_by_verifying = λ subject pending stream. stream;
       assembled_at_once =
           λ subject pending verified stream. tallied_at_once (length s.participants) subject
@@ -201,7 +203,8 @@ impl<P: Copy + Eq> Scheme<Sha256Digest> for Plain<P> {
         subject: Subject<Sha256Digest>,
         pending: &[Attestation<Padded<P>>],
     ) -> Result<Verification<Padded<P>>, AllocError>
-        ensures sorts { IfOk result (Sorts (is_signed (length self.now.participants) subject)
+        ensures sorts { IfOk result
+            (Sorts (is_plainly_signed (length self.now.participants) subject)
             pending.now) }
         ensures stream { OnOk result (R.stream rng.new ≡ R.stream rng.old) }
     {
@@ -218,7 +221,7 @@ impl<P: Copy + Eq> Scheme<Sha256Digest> for Plain<P> {
         verified: &[Attestation<Padded<P>>],
     ) -> Result<Result<Tally, Verification<Padded<P>>>, AllocError>
         ensures sorts { IfOk result (λ answer. IfErr answer
-            (Sorts (is_signed (length self.now.participants) subject) pending.now)) }
+            (Sorts (is_plainly_signed (length self.now.participants) subject) pending.now)) }
         ensures function { IfOk result (λ answer. (result_ok answer, R.stream rng.new)
             ≡ tallied_at_once (length self.now.participants) subject pending.now verified.now
             (R.stream rng.old)) }
@@ -248,7 +251,7 @@ impl<P: Copy + Eq> Scheme<Sha256Digest> for Plain<P> {
     }
 
     fn verify_certificate(&self, subject: Subject<Sha256Digest>, certificate: &Tally) -> bool
-        ensures { result ≡ is_enough (length self.now.participants) certificate.now }
+        ensures { result ≡ counts_a_quorum (length self.now.participants) certificate.now }
     {
         let _ = subject;
         let n = self.participants.len();

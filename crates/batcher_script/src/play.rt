@@ -2,14 +2,14 @@
 
 ghost use Rattle.std.specs.Prelude.{◌≡◌, true};
 ghost use Rattle.std.specs.List.{list_all};
-ghost use Rattle.batcher_reader.specs.Commands.{is_among};
+ghost use Rattle.batcher_reader.specs.Commands.{is_signer_among};
 
+use batcher::run::{Answer, blocked};
 use batcher_reader::calls::TestScheme;
 use batcher_reader::input::{Stop, read_all};
 use batcher_reader::print::{AsText, Output, print_answer};
 use batcher_reader::rounds::{answer_all, scheme_of};
 use batcher_reader::script::{Command, Opening, SchemeWord, Script};
-use batcher_run::run::{Answer, blocked};
 use batcher_types::messages::Sha256Digest;
 use batcher_types::scheme::{Keyed, Sealed};
 use std::alloc::Global;
@@ -79,7 +79,7 @@ fn print_answers<S: TestScheme, W: Write>(
     questions: &[usize],
     output: &mut Output<W>,
 ) -> Result<(), Stop>
-    requires { list_all (is_among opening.now.participants) commands.now ≡ true }
+    requires { list_all (is_signer_among opening.now.participants) commands.now ≡ true }
 {
     let scheme = scheme_of::<S>(alloc, opening)?;
     let answered = answer_all(alloc, opening, scheme, commands)?;

@@ -1,23 +1,15 @@
 -- Lists in ascending order: their uniqueness, the search by halves, and what a map does with them.
-use Rattle.std.proofs.Common.{◌≡◌, ◌≢◌, ◌≤◌, ◌<◌, ◌+◌, ◌-◌, ℕ, suc, zero, Bool, true, false, cond, nat_eq, nat_lt, nat_le, ◌⊎◌, inl, inr, List, [], ◌∷◌, ◌++◌, length, get_or, set, take, drop, find, Some, None, map, refl, ap, sym}
-use Rattle.std.proofs.Common.{subst, arith}
-use Rattle.std.specs.List.{AllByRecursion, All, AllAdjacentBelow, IsDistinct, list_all}
-use Rattle.std.specs.List.Sorted.{IsPermutation, IsNonDecreasingBy, IsPartitionPoint, IsSearchInRange, IsBinarySearchResult}
-use Rattle.std.proofs.lemmas.List.Elements.{All-set}
-use Rattle.std.proofs.lemmas.Bool.Decides.{nat_tests}
-use Rattle.std.proofs.lemmas.List.Sorted.{All-permutation, IsPermutation-sym, IsPermutation-map}
-use Rattle.std.proofs.lemmas.Map.Keys.{IsDistinct-IsPermutation}
-use Rattle.std.proofs.lemmas.Cmp.{nat_eq_equiv, nat_cmp_total, ranked}
-use Rattle.std.specs.declared.cmp.Ordering.TheVariants.{Less, Equal, Greater}
-use Rattle.std.specs.Ordering.{nat_cmp, is_lt, ordering_index}
-use Rattle.std.proofs.lemmas.List.Sorted.{searchable_from_sorted}
-use Rattle.std.proofs.lemmas.Option.{none-some}
-use Rattle.std.specs.Prelude.{Result, Ok, Err, IfOk, IfErr}
-use Rattle.std.proofs.lemmas.Bool.{and_parts}
+use Rattle.batcher_types.proofs.Words.{◌≡◌, ◌≢◌, ◌≤◌, ◌<◌, ◌+◌, ◌-◌, ℕ, suc, zero, Bool, true, false, cond, nat_eq, nat_lt, nat_le, ◌⊎◌, inl, inr, List, []}
+use Rattle.batcher_types.proofs.Words.{◌∷◌, ◌++◌, length, get_or, set, take, drop, find, Some, None, map, refl, ap, sym, subst, arith, AllByRecursion, All}
+use Rattle.batcher_types.proofs.Words.{AllAdjacentBelow, list_all, IsPermutation, IsNonDecreasingBy, IsPartitionPoint, IsSearchInRange, IsBinarySearchResult}
+use Rattle.batcher_types.proofs.Words.{All-set, nat_tests, All-permutation, IsPermutation-sym, IsPermutation-map, IsDistinct-IsPermutation, nat_eq_equiv}
+use Rattle.batcher_types.proofs.Words.{nat_cmp_total, ranked, Less, Equal, Greater, nat_cmp, is_lt, ordering_index, searchable_from_sorted, none-some, Result}
+use Rattle.batcher_types.proofs.Words.{Ok, Err, IfOk, IfErr, and_parts}
+use Rattle.std.specs.List.{IsDistinct}
 use native.Mathlib.Numerals.{unary_clauses}
-use Rattle.batcher_types.specs.Ascending.{IsAscending, insert_by, ordered_by, is_ascending}
-use Rattle.batcher_types.specs.Lists.{EachOnce}
-use Rattle.batcher_types.specs.Ordered.{rec_from_all, all_from_rec, rec_weaker, insert-all, insert-ascending, ordered-all, ordered-ascending, once_head, once_tail, differ}
+use Rattle.batcher_types.proofs.Words.{insert_by, ordered_by, is_ascending, EachOnce, rec_from_all, all_from_rec, rec_weaker, insert-all, insert-ascending}
+use Rattle.batcher_types.proofs.Words.{ordered-all, ordered-ascending, once_head, once_tail, differ}
+use Rattle.batcher_types.specs.Ascending.{IsAscending}
 
 -- x is in the list
 pub Mem : {X : Type 0} → X → List X → Type 0

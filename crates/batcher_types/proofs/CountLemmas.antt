@@ -1,10 +1,7 @@
 -- Counts by tests, lists in which no number comes twice, and what two quorums share.
-use Rattle.std.proofs.Common.{◌≡◌, ◌≤◌, ◌+◌, ◌-◌, ◌/◌, ◌==◌, ◌&&◌, ◌||◌, ℕ, zero, suc, Bool, true, false, not, cond, nat_lt, List, [], ◌∷◌, ◌++◌, length, map, filter, refl, ap, sym, ◌∙◌, arith, ⊎_elim}
-use Rattle.std.specs.List.{list_all, list_any}
-use Rattle.std.proofs.lemmas.Bool.{cases_Bool, and_parts}
-use Rattle.std.proofs.lemmas.Bool.Decides.{nat_tests}
-use Rattle.batcher_types.specs.Quorum.{quorum_of}
-use Rattle.batcher_types.specs.Lists.{count, EachOnce, SameElements, ElementsWithin}
+use Rattle.batcher_types.proofs.Words.{◌≡◌, ◌≤◌, ◌+◌, ◌-◌, ◌/◌, ◌==◌, ◌&&◌, ◌||◌, ℕ, zero, suc, Bool, true, false, not, cond, nat_lt, List, [], ◌∷◌, ◌++◌}
+use Rattle.batcher_types.proofs.Words.{length, map, filter, refl, ap, sym, ◌∙◌, arith, ⊎_elim, list_all, list_any, cases_Bool, and_parts, nat_tests, quorum_of}
+use Rattle.batcher_types.proofs.Words.{count, EachOnce, SameElements, ElementsWithin}
 
 -- A mark counts once at most.
 pub at_most_one : (b : Bool) → cond b 1 0 ≤ 1

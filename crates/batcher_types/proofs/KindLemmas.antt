@@ -1,8 +1,5 @@
 -- The three kinds of votes, and the test that two are the same.
-use Rattle.std.proofs.Common.{◌≡◌, true, refl}
-use Rattle.batcher_types.specs.declared.messages.Kind.{Kind}
-use Rattle.batcher_types.specs.declared.messages.Kind.TheVariants.{Notarization, Nullification, Finalization}
-use Rattle.batcher_types.specs.Votes.{is_kind}
+use Rattle.batcher_types.proofs.Words.{◌≡◌, true, refl, Kind, Notarization, Nullification, Finalization, is_kind}
 
 -- a fact for each kind
 pub each_kind : (P : Kind → Type 0) → P Notarization → P Nullification → P Finalization

@@ -1,3 +1,4 @@
+pub mod Words
 pub mod AscendingLemmas
 pub mod CountLemmas
 pub mod HashingLemmas

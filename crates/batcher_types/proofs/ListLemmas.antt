@@ -1,9 +1,7 @@
 -- Filters and maps of lists, and whether any of a list passes a test.
-use Rattle.std.proofs.Common.{◌≡◌, Bool, true, false, cond, ◌&&◌, ◌||◌, List, [], ◌∷◌, ◌++◌, map, filter, find, Option, Some, None, refl, ap, sym, ◌∙◌, ⊎_elim, subst, arith}
-use Rattle.std.specs.List.{AllPass, list_any}
-use Rattle.std.proofs.lemmas.Bool.{cases_Bool, and_left, and_right, and_parts, or_left, or_right, or_cases, or_parts, true≢false}
-use Rattle.std.proofs.lemmas.List.Elements.{filter_agree, filter-append}
-use Rattle.std.proofs.lemmas.List.{append-nil}
+use Rattle.batcher_types.proofs.Words.{◌≡◌, Bool, true, false, cond, ◌&&◌, ◌||◌, List, [], ◌∷◌, ◌++◌, map, filter, find, Option, Some, None, refl, ap, sym, ◌∙◌}
+use Rattle.batcher_types.proofs.Words.{⊎_elim, subst, arith, AllPass, list_any, cases_Bool, and_left, and_right, and_parts, or_left, or_right, or_cases}
+use Rattle.batcher_types.proofs.Words.{or_parts, true≢false, filter_agree, filter-append, append-nil}
 
 -- two filters are one
 pub filter_twice : {X : Type 0} (p q : X → Bool) (xs : List X) → filter p (filter q xs)

@@ -1,8 +1,6 @@
 -- When a map takes an item.
-use Rattle.std.proofs.Common.{◌≡◌, ◌<◌, ℕ, true, false, nat_lt, [], arith, Some, None}
-use Rattle.std.proofs.lemmas.Bool.Decides.{nat_tests}
+use Rattle.batcher_types.proofs.Words.{◌≡◌, ◌<◌, ℕ, true, false, nat_lt, [], arith, Some, None, nat_tests, Items, item_of, is_new}
 use Rattle.batcher_types.specs.Ascending.{IsAscending}
-use Rattle.batcher_types.specs.Items.{Items, item_of, is_new}
 
 pub ascending-empty : {T : Type 0} (key : T → ℕ) → IsAscending key []
 unfolding IsAscending

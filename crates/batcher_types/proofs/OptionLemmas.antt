@@ -1,6 +1,5 @@
 -- Whether an option is given, and what it is then.
-use Rattle.std.proofs.Common.{◌≡◌, Bool, true, false, cond, Option, Some, None, is_some, refl}
-use Rattle.std.specs.Option.{option_map}
+use Rattle.batcher_types.proofs.Words.{◌≡◌, Bool, true, false, cond, Option, Some, None, is_some, refl, option_map}
 
 pub is_some-false : {X : Type 0} (o : Option X) → is_some o ≡ false → o ≡ None
 is_some-false None h = refl

@@ -1,17 +1,11 @@
 -- Where an item is in an ascending list, or where it would be.
-use Rattle.std.proofs.Common.{◌≡◌, ◌∙◌, ◌≤◌, ◌<◌, ◌+◌, ◌++◌, ℕ, suc, zero, Bool, true, false, cond, ◌||◌, nat_eq, nat_lt, nat_le, List, [], ◌∷◌, length, get_or, set, take, drop, map, find, Some, None, is_some, Result, Ok}
-use Rattle.std.proofs.Common.{Err, refl, ap}
-use Rattle.std.proofs.Common.{sym, arith}
-use Rattle.std.proofs.lemmas.Bool.Decides.{nat_tests}
-use Rattle.std.proofs.lemmas.Option.{slice_get-get_or}
-use Rattle.std.specs.Prelude.{◌==◌}
-use Rattle.std.specs.List.{All, AllByRecursion, list_any, slice_get}
-use Rattle.std.specs.List.Sorted.{IsSearchInRange, IsBinarySearchResult}
-use Rattle.std.specs.Ordering.{nat_cmp}
-use Rattle.batcher_types.specs.Ascending.{IsAscending, insert_by}
-use Rattle.batcher_types.specs.Lists.{count, is_some_and}
+use Rattle.batcher_types.proofs.Words.{◌≡◌, ◌∙◌, ◌≤◌, ◌<◌, ◌+◌, ◌++◌, ℕ, suc, zero, Bool, true, false, cond, ◌||◌, nat_eq, nat_lt, nat_le, List, [], ◌∷◌}
+use Rattle.batcher_types.proofs.Words.{length, get_or, set, take, drop, map, find, Some, None, is_some, Result, Ok, Err, refl, ap, sym, arith, nat_tests}
+use Rattle.batcher_types.proofs.Words.{slice_get-get_or, ◌==◌, All, AllByRecursion, list_any, IsSearchInRange, IsBinarySearchResult, nat_cmp, insert_by, count}
+use Rattle.batcher_types.proofs.Words.{is_some_and, rec_weaker, rec_from_all, all_from_rec}
+use Rattle.std.specs.List.{slice_get}
+use Rattle.batcher_types.specs.Ascending.{IsAscending}
 use Rattle.batcher_types.specs.Items.{place_of, replace_by}
-use Rattle.batcher_types.specs.Ordered.{rec_weaker, rec_from_all, all_from_rec}
 use Rattle.batcher_types.proofs.AscendingLemmas.{replace_at, find_at, found_key, lower, higher, searched_found, searched_absent}
 use Rattle.batcher_types.proofs.OptionLemmas.{is_some-false}
 

@@ -1,11 +1,6 @@
 -- Rounds, proposals and subjects that are the same by a test are equal, and each is the same as itself.
-use Rattle.std.proofs.Common.{◌≡◌, ◌==◌, ◌&&◌, ℕ, Bool, true, refl, ap, ◌∙◌}
-use Rattle.std.proofs.lemmas.Bool.{and_parts, and_from, eqb-true, eq-eqb}
-use Rattle.batcher_types.specs.declared.positions.Round.{Round}
-use Rattle.batcher_types.specs.declared.messages.Proposal.{Proposal}
-use Rattle.batcher_types.specs.declared.messages.Subject.{Subject}
-use Rattle.batcher_types.specs.declared.messages.Subject.TheVariants.{Notarize as NotarizeSubject, Nullify as NullifySubject, Finalize as FinalizeSubject}
-use Rattle.batcher_types.specs.Votes.{same_round, same_proposal, same_subject}
+use Rattle.batcher_types.proofs.Words.{◌≡◌, ◌==◌, ◌&&◌, ℕ, Bool, true, refl, ap, ◌∙◌, and_parts, and_from, eqb-true, eq-eqb, Round, Proposal, Subject}
+use Rattle.batcher_types.proofs.Words.{NotarizeSubject, NullifySubject, FinalizeSubject, same_round, same_proposal, same_subject}
 
 pub same_round-true : (a b : Round) → same_round a b ≡ true → a ≡ b
 same_round-true a b h =

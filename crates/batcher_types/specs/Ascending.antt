@@ -1,5 +1,6 @@
 -- Lists in strictly ascending order of a number of each element.
-use Rattle.std.specs.Prelude.{◌<◌, ◌&&◌, ℕ, Bool, true, nat_le, nat_lt, if◌then◌else◌, ⊤, List, [], ◌∷◌}
+use Rattle.std.specs.Prelude.{◌<◌, ◌&&◌, ℕ, Bool, true, nat_le, nat_lt, if◌then◌else◌, ⊤, List, []}
+use Rattle.std.specs.Prelude.{◌∷◌}
 use Rattle.std.specs.List.{AllByRecursion, list_all}
 
 -- each element's number is below those after it

@@ -1,6 +1,7 @@
 -- One attempt at a certificate, as a function of the scheme's meaning, the subject, the quorum, the
 -- two lists and the stream.
-use Rattle.std.specs.Prelude.{◌+◌, ℕ, Bool, true, false, nat_le, if◌then◌else◌, List, [], ◌++◌, length, filter, Option, Some, None}
+use Rattle.std.specs.Prelude.{◌+◌, ℕ, Bool, true, false, nat_le, if◌then◌else◌, List, [], ◌++◌}
+use Rattle.std.specs.Prelude.{length, filter, Option, Some, None}
 use Rattle.rand_core.specs.Stream.{Stream}
 use Rattle.batcher_types.specs.Attestations.{signers, failing}
 use Rattle.batcher_types.specs.Meaning.{Meaning}

@@ -1,5 +1,7 @@
 -- A list of items in ascending order of their signers, as a map from signers.
-use Rattle.std.specs.Prelude.{◌≡◌, ◌<◌, ◌≤◌, ℕ, Bool, nat_eq, nat_lt, ◌&&◌, ◌==◌, is_none, if◌then◌else◌, List, length, insert, slice_index_or, Option, Some, None, Result, Ok, Err, find, map}
+use Rattle.std.specs.Prelude.{◌≡◌, ◌<◌, ◌≤◌, ℕ, Bool, nat_eq, nat_lt, ◌&&◌, ◌==◌, is_none}
+use Rattle.std.specs.Prelude.{if◌then◌else◌, List, length, insert, slice_index_or, Option, Some}
+use Rattle.std.specs.Prelude.{None, Result, Ok, Err, find, map}
 use Rattle.std.specs.List.{list_any}
 use Rattle.batcher_types.specs.Ascending.{insert_by}
 use Rattle.batcher_types.specs.Lists.{count}

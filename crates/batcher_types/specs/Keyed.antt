@@ -1,5 +1,6 @@
 -- The certificates that list their attestations.
-use Rattle.std.specs.Prelude.{◌&&◌, ℕ, Bool, nat_le, List, length, ◌++◌, Option, Some, None, if◌then◌else◌}
+use Rattle.std.specs.Prelude.{◌&&◌, ℕ, Bool, nat_le, List, length, ◌++◌, Option, Some, None}
+use Rattle.std.specs.Prelude.{if◌then◌else◌}
 use Rattle.std.specs.List.{list_all}
 use Rattle.rand_core.specs.Stream.{Stream}
 use Rattle.batcher_types.specs.Quorum.{quorum_of}

@@ -1,5 +1,7 @@
 -- The laws of the test schemes.
-use Rattle.std.proofs.Common.{◌≡◌, ◌≤◌, ◌++◌, ◌+◌, ◌&&◌, ℕ, Bool, true, false, cond, nat_le, nat_eq, List, [], ◌∷◌, length, filter, Some, None, is_some, refl, subst, arith, length-append}
+use Rattle.std.specs.Prelude.{◌≡◌, ◌≤◌, ◌++◌, ◌+◌, ◌&&◌, ℕ, Bool, true, false, cond, nat_le, nat_eq}
+use Rattle.std.specs.Prelude.{List, [], ◌∷◌, length, filter, Some, None, is_some}
+use Rattle.std.proofs.Common.{refl, subst, arith, length-append}
 use Rattle.std.specs.List.{AllPass, list_all}
 use Rattle.std.proofs.lemmas.List.Elements.{All-append, All-head, All-tail}
 use Rattle.std.proofs.lemmas.List.Sums.{AllPass-from_list_all, list_all-from_AllPass}
@@ -11,7 +13,8 @@ use Rattle.batcher_types.specs.Hashed.{is_signed, seal_of, same_bytes}
 use Rattle.batcher_types.specs.Ascending.{ordered_by}
 use Rattle.batcher_types.specs.Keyed.{is_listed, listed_at_once}
 use Rattle.batcher_types.specs.Sealed.{is_sealed, sealed_at_once}
-use Rattle.batcher_types.specs.Ordered.{ordered-ascending, is_ascending-true, length_ordered, All-ordered}
+use Rattle.batcher_types.specs.Ordered.{ordered-ascending, is_ascending-true, length_ordered}
+use Rattle.batcher_types.specs.Ordered.{All-ordered}
 use Rattle.batcher_types.specs.declared.messages.Attestation.{Attestation}
 use Rattle.batcher_types.specs.declared.messages.Subject.{Subject}
 use Rattle.batcher_types.specs.declared.messages.Sha256Digest.{Sha256Digest}

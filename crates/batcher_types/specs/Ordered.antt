@@ -1,5 +1,7 @@
 -- Sorting by distinct numbers gives an ascending list of the same length.
-use Rattle.std.proofs.Common.{◌≡◌, ◌≢◌, ◌≤◌, ◌<◌, ◌+◌, ◌==◌, ℕ, suc, Bool, true, false, cond, nat_eq, nat_lt, nat_le, ◌&&◌, List, [], ◌∷◌, length, refl, ap, arith}
+use Rattle.std.specs.Prelude.{◌≡◌, ◌≢◌, ◌≤◌, ◌<◌, ◌+◌, ◌==◌, ℕ, suc, Bool, true, false, cond}
+use Rattle.std.specs.Prelude.{nat_eq, nat_lt, nat_le, ◌&&◌, List, [], ◌∷◌, length}
+use Rattle.std.proofs.Common.{refl, ap, arith}
 use Rattle.std.specs.List.{AllByRecursion, All, list_all}
 use Rattle.std.proofs.lemmas.List.Elements.{All-cons, All-head, All-tail}
 use Rattle.std.proofs.lemmas.Bool.Decides.{nat_tests}

@@ -1,5 +1,6 @@
 -- The certificates that are one hash.
-use Rattle.std.specs.Prelude.{◌&&◌, ◌+◌, ℕ, Bool, nat_le, List, length, filter, Option, Some, None, if◌then◌else◌}
+use Rattle.std.specs.Prelude.{◌&&◌, ◌+◌, ℕ, Bool, nat_le, List, length, filter, Option, Some, None}
+use Rattle.std.specs.Prelude.{if◌then◌else◌}
 use Rattle.rand_core.specs.Stream.{Stream}
 use Rattle.batcher_types.specs.Quorum.{quorum_of}
 use Rattle.batcher_types.specs.Hashed.{is_signed, seal_of, same_bytes}

@@ -372,7 +372,8 @@ impl<C, D> Certificate<C, D> {
 }
 
 impl<C, D: Copy> Certificate<C, D> {
-    ghost use Rattle.batcher_types.specs.Votes.{subject_certified, content_of, round_in, proposal_in};
+    ghost use Rattle.batcher_types.specs.Votes.{subject_certified, content_of, round_in};
+    ghost use Rattle.batcher_types.specs.Votes.{proposal_in};
 
     /// The certificate that a quorum signed the subject.
     pub fn new(subject: Subject<D>, certificate: C) -> Self

@@ -1,24 +1,9 @@
 -- A validator that gave nothing.
-use Rattle.std.proofs.Common.{◌≡◌, ◌++◌, ◌∙◌, ℕ, zero, suc, Bool, true, false, List, [], ◌∷◌, Some, None, ap, arith, length, refl, replicate, subst, sym, take}
-use Rattle.std.specs.Prelude.{Contains, unwrap_or}
-use Rattle.std.specs.List.{slice_get}
-use Rattle.batcher.specs.positions.Participant.{Participant}
-use Rattle.batcher.specs.Votes.{subject_of}
-use Rattle.batcher.specs.messages.Certificate.{Certificate}
-use Rattle.batcher_codec.specs.Format.{Format}
-use Rattle.batcher_agreement.specs.Policy.{Conduct, HasVoted}
-use Rattle.batcher_journal.specs.Text.{Contents}
-use Rattle.std.proofs.lemmas.List.{take_all}
-use Rattle.batcher_voter.specs.Remembering.{Remembers}
-use Rattle.batcher_agreement.specs.Lives.{node_history}
-use Rattle.batcher_node.specs.Events.{started}
-use Rattle.batcher_node.specs.Nodes.{NodeConfig, NodeView}
-use Rattle.batcher_validator.specs.Queues.{AreFirst}
-use Rattle.batcher_validator.specs.Recalling.{Recalls}
-use Rattle.batcher_validator.specs.Running.{HasBegun, HasCertificate, IsRunning, ValidatorView, is_over_for}
-use Rattle.batcher_validator.specs.Histories.{began, only_took}
+use Rattle.batcher_validator.proofs.Words.{◌≡◌, ◌++◌, ◌∙◌, ℕ, zero, suc, Bool, true, false, List, [], ◌∷◌, Some, None, ap, arith, length, refl, replicate}
+use Rattle.batcher_validator.proofs.Words.{subst, sym, take, Contains, unwrap_or, slice_get, Participant, subject_of, Certificate, Format, Conduct, HasVoted}
+use Rattle.batcher_validator.proofs.Words.{Contents, take_all, Remembers, node_history, started, NodeConfig, NodeView, AreFirst, Recalls, HasBegun}
+use Rattle.batcher_validator.proofs.Words.{HasCertificate, IsRunning, ValidatorView, is_over_for, began, only_took, HasStarted}
 use Rattle.batcher_validator.proofs.Going.{never_calm}
-use Rattle.batcher_voter.specs.Voting.{HasStarted}
 
 contains_none : {X : Type 0} (xs : List X) (x : X) → Contains (take 0 xs) x → ⊥
 contains_none [] x (i, lt, is) = absurd (omega arith)

@@ -1,21 +1,8 @@
 -- Who was given to be blocked.
-use Rattle.std.proofs.Common.{◌≡◌, ◌⊎◌, ◌<◌, ◌∙◌, ℕ, zero, suc, Bool, true, false, List, [], ◌∷◌, Option, Some, None, ap, arith, cond, inl, inr, length, refl, set, subst, sym}
-use Rattle.std.specs.List.{slice_get}
-use Rattle.std.specs.Option.{option_map}
-use Rattle.std.specs.Prelude.{is_some}
-use Rattle.batcher.specs.answers.Admission.{Admission}
-use Rattle.batcher.specs.answers.BlockReason.{BlockReason}
-use Rattle.batcher.specs.messages.Vote.{Vote}
-use Rattle.batcher.specs.positions.Participant.{Participant}
-use Rattle.batcher_node.specs.Events.{cause_by, is_peer, vote_came}
-use Rattle.batcher_node.specs.Nodes.{NodeConfig}
-use Rattle.batcher_node.specs.declared.answers.Cause.{Cause}
-use Rattle.batcher_node.specs.declared.answers.Cause.TheVariants.{Vote as ForVote}
-use Rattle.batcher_node.specs.declared.answers.Receipt.{Receipt}
-use Rattle.batcher_node.specs.declared.answers.Receipt.TheVariants.{Answered, Dropped, Outside, Unknown}
-use Rattle.batcher_validator.specs.Running.{AreBlocked, blocks_sender}
-use Rattle.batcher_validator.specs.Histories.{HasBlocked, ValidatorHistory, gave}
-use Rattle.batcher_validator.specs.declared.task.Task.TheVariants.{Block}
+use Rattle.batcher_validator.proofs.Words.{◌≡◌, ◌⊎◌, ◌<◌, ◌∙◌, ℕ, zero, suc, Bool, true, false, List, [], ◌∷◌, Option, Some, None, ap, arith, cond, inl, inr}
+use Rattle.batcher_validator.proofs.Words.{length, refl, set, subst, sym, slice_get, option_map, is_some, Admission, BlockReason, Vote, Participant, cause_by}
+use Rattle.batcher_validator.proofs.Words.{is_peer, vote_came, NodeConfig, Cause, ForVote, Receipt, Answered, Dropped, Outside, Unknown, AreBlocked}
+use Rattle.batcher_validator.proofs.Words.{blocks_sender, HasBlocked, ValidatorHistory, gave, Block}
 
 module _ {X : Type 0} where
   pub get_set_same : (xs : List X) (i : ℕ) (x : X) → i < length xs

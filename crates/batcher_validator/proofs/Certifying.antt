@@ -1,23 +1,8 @@
 -- A certificate that a node recorded or gave certifies what it names.
-use Rattle.std.proofs.Common.{◌≡◌, ◌≤◌, ◌∙◌, ℕ, Bool, true, false, ◌∷◌, List, Option, Some, None, ap, refl, subst, sym}
-use Rattle.std.specs.Prelude.{All, IfSome, length, option_and_then}
-use Rattle.std.proofs.lemmas.List.Elements.{recursion_from_All}
-use Rattle.std.specs.declared.cmp.Ordering.{Ordering}
-use Rattle.batcher.specs.Meaning.{Meaning}
-use Rattle.batcher.specs.Verifiers.{certifies_itself}
-use Rattle.batcher.specs.messages.Certificate.{Certificate}
-use Rattle.batcher.specs.positions.Epoch.{Epoch}
-use Rattle.batcher.specs.verifier.Batch.{Batch}
-use Rattle.batcher_agreement.specs.Lives.{called, held_by}
-use Rattle.batcher_node.specs.Events.{NodeEvent, NodeHistory, certificate_came, constructed}
-use Rattle.batcher_node.specs.Nodes.{NodeConfig, NodeView, SameNode, node_config}
-use Rattle.batcher_node.specs.Represents.{NodeRepresents}
-use Rattle.batcher_node.specs.Sending.{HoldsCertified}
-use Rattle.batcher_node.specs.declared.answers.Receipt.{Receipt}
-use Rattle.batcher_node.specs.declared.answers.Receipt.TheVariants.{Answered, Dropped, Outside, Unknown}
-use Rattle.batcher_node.specs.declared.answers.Verdict.{Verdict}
-use Rattle.batcher_node.specs.declared.answers.Verdict.TheVariants.{Forged, Known, Recorded}
-use Rattle.batcher_voter.specs.Voting.{is_recorded}
+use Rattle.batcher_validator.proofs.Words.{◌≡◌, ◌≤◌, ◌∙◌, ℕ, Bool, true, false, ◌∷◌, List, Option, Some, None, ap, refl, subst, sym, All, IfSome, length}
+use Rattle.batcher_validator.proofs.Words.{option_and_then, recursion_from_All, Ordering, Meaning, certifies_itself, Certificate, Epoch, Batch, called, held_by}
+use Rattle.batcher_validator.proofs.Words.{NodeEvent, NodeHistory, certificate_came, constructed, NodeConfig, NodeView, SameNode, node_config, NodeRepresents}
+use Rattle.batcher_validator.proofs.Words.{HoldsCertified, Receipt, Answered, Dropped, Outside, Unknown, Verdict, Forged, Known, Recorded, was_recorded}
 
 module _ {D K G C : Type 0} (x : NodeConfig D K G C) where
   given_certifies :
@@ -79,7 +64,7 @@ module _ {S D K G C : Type 0} (meaning : S → Meaning D K G C) (compare_keys : 
 module _ {D C : Type 0} (K G : Type 0) where
   -- what is held by a call
   pub recorded_is_held :
-      (peer : K) (c : Certificate C D) (receipt : Receipt Verdict) → is_recorded receipt ≡ true
+      (peer : K) (c : Certificate C D) (receipt : Receipt Verdict) → was_recorded receipt ≡ true
       → held_by {D = D} {K = K} {G = G} {C = C} (called (certificate_came peer c receipt)) ≡ Some c
   recorded_is_held peer c (Answered (Recorded changed)) e = refl
   recorded_is_held peer c (Answered Forged) e = absurd cc
@@ -89,7 +74,7 @@ module _ {D C : Type 0} (K G : Type 0) where
   recorded_is_held peer c Unknown e = absurd cc
 
   pub none_is_held :
-      (peer : K) (c : Certificate C D) (receipt : Receipt Verdict) → is_recorded receipt ≡ false
+      (peer : K) (c : Certificate C D) (receipt : Receipt Verdict) → was_recorded receipt ≡ false
       → (d : Certificate C D)
       → held_by {D = D} {K = K} {G = G} {C = C} (called (certificate_came peer c receipt))
       ≡ Some d → ⊥

@@ -1,15 +1,6 @@
 -- A validator goes on with what it is answered, and with what it gives to be signed, made and judged.
-use Rattle.std.proofs.Common.{◌≡◌, ℕ, ◌∷◌, Some, ap, refl}
-use Rattle.std.specs.Prelude.{max}
-use Rattle.batcher.specs.messages.Proposal.{Proposal}
-use Rattle.batcher.specs.messages.Subject.{Subject}
-use Rattle.batcher.specs.positions.View.{View}
-use Rattle.batcher_agreement.specs.Policy.{Conduct}
-use Rattle.batcher_node.specs.Nodes.{NodeConfig}
-use Rattle.batcher_validator.specs.Histories.{ValidatorHistory, chose, expired, gave, later_of}
-use Rattle.batcher_validator.specs.Running.{IntentView, IsRunning, ValidatorView}
-use Rattle.batcher_validator.specs.Tasks.{MayGive}
-use Rattle.batcher_validator.specs.declared.task.Task.TheVariants.{Judge, Propose, Sign}
+use Rattle.batcher_validator.proofs.Words.{◌≡◌, ℕ, ◌∷◌, Some, ap, refl, max, Proposal, Subject, View, Conduct, NodeConfig, ValidatorHistory, chose, expired}
+use Rattle.batcher_validator.proofs.Words.{gave, later_of, IntentView, IsRunning, ValidatorView, MayGive, Judge, Propose, Sign}
 use Rattle.batcher_validator.proofs.Keeping.{kept_still}
 
 module _ {S D K G C L : Type 0} (x : NodeConfig D K G C) (old new : ValidatorView S G D L C)

@@ -1,28 +1,12 @@
 -- What a validator votes for, by what its voter permits.
-use Rattle.std.proofs.Common.{◌≡◌, ◌≤◌, ◌<◌, ◌+◌, ◌∙◌, ℕ, Bool, true, false, ap, arith, eq-eqb, inl, inr, refl, subst, sym}
-use Rattle.std.proofs.lemmas.Bool.{cases_lt}
-use Rattle.batcher.specs.Votes.{same_proposal}
-use Rattle.batcher.specs.messages.Proposal.{Proposal}
-use Rattle.batcher.specs.messages.Subject.{Subject}
-use Rattle.batcher.specs.messages.Subject.TheVariants.{Notarize, Nullify, Finalize}
-use Rattle.batcher_agreement.specs.Lives.{conduct_of}
-use Rattle.batcher_agreement.specs.Policy.{Conduct, Knows}
-use Rattle.batcher_node.specs.Nodes.{NodeConfig, NodeView}
-use Rattle.batcher_node.specs.Windows.{is_of, numbered}
-use Rattle.batcher_types.proofs.VoteLemmas.{same_proposal-true, same_round-refl}
-use Rattle.batcher_validator.specs.Histories.{ValidatorHistory, conduct_in, voter_history, window_by}
-use Rattle.batcher_validator.specs.Ending.{IsPreferred}
-use Rattle.batcher_validator.specs.Posing.{CannotVote, IsNotToSign}
-use Rattle.batcher_validator.specs.Running.{ForEachRun, IsRunning, ValidatorView}
-use Rattle.batcher_validator.specs.Tasks.{IsContested, MayVote}
+use Rattle.batcher_validator.proofs.Words.{◌≡◌, ◌≤◌, ◌<◌, ◌+◌, ◌∙◌, ℕ, Bool, true, false, ap, arith, eq-eqb, inl, inr, refl, subst, sym, cases_lt}
+use Rattle.batcher_validator.proofs.Words.{same_proposal, Proposal, Subject, Notarize, Nullify, Finalize, conduct_of, Conduct, Knows, NodeConfig, NodeView}
+use Rattle.batcher_validator.proofs.Words.{is_of, numbered, same_proposal-true, same_round-refl, ValidatorHistory, conduct_in, voter_history, window_by}
+use Rattle.batcher_validator.proofs.Words.{IsPreferred, CannotVote, IsNotToSign, ForEachRun, IsRunning, ValidatorView, IsContested, MayVote, knows_before}
+use Rattle.batcher_validator.proofs.Words.{from_first, same_epoch, RestsOnLearned, BeginWithOneView, ForEachLife, IsFinalizable, Permits, Permission, Refused}
+use Rattle.batcher_validator.proofs.Words.{Rule}
 use Rattle.batcher_validator.proofs.Refusing.{refused_is_contested}
-use Rattle.batcher_voter.proofs.Appending.{knows_before}
-use Rattle.batcher_voter.proofs.Windowed.{from_first, same_epoch}
-use Rattle.batcher_voter.specs.Refusals.{RestsOnLearned}
-use Rattle.batcher_voter.specs.Voting.{BeginWithOneView, ForEachLife, IsFinalizable, Permits}
-use Rattle.batcher_voter.specs.declared.answers.Permission.{Permission}
-use Rattle.batcher_voter.specs.declared.answers.Permission.TheVariants.{Refused, Sign}
-use Rattle.batcher_voter.specs.declared.answers.Rule.{Rule}
+use Rattle.batcher_voter.specs.declared.answers.Permission.TheVariants.{Sign}
 
 wrong : true ≡ false → ⊥
 wrong e = absurd cc

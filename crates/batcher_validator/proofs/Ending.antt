@@ -1,25 +1,10 @@
 -- With each task less is left to be given, so nothing is given for ever.
-use Rattle.std.proofs.Common.{◌≡◌, ◌<◌, ◌≤◌, ◌+◌, ◌⊎◌, ℕ, zero, suc, Bool, true, false, cond, List, [], ◌∷◌, Some, ap, arith, inl, inr, length, refl, set, subst, sym}
-use Rattle.std.specs.Prelude.{not}
-use Rattle.std.specs.List.{count_by, filter, slice_get}
-use Rattle.std.proofs.lemmas.Bool.{le-ltb, lt-ltb, ltb-true}
-use Rattle.std.proofs.lemmas.List.Sums.{sum_by-cons}
-use Rattle.batcher.specs.Votes.{subject_certified}
-use Rattle.batcher.specs.messages.Certificate.{Certificate}
-use Rattle.batcher.specs.messages.Certificate.TheVariants.{Finalization as FinalizationCertificate, Notarization as NotarizationCertificate, Nullification as NullificationCertificate}
-use Rattle.batcher.specs.messages.Proposal.{Proposal}
-use Rattle.batcher.specs.messages.Subject.TheVariants.{Finalize}
-use Rattle.batcher.specs.messages.Vote.{Vote}
-use Rattle.batcher.specs.positions.Participant.{Participant}
-use Rattle.batcher_agreement.specs.Policy.{Conduct}
-use Rattle.batcher_node.specs.Nodes.{NodeConfig}
-use Rattle.batcher_node.specs.declared.answers.Cause.{Cause}
-use Rattle.batcher_validator.specs.Ending.{GivesOnAndOn, HasLessLeft, WaitsForVote, finals_left, is_final_after, others_left}
-use Rattle.batcher_validator.specs.Histories.{ValidatorHistory, gave}
-use Rattle.batcher_validator.specs.Running.{Gives, IsRunning, ValidatorView}
-use Rattle.batcher_validator.specs.Shelves.{IsFinalAt, is_from}
-use Rattle.batcher_validator.specs.declared.task.Task.{Task}
-use Rattle.batcher_validator.specs.declared.task.Task.TheVariants.{Block, Final, SendVote, Sign}
+use Rattle.batcher_validator.proofs.Words.{◌≡◌, ◌<◌, ◌≤◌, ◌+◌, ◌⊎◌, ℕ, zero, suc, Bool, true, false, cond, List, [], ◌∷◌, Some, ap, arith, inl, inr, length}
+use Rattle.batcher_validator.proofs.Words.{refl, set, subst, sym, not, count_by, filter, slice_get, le-ltb, lt-ltb, ltb-true, sum_by-cons, subject_certified}
+use Rattle.batcher_validator.proofs.Words.{Certificate, FinalizationCertificate, NotarizationCertificate, NullificationCertificate, Proposal, Finalize, Vote}
+use Rattle.batcher_validator.proofs.Words.{Participant, Conduct, NodeConfig, Cause, GivesOnAndOn, HasLessLeft, WaitsForVote, finals_left, is_final_after}
+use Rattle.batcher_validator.proofs.Words.{others_left, ValidatorHistory, gave, Gives, IsRunning, ValidatorView, IsFinalAt, is_from, Task, Block, Final}
+use Rattle.batcher_validator.proofs.Words.{SendVote, Sign}
 
 -- one for what passes a test
 abbrev one_if : Bool → ℕ

@@ -1,29 +1,15 @@
 -- A proposal is given as final, as its view is made the final one.
-use Rattle.std.proofs.Common.{◌≡◌, ◌≢◌, ◌⊎◌, ◌<◌, ◌≤◌, ◌∙◌, ℕ, true, false, [], ◌∷◌, ap, arith, inl, inr, max, refl, subst, sym, take}
-use Rattle.std.specs.Prelude.{Contains, unwrap_or}
-use Rattle.std.specs.List.{count_by, filter}
-use Rattle.batcher.specs.Verifiers.{certifies_itself}
-use Rattle.batcher.specs.Votes.{kind_certified, round_in, subject_certified}
-use Rattle.batcher.specs.messages.Certificate.{Certificate}
-use Rattle.batcher.specs.messages.Kind.TheVariants.{Finalization}
-use Rattle.batcher.specs.messages.Proposal.{Proposal}
-use Rattle.batcher.specs.messages.Subject.TheVariants.{Finalize}
-use Rattle.batcher_agreement.specs.Lives.{called, verified}
-use Rattle.batcher_agreement.specs.Policy.{Conduct}
-use Rattle.batcher_node.specs.Events.{cause_in, view_finalized}
-use Rattle.batcher_node.specs.Nodes.{NodeConfig}
-use Rattle.batcher_validator.specs.declared.tally.Tally.{Tally}
-use Rattle.batcher_validator.specs.Running.{ForEachRun, GivenView, Gives, IsRunning, RunStays, ValidatorView, WhyNotFinal, tally_from, left_of}
-use Rattle.batcher_validator.specs.Shelves.{IsFinalAt, is_from}
-use Rattle.batcher_validator.specs.Histories.{calls_in, HasHad, HasHanded, ValidatorHistory, did, gave, voter_history, window_by}
-use Rattle.batcher_validator.specs.declared.task.Task.TheVariants.{Final}
+use Rattle.batcher_validator.proofs.Words.{◌≡◌, ◌≢◌, ◌⊎◌, ◌<◌, ◌≤◌, ◌∙◌, ℕ, true, false, [], ◌∷◌, ap, arith, inl, inr, max, refl, subst, sym, take, Contains}
+use Rattle.batcher_validator.proofs.Words.{unwrap_or, count_by, filter, certifies_itself, kind_certified, round_in, subject_certified, Certificate}
+use Rattle.batcher_validator.proofs.Words.{Finalization, Proposal, Finalize, called, verified, Conduct, cause_in, view_finalized, NodeConfig, Tally, ForEachRun}
+use Rattle.batcher_validator.proofs.Words.{GivenView, Gives, IsRunning, RunStays, ValidatorView, WhyNotFinal, tally_from, left_of, IsFinalAt, is_from, calls_in}
+use Rattle.batcher_validator.proofs.Words.{HasHad, HasHanded, ValidatorHistory, did, gave, voter_history, window_by, Final, IsRaised, NotOfEpoch, Passed}
+use Rattle.batcher_validator.proofs.Words.{ForEachLife, IsVoting, VoterStays}
 use Rattle.batcher_validator.proofs.Intending.{still_intent}
 use Rattle.batcher_validator.proofs.Giving.{contained, kind_of}
 use Rattle.batcher_validator.proofs.Going.{or_none, goes_on, sent_raised, sent_still}
 use Rattle.batcher_validator.proofs.Keeping.{first_from, kept_from, kept_still}
-use Rattle.batcher_voter.specs.Journals.{IsRaised}
-use Rattle.batcher_voter.specs.declared.answers.FinalizeFault.TheVariants.{Forged, NotOfEpoch, Passed}
-use Rattle.batcher_voter.specs.Voting.{ForEachLife, IsVoting, VoterStays}
+use Rattle.batcher_voter.specs.declared.answers.FinalizeFault.TheVariants.{Forged}
 
 module _ {S D K G C L : Type 0} (x : NodeConfig D K G C) (old new : ValidatorView S G D L C)
     (c : Certificate C D) (there : Contains old.shelf.certificates c) where

@@ -1,13 +1,7 @@
 -- What a notarization notarizes that was given to be sent is given to be forwarded, and once.
-use Rattle.std.proofs.Common.{◌≡◌, ◌⊎◌, ◌∙◌, ◌∷◌, [], Option, Some, None, ap, inl, inr, refl, subst, sym}
-use Rattle.batcher.specs.messages.Kind.{Kind}
-use Rattle.batcher.specs.messages.Kind.TheVariants.{Finalization, Notarization, Nullification}
-use Rattle.batcher.specs.positions.Round.{Round}
-use Rattle.batcher_agreement.specs.Policy.{Conduct}
-use Rattle.batcher_node.specs.Nodes.{NodeConfig}
-use Rattle.batcher_validator.specs.Histories.{HasForwarded, HasHanded, ValidatorHistory, again, forward_with, gave, to_forward}
-use Rattle.batcher_validator.specs.Tasks.{AreGivenInTurn}
-use Rattle.batcher_validator.specs.declared.task.Task.TheVariants.{Forward, SendCertificate}
+use Rattle.batcher_validator.proofs.Words.{◌≡◌, ◌⊎◌, ◌∙◌, ◌∷◌, [], Option, Some, None, ap, inl, inr, refl, subst, sym, Kind, Finalization, Notarization}
+use Rattle.batcher_validator.proofs.Words.{Nullification, Round, Conduct, NodeConfig, HasForwarded, HasHanded, ValidatorHistory, again, forward_with, gave}
+use Rattle.batcher_validator.proofs.Words.{to_forward, AreGivenInTurn, Forward, SendCertificate}
 
 no_both : {number : Round} (o : Option Round) → o ≡ None → o ≡ Some number → ⊥
 no_both o none some = absurd cc

@@ -1,50 +1,22 @@
 -- A validator goes on with what it gives, and has nothing to give.
-use Rattle.std.proofs.Common.{◌≡◌, ◌⊎◌, ◌+◌, ◌<◌, ◌≤◌, ◌∙◌, ◌^◌, ℕ, zero, suc, true, false, List, [], ◌∷◌, Option, Some, None, ap, arith, inl, inr, length, refl, set, subst, sym, take}
-use Rattle.std.specs.Prelude.{Contains, IfSome, MatchBool, MatchOption, unwrap_or}
-use Rattle.std.specs.List.{slice_get}
-use Rattle.std.proofs.lemmas.Bool.{le-ltb}
-use Rattle.std.proofs.lemmas.List.{take_all}
-use Rattle.std.proofs.lemmas.List.Elements.{All-contains}
-use Rattle.std.proofs.lemmas.Option.{get_or_from_slice_get, slice_get_within}
-use Rattle.batcher.specs.Votes.{kind_certified, round_in, same_subject, subject_certified, subject_of}
-use Rattle.batcher.specs.messages.Certificate.{Certificate}
-use Rattle.batcher.specs.messages.Certificate.TheVariants.{Finalization as FinalizationCertificate, Notarization as NotarizationCertificate, Nullification as NullificationCertificate}
-use Rattle.batcher.specs.messages.Proposal.{Proposal}
-use Rattle.batcher.specs.messages.Subject.TheVariants.{Finalize}
-use Rattle.batcher.specs.messages.Kind.{Kind}
-use Rattle.batcher.specs.messages.Kind.TheVariants.{Finalization, Notarization}
-use Rattle.batcher.specs.positions.Round.{Round}
-use Rattle.batcher.specs.RoundState.{RoundView}
-use Rattle.batcher.specs.messages.Subject.{Subject}
-use Rattle.batcher.specs.messages.Vote.{Vote}
-use Rattle.batcher.specs.positions.Participant.{Participant}
-use Rattle.batcher.specs.positions.View.{View}
-use Rattle.batcher_agreement.specs.Lives.{conduct_of}
-use Rattle.batcher_agreement.specs.Policy.{Conduct, HasVoted}
-use Rattle.batcher_journal.specs.Answers.{MayFollow}
-use Rattle.batcher_journal.specs.Contradictions.{IsFree, LeavesFree}
-use Rattle.batcher_journal.specs.Floors.{is_below, is_over}
-use Rattle.batcher_node.specs.Events.{view_history}
-use Rattle.batcher_node.specs.Nodes.{IsAtRest, NodeConfig, cause_at, slot_at}
-use Rattle.batcher_node.specs.Represents.{ViewRepresents, is_due}
-use Rattle.batcher_node.specs.Windows.{numbered}
-use Rattle.batcher_node.specs.declared.answers.Cause.{Cause}
-use Rattle.batcher_node.specs.declared.slot.Slot.{Slot}
-use Rattle.batcher_validator.specs.Running.{AreKept, ForEachRun, GivenView, Gives, IsRunning, RunMeets, RunStays, ValidatorView, is_before_view, is_over_for}
-use Rattle.batcher_validator.specs.Histories.{HadVoted, HasAnnouncedFrom, HasAskedFrom, HasForwarded, HasHanded, HasRecast, HasSent, IsVerifying, ValidatorHistory}
-use Rattle.batcher_validator.specs.Histories.{again, answered, calls_in, conduct_in, forward_with, gave, to_forward, voter_history, window_by}
-use Rattle.batcher_validator.specs.Tasks.{Counts, HasEntered, IsNextIn, NobodyIsToBlock, NothingIsDue, NothingIsPosed}
-use Rattle.batcher_validator.specs.declared.task.Task.TheVariants.{Block, Cast, Enter, Forward, SendCertificate, SendVote, Verify}
+use Rattle.batcher_validator.proofs.Words.{◌≡◌, ◌⊎◌, ◌+◌, ◌<◌, ◌≤◌, ◌∙◌, ◌^◌, ℕ, zero, suc, true, false, List, [], ◌∷◌, Option, Some, None, ap, arith, inl, inr}
+use Rattle.batcher_validator.proofs.Words.{length, refl, set, subst, sym, take, Contains, IfSome, MatchBool, MatchOption, unwrap_or, slice_get, le-ltb}
+use Rattle.batcher_validator.proofs.Words.{take_all, All-contains, get_or_from_slice_get, slice_get_within, kind_certified, round_in, same_subject}
+use Rattle.batcher_validator.proofs.Words.{subject_certified, subject_of, Certificate, FinalizationCertificate, NotarizationCertificate}
+use Rattle.batcher_validator.proofs.Words.{NullificationCertificate, Proposal, Finalize, Kind, Finalization, Notarization, Round, RoundView, Subject, Vote}
+use Rattle.batcher_validator.proofs.Words.{Participant, View, conduct_of, Conduct, HasVoted, MayBeWrittenBehind, IsFree, LeavesFree, is_below, is_over}
+use Rattle.batcher_validator.proofs.Words.{view_history, IsAtRest, NodeConfig, cause_at, slot_at, ViewRepresents, is_to_be_tried, numbered, Cause, Slot}
+use Rattle.batcher_validator.proofs.Words.{AreKept, ForEachRun, GivenView, Gives, IsRunning, RunMeets, RunStays, ValidatorView, is_before_view, is_over_for}
+use Rattle.batcher_validator.proofs.Words.{HadVoted, HasAnnouncedFrom, HasAskedFrom, HasForwarded, HasHanded, HasRecast, HasSent, IsVerifying, ValidatorHistory}
+use Rattle.batcher_validator.proofs.Words.{again, answered, calls_in, conduct_in, forward_with, gave, to_forward, voter_history, window_by, Counts, HasEntered}
+use Rattle.batcher_validator.proofs.Words.{IsNextIn, NobodyIsToBlock, NothingIsDue, NothingIsPosed, Block, Cast, Enter, Forward, SendCertificate, SendVote}
+use Rattle.batcher_validator.proofs.Words.{Verify, AreDistinct, AreFirst, HaveNoFinal, IsAt, kind_and_round, KnowsOf, BeginWithOneView, IsNextView}
 use Rattle.batcher_validator.proofs.Blocking.{blocks_one, not_blocked}
 use Rattle.batcher_validator.proofs.Beginning.{first_none}
 use Rattle.batcher_validator.proofs.Forwarding.{all_forwarded, not_forwarded}
 use Rattle.batcher_validator.proofs.Intending.{still_intent}
 use Rattle.batcher_validator.proofs.Keeping.{kept_still}
 use Rattle.batcher_validator.proofs.Queueing.{before_differ, give_one, not_given}
-use Rattle.batcher_validator.specs.Queues.{AreDistinct, AreFirst}
-use Rattle.batcher_validator.specs.Shelves.{HaveNoFinal, IsAt, key_of}
-use Rattle.batcher_voter.specs.Knowledge.{KnowsOf}
-use Rattle.batcher_voter.specs.Voting.{BeginWithOneView, IsNextView}
 
 -- no votes are being verified
 abbrev pub not_verifying : {D : Type 0} → GivenView D → GivenView D
@@ -103,7 +75,7 @@ module _ {S D K G C L : Type 0} (x : NodeConfig D K G C) (old new : ValidatorVie
     (voter : new.voter ≡ old.voter) where
   module _ (vote : Vote G D) (reflexive : (s : Subject D) → same_subject x.same_digest s s ≡ true)
       (opened : old.voter.journal.is_open ≡ true)
-      (followed : MayFollow x.same_digest old.voter.journal.contents.floor [] old.voter.journal.contents.votes)
+      (followed : MayBeWrittenBehind x.same_digest old.voter.journal.contents.floor [] old.voter.journal.contents.votes)
       (count : ℕ) (there : slice_get old.voter.journal.contents.votes count ≡ Some vote)
       (shelf : new.shelf ≡ old.shelf) where
     abbrev votes : List (Vote G D)
@@ -202,7 +174,7 @@ module _ {S D K G C L : Type 0} (x : NodeConfig D K G C) (old new : ValidatorVie
             (is.casts opened)
 
   pub gives_certificate :
-      (kind : Kind) (number : Round) → AreDistinct key_of old.shelf.certificates
+      (kind : Kind) (number : Round) → AreDistinct kind_and_round old.shelf.certificates
       → IsAt old.shelf.certificates old.shelf.handed (kind, number)
       → old.given.forwarding ≡ None
       → new.given ≡ record old.given {
@@ -218,10 +190,10 @@ module _ {S D K G C L : Type 0} (x : NodeConfig D K G C) (old new : ValidatorVie
           (
             record { certificate = c; is_of = it.is_of; certifies = is.kept.certify c in_shelf },
             (
-              λ was. not_given key_of (is_before_view first) (λ key. HasHanded past key) old.shelf.certificates
+              λ was. not_given kind_and_round (is_before_view first) (λ key. HasHanded past key) old.shelf.certificates
                   old.shelf.handed is.certificates c
                   (le-ltb (round_in (subject_certified c)).view.0 first (is.kept.looked_at c in_shelf).from_first)
-                  (before_differ key_of old.shelf.certificates old.shelf.handed c distinct it.there)
+                  (before_differ kind_and_round old.shelf.certificates old.shelf.handed c distinct it.there)
                   (subst (λ key. HasHanded past key) (sym it.is_of) was),
               is.forwards ∙ nothing,
             ),
@@ -235,7 +207,7 @@ module _ {S D K G C L : Type 0} (x : NodeConfig D K G C) (old new : ValidatorVie
         begins = rw (voter, given) is.begins;
         casts = rw (voter, given) is.casts;
         kept = rw (certificates) is_kept;
-        certificates = rw (certificates, handed) (give_one key_of (is_before_view first) (λ key. HasHanded past key)
+        certificates = rw (certificates, handed) (give_one kind_and_round (is_before_view first) (λ key. HasHanded past key)
             old.shelf.certificates old.shelf.handed is.certificates
             (λ key. HasHanded (gave (SendCertificate kind number) ∷ past) key) c it.there
             (inl (sym it.is_of)) (λ key was. inr was) (λ key was. of_handed key was));
@@ -250,7 +222,7 @@ module _ {S D K G C L : Type 0} (x : NodeConfig D K G C) (old new : ValidatorVie
       c = it.certificate
 
       of_handed : (key : Kind × Round) → HasHanded (gave (SendCertificate kind number) ∷ past) key
-          → (key_of c ≡ key) ⊎ HasHanded past key
+          → (kind_and_round c ≡ key) ⊎ HasHanded past key
       of_handed key (inl same) = inl (it.is_of ∙ same)
       of_handed key (inr before) = inr before
 
@@ -549,7 +521,7 @@ module _ {S D K G C L : Type 0} (x : NodeConfig D K G C) (old : ValidatorView S 
       (old.given.verifying ≡ true) ⊎ IsAtRest old.voter.node
       → IsVerifying past
       ⊎ ((view : ℕ) → (window_by past).finalized ≤ view
-      → is_due (view_history view (calls_in past)) ≡ false)
+      → is_to_be_tried (view_history view (calls_in past)) ≡ false)
   no_verify_due (inl noted) =
       inl (subst (λ b. MatchBool b (IsVerifying past) (IsVerifying past → ⊥)) noted is.verifies)
   no_verify_due (inr rests) = inr (λ view from. of_slot view (slot_at old.voter.node.rounds view)
@@ -560,8 +532,8 @@ module _ {S D K G C L : Type 0} (x : NodeConfig D K G C) (old : ValidatorView S 
           → IfSome at (λ slot. slot.changed ≡ false)
           → MatchOption at (view_history view (calls_in past)
           ≡ []) (ViewRepresents x (calls_in past) view)
-          → is_due (view_history view (calls_in past)) ≡ false
-      of_slot view None rest none = ap is_due none
+          → is_to_be_tried (view_history view (calls_in past)) ≡ false
+      of_slot view None rest none = ap is_to_be_tried none
       of_slot view (Some slot) rest there = sym there.changed_is ∙ rest
 
   -- the next view was entered, or given to be
@@ -624,7 +596,7 @@ module _ {S D K G C L : Type 0} (x : NodeConfig D K G C) (old : ValidatorView S 
   -- each certificate that counts was given to be sent
   no_certificate_due :
       length old.shelf.certificates ≤ old.shelf.handed
-      → (c : Certificate C D) → Counts x past c → HasHanded past (key_of c)
+      → (c : Certificate C D) → Counts x past c → HasHanded past (kind_and_round c)
   no_certificate_due all c counts =
       let it = is.kept.are_there c counts in
       subst (λ key. HasHanded past key) it.is_of

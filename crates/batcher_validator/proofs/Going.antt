@@ -1,33 +1,15 @@
 -- A validator goes on with what its voter did.
-use Rattle.std.proofs.Common.{◌≡◌, ◌⊎◌, ◌++◌, ◌∙◌, ℕ, Bool, true, false, not, List, [], ◌∷◌, Option, Some, None, ap, inl, inr, refl, subst, sym, take}
-use Rattle.std.specs.Prelude.{MatchBool, unwrap_or}
-use Rattle.std.specs.List.{count_by, filter}
-use Rattle.std.specs.Option.{option_or}
-use Rattle.batcher.specs.Verifiers.{certifies_itself}
-use Rattle.batcher.specs.Votes.{round_in, subject_of}
-use Rattle.batcher.specs.messages.Certificate.{Certificate}
-use Rattle.batcher.specs.messages.Subject.{Subject}
-use Rattle.batcher.specs.messages.Vote.{Vote}
-use Rattle.batcher.specs.positions.Round.{Round}
-use Rattle.batcher_agreement.specs.Lives.{VoterEvent, VoterHistory, called, held_by}
-use Rattle.batcher_agreement.specs.Policy.{Conduct}
-use Rattle.batcher_journal.specs.Floors.{is_below, is_over}
-use Rattle.batcher_journal.specs.Ready.{JournalView}
-use Rattle.batcher_journal.proofs.Rounds.{still_over}
-use Rattle.batcher_node.specs.Events.{NodeEvent, cause_by, cause_in, constructed, window_after}
-use Rattle.batcher_node.specs.Nodes.{NodeConfig, NodeView}
-use Rattle.batcher_node.specs.declared.window.Window.{Window}
-use Rattle.batcher_validator.specs.Queues.{AreFirst}
-use Rattle.batcher_validator.specs.Running.{AreFirstVotes, AreKept, Constructs, IsRunning, RunMeets, RunStays, ValidatorView, tallied, is_before_view, is_over_for}
-use Rattle.batcher_validator.specs.Shelves.{Shelves, key_of}
-use Rattle.batcher_validator.specs.Histories.{HasAnnouncedFrom, HasAskedFrom, HasBlocked, HasHad, HasHanded, HasRecast, HadVoted, HasSent, IsVerifying, ValidatorEvent, ValidatorHistory}
-use Rattle.batcher_validator.specs.Histories.{calls_in, answered, did, only_did, to_forward, took, voter_history, window_by}
-use Rattle.batcher_validator.specs.Tasks.{AreGivenInTurn}
+use Rattle.batcher_validator.proofs.Words.{◌≡◌, ◌⊎◌, ◌++◌, ◌∙◌, ℕ, Bool, true, false, not, List, [], ◌∷◌, Option, Some, None, ap, inl, inr, refl, subst, sym}
+use Rattle.batcher_validator.proofs.Words.{take, MatchBool, unwrap_or, count_by, filter, option_or, certifies_itself, round_in, subject_of, Certificate}
+use Rattle.batcher_validator.proofs.Words.{Subject, Vote, Round, VoterEvent, VoterHistory, called, held_by, Conduct, is_below, is_over, JournalView, still_over}
+use Rattle.batcher_validator.proofs.Words.{NodeEvent, cause_by, cause_in, constructed, window_after, NodeConfig, NodeView, Window, AreFirst, AreFirstVotes}
+use Rattle.batcher_validator.proofs.Words.{AreKept, HasConstructed, IsRunning, RunMeets, RunStays, ValidatorView, tallied, is_before_view, is_over_for, Shelves}
+use Rattle.batcher_validator.proofs.Words.{kind_and_round, HasAnnouncedFrom, HasAskedFrom, HasBlocked, HasHad, HasHanded, HasRecast, HadVoted, HasSent}
+use Rattle.batcher_validator.proofs.Words.{IsVerifying, ValidatorEvent, ValidatorHistory, calls_in, answered, did, only_did, to_forward, took, voter_history}
+use Rattle.batcher_validator.proofs.Words.{window_by, AreGivenInTurn, IsRaised, MayGain, IsVoting, VoterMeets, VoterStays}
 use Rattle.batcher_validator.proofs.Intending.{intent_more, still_intent}
 use Rattle.batcher_validator.proofs.Keeping.{first_with, kept_still, kept_with}
 use Rattle.batcher_validator.proofs.Queueing.{leave, put_behind}
-use Rattle.batcher_voter.specs.Journals.{IsRaised, MayGain}
-use Rattle.batcher_voter.specs.Voting.{IsVoting, VoterMeets, VoterStays}
 
 -- What its voter did gave nothing.
 module _ {D K G C : Type 0} (Was Is : ValidatorHistory D K G C → Type 0)
@@ -112,7 +94,8 @@ module _ {S D K G C L : Type 0} (x : NodeConfig D K G C) (old new : ValidatorVie
       → {calm : Bool} → Calms x past After old.given.calm calm
       → new.given ≡ record old.given { tally = tallied f old.given.tally; calm = calm }
       → AreKept x After new.shelf.certificates
-      → AreFirst key_of (is_before_view (window_by After).finalized) (λ key. HasHanded past key)
+      → AreFirst kind_and_round (is_before_view (window_by After).finalized)
+      (λ key. HasHanded past key)
       new.shelf.certificates new.shelf.handed
       → IsRunning x After earlier new
   goes_on f is voting recounts {calm = calm} quiet given kept handed =
@@ -145,7 +128,7 @@ module _ {S D K G C L : Type 0} (x : NodeConfig D K G C) (old new : ValidatorVie
         casts = λ opened. rw (given) (still (λ h s. HasRecast h s) (λ event h s. ((λ was. was), (λ was. was)))
             f old.given.tally.recast opened recounts (is.casts (recounts opened).0));
         kept = kept;
-        certificates = first_more key_of (is_before_view (window_by After).finalized)
+        certificates = first_more kind_and_round (is_before_view (window_by After).finalized)
             (λ key. HasHanded past key) (λ key. HasHanded After key) new.shelf.certificates new.shelf.handed
             (λ key. to_more (λ h. HasHanded h key) (λ h. HasHanded h key) (λ event h. ((λ was. was), (λ was. was))) more past)
             (λ key. from_more (λ h. HasHanded h key) (λ h. HasHanded h key) (λ event h. ((λ was. was), (λ was. was))) more past)
@@ -410,7 +393,8 @@ module _ {S D K G C L : Type 0} (config : NodeView S G D → NodeConfig D K G C)
       (stays past earlier (began_with past earlier is))
 
   pub constructs_roomy :
-      Constructs (config roomy.voter.node) roomy new → Constructs (config old.voter.node) old new
+      HasConstructed (config roomy.voter.node) roomy new
+      → HasConstructed (config old.voter.node) old new
   constructs_roomy made = (
     made.0,
     λ past earlier is. subst (λ v. IsRunning (config v.node)

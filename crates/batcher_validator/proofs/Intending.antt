@@ -1,8 +1,6 @@
 -- What a validator means to vote for, over more that happened.
-use Rattle.std.proofs.Common.{◌≡◌, ◌++◌, ◌∙◌, [], ◌∷◌, refl}
-use Rattle.batcher_agreement.specs.Lives.{VoterHistory}
-use Rattle.batcher_validator.specs.Histories.{ValidatorHistory, chosen_in, expired_in, last_to_sign, me_in, only_did, posed_in}
-use Rattle.batcher_validator.specs.Running.{IntentView, IsIntent}
+use Rattle.batcher_validator.proofs.Words.{◌≡◌, ◌++◌, ◌∙◌, [], ◌∷◌, refl, VoterHistory, ValidatorHistory, chosen_in, expired_in, last_to_sign, me_in, only_did}
+use Rattle.batcher_validator.proofs.Words.{posed_in, IntentView, IsIntent}
 
 module _ {D K G C : Type 0} where
   -- what is of no matter to it

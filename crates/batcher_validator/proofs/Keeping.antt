@@ -1,27 +1,14 @@
 -- Certificates are kept as a validator goes on.
-use Rattle.std.proofs.Common.{◌≡◌, ◌⊎◌, ◌≤◌, ℕ, Bool, true, false, List, [], ◌∷◌, ap, arith, inl, inr, max, refl, subst, sym, take}
-use Rattle.std.specs.Prelude.{Contains}
-use Rattle.std.specs.List.{count_by, filter}
-use Rattle.std.proofs.lemmas.List.Elements.{All-contains, Contains-append_cases, Contains-append_left, Contains-append_right, filter_passes}
-use Rattle.std.proofs.lemmas.Bool.{le-leb, le-ltb, leb-true, ltb-false}
-use Rattle.batcher.specs.Verifiers.{certifies_itself}
-use Rattle.batcher.specs.Votes.{round_in, subject_certified}
-use Rattle.batcher.specs.messages.Certificate.{Certificate}
-use Rattle.batcher.specs.messages.Kind.{Kind}
-use Rattle.batcher.specs.positions.Epoch.{Epoch}
-use Rattle.batcher.specs.positions.Round.{Round}
-use Rattle.batcher_journal.proofs.Lives.{contains_filter}
-use Rattle.batcher_node.specs.Nodes.{NodeConfig}
-use Rattle.batcher_validator.specs.Queues.{AreFirst, HasKey}
-use Rattle.batcher_validator.specs.Running.{AreKept, is_before_view}
-use Rattle.batcher_validator.specs.Shelves.{IsLookedAt, Shelves, TakesIn, is_from, key_of}
-use Rattle.batcher_validator.specs.Histories.{HasHad, ValidatorHistory, window_by}
-use Rattle.batcher_validator.specs.Tasks.{Counts}
+use Rattle.batcher_validator.proofs.Words.{◌≡◌, ◌⊎◌, ◌≤◌, ℕ, Bool, true, false, List, [], ◌∷◌, ap, arith, inl, inr, max, refl, subst, sym, take, Contains}
+use Rattle.batcher_validator.proofs.Words.{count_by, filter, All-contains, Contains-append_cases, Contains-append_left, Contains-append_right, filter_passes}
+use Rattle.batcher_validator.proofs.Words.{le-leb, le-ltb, leb-true, ltb-false, certifies_itself, round_in, subject_certified, Certificate, Kind, Epoch, Round}
+use Rattle.batcher_validator.proofs.Words.{contains_filter, NodeConfig, AreFirst, HasKey, AreKept, is_before_view, IsLookedAt, Shelves, ShelvesOne, is_from}
+use Rattle.batcher_validator.proofs.Words.{kind_and_round, HasHad, ValidatorHistory, window_by, Counts}
 use Rattle.batcher_validator.proofs.Queueing.{contains_one, leave, left_are, put_behind}
 
 module _ {C D : Type 0} (c : Certificate C D) (old new : List (Certificate C D)) where
   -- what is there was there, or is the one that was taken in
-  there_before : TakesIn c old new → (d : Certificate C D) → Contains new d
+  there_before : ShelvesOne c old new → (d : Certificate C D) → Contains new d
       → Contains old d ⊎ (c ≡ d)
   there_before (inl same) d there = inl (subst (λ cs. Contains cs d) same.1 there)
   there_before (inr one) d there = elim (Contains-append_cases old (c ∷ []) d (subst (λ cs. Contains cs d) one.1 there)) [
@@ -29,20 +16,20 @@ module _ {C D : Type 0} (c : Certificate C D) (old new : List (Certificate C D))
     | inr last ↦ inr (contains_one c d last)
   ]
 
-  key_still : TakesIn c old new → (key : Kind × Round) → HasKey key_of old key
-      → HasKey key_of new key
-  key_still (inl same) key has = subst (λ cs. HasKey key_of cs key) (sym same.1) has
+  key_still : ShelvesOne c old new → (key : Kind × Round) → HasKey kind_and_round old key
+      → HasKey kind_and_round new key
+  key_still (inl same) key has = subst (λ cs. HasKey kind_and_round cs key) (sym same.1) has
   key_still (inr one) key has =
-      subst (λ cs. HasKey key_of cs key) (sym one.1) (record {
+      subst (λ cs. HasKey kind_and_round cs key) (sym one.1) (record {
         item = has.item;
         there = Contains-append_left old (c ∷ []) has.item has.there;
         is_of = has.is_of;
       })
 
-  has_taken : TakesIn c old new → HasKey key_of new (key_of c)
-  has_taken (inl same) = subst (λ cs. HasKey key_of cs (key_of c)) (sym same.1) same.0
+  has_taken : ShelvesOne c old new → HasKey kind_and_round new (kind_and_round c)
+  has_taken (inl same) = subst (λ cs. HasKey kind_and_round cs (kind_and_round c)) (sym same.1) same.0
   has_taken (inr one) =
-      subst (λ cs. HasKey key_of cs (key_of c)) (sym one.1) (record {
+      subst (λ cs. HasKey kind_and_round cs (kind_and_round c)) (sym one.1) (record {
         item = c;
         there = Contains-append_right old (c ∷ []) c (0, omega arith, refl);
         is_of = refl;
@@ -50,13 +37,13 @@ module _ {C D : Type 0} (c : Certificate C D) (old new : List (Certificate C D))
 
   first_still :
       (is_over : (Kind × Round) → Bool) (Was : (Kind × Round) → Type 0) (count : ℕ)
-      → TakesIn c old new → AreFirst key_of is_over Was old count
-      → AreFirst key_of is_over Was new count
+      → ShelvesOne c old new → AreFirst kind_and_round is_over Was old count
+      → AreFirst kind_and_round is_over Was new count
   first_still is_over Was count (inl same) are =
-      subst (λ cs. AreFirst key_of is_over Was cs count) (sym same.1) are
+      subst (λ cs. AreFirst kind_and_round is_over Was cs count) (sym same.1) are
   first_still is_over Was count (inr one) are =
-      subst (λ cs. AreFirst key_of is_over Was cs count) (sym one.1)
-      (put_behind key_of is_over Was old count are (c ∷ []))
+      subst (λ cs. AreFirst kind_and_round is_over Was cs count) (sym one.1)
+      (put_behind kind_and_round is_over Was old count are (c ∷ []))
 
 module _ {D K G C : Type 0} (x : NodeConfig D K G C) (past after : ValidatorHistory D K G C)
     (window : (window_by after).finalized ≡ (window_by past).finalized) where
@@ -80,7 +67,7 @@ module _ {D K G C : Type 0} (x : NodeConfig D K G C) (past after : ValidatorHist
       (had : (d : Certificate C D) → HasHad after d → (c ≡ d) ⊎ HasHad past d)
       (are : AreKept x past old) where
     kept_taken :
-        IsLookedAt x.epoch (window_by past).finalized c → TakesIn c old new → AreKept x after new
+        IsLookedAt x.epoch (window_by past).finalized c → ShelvesOne c old new → AreKept x after new
     kept_taken looked_at takes =
         record {
           certify = λ d there. of_there d (there_before c old new takes d there);
@@ -100,10 +87,10 @@ module _ {D K G C : Type 0} (x : NodeConfig D K G C) (past after : ValidatorHist
         seen d (inr is) = subst (λ e. IsLookedAt x.epoch (window_by past).finalized e) is looked_at
 
         found : (d : Certificate C D) → Counts x after d → (c ≡ d) ⊎ HasHad past d
-            → HasKey key_of new (key_of d)
-        found d counts (inl is) = subst (λ e. HasKey key_of new (key_of e)) is (has_taken c old new takes)
+            → HasKey kind_and_round new (kind_and_round d)
+        found d counts (inl is) = subst (λ e. HasKey kind_and_round new (kind_and_round e)) is (has_taken c old new takes)
         found d counts (inr before) =
-            key_still c old new takes (key_of d) (are.are_there d (record {
+            key_still c old new takes (kind_and_round d) (are.are_there d (record {
               had = before;
               looked_at = subst (λ first. IsLookedAt x.epoch first d) window counts.looked_at;
             }))
@@ -119,7 +106,7 @@ module _ {D K G C : Type 0} (x : NodeConfig D K G C) (past after : ValidatorHist
         }
       where
         found : (d : Certificate C D) → IsLookedAt x.epoch (window_by past).finalized d
-            → (c ≡ d) ⊎ HasHad past d → HasKey key_of old (key_of d)
+            → (c ≡ d) ⊎ HasHad past d → HasKey kind_and_round old (kind_and_round d)
         found d looked_at (inl is) =
             absurd (passed (subst (λ e. IsLookedAt x.epoch (window_by past).finalized e) (sym is) looked_at))
         found d looked_at (inr before) = are.are_there d (record { had = before; looked_at = looked_at })
@@ -133,12 +120,12 @@ pub first_with :
     {C D : Type 0} (epoch : Epoch) (first : ℕ) (c : Certificate C D) (old new : List
     (Certificate C D))
     (is_over : (Kind × Round) → Bool) (Was : (Kind × Round) → Type 0) (count : ℕ)
-    → Shelves epoch first c old new → AreFirst key_of is_over Was old count
-    → AreFirst key_of is_over Was new count
+    → Shelves epoch first c old new → AreFirst kind_and_round is_over Was old count
+    → AreFirst kind_and_round is_over Was new count
 first_with epoch first c old new is_over Was count (inl seen) are =
     first_still c old new is_over Was count seen.1 are
 first_with epoch first c old new is_over Was count (inr passed) are =
-    subst (λ cs. AreFirst key_of is_over Was cs count) (sym passed.1) are
+    subst (λ cs. AreFirst kind_and_round is_over Was cs count) (sym passed.1) are
 
 -- A view is made the final one, by a certificate that is kept.
 module _ {D K G C : Type 0} (x : NodeConfig D K G C) (past after : ValidatorHistory D K G C)
@@ -170,7 +157,8 @@ module _ {D K G C : Type 0} (x : NodeConfig D K G C) (past after : ValidatorHist
           (filter_passes (is_from first) cs) left
 
       left : (d : Certificate C D) → first ≤ (round_in (subject_certified d)).view.0
-          → HasKey key_of old (key_of d) → HasKey key_of (filter (is_from first) old) (key_of d)
+          → HasKey kind_and_round old (kind_and_round d)
+          → HasKey kind_and_round (filter (is_from first) old) (kind_and_round d)
       left d from has =
           record {
             item = has.item;
@@ -182,9 +170,9 @@ module _ {D K G C : Type 0} (x : NodeConfig D K G C) (past after : ValidatorHist
 
       found : (d : Certificate C D) → first ≤ (round_in (subject_certified d)).view.0
           → (round_in (subject_certified d)).epoch ≡ x.epoch → (c ≡ d) ⊎ HasHad past d
-          → HasKey key_of (filter (is_from first) old) (key_of d)
+          → HasKey kind_and_round (filter (is_from first) old) (kind_and_round d)
       found d from epoch (inl is) =
-          left d from (record { item = c; there = there; is_of = ap key_of is })
+          left d from (record { item = c; there = there; is_of = ap kind_and_round is })
       found d from epoch (inr before) =
           left d from (are.are_there d (record {
             had = before;
@@ -193,16 +181,16 @@ module _ {D K G C : Type 0} (x : NodeConfig D K G C) (past after : ValidatorHist
 
   pub first_from :
       (Was : (Kind × Round) → Type 0) (count : ℕ)
-      → AreFirst key_of (is_before_view (window_by past).finalized) Was old count
-      → AreFirst key_of (is_before_view (window_by after).finalized) Was (filter
+      → AreFirst kind_and_round (is_before_view (window_by past).finalized) Was old count
+      → AreFirst kind_and_round (is_before_view (window_by after).finalized) Was (filter
       (is_from first) old)
       (count_by (is_from first) (take count old))
   first_from Was count are =
-      leave key_of (is_before_view (window_by past).finalized) Was old count are
+      leave kind_and_round (is_before_view (window_by past).finalized) Was old count are
       (is_before_view (window_by after).finalized) (is_from first)
       (λ key above. not_before (window_by past).finalized key (omega (arith, window_is, up, after_or_at key above)))
       (λ d above. le-leb first (round_in (subject_certified d)).view.0
-      (omega (arith, window_is, after_or_at (key_of d) above)))
+      (omega (arith, window_is, after_or_at (kind_and_round d) above)))
     where
       after_or_at : (key : Kind × Round) → is_before_view (window_by after).finalized key ≡ false
           → (window_by after).finalized ≤ key.1.view.0

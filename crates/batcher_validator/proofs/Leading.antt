@@ -1,25 +1,9 @@
 -- In which views a validator proposes, and on which parents.
-use Rattle.std.proofs.Common.{◌≡◌, ◌≤◌, ◌<◌, ◌++◌, ◌&&◌, ◌∙◌, ℕ, Bool, true, false, ap, arith, eqb, refl, subst, sym}
-use Rattle.std.specs.Prelude.{MatchBool}
-use Rattle.std.specs.List.{list_any}
-use Rattle.std.proofs.lemmas.Bool.{le-ltb}
-use Rattle.std.proofs.lemmas.List.Folds.{Any-from_list_any, list_any_at}
-use Rattle.batcher.specs.Votes.{round_in, same_round, subject_of}
-use Rattle.batcher.specs.messages.Proposal.{Proposal}
-use Rattle.batcher.specs.messages.Vote.{Vote}
-use Rattle.batcher.specs.positions.Epoch.{Epoch}
-use Rattle.batcher.specs.positions.View.{View}
-use Rattle.batcher_agreement.specs.Lives.{conduct_of}
-use Rattle.batcher_agreement.specs.Policy.{Conduct, IsGrounded}
-use Rattle.batcher_journal.specs.Floors.{is_below}
-use Rattle.batcher_node.specs.Nodes.{NodeConfig, NodeView}
-use Rattle.batcher_node.specs.Windows.{numbered}
-use Rattle.batcher_types.proofs.VoteLemmas.{same_round-refl, same_round-true}
-use Rattle.batcher_validator.specs.Histories.{ValidatorHistory, voter_history}
-use Rattle.batcher_validator.specs.Posing.{Grounds, HasCast, HasNotCast, IsNotToPropose}
-use Rattle.batcher_validator.specs.Running.{IsRunning, ValidatorView}
-use Rattle.batcher_validator.specs.Tasks.{IsOpen}
-use Rattle.batcher_voter.specs.Voting.{BeginWithOneView, ForEachLife}
+use Rattle.batcher_validator.proofs.Words.{◌≡◌, ◌≤◌, ◌<◌, ◌++◌, ◌&&◌, ◌∙◌, ℕ, Bool, true, false, ap, arith, eqb, refl, subst, sym, MatchBool, list_any, le-ltb}
+use Rattle.batcher_validator.proofs.Words.{Any-from_list_any, list_any_at, round_in, same_round, subject_of, Proposal, Vote, Epoch, View, conduct_of, Conduct}
+use Rattle.batcher_validator.proofs.Words.{IsGrounded, is_below, NodeConfig, NodeView, numbered, same_round-refl, same_round-true, ValidatorHistory}
+use Rattle.batcher_validator.proofs.Words.{voter_history, Grounds, HasCast, HasNotCast, IsNotToPropose, IsRunning, ValidatorView, IsOpen, BeginWithOneView}
+use Rattle.batcher_validator.proofs.Words.{ForEachLife}
 
 wrong : true ≡ false → ⊥
 wrong e = absurd cc

@@ -1,20 +1,7 @@
 -- What is lent to be verified is what the next construction looks at.
-use Rattle.std.proofs.Common.{◌≡◌, ◌∙◌, ℕ, List, Option, Some, None, ap, refl, subst, sym}
-use Rattle.std.proofs.lemmas.Bool.{false≢true}
-use Rattle.std.specs.Prelude.{IfSome, is_some, true}
-use Rattle.std.specs.Option.{option_map}
-use Rattle.batcher.specs.Config.{Config}
-use Rattle.batcher.specs.Next.{pending_next, subject_next}
-use Rattle.batcher.specs.RoundState.{RoundView}
-use Rattle.batcher.specs.Steps.{is_ready_in}
-use Rattle.batcher.specs.Verdicts.{LooksAtKind}
-use Rattle.batcher.specs.messages.Attestation.{Attestation}
-use Rattle.batcher.specs.messages.Kind.{Kind}
-use Rattle.batcher.specs.messages.Subject.{Subject}
-use Rattle.batcher_node.proofs.Lowest.{one_next}
-use Rattle.batcher_node.specs.Nodes.{IsNext, slot_at}
-use Rattle.batcher_node.specs.Verdicts.{LooksAtKindThere, LooksAtThere}
-use Rattle.batcher_node.specs.declared.slot.Slot.{Slot}
+use Rattle.batcher_validator.proofs.Words.{◌≡◌, ◌∙◌, ℕ, List, Option, Some, None, ap, refl, subst, sym, false≢true, IfSome, is_some, true, option_map, Config}
+use Rattle.batcher_validator.proofs.Words.{pending_next, subject_next, RoundView, is_ready_in, LooksAtKind, Attestation, Kind, Subject, one_next, IsNext}
+use Rattle.batcher_validator.proofs.Words.{slot_at, LooksAtKindThere, LooksAtThere, Slot}
 
 module _ {S D K G C : Type 0} (round_config : RoundView S G D → Config D K G C)
     (rounds : List (ℕ × Slot (RoundView S G D))) (view : ℕ) (round : RoundView S G D)

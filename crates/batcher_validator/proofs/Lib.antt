@@ -1,3 +1,4 @@
+pub mod Words
 pub mod Queueing
 pub mod Reading
 pub mod Lending

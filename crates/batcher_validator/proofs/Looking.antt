@@ -1,18 +1,8 @@
 -- What is found among certificates that are kept.
-use Rattle.std.proofs.Common.{◌≡◌, ◌⊎◌, ◌+◌, ◌<◌, ◌≤◌, ◌∙◌, ℕ, true, false, List, [], ◌∷◌, Option, Some, None, ap, arith, get_or, inl, inr, length, subst, sym, take}
-use Rattle.std.specs.Prelude.{Contains, IfSome, unwrap_or}
-use Rattle.std.specs.List.{slice_get}
-use Rattle.std.proofs.lemmas.List.{take_all}
-use Rattle.std.proofs.lemmas.List.Elements.{Contains-append_cases}
-use Rattle.std.proofs.lemmas.Option.{slice_get-get_or}
-use Rattle.batcher.specs.Votes.{subject_certified}
-use Rattle.batcher.specs.messages.Certificate.{Certificate}
-use Rattle.batcher.specs.messages.Proposal.{Proposal}
-use Rattle.batcher.specs.messages.Subject.{Subject}
-use Rattle.batcher.specs.messages.Subject.TheVariants.{Finalize, Notarize, Nullify}
-use Rattle.batcher.specs.positions.Round.{Round}
-use Rattle.batcher_node.specs.Nodes.{IsAtRest, IsNext, NodeView}
-use Rattle.batcher_validator.specs.Shelves.{HaveNoFinal, IsFinalAt}
+use Rattle.batcher_validator.proofs.Words.{◌≡◌, ◌⊎◌, ◌+◌, ◌<◌, ◌≤◌, ◌∙◌, ℕ, true, false, List, [], ◌∷◌, Option, Some, None, ap, arith, get_or, inl, inr, length}
+use Rattle.batcher_validator.proofs.Words.{subst, sym, take, Contains, IfSome, unwrap_or, slice_get, take_all, Contains-append_cases, slice_get-get_or}
+use Rattle.batcher_validator.proofs.Words.{subject_certified, Certificate, Proposal, Subject, Finalize, Notarize, Nullify, Round, IsAtRest, IsNext, NodeView}
+use Rattle.batcher_validator.proofs.Words.{HaveNoFinal, IsFinalAt}
 use Rattle.batcher_validator.proofs.Queueing.{contains_one, one_more}
 
 module _ {X : Type 0} where

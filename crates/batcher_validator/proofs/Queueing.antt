@@ -1,15 +1,10 @@
 -- Items of which the first were given go on: one more is given, more are put behind them, or some
 -- are over.
-use Rattle.std.proofs.Common.{◌≡◌, ◌⊎◌, ◌+◌, ◌<◌, ◌≤◌, ◌++◌, ◌∙◌, ℕ, zero, suc, Bool, true, false, List, [], ◌∷◌, Some, ap, arith, drop, get_or, inl, inr, length, refl, subst, sym, take}
-use Rattle.std.specs.Prelude.{Contains}
-use Rattle.std.specs.List.{count_by, filter, slice_get}
-use Rattle.std.proofs.Math.Seq.{take-append_seam, take-suc}
-use Rattle.std.proofs.lemmas.List.{length-append, take-append-drop, take-append-le, take_all}
-use Rattle.std.proofs.lemmas.List.Elements.{All-contains, All-contains_itself, All-filter, Contains-append_cases, Contains-append_left, Contains-append_right}
-use Rattle.std.proofs.lemmas.List.Sums.{length-filter}
-use Rattle.std.proofs.lemmas.Option.{get_or_from_slice_get, slice_get-get_or, slice_get_within}
-use Rattle.batcher_journal.proofs.Lives.{contains_filter}
-use Rattle.batcher_validator.specs.Queues.{AreDistinct, AreFirst, HasKey}
+use Rattle.batcher_validator.proofs.Words.{◌≡◌, ◌⊎◌, ◌+◌, ◌<◌, ◌≤◌, ◌++◌, ◌∙◌, ℕ, zero, suc, Bool, true, false, List, [], ◌∷◌, Some, ap, arith, drop, get_or}
+use Rattle.batcher_validator.proofs.Words.{inl, inr, length, refl, subst, sym, take, Contains, count_by, filter, slice_get, take-append_seam, take-suc}
+use Rattle.batcher_validator.proofs.Words.{length-append, take-append-drop, take-append-le, take_all, All-contains, All-contains_itself, All-filter}
+use Rattle.batcher_validator.proofs.Words.{Contains-append_cases, Contains-append_left, Contains-append_right, length-filter, get_or_from_slice_get}
+use Rattle.batcher_validator.proofs.Words.{slice_get-get_or, slice_get_within, contains_filter, AreDistinct, AreFirst, HasKey}
 
 module _ {X : Type 0} where
   -- the first elements and the one behind them

@@ -1,16 +1,8 @@
 -- A validator takes in what its disk has.
-use Rattle.std.proofs.Common.{◌≡◌, ◌⊎◌, ◌++◌, ◌+◌, ℕ, zero, suc, List, [], ◌∷◌, Ok, Option, Some, ap, arith, inl, inr, refl, subst, sym, take}
-use Rattle.std.specs.Prelude.{Contains, IfSome}
-use Rattle.std.specs.List.{slice_get}
-use Rattle.std.proofs.lemmas.List.Elements.{Contains-append_left, Contains-append_right}
-use Rattle.batcher.specs.messages.Certificate.{Certificate}
-use Rattle.batcher_codec.specs.Format.{Format, whole}
-use Rattle.batcher_codec.specs.Messages.{versioned}
-use Rattle.batcher_journal.specs.Records.{Certified}
-use Rattle.batcher_node.specs.Nodes.{NodeConfig}
-use Rattle.batcher_validator.specs.Histories.{ValidatorHistory, only_took, took}
-use Rattle.batcher_validator.specs.Recalling.{IsAtPlace, Recalls}
-use Rattle.batcher_validator.specs.Running.{AreBytesOf, IsRunning, RunMeets, ValidatorView}
+use Rattle.batcher_validator.proofs.Words.{◌≡◌, ◌⊎◌, ◌++◌, ◌+◌, ℕ, zero, suc, List, [], ◌∷◌, Ok, Option, Some, ap, arith, inl, inr, refl, subst, sym, take}
+use Rattle.batcher_validator.proofs.Words.{Contains, IfSome, slice_get, Contains-append_left, Contains-append_right, Certificate, Format, whole, versioned}
+use Rattle.batcher_validator.proofs.Words.{Certified, NodeConfig, ValidatorHistory, only_took, took, IsAtPlace, Recalls, AreBytesOf, IsRunning, RunMeets}
+use Rattle.batcher_validator.proofs.Words.{ValidatorView}
 
 -- what bytes decode to is one
 pub same_decoded :

@@ -1,19 +1,9 @@
 -- What may be voted for isn't refused, unless it is contested.
-use Rattle.std.proofs.Common.{◌≡◌, ◌&&◌, ◌++◌, ◌∙◌, ℕ, Bool, true, false, not, ap, arith, inl, inr, refl, subst, sym}
-use Rattle.batcher.specs.Reports.{subjects_contradict}
-use Rattle.batcher.specs.Votes.{same_proposal, same_round, subject_of}
-use Rattle.batcher.specs.messages.Proposal.{Proposal}
-use Rattle.batcher.specs.messages.Subject.{Subject}
-use Rattle.batcher.specs.messages.Subject.TheVariants.{Notarize, Nullify, Finalize}
-use Rattle.batcher.specs.positions.Round.{Round}
-use Rattle.batcher_agreement.specs.Policy.{Conduct, HasVoted, IsCleared, KeepsPolicy}
-use Rattle.batcher_agreement.proofs.Voting.{voted_final_is_notarized}
-use Rattle.batcher_types.proofs.VoteLemmas.{same_round-true}
-use Rattle.batcher_validator.specs.Tasks.{IsContested}
-use Rattle.batcher_voter.specs.Refusals.{IsAnotherNotarized, IsRefused, RestsOnLearned}
-use Rattle.batcher_voter.specs.declared.answers.Rule.{Rule}
-use Rattle.batcher_voter.specs.declared.answers.Rule.TheVariants.{Contradicts, Nullified, NotNotarized, ParentBeforeFinal, ParentNotEarlier, ParentUnknown, ViewNotNullified}
-use Rattle.batcher_voter.proofs.Appending.{knows_before}
+use Rattle.batcher_validator.proofs.Words.{◌≡◌, ◌&&◌, ◌++◌, ◌∙◌, ℕ, Bool, true, false, not, ap, arith, inl, inr, refl, subst, sym, subjects_contradict}
+use Rattle.batcher_validator.proofs.Words.{same_proposal, same_round, subject_of, Proposal, Subject, Notarize, Nullify, Finalize, Round, Conduct, HasVoted}
+use Rattle.batcher_validator.proofs.Words.{IsCleared, KeepsPolicy, voted_final_is_notarized, same_round-true, IsContested, IsAnotherNotarized, IsRefused}
+use Rattle.batcher_validator.proofs.Words.{RestsOnLearned, Rule, Contradicts, Nullified, NotNotarized, ParentBeforeFinal, ParentNotEarlier, ParentUnknown}
+use Rattle.batcher_validator.proofs.Words.{ViewNotNullified, knows_before}
 
 wrong : false ≡ true → ⊥
 wrong e = absurd cc

@@ -1,22 +1,11 @@
 -- A validator's own vote is cast.
-use Rattle.std.proofs.Common.{◌≡◌, ℕ, ◌++◌, [], ◌∷◌, Some, None, inl, inr, refl, subst, sym}
-use Rattle.batcher.specs.messages.Certificate.{Certificate}
-use Rattle.batcher.specs.messages.Vote.{Vote}
-use Rattle.batcher_agreement.specs.Lives.{VoterHistory, called, written}
-use Rattle.batcher_agreement.specs.Policy.{Conduct}
-use Rattle.batcher_node.specs.Events.{cause_in, vote_cast}
-use Rattle.batcher_node.specs.Nodes.{NodeConfig}
+use Rattle.batcher_validator.proofs.Words.{◌≡◌, ℕ, ◌++◌, [], ◌∷◌, Some, None, inl, inr, refl, subst, sym, Certificate, Vote, VoterHistory, called, written}
+use Rattle.batcher_validator.proofs.Words.{Conduct, cause_in, vote_cast, NodeConfig, ToSend, KnownVote, OutsideVote, Activity, Outcome, Option, AreKept}
+use Rattle.batcher_validator.proofs.Words.{ForEachRun, IsRunning, RunCasts, RunMayWrite, RunWrites, ValidatorView, calls_in, HasHad, ValidatorHistory, only_did}
+use Rattle.batcher_validator.proofs.Words.{voter_history, window_by, MayGain, Casts, ForEachLife, IsVoting, IsWritten, MayWrite, WritesAndCalls}
 use Rattle.batcher_node.specs.declared.answers.Cast.{Cast}
-use Rattle.batcher_node.specs.declared.answers.Cast.TheVariants.{ToSend, Known as KnownVote, Outside as OutsideVote}
-use Rattle.batcher.specs.messages.Activity.{Activity}
-use Rattle.batcher.specs.votes.Outcome.{Outcome}
-use Rattle.std.specs.Prelude.{Option}
-use Rattle.batcher_validator.specs.Running.{AreKept, ForEachRun, IsRunning, RunCasts, RunMayWrite, RunWrites, ValidatorView}
-use Rattle.batcher_validator.specs.Histories.{calls_in, HasHad, ValidatorHistory, only_did, voter_history, window_by}
 use Rattle.batcher_validator.proofs.Going.{goes_on, or_none, sent_gained}
 use Rattle.batcher_validator.proofs.Keeping.{kept_still}
-use Rattle.batcher_voter.specs.Journals.{MayGain}
-use Rattle.batcher_voter.specs.Voting.{Casts, ForEachLife, IsVoting, IsWritten, MayWrite, WritesAndCalls}
 
 module _ {S D K G C L : Type 0} (x : NodeConfig D K G C) (old new : ValidatorView S G D L C)
     (vote : Vote G D) (gains : MayGain vote old.voter.journal new.voter.journal)

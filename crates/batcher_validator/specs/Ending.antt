@@ -1,5 +1,6 @@
 -- `poll` comes to an end: where nothing comes meanwhile, with each task less is left to be given.
-use Rattle.std.specs.Prelude.{◌≡◌, ◌<◌, ◌+◌, ◌-◌, ◌*◌, ⊤, ℕ, Bool, cond, false, is_some, length, nat_lt, not, ◌∷◌, Some}
+use Rattle.std.specs.Prelude.{◌≡◌, ◌<◌, ◌+◌, ◌-◌, ◌*◌, ⊤, ℕ, Bool, cond, false, is_some, length}
+use Rattle.std.specs.Prelude.{nat_lt, not, ◌∷◌, Some}
 use Rattle.std.specs.List.{count_by}
 use Rattle.batcher.specs.messages.Certificate.{Certificate}
 use Rattle.batcher.specs.messages.Certificate.TheVariants.{Finalization as FinalizationCertificate}

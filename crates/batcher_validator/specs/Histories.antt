@@ -1,5 +1,6 @@
 -- What happens to a validator: what its voter does, what it gives to be done, and the answers.
-use Rattle.std.specs.Prelude.{◌≡◌, ◌≤◌, ◌⊎◌, ⊤, ℕ, cond, List, [], ◌∷◌, ◌++◌, Option, Some, None, max, nat_lt}
+use Rattle.std.specs.Prelude.{◌≡◌, ◌≤◌, ◌⊎◌, ⊤, ℕ, cond, List, [], ◌∷◌, ◌++◌, Option, Some, None}
+use Rattle.std.specs.Prelude.{max, nat_lt}
 use Rattle.batcher.specs.Selection.{leader_of, selected_proposal}
 use Rattle.batcher.specs.Votes.{subject_of}
 use Rattle.batcher.specs.messages.Certificate.{Certificate}
@@ -9,14 +10,18 @@ use Rattle.batcher.specs.messages.Proposal.{Proposal}
 use Rattle.batcher.specs.messages.Subject.{Subject}
 use Rattle.batcher.specs.positions.Participant.{Participant}
 use Rattle.batcher.specs.positions.Round.{Round}
-use Rattle.batcher_agreement.specs.Lives.{VoterEvent, VoterHistory, conduct_of, held_by, node_history}
+use Rattle.batcher_agreement.specs.Lives.{VoterEvent, VoterHistory, conduct_of, held_by}
+use Rattle.batcher_agreement.specs.Lives.{node_history}
 use Rattle.batcher_agreement.specs.Policy.{Conduct, HasVoted}
 use Rattle.batcher_node.specs.Events.{NodeHistory, view_history, window_in}
 use Rattle.batcher_node.specs.Nodes.{NodeConfig}
 use Rattle.batcher_node.specs.Represents.{config_of}
 use Rattle.batcher_node.specs.declared.window.Window.{Window}
 use Rattle.batcher_validator.specs.declared.task.Task.{Task}
-use Rattle.batcher_validator.specs.declared.task.Task.TheVariants.{Block, Cast, Enter, Final, Forward, Judge, Propose, SendCertificate, SendVote, Sign, Verify}
+use Rattle.batcher_validator.specs.declared.task.Task.TheVariants.{Block, Cast, Enter, Final}
+use Rattle.batcher_validator.specs.declared.task.Task.TheVariants.{Forward, Judge, Propose}
+use Rattle.batcher_validator.specs.declared.task.Task.TheVariants.{SendCertificate, SendVote, Sign}
+use Rattle.batcher_validator.specs.declared.task.Task.TheVariants.{Verify}
 
 pub data ValidatorEvent (D K G C : Type 0) : Type 0 where
   -- it was made of a voter, which votes as this participant, and did this before

@@ -6,3 +6,4 @@ pub mod Running
 pub mod Posing
 pub mod Recalling
 pub mod Ending
+pub mod Disks

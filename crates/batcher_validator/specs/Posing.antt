@@ -11,9 +11,11 @@ use Rattle.batcher_agreement.specs.Lives.{conduct_of}
 use Rattle.batcher_agreement.specs.Policy.{Conduct, IsGrounded}
 use Rattle.batcher_node.specs.Nodes.{NodeConfig, NodeView, cause_at}
 use Rattle.batcher_node.specs.Windows.{numbered}
-use Rattle.batcher_validator.specs.Histories.{Leads, ValidatorHistory, conduct_in, leader_in, proposal_by, voter_history, window_by}
+use Rattle.batcher_validator.specs.Histories.{Leads, ValidatorHistory, conduct_in, leader_in}
+use Rattle.batcher_validator.specs.Histories.{proposal_by, voter_history, window_by}
 use Rattle.batcher_validator.specs.Running.{ForEachRun, ValidatorView}
-use Rattle.batcher_validator.specs.Tasks.{SignsNoMore, HasVotedIn, IsContested, IsOpen, IsSigning, IsWanted, MayVote}
+use Rattle.batcher_validator.specs.Tasks.{SignsNoMore, HasVotedIn, IsContested, IsOpen, IsSigning}
+use Rattle.batcher_validator.specs.Tasks.{IsWanted, MayVote}
 
 module _ {S D G C L : Type 0} (validator : ValidatorView S G D L C) where
   -- the next view was entered, or given to be

@@ -2,8 +2,8 @@
 use Rattle.std.specs.Prelude.{◌≡◌, ◌++◌, ℕ, List, Contains, Ok, Some}
 use Rattle.std.specs.List.{slice_get}
 use Rattle.batcher.specs.messages.Certificate.{Certificate}
-use Rattle.batcher_codec.specs.Format.{Format, whole}
-use Rattle.batcher_codec.specs.Messages.{versioned}
+use Rattle.batcher_bytes.specs.Format.{Format, whole}
+use Rattle.batcher_bytes.specs.Messages.{versioned}
 use Rattle.batcher_journal.specs.Records.{Certified}
 use Rattle.batcher_node.specs.Nodes.{NodeConfig}
 use Rattle.batcher_validator.specs.Histories.{only_took}

@@ -1,5 +1,7 @@
 -- A validator: a voter, with what it gave to be done.
-use Rattle.std.specs.Prelude.{◌≡◌, ◌≢◌, ◌<◌, ◌≤◌, ◌⊎◌, ⊤, ℕ, Bool, true, false, List, [], ◌∷◌, ◌++◌, Contains, MatchBool, Option, Some, None, Ok, is_some, nat_lt, not, take}
+use Rattle.std.specs.Prelude.{◌≡◌, ◌≢◌, ◌<◌, ◌≤◌, ◌⊎◌, ⊤, ℕ, Bool, true, false, List, [], ◌∷◌, ◌++◌}
+use Rattle.std.specs.Prelude.{Contains, MatchBool, Option, Some, None, Ok, is_some, nat_lt, not}
+use Rattle.std.specs.Prelude.{take}
 use Rattle.std.specs.List.{count_by, slice_get}
 use Rattle.batcher.specs.Verifiers.{certifies_itself}
 use Rattle.batcher.specs.Votes.{kind_certified, round_in, subject_certified, subject_of}
@@ -16,8 +18,8 @@ use Rattle.batcher.specs.positions.Round.{Round}
 use Rattle.batcher.specs.votes.Outcome.{Outcome}
 use Rattle.batcher_agreement.specs.Lives.{VoterHistory, called, node_history, verified, written}
 use Rattle.batcher_agreement.specs.Policy.{Conduct, HasVoted}
-use Rattle.batcher_codec.specs.Format.{Format, whole}
-use Rattle.batcher_codec.specs.Messages.{versioned}
+use Rattle.batcher_bytes.specs.Format.{Format, whole}
+use Rattle.batcher_bytes.specs.Messages.{versioned}
 use Rattle.batcher_journal.specs.Floors.{is_below, is_over}
 use Rattle.batcher_journal.specs.Records.{Certified}
 use Rattle.batcher_journal.specs.Text.{Contents}
@@ -28,18 +30,26 @@ use Rattle.batcher_node.specs.Windows.{is_of}
 use Rattle.batcher_node.specs.declared.answers.Receipt.{Receipt}
 use Rattle.batcher_node.specs.declared.answers.Receipt.TheVariants.{Answered}
 use Rattle.batcher_node.specs.declared.answers.Cast.{Cast}
-use Rattle.batcher_node.specs.declared.answers.Cast.TheVariants.{ToSend, Known as KnownVote, Outside as OutsideVote}
+use Rattle.batcher_node.specs.declared.answers.Cast.TheVariants.{ToSend, Known as KnownVote}
+use Rattle.batcher_node.specs.declared.answers.Cast.TheVariants.{Outside as OutsideVote}
 use Rattle.batcher_validator.specs.Queues.{AreFirst, HasKey}
-use Rattle.batcher_validator.specs.Shelves.{IsLookedAt, ShelfView, key_of}
-use Rattle.batcher_validator.specs.Histories.{HadVoted, HasAnnouncedFrom, HasAskedFrom, HasBlocked, HasHanded, HasRecast, HasSent, IsVerifying, ValidatorEvent}
+use Rattle.batcher_validator.specs.Shelves.{IsLookedAt, ShelfView, kind_and_round}
+use Rattle.batcher_validator.specs.Histories.{HadVoted, HasAnnouncedFrom, HasAskedFrom, HasBlocked}
+use Rattle.batcher_validator.specs.Histories.{HasHanded, HasRecast, HasSent, IsVerifying}
+use Rattle.batcher_validator.specs.Histories.{ValidatorEvent, ValidatorHistory, answered, began}
+use Rattle.batcher_validator.specs.Histories.{chosen_in, conduct_in, did, expired_in, gave}
+use Rattle.batcher_validator.specs.Histories.{last_to_sign, me_in, only_did, only_took, posed_in}
+use Rattle.batcher_validator.specs.Histories.{to_forward, voter_history, window_by}
 use Rattle.batcher_validator.specs.Tasks.{AreGivenInTurn, Counts, NobodyIsToBlock}
-use Rattle.batcher_validator.specs.Histories.{ValidatorHistory, answered, began, chosen_in, conduct_in, did, expired_in, gave, last_to_sign, me_in, only_did, only_took, posed_in, to_forward, voter_history, window_by}
 use Rattle.batcher_validator.specs.declared.tally.Tally.{Tally}
 use Rattle.batcher_validator.specs.declared.task.Task.{Task}
-use Rattle.batcher_validator.specs.declared.task.Task.TheVariants.{Cast as CastAgain, Final, SendCertificate, SendVote, Verify}
+use Rattle.batcher_validator.specs.declared.task.Task.TheVariants.{Cast as CastAgain, Final}
+use Rattle.batcher_validator.specs.declared.task.Task.TheVariants.{SendCertificate, SendVote}
+use Rattle.batcher_validator.specs.declared.task.Task.TheVariants.{Verify}
 use Rattle.batcher_voter.specs.Voting.{IsVoting, LeavesWhatWasDone, VoterView}
 use Rattle.batcher_voter.specs.declared.answers.FinalizeFault.{FinalizeFault}
-use Rattle.batcher_voter.specs.declared.answers.FinalizeFault.TheVariants.{Forged as NotFinalForged, NotOfEpoch, Passed}
+use Rattle.batcher_voter.specs.declared.answers.FinalizeFault.TheVariants.{Forged as NotFinalForged}
+use Rattle.batcher_voter.specs.declared.answers.FinalizeFault.TheVariants.{NotOfEpoch, Passed}
 
 -- What a validator means to vote for, with digests D.
 pub record IntentView (D : Type 0) : Type 0 where
@@ -133,7 +143,8 @@ pub record AreKept {D K G C : Type 0} (x : NodeConfig D K G C) (past : Validator
   pub certify : (c : Certificate C D) → Contains kept c → certifies_itself x.meaning c ≡ true
   pub looked_at :
       (c : Certificate C D) → Contains kept c → IsLookedAt x.epoch (window_by past).finalized c
-  pub are_there : (c : Certificate C D) → Counts x past c → HasKey key_of kept (key_of c)
+  pub are_there : (c : Certificate C D) → Counts x past c
+      → HasKey kind_and_round kept (kind_and_round c)
 
 -- whether an answer to a vote blocks who sent it
 abbrev pub blocks_sender : {G D : Type 0} → Receipt (Admission G D) → Bool
@@ -149,17 +160,17 @@ pub record AreBytesOf {C D : Type 0} (format : Format (Certificate C D)) (kept :
 
 -- A vote that is given to be sent or cast is on the disk, a certificate is kept, and votes that are
 -- given to be verified wait.
-abbrev pub IsReady : {S G D L C : Type 0} → ValidatorView S G D L C → Task G D → Type 0
-IsReady validator (SendVote vote) =
+abbrev pub IsReadyTask : {S G D L C : Type 0} → ValidatorView S G D L C → Task G D → Type 0
+IsReadyTask validator (SendVote vote) =
     (validator.voter.journal.is_open ≡ true)
     × Contains validator.voter.journal.contents.votes vote
-IsReady validator (CastAgain vote) =
+IsReadyTask validator (CastAgain vote) =
     (validator.voter.journal.is_open ≡ true)
     × Contains validator.voter.journal.contents.votes vote
-IsReady validator (SendCertificate kind number) =
-    HasKey key_of validator.shelf.certificates (kind, number)
-IsReady validator Verify = IsAtRest validator.voter.node → ⊥
-IsReady validator task = ⊤
+IsReadyTask validator (SendCertificate kind number) =
+    HasKey kind_and_round validator.shelf.certificates (kind, number)
+IsReadyTask validator Verify = IsAtRest validator.voter.node → ⊥
+IsReadyTask validator task = ⊤
 
 -- Why the view of the finalization at a place isn't made the final one.
 abbrev pub WhyNotFinal : {S D K G C L : Type 0} → NodeConfig D K G C → ValidatorView S G D L C → ℕ
@@ -203,7 +214,8 @@ module _ {S D K G C L : Type 0} (x : NodeConfig D K G C) where
         (λ s. HasRecast past s) validator.given.tally.recast
     pub kept : AreKept x past validator.shelf.certificates
     pub certificates :
-        AreFirst key_of (is_before_view (window_by past).finalized) (λ key. HasHanded past key)
+        AreFirst kind_and_round (is_before_view (window_by past).finalized)
+        (λ key. HasHanded past key)
         validator.shelf.certificates validator.shelf.handed
     pub asks : AreAsked (λ view. HasAskedFrom past view) validator.given.asked
     pub verifies : MatchBool validator.given.verifying (IsVerifying past) (IsVerifying past → ⊥)
@@ -250,8 +262,8 @@ module _ {S D K G C L : Type 0} (x : NodeConfig D K G C) where
       LeavesWhatWasDone format (voter_history past) earlier left)
 
   -- a construction was made, by which votes were verified
-  abbrev pub Constructs : ValidatorView S G D L C → ValidatorView S G D L C → Type 0
-  Constructs old new =
+  abbrev pub HasConstructed : ValidatorView S G D L C → ValidatorView S G D L C → Type 0
+  HasConstructed old new =
       (one : Construction C D) × ForEachRun old (λ past earlier. IsRunning
       (answered ∷ did (called (constructed one.view.0 one.batch)) ∷ past) earlier new)
 

@@ -1,5 +1,6 @@
 -- Certificates that are kept: of each kind and round one.
-use Rattle.std.specs.Prelude.{◌≡◌, ◌<◌, ◌≤◌, ◌⊎◌, ◌++◌, ℕ, Bool, List, [], ◌∷◌, Contains, Some, nat_le}
+use Rattle.std.specs.Prelude.{◌≡◌, ◌<◌, ◌≤◌, ◌⊎◌, ◌++◌, ℕ, Bool, List, [], ◌∷◌, Contains, Some}
+use Rattle.std.specs.Prelude.{nat_le}
 use Rattle.std.specs.List.{slice_get}
 use Rattle.batcher.specs.Votes.{kind_certified, round_in, subject_certified}
 use Rattle.batcher.specs.messages.Certificate.{Certificate}
@@ -18,8 +19,8 @@ pub record ShelfView (C D : Type 0) : Type 0 where
 
 module _ {C D : Type 0} where
   -- the kind and the round of a certificate
-  abbrev pub key_of : Certificate C D → Kind × Round
-  key_of c = (kind_certified c, round_in (subject_certified c))
+  abbrev pub kind_and_round : Certificate C D → Kind × Round
+  kind_and_round c = (kind_certified c, round_in (subject_certified c))
 
   -- whether its view is this one or a later one
   abbrev pub is_from : ℕ → Certificate C D → Bool
@@ -29,13 +30,13 @@ module _ {C D : Type 0} where
   pub record IsAt (kept : List (Certificate C D)) (i : ℕ) (key : Kind × Round) : Type 0 where
     pub certificate : Certificate C D
     pub there : slice_get kept i ≡ Some certificate
-    pub is_of : key_of certificate ≡ key
+    pub is_of : kind_and_round certificate ≡ key
 
   -- with this one behind them, unless there is one of its kind and round
-  abbrev pub TakesIn : Certificate C D → List (Certificate C D) → List (Certificate C D) → Type 0
-  TakesIn c old new =
-      (HasKey key_of old (key_of c) × (new ≡ old))
-      ⊎ ((HasKey key_of old (key_of c) → ⊥) × (new ≡ old ++ c ∷ []))
+  abbrev pub ShelvesOne : Certificate C D → List (Certificate C D) → List (Certificate C D) → Type 0
+  ShelvesOne c old new =
+      (HasKey kind_and_round old (kind_and_round c) × (new ≡ old))
+      ⊎ ((HasKey kind_and_round old (kind_and_round c) → ⊥) × (new ≡ old ++ c ∷ []))
 
   -- Whether it is of the epoch, and of this view or a later one.
   pub record IsLookedAt (epoch : Epoch) (first : ℕ) (c : Certificate C D) : Type 0 where
@@ -46,7 +47,7 @@ module _ {C D : Type 0} where
   abbrev pub Shelves : Epoch → ℕ → Certificate C D → List (Certificate C D)
       → List (Certificate C D) → Type 0
   Shelves epoch first c old new =
-      (IsLookedAt epoch first c × TakesIn c old new)
+      (IsLookedAt epoch first c × ShelvesOne c old new)
       ⊎ ((IsLookedAt epoch first c → ⊥) × (new ≡ old))
 
   -- at this place is a finalization of the proposal, of a view after this one

@@ -1,5 +1,6 @@
 -- When a task may be given, and when nothing is left to be given.
-use Rattle.std.specs.Prelude.{◌≡◌, ◌+◌, ◌<◌, ◌≤◌, ◌⊎◌, ◌^◌, ⊤, ℕ, false, true, length, [], ◌∷◌, Some, None}
+use Rattle.std.specs.Prelude.{◌≡◌, ◌+◌, ◌<◌, ◌≤◌, ◌⊎◌, ◌^◌, ⊤, ℕ, false, true, length, [], ◌∷◌}
+use Rattle.std.specs.Prelude.{Some, None}
 use Rattle.batcher.specs.Verifiers.{certifies_itself}
 use Rattle.batcher.specs.Votes.{round_in, subject_certified, subject_of}
 use Rattle.batcher.specs.messages.Certificate.{Certificate}
@@ -14,15 +15,22 @@ use Rattle.batcher_agreement.specs.Policy.{Conduct, HasVoted, IsCleared, IsGroun
 use Rattle.batcher_journal.specs.Floors.{is_below}
 use Rattle.batcher_node.specs.Events.{cause_in, view_history}
 use Rattle.batcher_node.specs.Nodes.{NodeConfig}
-use Rattle.batcher_node.specs.Represents.{is_due}
+use Rattle.batcher_node.specs.Represents.{is_to_be_tried}
 use Rattle.batcher_node.specs.Windows.{is_of, numbered}
 use Rattle.batcher_voter.specs.Knowledge.{KnowsOf}
 use Rattle.batcher_voter.specs.Refusals.{IsAnotherNotarized, RestsOnLearned}
-use Rattle.batcher_validator.specs.Histories.{HadVoted, HasAnnouncedFrom, HasAskedFrom, HasBlocked, HasForwarded, HasHad, HasHanded, HasRecast, HasSent, IsVerifying, Leads, ValidatorHistory}
-use Rattle.batcher_validator.specs.Histories.{calls_in, chosen_in, conduct_in, expired_in, gave, last_to_sign, posed_in, proposal_by, to_forward, voter_history, window_by}
-use Rattle.batcher_validator.specs.Shelves.{IsLookedAt, key_of}
+use Rattle.batcher_validator.specs.Histories.{HadVoted, HasAnnouncedFrom, HasAskedFrom, HasBlocked}
+use Rattle.batcher_validator.specs.Histories.{HasForwarded, HasHad, HasHanded, HasRecast, HasSent}
+use Rattle.batcher_validator.specs.Histories.{IsVerifying, Leads, ValidatorHistory, calls_in}
+use Rattle.batcher_validator.specs.Histories.{chosen_in, conduct_in, expired_in, gave, last_to_sign}
+use Rattle.batcher_validator.specs.Histories.{posed_in, proposal_by, to_forward, voter_history}
+use Rattle.batcher_validator.specs.Histories.{window_by}
+use Rattle.batcher_validator.specs.Shelves.{IsLookedAt, kind_and_round}
 use Rattle.batcher_validator.specs.declared.task.Task.{Task}
-use Rattle.batcher_validator.specs.declared.task.Task.TheVariants.{Block, Cast, Enter, Final, Forward, Judge, Propose, SendCertificate, SendVote, Sign, Verify}
+use Rattle.batcher_validator.specs.declared.task.Task.TheVariants.{Block, Cast, Enter, Final}
+use Rattle.batcher_validator.specs.declared.task.Task.TheVariants.{Forward, Judge, Propose}
+use Rattle.batcher_validator.specs.declared.task.Task.TheVariants.{SendCertificate, SendVote, Sign}
+use Rattle.batcher_validator.specs.declared.task.Task.TheVariants.{Verify}
 
 -- Two proposals of a view are notarized, so more are faulty than may be. One of them is finalized.
 abbrev pub IsContested : {D : Type 0} → Conduct D → Subject D → Type 0
@@ -56,7 +64,7 @@ module _ {D K G C : Type 0} (x : NodeConfig D K G C) where
   -- a certificate of the kind and the round, which certifies what it names
   pub record IsThere (kind : Kind) (number : Round) : Type 0 where
     pub certificate : Certificate C D
-    pub is_of : key_of certificate ≡ (kind, number)
+    pub is_of : kind_and_round certificate ≡ (kind, number)
     pub certifies : certifies_itself x.meaning certificate ≡ true
 
   -- Whoever is blocked was given to be blocked.
@@ -201,7 +209,7 @@ module _ {D K G C : Type 0} (x : NodeConfig D K G C) where
           → is_below (numbered x.epoch (window_by past).finalized) (round_in s) ≡ false
           → HasRecast past s
       -- one of the kind and the round of each certificate that counts was given to be sent,
-      pub certificates : (c : Certificate C D) → Counts past c → HasHanded past (key_of c)
+      pub certificates : (c : Certificate C D) → Counts past c → HasHanded past (kind_and_round c)
       -- and what the notarizations among them notarize to be forwarded,
       pub forwards :
           (number : Round) → HasHanded past (Notarization, number) → HasForwarded past number
@@ -211,6 +219,6 @@ module _ {D K G C : Type 0} (x : NodeConfig D K G C) where
       pub verifies :
           IsVerifying past
           ⊎ ((view : ℕ) → (window_by past).finalized ≤ view
-          → is_due (view_history view (calls_in past)) ≡ false)
+          → is_to_be_tried (view_history view (calls_in past)) ≡ false)
       -- and of votes and proposals nothing is left.
       pub poses : NothingIsPosed past

@@ -1,21 +1,23 @@
 //! A proposal is given as final, and who fell behind catches up.
 
-ghost use Rattle.std.specs.Prelude.{◌≡◌, ◌∷◌, Err, IfErr, IfOk, IfSome, None, Ok, OnErr, OnOk, Some, not, take, true, false};
+ghost use Rattle.std.specs.Prelude.{◌≡◌, ◌∷◌, Err, IfErr, IfOk, IfSome, None, Ok, OnErr, OnOk};
+ghost use Rattle.std.specs.Prelude.{Some, not, take, true, false};
 ghost use Rattle.std.specs.List.{count_by, filter, slice_get};
 ghost use Rattle.batcher.specs.messages.Certificate.{Certificate as TheCertificate};
 ghost use Rattle.batcher_agreement.specs.Lives.{called, verified};
-ghost use Rattle.batcher_codec.specs.Messages.{vote_format};
+ghost use Rattle.batcher_bytes.specs.Messages.{vote_format};
 ghost use Rattle.batcher_journal.specs.Floors.{is_over};
 ghost use Rattle.batcher_node.specs.Events.{view_finalized};
 ghost use Rattle.batcher_node.specs.Nodes.{SameNode};
 ghost use Rattle.batcher_validator.specs.Ending.{HasLessLeft};
-ghost use Rattle.batcher_validator.specs.Running.{ForEachRun, Gives, IsReady, RunLeaves, RunStays, WhyNotFinal, tally_from, left_of};
+ghost use Rattle.batcher_validator.specs.Running.{ForEachRun, Gives, IsReadyTask, RunLeaves};
+ghost use Rattle.batcher_validator.specs.Running.{RunStays, WhyNotFinal, tally_from, left_of};
 ghost use Rattle.batcher_validator.specs.Shelves.{IsFinalAt, IsToAnnounce, is_from};
 ghost use Rattle.batcher_validator.specs.declared.task.PollFault.{PollFault};
 ghost use Rattle.batcher_voter.specs.Journals.{IsRaised};
 ghost use Rattle.batcher_voter.specs.Voting.{ForEachLife, IsVoting, VoterStays};
 ghost use Rattle.batcher_voter.specs.declared.answers.FinalizeFault.{FinalizeFault};
-ghost use Rattle.batcher_log.specs.Copies.{KeepsCopy};
+ghost use Rattle.batcher_bytes.specs.Copies.{KeepsCopy};
 
 use crate::tally::Tally;
 use crate::task::{PollFault, Task};
@@ -23,9 +25,8 @@ use crate::validator::Validator;
 use batcher::messages::{Digest, Identical, Proposal, Vote};
 use batcher::positions::Round;
 use batcher::scheme::Scheme;
-use batcher_codec::{Codec, OwnedCodec};
+use batcher_bytes::{Codec, Log, OwnedCodec};
 use batcher_journal::is_before;
-use batcher_log::Log;
 use batcher_node::NodeConfigs;
 use batcher_voter::FinalizeFault;
 
@@ -43,7 +44,7 @@ where
         requires { IsFinalAt self.old.given.announced self.old.shelf.certificates i proposal }
         ensures gives { IfOk result (λ given. IfSome given
             (Gives (⟦<S as NodeConfigs<D>>⟧.of self.old.voter.node) self.old self.new)) }
-        ensures ready { IfOk result (λ given. IfSome given (IsReady self.old)) }
+        ensures ready { IfOk result (λ given. IfSome given (IsReadyTask self.old)) }
         ensures nothing { result ≡ Ok None → ForEachRun
             (⟦<S as NodeConfigs<D>>⟧.of self.old.voter.node) self.old (λ past earlier. ⊥) }
         ensures to_announce { IsToAnnounce self.old.given.announced self.old.shelf.certificates }

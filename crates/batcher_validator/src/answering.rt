@@ -10,8 +10,7 @@ use crate::validator::Validator;
 use batcher::messages::{Digest, Identical, Proposal};
 use batcher::positions::{Round, View};
 use batcher::scheme::Scheme;
-use batcher_codec::{Codec, OwnedCodec};
-use batcher_log::Log;
+use batcher_bytes::{Codec, Log, OwnedCodec};
 use batcher_node::NodeConfigs;
 
 impl<S: Scheme<D>, D: Digest + Codec, L: Log> Validator<S, D, L>

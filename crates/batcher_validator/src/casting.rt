@@ -2,18 +2,18 @@
 
 ghost use Rattle.std.specs.Prelude.{◌≡◌, IfErr, IfOk, List, OnErr, ℕ, true};
 ghost use Rattle.batcher.specs.Votes.{attestation_of, subject_of};
-ghost use Rattle.batcher_codec.specs.Messages.{vote_format};
+ghost use Rattle.batcher_bytes.specs.Messages.{vote_format};
 ghost use Rattle.batcher_node.specs.Nodes.{SameNode};
 ghost use Rattle.batcher_validator.specs.Running.{ForEachRun, RunCasts, RunMayWrite};
 ghost use Rattle.batcher_voter.specs.Journals.{MayGain};
-ghost use Rattle.batcher_voter.specs.Voting.{Casts, ForEachLife, IsInJournal, LeavesVote, MayWrite, WhyNotCast};
-ghost use Rattle.batcher_log.specs.Copies.{KeepsCopy};
+ghost use Rattle.batcher_voter.specs.Voting.{Casts, ForEachLife, IsInJournal, LeavesVote, MayWrite};
+ghost use Rattle.batcher_voter.specs.Voting.{WhyNotCast};
+ghost use Rattle.batcher_bytes.specs.Copies.{KeepsCopy};
 
 use crate::validator::Validator;
 use batcher::messages::{Digest, Identical, Vote};
 use batcher::scheme::Scheme;
-use batcher_codec::{Codec, OwnedCodec};
-use batcher_log::Log;
+use batcher_bytes::{Codec, Log, OwnedCodec};
 use batcher_node::{Cast, NodeConfigs};
 use batcher_voter::CastFault;
 

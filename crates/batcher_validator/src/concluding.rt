@@ -1,6 +1,7 @@
 //! Constructions by verdicts, or by a certificate, from elsewhere: from another thread, say.
 
-ghost use Rattle.std.specs.Prelude.{◌≡◌, ◌≤◌, ◌⊎◌, IfOk, IfSome, List, None, Ok, OnErr, false, is_some, map, true, ℕ};
+ghost use Rattle.std.specs.Prelude.{◌≡◌, ◌≤◌, ◌⊎◌, IfOk, IfSome, List, None, Ok, OnErr, false};
+ghost use Rattle.std.specs.Prelude.{is_some, map, true, ℕ};
 ghost use Rattle.batcher.specs.Verifiers.{IfGiven};
 ghost use Rattle.batcher.specs.messages.Attestation.{Attestation as TheAttestation};
 ghost use Rattle.batcher.specs.messages.Subject.{Subject as TheSubject};
@@ -8,10 +9,10 @@ ghost use Rattle.batcher_node.specs.Events.{constructed};
 ghost use Rattle.batcher_node.specs.Nodes.{IsNext, SameNode, slot_at};
 ghost use Rattle.batcher_node.specs.Verdicts.{LooksAtKindThere, LooksAtThere};
 ghost use Rattle.batcher_validator.specs.Histories.{answered};
-ghost use Rattle.batcher_validator.specs.Running.{Constructs, RunMeets, RunStays};
+ghost use Rattle.batcher_validator.specs.Running.{HasConstructed, RunMeets, RunStays};
 ghost use Rattle.batcher_voter.specs.Needing.{ConstructionNeeds};
 ghost use Rattle.batcher_voter.specs.Voting.{VoterMeets, VoterStays};
-ghost use Rattle.batcher_log.specs.Copies.{KeepsCopy};
+ghost use Rattle.batcher_bytes.specs.Copies.{KeepsCopy};
 
 use crate::inputs::certificate_of;
 use crate::validator::Validator;
@@ -20,8 +21,7 @@ use batcher::positions::View;
 use batcher::round::RoundConfigs;
 use batcher::scheme::Scheme;
 use batcher::verifier::NextAttempt;
-use batcher_codec::{Codec, OwnedCodec};
-use batcher_log::Log;
+use batcher_bytes::{Codec, Log, OwnedCodec};
 use batcher_node::{Construction, NodeConfigs, senders_of_votes_to_send_are_never_blocked};
 use std::alloc::AllocError;
 
@@ -83,7 +83,7 @@ where
     ) -> Result<bool, AllocError>
         requires { verdicts.now
             ≡ map ((S.meaning self.old.voter.node.scheme).attests subject) list.now }
-        ensures made { result ≡ Ok true → Constructs
+        ensures made { result ≡ Ok true → HasConstructed
             (⟦<S as NodeConfigs<D>>⟧.of self.old.voter.node) self.old self.new }
         ensures not_stale { (view : ℕ) → IsNext self.old.voter.node.rounds view
             → LooksAtThere ⟦<S as RoundConfigs<D>>⟧.of (slot_at self.old.voter.node.rounds view)
@@ -121,7 +121,7 @@ where
         requires stirred { self.old.given.calm ≡ false }
         requires verdicts { verdicts.now
             ≡ map ((S.meaning self.old.voter.node.scheme).attests subject) list.now }
-        ensures made { result ≡ Ok true → Constructs
+        ensures made { result ≡ Ok true → HasConstructed
             (⟦<S as NodeConfigs<D>>⟧.of self.old.voter.node) self.old self.new }
         ensures not_stale { (view : ℕ) → IsNext self.old.voter.node.rounds view
             → LooksAtThere ⟦<S as RoundConfigs<D>>⟧.of (slot_at self.old.voter.node.rounds view)

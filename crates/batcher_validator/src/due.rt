@@ -1,15 +1,16 @@
 //! What is given to be done, once nobody is to be blocked and nothing is to be given as final.
 
-ghost use Rattle.std.specs.Prelude.{◌≡◌, ◌≤◌, ◌<◌, ◌+◌, ◌⊎◌, ◌^◌, [], IfNone, IfSome, MatchBool, None, Some, length, true, false};
+ghost use Rattle.std.specs.Prelude.{◌≡◌, ◌≤◌, ◌<◌, ◌+◌, ◌⊎◌, ◌^◌, [], IfNone, IfSome, MatchBool};
+ghost use Rattle.std.specs.Prelude.{None, Some, length, true, false};
 ghost use Rattle.std.specs.List.{slice_get};
-ghost use Rattle.batcher_journal.specs.Answers.{MayFollow};
+ghost use Rattle.batcher_journal.specs.Answers.{MayBeWrittenBehind};
 ghost use Rattle.batcher_node.specs.Nodes.{IsAtRest, IsNext};
 ghost use Rattle.batcher_validator.specs.Ending.{HasLessLeft};
 ghost use Rattle.batcher_validator.specs.Histories.{forward_with};
 ghost use Rattle.batcher_validator.specs.Posing.{BlocksNobody, CastsNone, EntersNone};
 ghost use Rattle.batcher_validator.specs.Queues.{AreDistinct};
-ghost use Rattle.batcher_validator.specs.Running.{ForEachRun, Gives, IsReady, RunStays};
-ghost use Rattle.batcher_validator.specs.Shelves.{HaveNoFinal, IsAt, key_of};
+ghost use Rattle.batcher_validator.specs.Running.{ForEachRun, Gives, IsReadyTask, RunStays};
+ghost use Rattle.batcher_validator.specs.Shelves.{HaveNoFinal, IsAt, kind_and_round};
 ghost use Rattle.batcher_validator.specs.Tasks.{NothingIsDue};
 ghost use Rattle.batcher_voter.specs.Voting.{BeginWithOneView, ForEachLife, IsNextView};
 
@@ -19,8 +20,7 @@ use crate::validator::Validator;
 use batcher::messages::{Digest, Identical, Kind, Vote};
 use batcher::positions::{Round, View};
 use batcher::scheme::Scheme;
-use batcher_codec::{Codec, OwnedCodec};
-use batcher_log::Log;
+use batcher_bytes::{Codec, Log, OwnedCodec};
 use batcher_node::NodeConfigs;
 
 impl<S: Scheme<D>, D: Digest + Codec, L: Log> Validator<S, D, L>
@@ -31,14 +31,14 @@ where
     // A view to enter, or an own vote to cast again or to send, and else what others wait for.
     pub(crate) fn give_own(&mut self) -> Option<Task<S::Signature, D>>
         requires open { self.old.voter.journal.is_open ≡ true }
-        requires followed { MayFollow D.eq self.old.voter.journal.contents.floor []
+        requires followed { MayBeWrittenBehind D.eq self.old.voter.journal.contents.floor []
             self.old.voter.journal.contents.votes }
         requires begins { BeginWithOneView self.old.voter }
         requires nobody { BlocksNobody ⟦<S as NodeConfigs<D>>⟧.of self.old }
         requires no_final { HaveNoFinal self.old.given.announced self.old.shelf.certificates }
         ensures gives { IfSome result
             (Gives (⟦<S as NodeConfigs<D>>⟧.of self.old.voter.node) self.old self.new) }
-        ensures ready { IfSome result (IsReady self.old) }
+        ensures ready { IfSome result (IsReadyTask self.old) }
         ensures nothing { result ≡ None → ForEachRun
             (⟦<S as NodeConfigs<D>>⟧.of self.old.voter.node) self.old (λ past earlier.
             NothingIsDue (⟦<S as NodeConfigs<D>>⟧.of self.old.voter.node) earlier past) }
@@ -81,7 +81,7 @@ where
             self.old.given.tally.sent ≡ None }
         ensures gives { IfSome result
             (Gives (⟦<S as NodeConfigs<D>>⟧.of self.old.voter.node) self.old self.new) }
-        ensures ready { IfSome result (IsReady self.old) }
+        ensures ready { IfSome result (IsReadyTask self.old) }
         ensures nothing { result ≡ None → ForEachRun
             (⟦<S as NodeConfigs<D>>⟧.of self.old.voter.node) self.old (λ past earlier.
             NothingIsDue (⟦<S as NodeConfigs<D>>⟧.of self.old.voter.node) earlier past) }
@@ -113,7 +113,7 @@ where
         requires no_forward { self.old.given.forwarding ≡ None }
         ensures gives { IfSome result
             (Gives (⟦<S as NodeConfigs<D>>⟧.of self.old.voter.node) self.old self.new) }
-        ensures ready { IfSome result (IsReady self.old) }
+        ensures ready { IfSome result (IsReadyTask self.old) }
         ensures nothing { result ≡ None → ForEachRun
             (⟦<S as NodeConfigs<D>>⟧.of self.old.voter.node) self.old (λ past earlier.
             NothingIsDue (⟦<S as NodeConfigs<D>>⟧.of self.old.voter.node) earlier past) }
@@ -214,7 +214,7 @@ where
             → length self.now.shelf.certificates ≤ self.now.shelf.handed }
         ensures some { IfSome result (λ key. IsAt self.now.shelf.certificates
             self.now.shelf.handed (key.0, key.1)) }
-        ensures distinct { AreDistinct key_of self.now.shelf.certificates }
+        ensures distinct { AreDistinct kind_and_round self.now.shelf.certificates }
     {
         let _ = self.shelf.as_slice();
         self.shelf.next()

@@ -1,6 +1,7 @@
 //! What comes to a validator: messages of its peers, and its own votes.
 
-ghost use Rattle.std.specs.Prelude.{◌≡◌, ◌<◌, ◌≤◌, ◌⊎◌, Err, IfOk, IfSome, length, None, Ok, MatchBool, OnErr, OnOk, false, option_and_then, true};
+ghost use Rattle.std.specs.Prelude.{◌≡◌, ◌<◌, ◌≤◌, ◌⊎◌, Err, IfOk, IfSome, length, None, Ok};
+ghost use Rattle.std.specs.Prelude.{MatchBool, OnErr, OnOk, false, option_and_then, true};
 ghost use Rattle.batcher.specs.Verifiers.{certifies_itself};
 ghost use Rattle.batcher.specs.Votes.{round_in, subject_of};
 ghost use Rattle.batcher.specs.calls.Call.TheVariants.{Network as NetworkCall};
@@ -9,12 +10,14 @@ ghost use Rattle.batcher_node.specs.Events.{certificate_came, constructed, view_
 ghost use Rattle.batcher_node.specs.Nodes.{IsAtRest, IsLedByAnother, IsNext, SameNode, slot_at};
 ghost use Rattle.batcher_node.specs.declared.answers.EnterFault.{EnterFault};
 ghost use Rattle.batcher_node.specs.Represents.{IsHeard, MayNeedIn};
-ghost use Rattle.batcher_validator.specs.Running.{Constructs, RunMeets, RunStays, blocks_sender};
+ghost use Rattle.batcher_validator.specs.Running.{HasConstructed, RunMeets, RunStays};
+ghost use Rattle.batcher_validator.specs.Running.{blocks_sender};
 ghost use Rattle.batcher_validator.specs.Shelves.{Shelves};
 ghost use Rattle.batcher_validator.specs.Histories.{answered, did, took};
 ghost use Rattle.batcher_voter.specs.Needing.{CertificateNeeds, ConstructionNeeds};
-ghost use Rattle.batcher_voter.specs.Voting.{BeginWithOneView, VoterMeets, VoterStays, is_recorded};
-ghost use Rattle.batcher_log.specs.Copies.{KeepsCopy};
+ghost use Rattle.batcher_voter.specs.Voting.{BeginWithOneView, VoterMeets, VoterStays};
+ghost use Rattle.batcher_voter.specs.Voting.{was_recorded};
+ghost use Rattle.batcher_bytes.specs.Copies.{KeepsCopy};
 
 use crate::validator::Validator;
 use batcher::messages::{Certificate, Digest, Identical, Vote};
@@ -22,8 +25,7 @@ use batcher::positions::{Participant, Round, View};
 use batcher::round::Admission;
 use batcher::scheme::Scheme;
 use batcher::verifier::Batch;
-use batcher_codec::{Codec, OwnedCodec};
-use batcher_log::Log;
+use batcher_bytes::{Codec, Log, OwnedCodec};
 use batcher_node::{
     Construction, EnterFault, NodeConfigs, Receipt, Verdict,
     senders_of_votes_to_send_are_never_blocked,
@@ -277,7 +279,7 @@ where
     pub fn try_construct<R: CryptoRng>(&mut self, rng: &mut R) -> Result<bool, AllocError>
         ensures needed { OnErr result ((self.old.shelf.room ≡ 0) ⊎ ConstructionNeeds
             (⟦<S as NodeConfigs<D>>⟧.of self.old.voter.node) self.old.voter) }
-        ensures made { result ≡ Ok true → Constructs
+        ensures made { result ≡ Ok true → HasConstructed
             (⟦<S as NodeConfigs<D>>⟧.of self.old.voter.node) self.old self.new }
         ensures rests { result ≡ Ok false → IsAtRest self.old.voter.node }
         ensures answered { result ≡ Ok false
@@ -305,7 +307,7 @@ where
         requires stirred { self.old.given.calm ≡ false }
         ensures needed { OnErr result (ConstructionNeeds
             (⟦<S as NodeConfigs<D>>⟧.of self.old.voter.node) self.old.voter) }
-        ensures made { result ≡ Ok true → Constructs
+        ensures made { result ≡ Ok true → HasConstructed
             (⟦<S as NodeConfigs<D>>⟧.of self.old.voter.node) self.old self.new }
         ensures rests { result ≡ Ok false → IsAtRest self.old.voter.node }
         ensures answered { result ≡ Ok false
@@ -439,7 +441,7 @@ where
 
 // Whether a certificate was recorded.
 fn is_recorded(receipt: &Receipt<Verdict>) -> bool
-    ensures { result ≡ is_recorded receipt.now }
+    ensures { result ≡ was_recorded receipt.now }
 {
     match receipt {
         Receipt::Answered(Verdict::Recorded(_)) => true,

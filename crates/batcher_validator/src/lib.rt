@@ -1,4 +1,5 @@
-//! A validator: a voter that says what is to be done next, until nothing is.
+//! A validator: a voter that says what is to be done next, until nothing is. And a loop: one of
+//! signatures as bytes, whose caller verifies them and writes to the disk.
 #![tactic(auto)]
 
 mod announcing;
@@ -7,16 +8,20 @@ mod casting;
 mod concluding;
 mod due;
 mod inputs;
+mod looping;
 mod polling;
 mod posing;
 mod recalling;
 mod shelf;
+mod starting;
 mod tally;
 mod task;
 #[cfg(test)]
 mod tests;
 mod validator;
 
+pub use looping::{Loop, Next};
 pub use polling::poll_comes_to_an_end;
+pub use starting::LoopFault;
 pub use task::{PollFault, Task};
 pub use validator::Validator;

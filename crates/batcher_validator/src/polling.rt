@@ -1,20 +1,23 @@
-//! What a validator gives to be done.
+//! Which task is given next, and that they come to an end.
 
-ghost use Rattle.std.specs.Prelude.{◌≡◌, ◌≤◌, ◌<◌, ◌+◌, ◌⊎◌, ◌^◌, [], Err, IfOk, IfNone, IfSome, MatchBool, None, Ok, OnErr, Some, length, set, true, false, ℕ};
+ghost use Rattle.std.specs.Prelude.{◌≡◌, ◌≤◌, ◌<◌, ◌+◌, ◌⊎◌, ◌^◌, [], Err, IfOk, IfNone, IfSome};
+ghost use Rattle.std.specs.Prelude.{MatchBool, None, Ok, OnErr, Some, length, set, true, false, ℕ};
 ghost use Rattle.std.specs.List.{slice_get};
-ghost use Rattle.batcher_codec.specs.Messages.{vote_format};
-ghost use Rattle.batcher_journal.specs.Answers.{MayFollow};
+ghost use Rattle.batcher_bytes.specs.Messages.{vote_format};
+ghost use Rattle.batcher_journal.specs.Answers.{MayBeWrittenBehind};
 ghost use Rattle.batcher_node.specs.Nodes.{IsAtRest, IsNext, NodeConfig, SameNode, cause_at};
 ghost use Rattle.batcher_validator.specs.Ending.{GivesOnAndOn, HasLessLeft};
 ghost use Rattle.batcher_validator.specs.Posing.{BlocksNobody};
-ghost use Rattle.batcher_validator.specs.Running.{ForEachRun, Gives, IsReady, RunLeaves, RunMeets, RunStays, ValidatorView};
-ghost use Rattle.batcher_validator.specs.Shelves.{HaveNoFinal, IsAt, IsFinalAt, IsToAnnounce, key_of};
+ghost use Rattle.batcher_validator.specs.Running.{ForEachRun, Gives, IsReadyTask, RunLeaves};
+ghost use Rattle.batcher_validator.specs.Running.{RunMeets, RunStays, ValidatorView};
+ghost use Rattle.batcher_validator.specs.Shelves.{HaveNoFinal, IsAt, IsFinalAt, IsToAnnounce};
+ghost use Rattle.batcher_validator.specs.Shelves.{kind_and_round};
 ghost use Rattle.batcher_validator.specs.declared.task.PollFault.{PollFault};
 ghost use Rattle.batcher_validator.specs.Histories.{again};
 ghost use Rattle.batcher_validator.specs.declared.task.Task.{Task as TheTask};
 ghost use Rattle.batcher_validator.specs.Tasks.{NothingIsDue};
 ghost use Rattle.batcher_voter.specs.Voting.{BeginWithOneView, ForEachLife, IsNextView};
-ghost use Rattle.batcher_log.specs.Copies.{KeepsCopy, all_copied};
+ghost use Rattle.batcher_bytes.specs.Copies.{KeepsCopy, all_copied};
 
 use crate::tally::Tally;
 use crate::task::{PollFault, Task};
@@ -22,8 +25,7 @@ use crate::validator::Validator;
 use batcher::messages::{Digest, Identical, Kind, Proposal, Vote};
 use batcher::positions::{Participant, Round, View};
 use batcher::scheme::Scheme;
-use batcher_codec::{Codec, OwnedCodec};
-use batcher_log::{CopiedLog, Log};
+use batcher_bytes::{Codec, CopiedLog, Log, OwnedCodec};
 use batcher_node::{Cause, NodeConfigs};
 
 impl<S: Scheme<D>, D: Digest + Codec, L: Log> Validator<S, D, L>
@@ -38,7 +40,7 @@ where
     pub fn poll(&mut self) -> Result<Option<Task<S::Signature, D>>, PollFault>
         ensures gives { IfOk result (λ given. IfSome given
             (Gives (⟦<S as NodeConfigs<D>>⟧.of self.old.voter.node) self.old self.new)) }
-        ensures ready { IfOk result (λ given. IfSome given (IsReady self.old)) }
+        ensures ready { IfOk result (λ given. IfSome given (IsReadyTask self.old)) }
         ensures nothing { result ≡ Ok None → ForEachRun
             (⟦<S as NodeConfigs<D>>⟧.of self.old.voter.node) self.old
             (λ past earlier. NothingIsDue (⟦<S as NodeConfigs<D>>⟧.of self.old.voter.node)
@@ -111,7 +113,7 @@ where
     /// Whether no disk failed.
     pub fn is_open(&self) -> bool
         ensures open { result ≡ self.now.voter.journal.is_open }
-        ensures followed { self.now.voter.journal.is_open ≡ true → MayFollow D.eq
+        ensures followed { self.now.voter.journal.is_open ≡ true → MayBeWrittenBehind D.eq
             self.now.voter.journal.contents.floor [] self.now.voter.journal.contents.votes }
         ensures begins { BeginWithOneView self.now.voter }
     {

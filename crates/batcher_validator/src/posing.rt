@@ -1,6 +1,7 @@
 //! What a validator votes for, proposes and judges.
 
-ghost use Rattle.std.specs.Prelude.{◌≡◌, ◌≤◌, ◌<◌, ◌⊎◌, ◌++◌, IfSome, IsTrue, MatchBool, None, Some, ℕ, true, false};
+ghost use Rattle.std.specs.Prelude.{◌≡◌, ◌≤◌, ◌<◌, ◌⊎◌, ◌++◌, IfSome, IsTrue, MatchBool, None};
+ghost use Rattle.std.specs.Prelude.{Some, ℕ, true, false};
 ghost use Rattle.std.specs.List.{list_any};
 ghost use Rattle.batcher.specs.Votes.{round_in, same_round, subject_of};
 ghost use Rattle.batcher.specs.messages.Proposal.{Proposal as TheProposal};
@@ -12,9 +13,12 @@ ghost use Rattle.batcher_agreement.specs.Policy.{IsGrounded, Knows};
 ghost use Rattle.batcher_journal.specs.Contradictions.{IsFree};
 ghost use Rattle.batcher_node.specs.Windows.{is_of, numbered};
 ghost use Rattle.batcher_validator.specs.Ending.{IsPreferred, HasLessLeft, WaitsForVote};
-ghost use Rattle.batcher_validator.specs.Posing.{CanLead, CanPose, CanVote, CannotLead, CannotPose, CannotVote, Grounds};
-ghost use Rattle.batcher_validator.specs.Posing.{HasCast, HasNotCast, IsLeader, IsNotToJudge, IsNotToPropose, IsNotToSign, IsProposalNow, IsProposed, IsToSign, Signs, SignsNothing};
-ghost use Rattle.batcher_validator.specs.Running.{ForEachRun, Gives, IsReady};
+ghost use Rattle.batcher_validator.specs.Posing.{CanLead, CanPose, CanVote, CannotLead, CannotPose};
+ghost use Rattle.batcher_validator.specs.Posing.{CannotVote, Grounds, HasCast, HasNotCast};
+ghost use Rattle.batcher_validator.specs.Posing.{IsLeader, IsNotToJudge, IsNotToPropose};
+ghost use Rattle.batcher_validator.specs.Posing.{IsNotToSign, IsProposalNow, IsProposed, IsToSign};
+ghost use Rattle.batcher_validator.specs.Posing.{Signs, SignsNothing};
+ghost use Rattle.batcher_validator.specs.Running.{ForEachRun, Gives, IsReadyTask};
 ghost use Rattle.batcher_validator.specs.Tasks.{MayVote, NothingIsPosed};
 ghost use Rattle.batcher_voter.specs.Knowledge.{learned_at};
 ghost use Rattle.batcher_voter.specs.Voting.{ForEachLife, IsFinalizable, Permits, Says};
@@ -25,8 +29,7 @@ use crate::validator::Validator;
 use batcher::messages::{Digest, Identical, Proposal, Subject, Vote};
 use batcher::positions::{Participant, Round, View};
 use batcher::scheme::Scheme;
-use batcher_codec::{Codec, OwnedCodec};
-use batcher_log::Log;
+use batcher_bytes::{Codec, Log, OwnedCodec};
 use batcher_node::NodeConfigs;
 use batcher_voter::Permission;
 
@@ -40,7 +43,7 @@ where
         requires { self.old.voter.journal.is_open ≡ true }
         ensures gives { IfSome result
             (Gives (⟦<S as NodeConfigs<D>>⟧.of self.old.voter.node) self.old self.new) }
-        ensures ready { IfSome result (IsReady self.old) }
+        ensures ready { IfSome result (IsReadyTask self.old) }
         ensures nothing { result ≡ None → ForEachRun
             (⟦<S as NodeConfigs<D>>⟧.of self.old.voter.node) self.old (λ past earlier.
             NothingIsPosed (⟦<S as NodeConfigs<D>>⟧.of self.old.voter.node) earlier past) }

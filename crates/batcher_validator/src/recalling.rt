@@ -2,8 +2,8 @@
 
 ghost use Rattle.std.specs.Prelude.{◌≡◌, IfOk, IfSome, None, Ok, OnOk};
 ghost use Rattle.batcher.specs.messages.Certificate.{Certificate as TheCertificate};
-ghost use Rattle.batcher_codec.specs.Format.{whole};
-ghost use Rattle.batcher_codec.specs.Messages.{certificate_format, versioned};
+ghost use Rattle.batcher_bytes.specs.Format.{whole};
+ghost use Rattle.batcher_bytes.specs.Messages.{certificate_format, versioned};
 ghost use Rattle.batcher_validator.specs.Histories.{took};
 ghost use Rattle.batcher_validator.specs.Recalling.{IsAtPlace, Recalls};
 ghost use Rattle.batcher_validator.specs.Running.{AreBytesOf, HasCertificate, RunMeets};
@@ -11,8 +11,7 @@ ghost use Rattle.batcher_validator.specs.Running.{AreBytesOf, HasCertificate, Ru
 use crate::validator::Validator;
 use batcher::messages::{Certificate, Digest, Identical};
 use batcher::scheme::Scheme;
-use batcher_codec::{Codec, DecodeError, OwnedCodec, decode_owned};
-use batcher_log::Log;
+use batcher_bytes::{Codec, DecodeError, Log, OwnedCodec, decode_owned};
 use batcher_node::NodeConfigs;
 use batcher_voter::StartFault;
 use std::alloc::Global;

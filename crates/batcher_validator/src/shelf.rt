@@ -1,13 +1,16 @@
 //! The certificates that a validator keeps, to send them, and to send them again.
 
-ghost use Rattle.std.specs.Prelude.{◌≡◌, ◌≤◌, ◌<◌, ◌+◌, ◌⊎◌, ◌++◌, [], ◌∷◌, Contains, IfOk, IfSome, IsTrue, MatchBool, None, OnErr, OnOk, Some, length, nat_le, take, true, false, ℕ};
+ghost use Rattle.std.specs.Prelude.{◌≡◌, ◌≤◌, ◌<◌, ◌+◌, ◌⊎◌, ◌++◌, [], ◌∷◌, Contains, IfOk, IfSome};
+ghost use Rattle.std.specs.Prelude.{IsTrue, MatchBool, None, OnErr, OnOk, Some, length, nat_le};
+ghost use Rattle.std.specs.Prelude.{take, true, false, ℕ};
 ghost use Rattle.std.specs.List.{count_by, filter, slice_get};
 ghost use Rattle.batcher.specs.Votes.{kind_certified, round_in, subject_certified};
 ghost use Rattle.batcher.specs.messages.Certificate.{Certificate as TheCertificate};
 ghost use Rattle.batcher.specs.messages.Proposal.{Proposal as TheProposal};
 ghost use Rattle.batcher.specs.messages.Subject.TheVariants.{Finalize};
 ghost use Rattle.batcher_validator.specs.Queues.{AreDistinct, HasKey};
-ghost use Rattle.batcher_validator.specs.Shelves.{HaveNoFinal, IsAt, IsFinalAt, ShelfView, TakesIn, is_from, key_of};
+ghost use Rattle.batcher_validator.specs.Shelves.{HaveNoFinal, IsAt, IsFinalAt, ShelfView};
+ghost use Rattle.batcher_validator.specs.Shelves.{ShelvesOne, is_from, kind_and_round};
 
 use batcher::messages::{Certificate, Digest, Kind, Proposal, Subject};
 use batcher::positions::Round;
@@ -26,7 +29,7 @@ impl<C: Drop, D: Digest> Model for Shelf<C, D> {
     ghost use Rattle.std.specs.Prelude.{◌-◌, length};
     ghost use Rattle.std.specs.Vec.{vec_capacity};
     ghost use Rattle.batcher_validator.specs.Queues.{AreDistinct};
-    ghost use Rattle.batcher_validator.specs.Shelves.{ShelfView, key_of};
+    ghost use Rattle.batcher_validator.specs.Shelves.{ShelfView, kind_and_round};
 
     ghost Value = { ShelfView C D };
 
@@ -36,7 +39,7 @@ impl<C: Drop, D: Digest> Model for Shelf<C, D> {
       room = vec_capacity s.certificates - length s.certificates.items;
     } };
 
-    ghost invariant = { λ s. AreDistinct key_of s.certificates.items };
+    ghost invariant = { λ s. AreDistinct kind_and_round s.certificates.items };
 }
 
 impl<C: Drop, D: Digest> Shelf<C, D> {
@@ -53,7 +56,7 @@ impl<C: Drop, D: Digest> Shelf<C, D> {
     /// The certificates, in the order in which they came.
     pub(crate) fn as_slice(&self) -> &[Certificate<C, D>]
         ensures all { result.now ≡ self.now.certificates }
-        ensures distinct { AreDistinct key_of self.now.certificates }
+        ensures distinct { AreDistinct kind_and_round self.now.certificates }
     {
         &self.certificates
     }
@@ -71,7 +74,7 @@ impl<C: Drop, D: Digest> Shelf<C, D> {
     /// Takes one in, for which there is room, unless there is one of its kind and round.
     pub(crate) fn put(&mut self, certificate: Certificate<C, D>)
         requires { 1 ≤ self.old.room }
-        ensures certificates { TakesIn certificate self.old.certificates self.new.certificates }
+        ensures certificates { ShelvesOne certificate self.old.certificates self.new.certificates }
         ensures handed { self.new.handed ≡ self.old.handed }
     {
         if has_one_of(&self.certificates, &certificate) {
@@ -109,8 +112,9 @@ impl<C: Drop, D: Digest> Shelf<C, D> {
     /// The one of this kind and round.
     pub(crate) fn get(&self, kind: Kind, round: Round) -> Option<&Certificate<C, D>>
         ensures some { IfSome result (λ c. Contains self.now.certificates c.now
-            × (key_of c.now ≡ (kind, round))) }
-        ensures none { result ≡ None → HasKey key_of self.now.certificates (kind, round) → ⊥ }
+            × (kind_and_round c.now ≡ (kind, round))) }
+        ensures none { result ≡ None → HasKey kind_and_round self.now.certificates (kind, round)
+            → ⊥ }
     {
         find(&self.certificates, kind, round)
     }
@@ -160,8 +164,9 @@ fn has_one_of<C, D: Digest>(
     certificates: &[Certificate<C, D>],
     certificate: &Certificate<C, D>,
 ) -> bool
-    ensures { MatchBool result (HasKey key_of certificates.now (key_of certificate.now))
-        (HasKey key_of certificates.now (key_of certificate.now) → ⊥) }
+    ensures { MatchBool result
+        (HasKey kind_and_round certificates.now (kind_and_round certificate.now))
+        (HasKey kind_and_round certificates.now (kind_and_round certificate.now) → ⊥) }
 {
     match find(certificates, certificate.kind(), certificate.round()) {
         Some(_) => true,
@@ -246,8 +251,8 @@ fn find<C, D: Digest>(
     round: Round,
 ) -> Option<&Certificate<C, D>>
     ensures some { IfSome result (λ c. Contains certificates.now c.now
-        × (key_of c.now ≡ (kind, round))) }
-    ensures none { result ≡ None → HasKey key_of certificates.now (kind, round) → ⊥ }
+        × (kind_and_round c.now ≡ (kind, round))) }
+    ensures none { result ≡ None → HasKey kind_and_round certificates.now (kind, round) → ⊥ }
 {
     for i in 0..certificates.len() {
         if is_key_at(certificates, i, kind, round) {
@@ -265,9 +270,9 @@ fn is_key_at<C, D: Digest>(
 ) -> bool
     requires { i < length certificates.now }
     ensures yes { IsTrue result → (c : TheCertificate C D)
-        → slice_get certificates.now i ≡ Some c → key_of c ≡ (kind, round) }
+        → slice_get certificates.now i ≡ Some c → kind_and_round c ≡ (kind, round) }
     ensures no { result ≡ false → (c : TheCertificate C D)
-        → slice_get certificates.now i ≡ Some c → key_of c ≡ (kind, round) → ⊥ }
+        → slice_get certificates.now i ≡ Some c → kind_and_round c ≡ (kind, round) → ⊥ }
 {
     certificates[i].kind() == kind && certificates[i].round() == round
 }

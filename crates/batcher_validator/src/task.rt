@@ -1,4 +1,4 @@
-//! What a validator gives to be done.
+//! A task, as a value.
 
 use batcher::messages::{Kind, Proposal, Subject, Vote};
 use batcher::positions::{Participant, Round, View};

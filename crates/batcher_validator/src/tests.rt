@@ -7,8 +7,8 @@ use batcher::messages::{Attestation, Certificate, Kind, Proposal, Sha256Digest, 
 use batcher::positions::{Epoch, Participant, Round, View};
 use batcher::round::BlockReason;
 use batcher::scheme::{AttestationList, Counter, Keyed, Name, Scheme, names};
+use batcher_bytes::MemoryLog;
 use batcher_journal::{Journal, Owner, Unopened};
-use batcher_log::MemoryLog;
 use batcher_node::{Cast, Cause, Receipt, Verdict};
 use batcher_voter::NotStarted;
 use std::alloc::{AllocError, Global};

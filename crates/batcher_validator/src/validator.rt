@@ -1,11 +1,12 @@
 //! A validator: a voter, with what it gave to be done.
 
-ghost use Rattle.std.specs.Prelude.{◌≡◌, ◌≤◌, ◌<◌, ◌⊎◌, ◌^◌, [], All, false, Contains, IfErr, IfOk, IfSome, None, length};
+ghost use Rattle.std.specs.Prelude.{◌≡◌, ◌≤◌, ◌<◌, ◌⊎◌, ◌^◌, [], All, false, Contains, IfErr, IfOk};
+ghost use Rattle.std.specs.Prelude.{IfSome, None, length};
 ghost use Rattle.batcher_agreement.specs.Policy.{Conduct, KeepsPolicy};
-ghost use Rattle.batcher_codec.specs.Messages.{certificate_format};
+ghost use Rattle.batcher_bytes.specs.Messages.{certificate_format};
 ghost use Rattle.batcher_validator.specs.Queues.{HasKey};
 ghost use Rattle.batcher_validator.specs.Running.{HasBegun};
-ghost use Rattle.batcher_validator.specs.Shelves.{key_of};
+ghost use Rattle.batcher_validator.specs.Shelves.{kind_and_round};
 ghost use Rattle.batcher_voter.specs.Remembering.{Remembers};
 ghost use Rattle.batcher_voter.specs.Reopening.{IsFinalView, IsTakenIn};
 
@@ -14,9 +15,8 @@ use crate::tally::Tally;
 use batcher::messages::{Certificate, Digest, Identical, Kind, Proposal, Subject};
 use batcher::positions::{Participant, Round};
 use batcher::scheme::Scheme;
-use batcher_codec::{Codec, OwnedCodec};
+use batcher_bytes::{Codec, Log, OwnedCodec};
 use batcher_journal::Journal;
-use batcher_log::Log;
 use batcher_node::NodeConfigs;
 use batcher_voter::{NotStarted, StartFault, Voter};
 use std::alloc::Global;
@@ -267,9 +267,9 @@ where
     /// The certificate of this kind and round, if it keeps one.
     pub fn certificate(&self, kind: Kind, round: Round) -> Option<&Certificate<S::Certificate, D>>
         ensures some { IfSome result (λ c. Contains self.now.shelf.certificates c.now
-            × (key_of c.now ≡ (kind, round))) }
+            × (kind_and_round c.now ≡ (kind, round))) }
         ensures none { result ≡ None
-            → HasKey key_of self.now.shelf.certificates (kind, round) → ⊥ }
+            → HasKey kind_and_round self.now.shelf.certificates (kind, round) → ⊥ }
     {
         self.shelf.get(kind, round)
     }

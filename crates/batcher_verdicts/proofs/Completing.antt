@@ -1,14 +1,6 @@
 -- A construction is made where nothing is asked about any more, and just there.
-use Rattle.std.proofs.Common.{◌≡◌, ◌∙◌, ℕ, List, [], take, Some, sym, subst}
-use Rattle.std.proofs.lemmas.Option.{same_Some}
-use Rattle.batcher_types.specs.declared.messages.Attestation.{Attestation}
-use Rattle.batcher_types.specs.declared.messages.Subject.{Subject}
-use Rattle.batcher_votes.specs.RoundState.{PerKind, RoundState}
-use Rattle.batcher_histories.specs.Config.{Config}
-use Rattle.batcher_round.specs.Next.{subject_next, pending_next}
-use Rattle.batcher_round.specs.Verdicts.{LooksAtNext}
-use Rattle.batcher_verdicts.specs.Recorded.{Recorded, Asks, IsKnown}
-use Rattle.batcher_verdicts.specs.Rounds.{recorded_of, AsksNext}
+use Rattle.batcher_verdicts.proofs.Words.{◌≡◌, ◌∙◌, ℕ, List, [], take, Some, sym, subst, same_Some, Attestation, Subject, PerKind, RoundState, Config}
+use Rattle.batcher_verdicts.proofs.Words.{subject_next, pending_next, LooksAtNext, Recorded, Asks, IsKnown, recorded_of, AsksNext}
 use Rattle.batcher_verdicts.proofs.Recording.{whole_list, none_asked}
 
 module _ {D K G C : Type 0} (x : Config D K G C) (held : RoundState G D)

@@ -1,13 +1,8 @@
 -- What is asked about, and what is recorded after what was.
-use Rattle.std.proofs.Common.{◌≡◌, inl, inr, ◌++◌, ◌-◌, ◌+◌, ◌∙◌, ℕ, Bool, List, [], length, take, drop, map, Option, None, Some, IfSome, sym, ap, subst}
-use Rattle.std.proofs.Math.Seq.{take-length}
-use Rattle.std.proofs.lemmas.List.{append-nil, append_cancel_left, length-drop, length-append, map-append, take-map, append_assoc}
-use Rattle.batcher_types.specs.declared.messages.Attestation.{Attestation}
-use Rattle.batcher_types.specs.declared.messages.Subject.{Subject}
-use Rattle.batcher_types.specs.declared.messages.Kind.TheVariants.{Notarization, Nullification, Finalization}
-use Rattle.batcher_votes.specs.RoundState.{PerKind}
-use Rattle.batcher_verdicts.specs.Rounds.{AllTrue}
-use Rattle.batcher_verdicts.specs.Recorded.{Recorded, Begins, Asks, IsKnown, AreTrue, Adds}
+use Rattle.batcher_verdicts.proofs.Words.{◌≡◌, inl, inr, ◌++◌, ◌-◌, ◌+◌, ◌∙◌, ℕ, Bool, List, [], length, take, drop, map, Option, None, Some, IfSome, sym, ap}
+use Rattle.batcher_verdicts.proofs.Words.{subst, take-length, append-nil, append_cancel_left, length-drop, length-append, map-append, take-map, append_assoc}
+use Rattle.batcher_verdicts.proofs.Words.{Attestation, Subject, Notarization, Nullification, Finalization, PerKind, AllTrue, Recorded, Begins, Asks, IsKnown}
+use Rattle.batcher_verdicts.proofs.Words.{AreTrue, AddsVerdicts}
 
 -- what is left of a list, as a slice of it
 pub rest_is : {X : Type 0} (xs : List X) (n : ℕ) → take (length xs - n) (drop n xs) ≡ drop n xs
@@ -70,7 +65,7 @@ module _ {G D : Type 0} (r : Recorded G D) (subject : Subject D) (waiting : List
 
     pub added : (new : Recorded G D) → new.subject ≡ Some subject
         → new.list ≡ take n r.list ++ list → new.verdicts ≡ take n r.verdicts ++ verdicts
-        → Adds r new subject waiting list verdicts
+        → AddsVerdicts r new subject waiting list verdicts
     added new about list_is verdicts_are =
         record {
           about = about;

@@ -1,20 +1,7 @@
 -- A node's next view, and what is known of its round.
-use Rattle.std.proofs.Common.{◌≡◌, ◌∙◌, ℕ, true, List, take, Option, Some, None, IfSome, is_some, refl, sym, ap, subst}
-use Rattle.std.specs.Option.{option_map}
-use Rattle.std.proofs.lemmas.Bool.{true≢false}
-use Rattle.std.proofs.lemmas.Option.{same_Some}
-use Rattle.batcher_types.specs.declared.messages.Attestation.{Attestation}
-use Rattle.batcher_types.specs.declared.messages.Subject.{Subject}
-use Rattle.batcher_votes.specs.RoundState.{PerKind, RoundView}
-use Rattle.batcher_histories.specs.Config.{Config}
-use Rattle.batcher_round.specs.Next.{subject_next, pending_next}
-use Rattle.batcher_node.specs.Nodes.{IsNext, slot_at}
-use Rattle.batcher_node.specs.Verdicts.{LooksAtThere}
-use Rattle.batcher_node.specs.declared.slot.Slot.{Slot}
-use Rattle.batcher_node.proofs.Lowest.{one_next}
-use Rattle.batcher_verdicts.specs.Recorded.{Recorded, IsKnown}
-use Rattle.batcher_verdicts.specs.Rounds.{recorded_of, AreComplete}
-use Rattle.batcher_verdicts.specs.Nodes.{AreCompleteThere, KnownThere}
+use Rattle.batcher_verdicts.proofs.Words.{◌≡◌, ◌∙◌, ℕ, true, List, take, Option, Some, None, IfSome, is_some, refl, sym, ap, subst, option_map, true≢false}
+use Rattle.batcher_verdicts.proofs.Words.{same_Some, Attestation, Subject, PerKind, RoundView, Config, subject_next, pending_next, IsNext, slot_at}
+use Rattle.batcher_verdicts.proofs.Words.{LooksAtThere, Slot, one_next, Recorded, IsKnown, recorded_of, AreComplete, AreCompleteThere, KnownThere}
 use Rattle.batcher_verdicts.proofs.Completing.{looks_at_all, asks_nothing}
 
 module _ {S D K G C : Type 0} (round_config : RoundView S G D → Config D K G C)

@@ -1,28 +1,10 @@
 -- What waits keeps its place while a round is called.
-use Rattle.std.proofs.Common.{◌≡◌, ◌⊎◌, inl, inr, ◌++◌, ◌∙◌, ◌≤◌, ◌&&◌, ◌||◌, Bool, true, false, not, cond, List, [], ◌∷◌, Option, Some, None, refl, ap, subst, arith}
-use Rattle.std.specs.Prelude.{filter}
-use Rattle.std.proofs.lemmas.Bool.{false≢true}
-use Rattle.std.proofs.lemmas.List.{append_assoc, map-append}
-use Rattle.std.proofs.lemmas.List.Elements.{filter-append}
-use Rattle.batcher_types.specs.declared.messages.Kind.{Kind}
-use Rattle.batcher_types.specs.declared.messages.Kind.TheVariants.{Nullification}
-use Rattle.batcher_types.specs.declared.messages.Proposal.{Proposal}
-use Rattle.batcher_types.specs.declared.messages.Vote.{Vote}
-use Rattle.batcher_types.specs.declared.messages.Vote.TheVariants.{Notarize as NotarizeVote, Nullify as NullifyVote, Finalize as FinalizeVote}
-use Rattle.batcher_types.specs.Lists.{count}
-use Rattle.batcher_types.specs.Votes.{is_of_kind, is_eligible, attestation_of}
-use Rattle.batcher_types.proofs.CountLemmas.{count-filter, count-filter_le, filter_all}
-use Rattle.batcher_votes.specs.RoundState.{of_kind, RoundState}
-use Rattle.batcher_votes.specs.TrackerSteps.{is_skipped}
-use Rattle.batcher_votes.specs.VerifierSteps.{attestations_of}
-use Rattle.batcher_histories.specs.Config.{Config}
-use Rattle.batcher_histories.specs.History.{History, Event, sent_votes}
-use Rattle.batcher_histories.specs.FirstVotes.{first_votes}
-use Rattle.batcher_histories.specs.Eligible.{fresh_votes, eligible_votes, eligible_among, is_trusted, was_eligible, trials}
-use Rattle.batcher_histories.specs.Represents.{Represents, Simulates, tries_kind, arrivals}
-use Rattle.batcher_histories.specs.Selection.{is_certified, is_restored, selected_proposal}
-use Rattle.batcher_histories.proofs.History.Past.{open_eligible}
-use Rattle.batcher_verdicts.specs.Waiting.{GoesOnWaiting, VerdictsStay}
+use Rattle.batcher_verdicts.proofs.Words.{◌≡◌, ◌⊎◌, inl, inr, ◌++◌, ◌∙◌, ◌≤◌, ◌&&◌, ◌||◌, Bool, true, false, not, cond, List, [], ◌∷◌, Option, Some, None, refl}
+use Rattle.batcher_verdicts.proofs.Words.{ap, subst, arith, filter, false≢true, append_assoc, map-append, filter-append, Kind, Nullification, Proposal, Vote}
+use Rattle.batcher_verdicts.proofs.Words.{NotarizeVote, NullifyVote, FinalizeVote, count, is_of_kind, is_eligible, attestation_of, count-filter}
+use Rattle.batcher_verdicts.proofs.Words.{count-filter_le, filter_all, of_kind, RoundState, is_skipped, attestations_of, Config, History, Event, sent_votes}
+use Rattle.batcher_verdicts.proofs.Words.{first_votes, fresh_votes, eligible_votes, eligible_among, is_trusted, was_eligible, trials, Represents, Simulates}
+use Rattle.batcher_verdicts.proofs.Words.{tries_kind, arrivals, is_certified, is_restored, selected_proposal, open_eligible, GoesOnWaiting, VerdictsStay}
 
 never : (k e n : Bool) → (k ≡ true → e ≡ true → n ≡ true) → (k && (e && not n)) ≡ false
 never true true true h = refl

@@ -1,5 +1,6 @@
 -- Verdicts that are recorded, of one kind: on attestations that wait for a subject.
-use Rattle.std.specs.Prelude.{◌≡◌, ◌⊎◌, ℕ, Bool, List, ◌++◌, length, drop, map, Option, Some, IfSome}
+use Rattle.std.specs.Prelude.{◌≡◌, ◌⊎◌, ℕ, Bool, List, ◌++◌, length, drop, map, Option, Some}
+use Rattle.std.specs.Prelude.{IfSome}
 use Rattle.batcher_types.specs.declared.messages.Attestation.{Attestation}
 use Rattle.batcher_types.specs.declared.messages.Subject.{Subject}
 
@@ -38,7 +39,7 @@ module _ {G D : Type 0} where
 
   -- Verdicts on a list, of what is asked about first, are recorded after those that there are on
   -- what waits for the subject.
-  pub record Adds (old new : Recorded G D) (subject : Subject D)
+  pub record AddsVerdicts (old new : Recorded G D) (subject : Subject D)
       (waiting list : List (Attestation G)) (verdicts : List Bool) : Type 0 where
     pub about : new.subject ≡ Some subject
     pub listed : (others : List (Attestation G)) × (waiting ≡ new.list ++ others)

@@ -2,13 +2,14 @@
 use Rattle.std.specs.Prelude.{◌≡◌, ◌≢◌, Bool, List, [], ◌++◌, Some}
 use Rattle.batcher_types.specs.declared.messages.Attestation.{Attestation}
 use Rattle.batcher_types.specs.declared.messages.Kind.{Kind}
-use Rattle.batcher_types.specs.declared.messages.Kind.TheVariants.{Notarization, Nullification, Finalization}
+use Rattle.batcher_types.specs.declared.messages.Kind.TheVariants.{Notarization, Nullification}
+use Rattle.batcher_types.specs.declared.messages.Kind.TheVariants.{Finalization}
 use Rattle.batcher_types.specs.declared.messages.Subject.{Subject}
 use Rattle.batcher_types.specs.declared.messages.Subject.TheVariants.{Notarize, Nullify, Finalize}
 use Rattle.batcher_votes.specs.RoundState.{PerKind, of_kind, RoundState}
 use Rattle.batcher_histories.specs.Config.{Config}
 use Rattle.batcher_round.specs.Next.{subject_next, pending_next}
-use Rattle.batcher_verdicts.specs.Recorded.{Recorded, Asks, AreTrue, Adds}
+use Rattle.batcher_verdicts.specs.Recorded.{Recorded, Asks, AreTrue, AddsVerdicts}
 
 -- the kind of the votes that attest it
 abbrev pub kind_attested : {D : Type 0} → Subject D → Kind
@@ -43,11 +44,11 @@ module _ {G D : Type 0} where
       (old new : PerKind (Recorded G D)) (subject : Subject D) (list : List (Attestation G))
       (verdicts : List Bool) : Type 0 where
     pub asked : (rest : List (Attestation G)) × AsksNext x held old subject (list ++ rest)
-    pub adds : Adds (recorded_of old subject) (recorded_of new subject) subject
+    pub adds : AddsVerdicts (recorded_of old subject) (recorded_of new subject) subject
         (pending_next x held) list verdicts
     pub others : (kind : Kind) → kind ≢ kind_attested subject → of_kind new kind ≡ of_kind old kind
 
   -- Those on what attests the subject are forgotten, and all on other kinds stay.
-  pub record Forgets (old new : PerKind (Recorded G D)) (subject : Subject D) : Type 0 where
+  pub record ForgetsVerdicts (old new : PerKind (Recorded G D)) (subject : Subject D) : Type 0 where
     pub forgotten : (recorded_of new subject).list ≡ []
     pub others : (kind : Kind) → kind ≢ kind_attested subject → of_kind new kind ≡ of_kind old kind

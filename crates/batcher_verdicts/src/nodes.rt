@@ -1,13 +1,14 @@
 //! Constructions of a node by verdicts that come late.
 
-ghost use Rattle.std.specs.Prelude.{◌≡◌, true, Bool, ℕ, None, Some, Ok, is_some, IfOk, IfSome, OnErr};
+ghost use Rattle.std.specs.Prelude.{◌≡◌, true, Bool, ℕ, None, Some, Ok, is_some, IfOk, IfSome};
+ghost use Rattle.std.specs.Prelude.{OnErr};
 ghost use Rattle.batcher_types.specs.declared.messages.Attestation.{Attestation as TheAttestation};
 ghost use Rattle.batcher_types.specs.declared.messages.Subject.{Subject as TheSubject};
 ghost use Rattle.batcher_votes.specs.Verifiers.{IfGiven};
 ghost use Rattle.batcher_round.specs.Verdicts.{BatchIsAssembled};
 ghost use Rattle.batcher_node.specs.Events.{constructed};
 ghost use Rattle.batcher_node.specs.Nodes.{SameNode, IsNext, slot_at};
-ghost use Rattle.batcher_node.specs.Represents.{Meets, NextMayNeed};
+ghost use Rattle.batcher_node.specs.Represents.{NodeMeets, NextMayNeed};
 ghost use Rattle.batcher_verdicts.specs.Nodes.{AreCompleteThere, KnownThere};
 ghost use Rattle.batcher_verdicts.specs.Rounds.{AllTrue};
 
@@ -39,7 +40,8 @@ impl<G: Identical, D: Digest> Verdicts<G, D> {
         ensures gives { IfGiven result (λ one. is_some one.batch ≡ true) }
         ensures assembled { IfGiven result (λ one. IfSome one.batch
             (BatchIsAssembled (S.meaning node.old.scheme))) }
-        ensures meets { IfGiven result (λ one. Meets (⟦<S as NodeConfigs<D>>⟧.of node.old) node.old
+        ensures meets { IfGiven result
+            (λ one. NodeMeets (⟦<S as NodeConfigs<D>>⟧.of node.old) node.old
             (constructed one.view.0 one.batch) node.new) }
         ensures truths { (attests : TheSubject D → TheAttestation G → Bool)
             → AllTrue attests self.old → AllTrue attests self.new }

@@ -1,9 +1,10 @@
 //! The verdicts of one kind.
 
-ghost use Rattle.std.specs.Prelude.{◌≡◌, ◌≤◌, ◌↔◌, ◌++◌, [], true, false, Bool, List, length, map, take, None, Ok, IfOk, OnErr, IsTrue};
+ghost use Rattle.std.specs.Prelude.{◌≡◌, ◌≤◌, ◌↔◌, ◌++◌, [], true, false, Bool, List, length, map};
+ghost use Rattle.std.specs.Prelude.{take, None, Ok, IfOk, OnErr, IsTrue};
 ghost use Rattle.batcher_types.specs.declared.messages.Attestation.{Attestation as TheAttestation};
 ghost use Rattle.batcher_types.specs.declared.messages.Subject.{Subject as TheSubject};
-ghost use Rattle.batcher_verdicts.specs.Recorded.{Asks, IsKnown, AreTrue, Adds};
+ghost use Rattle.batcher_verdicts.specs.Recorded.{Asks, IsKnown, AreTrue, AddsVerdicts};
 
 use batcher_types::messages::{Attestation, Digest, Identical, Subject, are_identical};
 use std::alloc::{AllocError, Global};
@@ -111,7 +112,7 @@ impl<G: Identical, D: Digest> KindVerdicts<G, D> {
             → Asks self.old subject.now waiting.now (list.now ++ rest)
             → IfOk result (λ is_next. is_next ≡ true) }
         ensures adds { result ≡ Ok true
-            → Adds self.old self.new subject.now waiting.now list.now verdicts.now }
+            → AddsVerdicts self.old self.new subject.now waiting.now list.now verdicts.now }
         ensures truths { (attests : TheSubject D → TheAttestation G → Bool)
             → AreTrue attests self.old → verdicts.now ≡ map (attests subject.now) list.now
             → AreTrue attests self.new }

@@ -1,15 +1,20 @@
 //! Verdicts that come late, as from another thread, while votes go on to come.
 
-ghost use Rattle.std.specs.Prelude.{◌≡◌, ◌≢◌, ◌≤◌, ◌++◌, [], true, false, Bool, List, length, map, None, Some, Ok, is_some, IfOk, IfSome, OnErr};
+ghost use Rattle.std.specs.Prelude.{◌≡◌, ◌≢◌, ◌≤◌, ◌++◌, [], true, false, Bool, List, length, map};
+ghost use Rattle.std.specs.Prelude.{None, Some, Ok, is_some, IfOk, IfSome, OnErr};
 ghost use Rattle.std.specs.Option.{option_map};
 ghost use Rattle.batcher_types.specs.declared.messages.Attestation.{Attestation as TheAttestation};
 ghost use Rattle.batcher_types.specs.declared.messages.Kind.{Kind as TheKind};
 ghost use Rattle.batcher_types.specs.declared.messages.Subject.{Subject as TheSubject};
-ghost use Rattle.batcher_round.specs.RoundWords.{of_kind, subject_next, pending_next, verified_next, SameRound, IfGiven, BatchCertifies, IsRefusedForNeed, SimulatesAlways, ConstructCall, ConstructAnswer, AfterConstruct};
-ghost use Rattle.batcher_round.specs.Verdicts.{judged, BatchIsAssembled};
+ghost use Rattle.batcher_round.specs.RoundWords.{of_kind, subject_next, pending_next};
+ghost use Rattle.batcher_round.specs.RoundWords.{verified_next, SameRound, IfGiven, BatchCertifies};
+ghost use Rattle.batcher_round.specs.RoundWords.{IsRefusedForNeed, SimulatesAlways, ConstructCall};
+ghost use Rattle.batcher_round.specs.RoundWords.{ConstructAnswer, AfterConstruct};
+ghost use Rattle.batcher_round.specs.Verdicts.{judged_config, BatchIsAssembled};
 ghost use Rattle.rand_core.specs.Stream.{Stream};
-ghost use Rattle.batcher_verdicts.specs.Recorded.{Asks, AreTrue, Adds, IsKnown};
-ghost use Rattle.batcher_verdicts.specs.Rounds.{recorded_of, kind_attested, AllTrue, AreComplete, AsksNext, Forgets, Records};
+ghost use Rattle.batcher_verdicts.specs.Recorded.{Asks, AreTrue, AddsVerdicts, IsKnown};
+ghost use Rattle.batcher_verdicts.specs.Rounds.{recorded_of, kind_attested, AllTrue, AreComplete};
+ghost use Rattle.batcher_verdicts.specs.Rounds.{AsksNext, ForgetsVerdicts, Records};
 
 use crate::recorded::KindVerdicts;
 use batcher_round::round::{Round, RoundConfigs};
@@ -99,7 +104,7 @@ impl<G: Identical, D: Digest> Verdicts<G, D> {
         ensures not_stale { (rest : List (TheAttestation G))
             → Asks (recorded_of self.old subject.now) subject.now waiting.now (list.now ++ rest)
             → IfOk result (λ is_next. is_next ≡ true) }
-        ensures adds { result ≡ Ok true → Adds (recorded_of self.old subject.now)
+        ensures adds { result ≡ Ok true → AddsVerdicts (recorded_of self.old subject.now)
             (recorded_of self.new subject.now) subject.now waiting.now list.now verdicts.now }
         ensures others { (kind : TheKind) → kind ≢ kind_attested subject.now
             → of_kind self.new kind ≡ of_kind self.old kind }
@@ -119,7 +124,7 @@ impl<G: Identical, D: Digest> Verdicts<G, D> {
 
     // Forgets those on what attests the subject, once the construction is made by them.
     pub(crate) fn forget(&mut self, subject: &Subject<D>, is_made: bool)
-        ensures forgets { is_made ≡ true → Forgets self.old self.new subject.now }
+        ensures forgets { is_made ≡ true → ForgetsVerdicts self.old self.new subject.now }
         ensures keeps { is_made ≡ false → self.new ≡ self.old }
         ensures truths { (attests : TheSubject D → TheAttestation G → Bool)
             → AllTrue attests self.old → AllTrue attests self.new }
@@ -203,7 +208,7 @@ impl<G: Identical, D: Digest> Verdicts<G, D> {
             × (AreComplete (⟦<S as RoundConfigs<D>>⟧.of round.old) round.old.holds self.old
             subject)) }
         ensures step { IfGiven result (λ batch. (stream : Stream)
-            → AfterConstruct (judged (⟦<S as RoundConfigs<D>>⟧.of round.old)) round.old.holds
+            → AfterConstruct (judged_config (⟦<S as RoundConfigs<D>>⟧.of round.old)) round.old.holds
             stream (Some batch) round.new.holds stream) }
         ensures meets { IfGiven result (λ batch. SimulatesAlways ⟦<S as RoundConfigs<D>>⟧.of
             round.old (ConstructCall, ConstructAnswer (Some batch)) round.new.holds) }
@@ -215,7 +220,7 @@ impl<G: Identical, D: Digest> Verdicts<G, D> {
             → AllTrue attests self.old → AllTrue attests self.new }
         ensures forgets { IfGiven result (λ _. (subject : TheSubject D)
             → subject_next (⟦<S as RoundConfigs<D>>⟧.of round.old) round.old.holds ≡ Some subject
-            → Forgets self.old self.new subject) }
+            → ForgetsVerdicts self.old self.new subject) }
         ensures waits { result ≡ Ok None → (self.new ≡ self.old) × (round.new ≡ round.old) }
         ensures refused { OnErr result ((self.new ≡ self.old) × (round.new ≡ round.old)) }
         ensures same { SameRound round.old round.new }

@@ -1,11 +1,6 @@
 -- What was known by a part of a conduct is known by all of it.
-use Rattle.std.proofs.Common.{◌≡◌, ◌++◌, [], ◌∷◌, inl, inr, ◌⊎◌}
-use Rattle.batcher.specs.messages.Proposal.{Proposal}
-use Rattle.batcher.specs.messages.Subject.{Subject}
-use Rattle.batcher.specs.messages.Subject.TheVariants.{Notarize, Finalize}
-use Rattle.batcher.specs.positions.Round.{Round}
-use Rattle.batcher_agreement.specs.Policy.{Conduct, IsGrounded, Knows, KnowsProposal, learned, voted}
-use Rattle.batcher_node.specs.Windows.{numbered}
+use Rattle.batcher_voter.proofs.Words.{◌≡◌, ◌++◌, [], ◌∷◌, inl, inr, ◌⊎◌, Proposal, Subject, Notarize, Finalize, Round, Conduct, IsGrounded, Knows}
+use Rattle.batcher_voter.proofs.Words.{KnowsProposal, learned, voted, numbered}
 
 module _ {D : Type 0} where
   pub knows_before :

@@ -1,16 +1,7 @@
 -- A voter begins, and learns what its journal has.
-use Rattle.std.proofs.Common.{◌≡◌, ◌++◌, true, [], ◌∷◌, refl, subst}
-use Rattle.batcher.specs.Verifiers.{certifies_itself}
-use Rattle.batcher.specs.Votes.{round_in, subject_certified}
-use Rattle.batcher.specs.messages.Certificate.{Certificate}
-use Rattle.batcher_agreement.specs.Lives.{VoterHistory, called, conduct_of, verified}
-use Rattle.batcher_agreement.specs.Policy.{Conduct, KeepsPolicy}
-use Rattle.batcher_node.specs.Events.{started}
-use Rattle.batcher_node.specs.Nodes.{NodeConfig}
-use Rattle.batcher_node.specs.Represents.{NodeRepresents}
-use Rattle.batcher_voter.specs.Knowledge.{HasLearned, IsHighest, Learns}
-use Rattle.batcher_voter.specs.Remembering.{Remembers}
-use Rattle.batcher_voter.specs.Voting.{HasStarted, IsVoting, VoterView}
+use Rattle.batcher_voter.proofs.Words.{◌≡◌, ◌++◌, true, [], ◌∷◌, refl, subst, certifies_itself, round_in, subject_certified, Certificate, VoterHistory, called}
+use Rattle.batcher_voter.proofs.Words.{conduct_of, verified, Conduct, KeepsPolicy, started, NodeConfig, NodeRepresents, HasLearned, IsHighest, Learns}
+use Rattle.batcher_voter.proofs.Words.{Remembers, HasStarted, IsVoting, VoterView}
 use Rattle.batcher_voter.proofs.Calling.{remembers_learned}
 use Rattle.batcher_voter.proofs.Grounding.{highest_more, learned_more}
 

@@ -1,30 +1,11 @@
 -- A voter goes on with a call of its node.
-use Rattle.std.proofs.Common.{◌≡◌, ◌++◌, ◌∙◌, ℕ, Bool, true, [], ◌∷◌, Option, Some, None, ap, refl, subst, sym}
-use Rattle.std.specs.Prelude.{IfSome, MatchOption, option_and_then}
-use Rattle.std.specs.declared.cmp.Ordering.{Ordering}
-use Rattle.batcher.specs.Meaning.{Meaning}
-use Rattle.batcher.specs.Votes.{round_in, subject_certified}
-use Rattle.batcher.specs.messages.Certificate.{Certificate}
-use Rattle.batcher.specs.messages.Subject.{Subject}
-use Rattle.batcher.specs.positions.Epoch.{Epoch}
-use Rattle.batcher.specs.messages.Proposal.{Proposal}
-use Rattle.batcher.specs.verifier.Batch.{Batch}
-use Rattle.batcher_agreement.specs.Lives.{VoterEvent, VoterHistory, acts_of, called, conduct_of, learned_by}
-use Rattle.batcher_agreement.specs.Policy.{Conduct, learned}
-use Rattle.batcher.specs.positions.Participant.{Participant}
-use Rattle.batcher_journal.specs.Ready.{JournalView}
-use Rattle.batcher_journal.specs.Text.{Contents}
-use Rattle.batcher_node.specs.Events.{proposal_forwarded, NodeEvent, certificate_came, constructed}
-use Rattle.batcher_node.specs.Nodes.{slot_at, NodeConfig, NodeView, SameNode, node_config}
-use Rattle.batcher_node.specs.Represents.{SimulatesForward, Meets, receipt}
-use Rattle.batcher_node.specs.Windows.{numbered}
-use Rattle.batcher_node.specs.declared.answers.Receipt.{Receipt}
-use Rattle.batcher_node.specs.declared.answers.Receipt.TheVariants.{Answered, Dropped, Outside, Unknown}
-use Rattle.batcher_node.specs.declared.answers.Verdict.{Verdict}
-use Rattle.batcher_node.specs.declared.answers.Verdict.TheVariants.{Forged, Known, Recorded}
-use Rattle.batcher_voter.specs.Knowledge.{IsSame, KnowledgeView, Learns, learned_at}
-use Rattle.batcher_voter.specs.Remembering.{Remembers}
-use Rattle.batcher_voter.specs.Voting.{Forwards, AreWrittenFirst, VoterMeets, VoterStays, VoterView, is_recorded}
+use Rattle.batcher_voter.proofs.Words.{◌≡◌, ◌++◌, ◌∙◌, ℕ, Bool, true, [], ◌∷◌, Option, Some, None, ap, refl, subst, sym, IfSome, MatchOption, option_and_then}
+use Rattle.batcher_voter.proofs.Words.{Ordering, Meaning, round_in, subject_certified, Certificate, Subject, Epoch, Proposal, Batch, VoterEvent, VoterHistory}
+use Rattle.batcher_voter.proofs.Words.{acts_of, called, conduct_of, learned_by, Conduct, learned, Participant, JournalView, Contents, proposal_forwarded}
+use Rattle.batcher_voter.proofs.Words.{NodeEvent, certificate_came, constructed, slot_at, NodeConfig, NodeView, SameNode, node_config, SimulatesForward}
+use Rattle.batcher_voter.proofs.Words.{NodeMeets, receipt, numbered, Receipt, Answered, Dropped, Outside, Unknown, Verdict, Forged, Known, Recorded}
+use Rattle.batcher_voter.proofs.Words.{SameKnowledge, KnowledgeView, Learns, learned_at, Remembers, ForwardsProposal, AreWrittenFirst, VoterMeets, VoterStays}
+use Rattle.batcher_voter.proofs.Words.{VoterView, was_recorded}
 use Rattle.batcher_voter.proofs.Grounding.{highest_more, learned_more, still_highest, still_learned}
 
 -- what a certificate leaves of votes
@@ -35,7 +16,7 @@ remembers_learned s past contents has =
     record { are_there = has.are_there; no_others = has.no_others }
 
 pub same_of :
-    {D : Type 0} (old new : KnowledgeView D) → new ≡ old → IsSame old new
+    {D : Type 0} (old new : KnowledgeView D) → new ≡ old → SameKnowledge old new
 same_of {D = D} old new e =
     record {
       epoch = ap (λ (k : KnowledgeView D). k.epoch) e;
@@ -45,14 +26,15 @@ same_of {D = D} old new e =
     }
 
 module _ {S D K G C L : Type 0} (x : NodeConfig D K G C) (old new : VoterView S G D L)
-    (event : NodeEvent D K G C) (meets : Meets x old.node event new.node)
+    (event : NodeEvent D K G C) (meets : NodeMeets x old.node event new.node)
     (contents : new.journal.contents ≡ old.journal.contents)
     (is_open : new.journal.is_open ≡ old.journal.is_open)
     (first : (earlier : Conduct D) (past : VoterHistory D K G C) → AreWrittenFirst earlier past
     → AreWrittenFirst earlier (called event ∷ past)) where
   -- nothing is learned by it
   pub quiet :
-      acts_of (called event) ≡ [] → IsSame old.knowledge new.knowledge → VoterMeets x old new event
+      acts_of (called event) ≡ [] → SameKnowledge old.knowledge new.knowledge
+      → VoterMeets x old new event
   quiet none same past earlier is =
       record {
         represents = meets _ is.represents;
@@ -85,7 +67,7 @@ module _ {S D K G C L : Type 0} (x : NodeConfig D K G C) (old new : VoterView S 
 -- the same is known, and nothing happened
 pub stays_voting :
     {S D K G C L : Type 0} (x : NodeConfig D K G C) (old new : VoterView S G D L)
-    → new.node ≡ old.node → new.journal ≡ old.journal → IsSame old.knowledge new.knowledge
+    → new.node ≡ old.node → new.journal ≡ old.journal → SameKnowledge old.knowledge new.knowledge
     → VoterStays x old new
 stays_voting x old new node journal same past earlier is =
     record {
@@ -103,7 +85,7 @@ module _ {D K C : Type 0} (G : Type 0) (peer : K) (certificate : Certificate C D
   the_event receipt = called (certificate_came peer certificate receipt)
 
   pub recorded_is_learned :
-      (receipt : Receipt Verdict) → is_recorded receipt ≡ true
+      (receipt : Receipt Verdict) → was_recorded receipt ≡ true
       → acts_of (the_event receipt) ≡ learned (subject_certified certificate) ∷ []
   recorded_is_learned (Answered (Recorded changed)) e = refl
   recorded_is_learned (Answered Forged) e = absurd cc
@@ -166,7 +148,7 @@ module _ {S D K G C L : Type 0} (x : NodeConfig D K G C) (old new : VoterView S 
   by_slot :
       {X : Type 0} (slot : Option X)
       → MatchOption slot ((given ≡ None) × (new.node ≡ old.node))
-      (λ s. Meets x old.node (proposal_forwarded view me given) new.node)
+      (λ s. NodeMeets x old.node (proposal_forwarded view me given) new.node)
       → MatchOption slot ((given ≡ None) × (new ≡ old))
       (λ s. VoterMeets x old new (proposal_forwarded view me given))
   by_slot None it = (it.0, same_voter old new it.1 journal knowledge)
@@ -177,5 +159,5 @@ module _ {S D K G C L : Type 0} (x : NodeConfig D K G C) (old new : VoterView S 
       (same_of old.knowledge new.knowledge knowledge)
 
   pub forwards :
-      SimulatesForward x old.node view me given new.node → Forwards x old new view me given
+      SimulatesForward x old.node view me given new.node → ForwardsProposal x old new view me given
   forwards it = by_slot (slot_at old.node.rounds view) it

@@ -1,20 +1,8 @@
 -- By which votes and by what knowledge a vote is cleared, or refused.
-use Rattle.std.proofs.Common.{◌≡◌, ◌&&◌, ◌∙◌, Bool, true, false, not, List, eq-eqb, refl, subst, sym}
-use Rattle.std.specs.Prelude.{Contains}
-use Rattle.std.proofs.lemmas.List.Elements.{All-contains}
-use Rattle.batcher.specs.Reports.{subjects_contradict}
-use Rattle.batcher.specs.Votes.{round_in, same_proposal, same_round, same_subject, subject_of}
-use Rattle.batcher_types.proofs.VoteLemmas.{same_round-refl, same_round-true}
-use Rattle.batcher.specs.messages.Proposal.{Proposal}
-use Rattle.batcher.specs.messages.Subject.{Subject}
-use Rattle.batcher.specs.messages.Subject.TheVariants.{Notarize, Nullify, Finalize}
-use Rattle.batcher.specs.messages.Vote.{Vote}
-use Rattle.batcher.specs.positions.Round.{Round}
-use Rattle.batcher_agreement.specs.Policy.{Conduct, HasVoted, KeepsPolicy}
-use Rattle.batcher_agreement.proofs.Voting.{not_both}
-use Rattle.batcher_journal.specs.Contradictions.{IsFree, LeavesFree}
-use Rattle.batcher_journal.specs.Floors.{is_below}
-use Rattle.batcher_voter.specs.Remembering.{HasVoteFor}
+use Rattle.batcher_voter.proofs.Words.{◌≡◌, ◌&&◌, ◌∙◌, Bool, true, false, not, List, eq-eqb, refl, subst, sym, Contains, All-contains, subjects_contradict}
+use Rattle.batcher_voter.proofs.Words.{round_in, same_proposal, same_round, same_subject, subject_of, same_round-refl, same_round-true, Proposal, Subject}
+use Rattle.batcher_voter.proofs.Words.{Notarize, Nullify, Finalize, Vote, Round, Conduct, HasVoted, KeepsPolicy, not_both, IsFree, LeavesFree, is_below}
+use Rattle.batcher_voter.proofs.Words.{HasVoteFor}
 
 module _ {D : Type 0} (same : D → D → Bool) where
   -- what a vote is for that leaves a subject free

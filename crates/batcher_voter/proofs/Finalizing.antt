@@ -1,21 +1,7 @@
 -- A voter goes on with a final view.
-use Rattle.std.proofs.Common.{◌≡◌, ◌++◌, ◌∙◌, ℕ, List, true, false, ◌∷◌, arith, sym}
-use Rattle.batcher.specs.Verifiers.{certifies_itself}
-use Rattle.batcher.specs.Votes.{round_in, subject_certified}
-use Rattle.batcher.specs.messages.Certificate.{Certificate}
-use Rattle.batcher.specs.positions.Round.{Round}
-use Rattle.batcher_agreement.specs.Lives.{VoterHistory, called, conduct_of, verified}
-use Rattle.batcher_agreement.specs.Policy.{Conduct}
-use Rattle.batcher_journal.specs.Floors.{is_below}
-use Rattle.batcher_journal.specs.Ready.{raised}
-use Rattle.batcher_journal.specs.Records.{Certified}
-use Rattle.batcher_journal.specs.Text.{Contents, OwnerFields}
-use Rattle.batcher_node.specs.Events.{view_finalized}
-use Rattle.batcher_node.specs.Nodes.{NodeConfig}
-use Rattle.batcher_node.specs.Represents.{Meets}
-use Rattle.batcher_voter.specs.Knowledge.{Forgets, KnowledgeView, Learns}
-use Rattle.batcher_voter.specs.Remembering.{Remembers}
-use Rattle.batcher_voter.specs.Voting.{IsVoting, VoterView}
+use Rattle.batcher_voter.proofs.Words.{◌≡◌, ◌++◌, ◌∙◌, ℕ, List, true, false, ◌∷◌, arith, sym, certifies_itself, round_in, subject_certified, Certificate, Round}
+use Rattle.batcher_voter.proofs.Words.{VoterHistory, called, conduct_of, verified, Conduct, is_below, raised, Certified, Contents, OwnerFields, view_finalized}
+use Rattle.batcher_voter.proofs.Words.{NodeConfig, NodeMeets, Forgets, KnowledgeView, Learns, Remembers, IsVoting, VoterView}
 use Rattle.batcher_voter.proofs.Calling.{remembers_learned}
 use Rattle.batcher_voter.proofs.Grounding.{highest_from, highest_more, learned_from, learned_more}
 use Rattle.batcher_voter.proofs.Writing.{are_there_from, no_others_from}
@@ -36,7 +22,7 @@ module _ {S D K G C L : Type 0} (x : NodeConfig D K G C) (old new : VoterView S 
     (c : Certificate C D) (forgotten : KnowledgeView D) where
   pub finalized_by :
       certifies_itself x.meaning c ≡ true
-      → Meets x old.node (view_finalized (round_in (subject_certified c)).view.0) new.node
+      → NodeMeets x old.node (view_finalized (round_in (subject_certified c)).view.0) new.node
       → Forgets (round_in (subject_certified c)).view.0 old.knowledge forgotten
       → Learns (subject_certified c) forgotten new.knowledge
       → (round_in (subject_certified c)).epoch ≡ old.knowledge.epoch

@@ -1,32 +1,13 @@
 -- A certificate that a construction gives is of the round in which it is made.
-use Rattle.std.proofs.Common.{◌≡◌, ◌++◌, ◌+◌, ◌≤◌, ◌∙◌, ℕ, zero, suc, Bool, true, false, not, List, [], ◌∷◌, Option, Some, None, ap, arith, cond, eq-eqb, inl, inr, length, refl, subst}
-use Rattle.std.specs.List.{filter}
-use Rattle.std.specs.Prelude.{All, Contains, Err, IfOk, IfSome, Ok, Result}
-use Rattle.std.proofs.lemmas.List.Elements.{All-contains, All-contains_itself, All-filter, Contains-append_cases, filter_passes}
-use Rattle.batcher.specs.Backing.{IsBacked, votes_behind}
-use Rattle.batcher.specs.Config.{Config, quorum_in}
-use Rattle.batcher.specs.AnswerFacts.{usable_votes}
-use Rattle.batcher.specs.FirstVotes.{first_votes, is_free}
-use Rattle.batcher.specs.History.{History, cast_votes, names_sender}
-use Rattle.batcher.specs.Answers.{IsPossible}
-use Rattle.batcher.specs.Lists.{ElementsWithin, count}
-use Rattle.batcher.specs.Runs.{MayCall}
-use Rattle.batcher.specs.Votes.{kind_certified, round_in, same_round, same_subject, subject_certified, subject_of}
-use Rattle.batcher.specs.calls.Call.{Call}
-use Rattle.batcher.specs.calls.Call.TheVariants.{Network as NetworkCall, Own as OwnCall, Construct as ConstructCall, Leader as LeaderCall, Forward as ForwardCall, Missing as MissingCall, Certificate as CertificateCall}
-use Rattle.batcher.specs.messages.Certificate.{Certificate}
-use Rattle.batcher.specs.messages.Vote.{Vote}
-use Rattle.batcher.specs.verifier.Batch.{Batch}
-use Rattle.batcher.specs.RunContract.{IsPromised}
-use Rattle.batcher.specs.answers.Answer.TheVariants.{Construct as ConstructAnswer}
-use Rattle.batcher_node.specs.Events.{NodeEvent, NodeHistory, constructed, view_history}
-use Rattle.batcher_node.specs.NodePromises.{IsNodePromised}
-use Rattle.batcher_node.specs.Nodes.{NodeConfig, NodeView}
-use Rattle.batcher_node.specs.Represents.{HasHistory, Meets, NodeRepresents, config_of}
-use Rattle.batcher_node.specs.Windows.{numbered}
-use Rattle.batcher_node.specs.declared.node.Construction.{Construction}
-use Rattle.batcher_voter.specs.Voting.{IsOfItsView}
-use Rattle.batcher_types.proofs.VoteLemmas.{same_round-refl, same_round-true, same_subject-true}
+use Rattle.batcher_voter.proofs.Words.{◌≡◌, ◌++◌, ◌+◌, ◌≤◌, ◌∙◌, ℕ, zero, suc, Bool, true, false, not, List, [], ◌∷◌, Option, Some, None, ap, arith, cond}
+use Rattle.batcher_voter.proofs.Words.{eq-eqb, inl, inr, length, refl, subst, filter, All, Contains, Err, IfOk, IfSome, Ok, Result, All-contains}
+use Rattle.batcher_voter.proofs.Words.{All-contains_itself, All-filter, Contains-append_cases, filter_passes, IsBacked, votes_behind, Config, quorum_in}
+use Rattle.batcher_voter.proofs.Words.{usable_votes, first_votes, is_free, History, cast_votes, names_sender, IsPossible, ElementsWithin, count, MayCall}
+use Rattle.batcher_voter.proofs.Words.{kind_certified, round_in, same_round, same_subject, subject_certified, subject_of, Call, NetworkCall, OwnCall}
+use Rattle.batcher_voter.proofs.Words.{ConstructCall, LeaderCall, ForwardCall, MissingCall, CertificateCall, Certificate, Vote, Batch, IsPromised}
+use Rattle.batcher_voter.proofs.Words.{ConstructAnswer, NodeEvent, NodeHistory, constructed, view_history, IsNodePromised, NodeConfig, NodeView, HasHistory}
+use Rattle.batcher_voter.proofs.Words.{NodeMeets, NodeRepresents, config_of, numbered, Construction, IsOfItsView, same_round-refl, same_round-true}
+use Rattle.batcher_voter.proofs.Words.{same_subject-true}
 
 module _ {D K G C : Type 0} (x : Config D K G C) where
   abbrev Here : List (Vote G D) → Type 0
@@ -140,7 +121,7 @@ module _ {S D K G C : Type 0} (x : NodeConfig D K G C) (old new : NodeView S G D
 
   -- what a construction in a view gives is of the view
   pub given_is_of_view :
-      HasHistory x old → Meets x old (constructed view (Some batch)) new
+      HasHistory x old → NodeMeets x old (constructed view (Some batch)) new
       → ((past : NodeHistory D K G C) → NodeRepresents x past new → IsNodePromised x past)
       → batch.certificate ≡ Some c → round_in (subject_certified c) ≡ numbered x.epoch view
   given_is_of_view has meets promises given =
@@ -163,7 +144,7 @@ module _ {S D K G C : Type 0} (x : NodeConfig D K G C) (old new : NodeView S G D
   where
     by_certificate :
         (view : ℕ) (batch : Batch (Certificate C D))
-        → Meets x old (constructed view (Some batch)) new
+        → NodeMeets x old (constructed view (Some batch)) new
         → (o : Option (Certificate C D)) → batch.certificate ≡ o
         → IfSome o (λ c. round_in (subject_certified c) ≡ numbered x.epoch view)
     by_certificate view batch meets None e = tt
@@ -171,7 +152,7 @@ module _ {S D K G C : Type 0} (x : NodeConfig D K G C) (old new : NodeView S G D
         given_is_of_view x old new view batch c identical some has meets promises e
 
     by_batch :
-        (view : ℕ) (o : Option (Batch (Certificate C D))) → Meets x old (constructed view o) new
+        (view : ℕ) (o : Option (Batch (Certificate C D))) → NodeMeets x old (constructed view o) new
         → IfSome o (λ batch. IfSome batch.certificate
         (λ c. round_in (subject_certified c) ≡ numbered x.epoch view))
     by_batch view None meets = tt
@@ -179,14 +160,15 @@ module _ {S D K G C : Type 0} (x : NodeConfig D K G C) (old new : NodeView S G D
 
     pub each_of_view :
         (given : Option (Construction C D))
-        → IfSome given (λ one. Meets x old (constructed one.view.0 one.batch) new)
+        → IfSome given (λ one. NodeMeets x old (constructed one.view.0 one.batch) new)
         → IfSome given (IsOfItsView x.epoch)
     each_of_view (Some one) meets = by_batch one.view.0 one.batch meets
     each_of_view None meets = tt
 
     pub all_of_view :
         {E : Type 0} (r : Result (Option (Construction C D)) E)
-        → IfOk r (λ made. IfSome made (λ one. Meets x old (constructed one.view.0 one.batch) new))
+        → IfOk r (λ made. IfSome made
+        (λ one. NodeMeets x old (constructed one.view.0 one.batch) new))
         → IfOk r (λ made. IfSome made (IsOfItsView x.epoch))
     all_of_view (Ok given) meets = each_of_view given meets
     all_of_view (Err fault) meets = tt

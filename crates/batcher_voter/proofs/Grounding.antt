@@ -1,20 +1,10 @@
 -- What a voter that has learned what was learned knows of a view.
-use Rattle.std.proofs.Common.{◌≡◌, ◌<◌, ◌≤◌, ◌∙◌, ℕ, Bool, true, false, ◌∷◌, Option, Some, None, inl, inr, ◌⊎◌, ap, arith, eq-eqb, refl, subst, sym}
-use Rattle.std.specs.Prelude.{◌≢◌, MatchBool, is_some}
-use Rattle.std.proofs.lemmas.Bool.{cases_lt}
-use Rattle.batcher.specs.Votes.{round_in, same_proposal}
-use Rattle.batcher.specs.messages.Proposal.{Proposal}
-use Rattle.batcher.specs.messages.Subject.{Subject}
-use Rattle.batcher.specs.messages.Subject.TheVariants.{Notarize, Nullify, Finalize}
-use Rattle.batcher.specs.positions.Round.{Round}
-use Rattle.batcher_agreement.specs.Policy.{Conduct, IsGrounded, Knows, KnowsProposal, learned, voted}
-use Rattle.batcher_node.specs.Windows.{numbered}
-use Rattle.batcher_voter.specs.Knowledge.{AreNullified, Forgets, HasLearned, IsHighest, IsParent, KnowledgeView, KnowsOf, IsSame, Learns, learned_at, learned_of}
-use Rattle.batcher_voter.specs.declared.knowledge.Learned.{Learned}
-use Rattle.batcher_types.proofs.VoteLemmas.{same_proposal-true, same_round-refl}
-use Rattle.batcher_voter.specs.Refusals.{HasNoGround, IsNotNotarized, IsRefused}
-use Rattle.batcher_voter.specs.declared.answers.Rule.{Rule}
-use Rattle.batcher_voter.specs.declared.answers.Rule.TheVariants.{Contradicts, Nullified, NotNotarized, ParentBeforeFinal, ParentNotEarlier, ParentUnknown, ViewNotNullified}
+use Rattle.batcher_voter.proofs.Words.{◌≡◌, ◌<◌, ◌≤◌, ◌∙◌, ℕ, Bool, true, false, ◌∷◌, Option, Some, None, inl, inr, ◌⊎◌, ap, arith, eq-eqb, refl, subst, sym}
+use Rattle.batcher_voter.proofs.Words.{◌≢◌, MatchBool, is_some, cases_lt, round_in, same_proposal, Proposal, Subject, Notarize, Nullify, Finalize, Round}
+use Rattle.batcher_voter.proofs.Words.{Conduct, IsGrounded, Knows, KnowsProposal, learned, voted, numbered, AreNullified, Forgets, HasLearned, IsHighest}
+use Rattle.batcher_voter.proofs.Words.{IsParent, KnowledgeView, KnowsOf, SameKnowledge, Learns, learned_at, learned_of, Learned, same_proposal-true}
+use Rattle.batcher_voter.proofs.Words.{same_round-refl, HasNoGround, IsNotNotarized, IsRefused, Rule, Contradicts, Nullified, NotNotarized, ParentBeforeFinal}
+use Rattle.batcher_voter.proofs.Words.{ParentNotEarlier, ParentUnknown, ViewNotNullified}
 use Rattle.batcher_voter.proofs.Knowing.{finalized_is_known, known_finalized, known_notarized, known_nullified, notarized_is_known, nullified_is_known}
 
 wrong : false ≡ true → ⊥
@@ -22,7 +12,7 @@ wrong e = absurd cc
 
 module _ {D : Type 0} where
   pub still_learned :
-      (old new : KnowledgeView D) (past : Conduct D) → IsSame old new → HasLearned old past
+      (old new : KnowledgeView D) (past : Conduct D) → SameKnowledge old new → HasLearned old past
       → HasLearned new past
   still_learned old new past same has view from =
       same.each view ∙ has view (subst (λ f. f ≤ view) same.floor from)
@@ -176,7 +166,7 @@ refused_by_ground same all past final (ViewNotNullified view) p h = h
 -- THE HIGHEST VIEW
 module _ {D : Type 0} where
   pub still_highest :
-      (old new : KnowledgeView D) (past : Conduct D) → IsSame old new → IsHighest old past
+      (old new : KnowledgeView D) (past : Conduct D) → SameKnowledge old new → IsHighest old past
       → IsHighest new past
   still_highest old new past same is =
       record {

@@ -1,16 +1,7 @@
 -- What was learned of a round is what is known to be certified of it.
-use Rattle.std.proofs.Common.{◌≡◌, ◌∙◌, Bool, true, false, [], ◌∷◌, Some, inl, inr, ◌⊎◌, ap, cond, refl, sym}
-use Rattle.std.specs.Prelude.{is_some}
-use Rattle.std.proofs.lemmas.Option.{same_Some}
-use Rattle.batcher.specs.Votes.{round_in, same_round}
-use Rattle.batcher_types.proofs.VoteLemmas.{same_round-refl, same_round-true}
-use Rattle.batcher.specs.messages.Proposal.{Proposal}
-use Rattle.batcher.specs.messages.Subject.{Subject}
-use Rattle.batcher.specs.messages.Subject.TheVariants.{Notarize, Nullify, Finalize}
-use Rattle.batcher.specs.positions.Round.{Round}
-use Rattle.batcher_agreement.specs.Policy.{Conduct, Knows, learned, voted}
-use Rattle.batcher_voter.specs.Knowledge.{learned_of, with_learned}
-use Rattle.batcher_voter.specs.declared.knowledge.Learned.{Learned}
+use Rattle.batcher_voter.proofs.Words.{◌≡◌, ◌∙◌, Bool, true, false, [], ◌∷◌, Some, inl, inr, ◌⊎◌, ap, cond, refl, sym, is_some, same_Some, round_in, same_round}
+use Rattle.batcher_voter.proofs.Words.{same_round-refl, same_round-true, Proposal, Subject, Notarize, Nullify, Finalize, Round, Conduct, Knows, learned, voted}
+use Rattle.batcher_voter.proofs.Words.{learned_of, with_learned, Learned}
 
 module _ {D : Type 0} where
   -- what a certificate of this round tells, where it is of the kind

@@ -1,17 +1,7 @@
 -- What a crash leaves remembers what was done.
-use Rattle.std.proofs.Common.{◌≡◌, ◌++◌, ℕ, List, Bool, true, [], ◌∷◌, inl, inr, subst}
-use Rattle.batcher.specs.Votes.{subject_of}
-use Rattle.batcher.specs.messages.Vote.{Vote}
-use Rattle.batcher.specs.positions.Round.{Round}
-use Rattle.batcher_agreement.specs.Lives.{conduct_of}
-use Rattle.batcher_agreement.specs.Policy.{Conduct, IsCleared, KeepsPolicy, voted}
-use Rattle.batcher_codec.specs.Format.{Format}
-use Rattle.batcher_journal.specs.Causes.{IsOneText}
-use Rattle.batcher_journal.specs.Ready.{RaiseLeaves, WriteLeaves, raised, with_more}
-use Rattle.batcher_journal.specs.Text.{Contents, IsText, OwnerFields}
-use Rattle.batcher_node.specs.Nodes.{NodeConfig}
-use Rattle.batcher_voter.specs.Remembering.{IsLeft, Remembers}
-use Rattle.batcher_voter.specs.Voting.{ForEachLife, LeavesVote, LeavesWhatWasDone, VoterView}
+use Rattle.batcher_voter.proofs.Words.{◌≡◌, ◌++◌, ℕ, List, Bool, true, [], ◌∷◌, inl, inr, subst, subject_of, Vote, Round, conduct_of, Conduct, IsCleared}
+use Rattle.batcher_voter.proofs.Words.{KeepsPolicy, voted, Format, IsOneText, RaiseLeaves, WriteLeaves, raised, with_more, Contents, IsText, OwnerFields}
+use Rattle.batcher_voter.proofs.Words.{NodeConfig, IsLeft, Remembers, ForEachLife, LeavesVote, LeavesWhatWasDone, VoterView}
 use Rattle.batcher_voter.proofs.Finalizing.{remembers_raised}
 use Rattle.batcher_voter.proofs.Voting.{remembers_vote}
 

@@ -1,3 +1,4 @@
+pub mod Words
 mod Knowing
 pub mod Appending
 mod Grounding

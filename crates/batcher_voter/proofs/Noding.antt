@@ -1,15 +1,8 @@
 -- What a call of the node leaves as it was.
-use Rattle.std.proofs.Common.{Bool, ◌≡◌, ◌∙◌, true, false, ◌∷◌, inr, refl, subst, sym}
-use Rattle.batcher.specs.Votes.{round_in, subject_of}
-use Rattle.batcher.specs.messages.Vote.{Vote}
-use Rattle.batcher_agreement.specs.Lives.{written}
-use Rattle.batcher_node.specs.Nodes.{NodeConfig}
-use Rattle.batcher_node.specs.Windows.{is_of}
-use Rattle.batcher_node.specs.declared.answers.Cast.{Cast}
-use Rattle.batcher_node.specs.declared.answers.Cast.TheVariants.{ToSend, Known, Outside}
-use Rattle.batcher_voter.specs.declared.answers.CastFault.{CastFault}
-use Rattle.batcher_voter.specs.declared.answers.CastFault.TheVariants.{Closed as NotOpen, Excluded, Full as NoRoom, NotOwn, OutOfMemory as NoMemory, Refused as RefusedBy, Signed}
-use Rattle.batcher_voter.specs.Voting.{WhyNotCast, WhyNotShown, Casts, ForEachLife, IsVoting, MayWrite, Shows, VoterView}
+use Rattle.batcher_voter.proofs.Words.{Bool, ◌≡◌, ◌∙◌, true, false, ◌∷◌, inr, refl, subst, sym, round_in, subject_of, Vote, written, NodeConfig, is_of, Cast}
+use Rattle.batcher_voter.proofs.Words.{ToSend, CastFault, NotOpen, Excluded, NoRoom, NotOwn, NoMemory, RefusedBy, Signed, WhyNotCast, WhyNotShown, Casts}
+use Rattle.batcher_voter.proofs.Words.{ForEachLife, IsVoting, MayWrite, Shows, VoterView}
+use Rattle.batcher_node.specs.declared.answers.Cast.TheVariants.{Known, Outside}
 
 module _ {S D K G C L : Type 0} (x : NodeConfig D K G C) (old between new : VoterView S G D L)
     (vote : Vote G D)

@@ -1,15 +1,6 @@
 -- What was taken in stays known.
-use Rattle.std.proofs.Common.{◌≡◌, ◌<◌, ◌+◌, ℕ, List, slice_index_or, arith, inl, inr, subst, ⊎_elim}
-use Rattle.std.proofs.lemmas.Bool.{cases_lt}
-use Rattle.batcher.specs.Votes.{subject_certified}
-use Rattle.batcher.specs.messages.Certificate.{Certificate}
-use Rattle.batcher.specs.messages.Subject.{Subject}
-use Rattle.batcher.specs.messages.Subject.TheVariants.{Notarize, Nullify, Finalize}
-use Rattle.batcher.specs.positions.Epoch.{Epoch}
-use Rattle.batcher_codec.specs.Format.{Format}
-use Rattle.batcher_journal.specs.Records.{Certified}
-use Rattle.batcher_voter.specs.Knowledge.{KnowledgeView}
-use Rattle.batcher_voter.specs.Reopening.{IsKindKnown, IsTakenIn, StaysKnown}
+use Rattle.batcher_voter.proofs.Words.{◌≡◌, ◌<◌, ◌+◌, ℕ, List, slice_index_or, arith, inl, inr, subst, ⊎_elim, cases_lt, subject_certified, Certificate}
+use Rattle.batcher_voter.proofs.Words.{Subject, Notarize, Nullify, Finalize, Epoch, Format, Certified, KnowledgeView, IsKindKnown, IsTakenIn, StaysKnown}
 
 module _ {C D : Type 0} (format : Format (Certificate C D)) (epoch : Epoch) where
   kind_stays :

@@ -1,21 +1,7 @@
 -- A voter goes on: a vote is written, a node is called, a certificate is learned.
-use Rattle.std.proofs.Common.{◌≡◌, ◌++◌, zero, suc, Bool, true, false, List, [], ◌∷◌, append-nil, arith, refl, subst, sym}
-use Rattle.std.specs.Prelude.{Contains}
-use Rattle.std.proofs.lemmas.List.Elements.{Contains-append_right}
-use Rattle.batcher.specs.Votes.{round_in, subject_of}
-use Rattle.batcher.specs.messages.Vote.{Vote}
-use Rattle.batcher.specs.positions.Round.{Round}
-use Rattle.batcher_agreement.specs.Lives.{VoterHistory, conduct_of, written}
-use Rattle.batcher_agreement.specs.Policy.{Conduct, IsCleared, voted}
-use Rattle.batcher_journal.specs.Answers.{MayFollow}
-use Rattle.batcher_journal.specs.Contradictions.{IsFree}
-use Rattle.batcher_journal.specs.Floors.{is_below}
-use Rattle.batcher_journal.specs.Ready.{with_more}
-use Rattle.batcher_journal.specs.Records.{Certified}
-use Rattle.batcher_journal.specs.Text.{Contents}
-use Rattle.batcher_node.specs.Nodes.{NodeConfig}
-use Rattle.batcher_voter.specs.Remembering.{Remembers}
-use Rattle.batcher_voter.specs.Voting.{IsVoting, VoterView}
+use Rattle.batcher_voter.proofs.Words.{◌≡◌, ◌++◌, zero, suc, Bool, true, false, List, [], ◌∷◌, append-nil, arith, refl, subst, sym, Contains}
+use Rattle.batcher_voter.proofs.Words.{Contains-append_right, round_in, subject_of, Vote, Round, VoterHistory, conduct_of, written, Conduct, IsCleared, voted}
+use Rattle.batcher_voter.proofs.Words.{MayBeWrittenBehind, IsFree, is_below, with_more, Certified, Contents, NodeConfig, Remembers, IsVoting, VoterView}
 use Rattle.batcher_voter.proofs.Grounding.{highest_voted}
 use Rattle.batcher_voter.proofs.Writing.{are_there_with, no_others_with}
 
@@ -56,7 +42,7 @@ module _ {S D K G C L : Type 0} (x : NodeConfig D K G C) (old new : VoterView S 
 pub may_follow_one :
     {G D : Type 0} (same : D → D → Bool) (floor : Round) (votes : List (Vote G D)) (vote : Vote G D)
     → IsFree same votes (subject_of vote) → is_below floor (round_in (subject_of vote)) ≡ false
-    → MayFollow same floor votes (vote ∷ [])
+    → MayBeWrittenBehind same floor votes (vote ∷ [])
 may_follow_one same floor votes vote free above zero v lt e =
     (subst (λ w. IsFree same (votes ++ []) (subject_of w)) (sym e) (rw (append-nil votes) free), rw (e) above)
 may_follow_one same floor votes vote free above (suc i) v lt e = absurd (omega arith)

@@ -1,12 +1,6 @@
 -- A round of a view in the window, whose floor is its first view.
-use Rattle.std.proofs.Common.{◌≡◌, ◌&&◌, ◌≤◌, ℕ, Bool, true, false, ap, arith, eqb, eqb-true, refl}
-use Rattle.std.specs.Prelude.{nat_le}
-use Rattle.std.proofs.lemmas.Bool.{le-ltb, leb-true}
-use Rattle.batcher.specs.positions.Epoch.{Epoch}
-use Rattle.batcher.specs.positions.Round.{Round}
-use Rattle.batcher_journal.specs.Floors.{is_below}
-use Rattle.batcher_node.specs.Windows.{contains, is_of, numbered}
-use Rattle.batcher_node.specs.declared.window.Window.{Window}
+use Rattle.batcher_voter.proofs.Words.{◌≡◌, ◌&&◌, ◌≤◌, ℕ, Bool, true, false, ap, arith, eqb, eqb-true, refl, nat_le, le-ltb, leb-true, Epoch, Round, is_below}
+use Rattle.batcher_voter.proofs.Words.{contains, is_of, numbered, Window}
 
 both : (a b : Bool) → (a && b) ≡ true → (a ≡ true) × (b ≡ true)
 both true b e = (refl, e)

@@ -1,16 +1,8 @@
 -- What a journal has once a vote is written, and once the floor is raised.
-use Rattle.std.proofs.Common.{◌≡◌, ◌++◌, ◌∙◌, zero, suc, Bool, true, false, not, List, [], ◌∷◌, ap, arith, inl, inr, refl, subst, sym}
-use Rattle.std.specs.Prelude.{Contains}
-use Rattle.std.proofs.lemmas.List.Elements.{All-contains, All-contains_itself, All-filter, Contains-append_cases, Contains-append_left, Contains-append_right}
-use Rattle.batcher.specs.Votes.{round_in, subject_of}
-use Rattle.batcher.specs.messages.Subject.{Subject}
-use Rattle.batcher.specs.messages.Vote.{Vote}
-use Rattle.batcher.specs.positions.Round.{Round}
-use Rattle.batcher_agreement.specs.Policy.{Conduct, HasVoted, voted}
-use Rattle.batcher_journal.specs.Floors.{from_floor, is_below, is_over}
-use Rattle.batcher_journal.proofs.Lives.{contains_filter}
-use Rattle.batcher_journal.proofs.Rounds.{still_over}
-use Rattle.batcher_voter.specs.Remembering.{HasVoteFor}
+use Rattle.batcher_voter.proofs.Words.{◌≡◌, ◌++◌, ◌∙◌, zero, suc, Bool, true, false, not, List, [], ◌∷◌, ap, arith, inl, inr, refl, subst, sym, Contains}
+use Rattle.batcher_voter.proofs.Words.{All-contains, All-contains_itself, All-filter, Contains-append_cases, Contains-append_left, Contains-append_right}
+use Rattle.batcher_voter.proofs.Words.{round_in, subject_of, Subject, Vote, Round, Conduct, HasVoted, voted, from_floor, is_below, is_over, contains_filter}
+use Rattle.batcher_voter.proofs.Words.{still_over, HasVoteFor}
 
 module _ {G D : Type 0} where
   only : (vote v : Vote G D) → Contains (vote ∷ []) v → vote ≡ v

@@ -1,5 +1,6 @@
 -- What a voter knows to be certified, by what it learned.
-use Rattle.std.specs.Prelude.{◌≡◌, ◌==◌, ◌<◌, ◌≤◌, ◌⊎◌, ℕ, cond, true, false, List, [], ◌∷◌, Some, None, is_some, max, unwrap_or}
+use Rattle.std.specs.Prelude.{◌≡◌, ◌==◌, ◌<◌, ◌≤◌, ◌⊎◌, ℕ, cond, true, false, List, [], ◌∷◌, Some}
+use Rattle.std.specs.Prelude.{None, is_some, max, unwrap_or}
 use Rattle.batcher.specs.Votes.{round_in, same_round}
 use Rattle.batcher.specs.messages.Subject.{Subject}
 use Rattle.batcher.specs.messages.Subject.TheVariants.{Notarize, Nullify, Finalize}
@@ -83,7 +84,7 @@ module _ {D : Type 0} where
   HasRoom knowledge view = is_some (slot_at knowledge.views view) ≡ true
 
   -- the same is known
-  pub record IsSame (old new : KnowledgeView D) : Type 0 where
+  pub record SameKnowledge (old new : KnowledgeView D) : Type 0 where
     pub epoch : new.epoch ≡ old.epoch
     pub floor : new.floor ≡ old.floor
     pub highest : new.highest ≡ old.highest

@@ -8,7 +8,10 @@ use Rattle.batcher.specs.messages.Subject.TheVariants.{Notarize, Nullify, Finali
 use Rattle.batcher_agreement.specs.Policy.{Conduct, HasVoted, IsGrounded, Knows, KnowsProposal}
 use Rattle.batcher_node.specs.Windows.{numbered}
 use Rattle.batcher_voter.specs.declared.answers.Rule.{Rule}
-use Rattle.batcher_voter.specs.declared.answers.Rule.TheVariants.{Contradicts, Nullified, NotNotarized, ParentBeforeFinal, ParentNotEarlier, ParentUnknown, ViewNotNullified}
+use Rattle.batcher_voter.specs.declared.answers.Rule.TheVariants.{Contradicts, Nullified}
+use Rattle.batcher_voter.specs.declared.answers.Rule.TheVariants.{NotNotarized, ParentBeforeFinal}
+use Rattle.batcher_voter.specs.declared.answers.Rule.TheVariants.{ParentNotEarlier, ParentUnknown}
+use Rattle.batcher_voter.specs.declared.answers.Rule.TheVariants.{ViewNotNullified}
 
 module _ {D : Type 0} where
   -- Another proposal of the round is known to be notarized: so more are faulty than may be.

@@ -4,7 +4,7 @@ use Rattle.batcher.specs.Votes.{round_in, subject_of}
 use Rattle.batcher.specs.messages.Subject.{Subject}
 use Rattle.batcher.specs.messages.Vote.{Vote}
 use Rattle.batcher_agreement.specs.Policy.{Conduct, HasVoted, KeepsPolicy}
-use Rattle.batcher_codec.specs.Format.{Format}
+use Rattle.batcher_bytes.specs.Format.{Format}
 use Rattle.batcher_journal.specs.Floors.{is_below}
 use Rattle.batcher_journal.specs.Text.{Contents, IsText}
 

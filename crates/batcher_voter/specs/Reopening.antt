@@ -5,8 +5,8 @@ use Rattle.batcher.specs.messages.Certificate.{Certificate}
 use Rattle.batcher.specs.messages.Subject.{Subject}
 use Rattle.batcher.specs.messages.Subject.TheVariants.{Notarize, Nullify, Finalize}
 use Rattle.batcher.specs.positions.Epoch.{Epoch}
-use Rattle.batcher_codec.specs.Format.{Format}
-use Rattle.batcher_codec.specs.Messages.{versioned}
+use Rattle.batcher_bytes.specs.Format.{Format}
+use Rattle.batcher_bytes.specs.Messages.{versioned}
 use Rattle.batcher_journal.specs.Records.{Certified}
 use Rattle.batcher_voter.specs.Knowledge.{KnowledgeView, learned_at}
 

@@ -1,5 +1,6 @@
 -- A voter: a node and a journal, with what is known to be certified.
-use Rattle.std.specs.Prelude.{◌≡◌, ◌≢◌, ◌+◌, ◌<◌, ◌⊎◌, ⊤, ℕ, Bool, true, false, List, [], ◌∷◌, ◌++◌, Contains, IfSome, MatchOption, Option, Some, None}
+use Rattle.std.specs.Prelude.{◌≡◌, ◌≢◌, ◌+◌, ◌<◌, ◌⊎◌, ⊤, ℕ, Bool, true, false, List, [], ◌∷◌, ◌++◌}
+use Rattle.std.specs.Prelude.{Contains, IfSome, MatchOption, Option, Some, None}
 use Rattle.batcher.specs.Votes.{round_in, signer_of, subject_certified, subject_of}
 use Rattle.batcher.specs.messages.Proposal.{Proposal}
 use Rattle.batcher.specs.positions.Epoch.{Epoch}
@@ -9,12 +10,14 @@ use Rattle.batcher.specs.messages.Subject.{Subject}
 use Rattle.batcher.specs.messages.Subject.TheVariants.{Finalize}
 use Rattle.batcher.specs.messages.Vote.{Vote}
 use Rattle.batcher.specs.votes.Outcome.{Outcome}
-use Rattle.batcher_agreement.specs.Lives.{AreVerified, VoterHistory, called, conduct_of, node_history, written}
+use Rattle.batcher_agreement.specs.Lives.{AreVerified, VoterHistory, called, conduct_of}
+use Rattle.batcher_agreement.specs.Lives.{node_history, written}
 use Rattle.batcher_agreement.specs.Policy.{Conduct, HasVoted, IsCleared, KeepsPolicy, Knows, voted}
-use Rattle.batcher_codec.specs.Format.{Format}
+use Rattle.batcher_bytes.specs.Format.{Format}
 use Rattle.batcher_journal.specs.Contradictions.{IsFree}
 use Rattle.batcher_journal.specs.Ready.{JournalView}
-use Rattle.batcher_node.specs.Events.{NodeEvent, proposal_forwarded, started, view_history, vote_cast}
+use Rattle.batcher_node.specs.Events.{NodeEvent, proposal_forwarded, started, view_history}
+use Rattle.batcher_node.specs.Events.{vote_cast}
 use Rattle.batcher_node.specs.Nodes.{NodeConfig, NodeView, slot_at}
 use Rattle.batcher.specs.Answers.{own_answer}
 use Rattle.batcher.specs.Steps.{fault_or_memory}
@@ -25,14 +28,20 @@ use Rattle.batcher_node.specs.declared.answers.Receipt.TheVariants.{Answered}
 use Rattle.batcher_node.specs.declared.answers.Verdict.{Verdict}
 use Rattle.batcher_node.specs.declared.answers.Verdict.TheVariants.{Recorded}
 use Rattle.batcher_node.specs.declared.answers.Cast.{Cast}
-use Rattle.batcher_node.specs.declared.answers.Cast.TheVariants.{ToSend, Known as KnownVote, Outside as OutsideVote}
+use Rattle.batcher_node.specs.declared.answers.Cast.TheVariants.{ToSend, Known as KnownVote}
+use Rattle.batcher_node.specs.declared.answers.Cast.TheVariants.{Outside as OutsideVote}
 use Rattle.batcher_voter.specs.Knowledge.{HasLearned, IsHighest, KnowledgeView, KnowsOf, learned_at}
 use Rattle.batcher_voter.specs.Refusals.{IsRefused, RestsOnLearned}
 use Rattle.batcher_voter.specs.Remembering.{IsLeft, Remembers}
 use Rattle.batcher_voter.specs.declared.answers.CastFault.{CastFault}
-use Rattle.batcher_voter.specs.declared.answers.CastFault.TheVariants.{Closed as NotOpen, Excluded, NotOwn, OutOfMemory as NoMemory, Refused as RefusedBy, Signed, Full as NoRoom}
+use Rattle.batcher_voter.specs.declared.answers.CastFault.TheVariants.{Closed as NotOpen, Excluded}
+use Rattle.batcher_voter.specs.declared.answers.CastFault.TheVariants.{NotOwn}
+use Rattle.batcher_voter.specs.declared.answers.CastFault.TheVariants.{OutOfMemory as NoMemory}
+use Rattle.batcher_voter.specs.declared.answers.CastFault.TheVariants.{Refused as RefusedBy, Signed}
+use Rattle.batcher_voter.specs.declared.answers.CastFault.TheVariants.{Full as NoRoom}
 use Rattle.batcher_voter.specs.declared.answers.Permission.{Permission}
-use Rattle.batcher_voter.specs.declared.answers.Permission.TheVariants.{Sign, Known, Refused, Outside, Closed}
+use Rattle.batcher_voter.specs.declared.answers.Permission.TheVariants.{Sign, Known, Refused}
+use Rattle.batcher_voter.specs.declared.answers.Permission.TheVariants.{Outside, Closed}
 
 -- With scheme S, signatures G, digests D and log L.
 pub record VoterView (S G D L : Type 0) : Type 0 where
@@ -67,9 +76,9 @@ pub record IsNextView {S D K G C L : Type 0} (voter : VoterView S G D L)
       × KnowsOf (conduct_of past) (numbered voter.node.epoch view)))
 
 -- whether a certificate was recorded
-abbrev pub is_recorded : Receipt Verdict → Bool
-is_recorded (Answered (Recorded changed)) = true
-is_recorded receipt = false
+abbrev pub was_recorded : Receipt Verdict → Bool
+was_recorded (Answered (Recorded changed)) = true
+was_recorded receipt = false
 
 -- Each vote that the node was shown had been written, in this life or before.
 abbrev pub AreWrittenFirst : {D K G C : Type 0} → Conduct D → VoterHistory D K G C → Type 0
@@ -143,8 +152,8 @@ module _ {S D K G C L : Type 0} (x : NodeConfig D K G C) where
     VoterMeets event = ForEachLife old (λ past earlier. IsVoting (called event ∷ past) earlier new)
 
     -- The proposal of a view is handed on by its round. Where the view has none, nothing changes.
-    abbrev pub Forwards : ℕ → Participant → Option (Proposal D) → Type 0
-    Forwards view me given =
+    abbrev pub ForwardsProposal : ℕ → Participant → Option (Proposal D) → Type 0
+    ForwardsProposal view me given =
         MatchOption (slot_at old.node.rounds view) ((given ≡ None) × (new ≡ old))
         (λ slot. VoterMeets (proposal_forwarded view me given))
 

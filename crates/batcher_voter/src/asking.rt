@@ -1,6 +1,7 @@
 //! Which votes a voter may cast, which view it enters, and on which view it proposes.
 
-ghost use Rattle.std.specs.Prelude.{◌≡◌, ◌<◌, ◌≤◌, ◌+◌, ◌-◌, ◌^◌, ◌++◌, IfSome, MatchBool, MatchOption, None, Some, ℕ, true, false};
+ghost use Rattle.std.specs.Prelude.{◌≡◌, ◌<◌, ◌≤◌, ◌+◌, ◌-◌, ◌^◌, ◌++◌, IfSome, MatchBool};
+ghost use Rattle.std.specs.Prelude.{MatchOption, None, Some, ℕ, true, false};
 ghost use Rattle.batcher.specs.Votes.{round_in};
 ghost use Rattle.batcher_agreement.specs.Lives.{conduct_of, written};
 ghost use Rattle.batcher_agreement.specs.Policy.{Conduct, HasVoted, IsGrounded, Knows};
@@ -10,19 +11,18 @@ ghost use Rattle.batcher_journal.specs.Answers.{Answers};
 ghost use Rattle.batcher_journal.specs.Contradictions.{IsFree};
 ghost use Rattle.batcher_node.specs.Windows.{is_of, numbered};
 ghost use Rattle.batcher_voter.specs.declared.answers.Permission.TheVariants.{Known, Sign};
-ghost use Rattle.batcher_voter.specs.Knowledge.{AreNullified, HasLearned, HaveNoParent, IsParent, learned_at};
+ghost use Rattle.batcher_voter.specs.Knowledge.{AreNullified, HasLearned, HaveNoParent, IsParent};
+ghost use Rattle.batcher_voter.specs.Knowledge.{learned_at};
 ghost use Rattle.batcher_voter.specs.Refusals.{HasGround, HasNoGround, IsNotNotarized};
-ghost use Rattle.batcher_voter.specs.Voting.{ForEachLife, IsNextView};
-ghost use Rattle.batcher_voter.specs.Voting.{IsFinalizable, Permits, Says};
+ghost use Rattle.batcher_voter.specs.Voting.{ForEachLife, IsNextView, IsFinalizable, Permits, Says};
 
 use crate::answers::{Permission, Rule};
 use crate::voter::Voter;
 use batcher::messages::{Digest, Identical, Proposal, Subject};
 use batcher::positions::{Round, View};
 use batcher::scheme::Scheme;
-use batcher_codec::Codec;
+use batcher_bytes::{Codec, Log};
 use batcher_journal::Answer;
-use batcher_log::Log;
 use batcher_node::NodeConfigs;
 
 impl<S: Scheme<D>, D: Digest + Codec, L: Log> Voter<S, D, L>

@@ -1,28 +1,30 @@
 //! The calls of a voter's node, and what is learned by them.
 
-ghost use Rattle.std.specs.Prelude.{◌≡◌, ◌<◌, Err, IfNone, IfOk, IfSome, None, Ok, OnErr, OnOk, option_and_then, true, false};
+ghost use Rattle.std.specs.Prelude.{◌≡◌, ◌<◌, Err, IfNone, IfOk, IfSome, None, Ok, OnErr, OnOk};
+ghost use Rattle.std.specs.Prelude.{option_and_then, true, false};
 ghost use Rattle.std.specs.Option.{option_copied};
 ghost use Rattle.batcher.specs.Votes.{round_in, subject_certified, subject_of};
 ghost use Rattle.batcher_node.specs.Events.{certificate_came, constructed, view_entered, vote_came};
 ghost use Rattle.batcher_node.specs.Nodes.{IsAtRest, IsLedByAnother, IsNext, SameNode, slot_at};
 ghost use Rattle.batcher_node.specs.declared.answers.EnterFault.{EnterFault};
-ghost use Rattle.batcher_node.specs.Represents.{IsHeard, MayNeedIn, Meets, NextMayNeed, SimulatesForward};
+ghost use Rattle.batcher_node.specs.Represents.{IsHeard, MayNeedIn, NodeMeets, NextMayNeed};
+ghost use Rattle.batcher_node.specs.Represents.{SimulatesForward};
 ghost use Rattle.batcher.specs.Verifiers.{certifies_itself};
-ghost use Rattle.batcher.specs.calls.Call.TheVariants.{Certificate as CertificateCall, Network as NetworkCall};
+ghost use Rattle.batcher.specs.calls.Call.TheVariants.{Certificate as CertificateCall};
+ghost use Rattle.batcher.specs.calls.Call.TheVariants.{Network as NetworkCall};
 ghost use Rattle.batcher_node.specs.Windows.{is_of};
-ghost use Rattle.batcher_voter.specs.Knowledge.{HasRoom, IsSame, Learns};
+ghost use Rattle.batcher_voter.specs.Knowledge.{HasRoom, SameKnowledge, Learns};
 ghost use Rattle.batcher_voter.specs.Needing.{CertificateNeeds, ConstructionNeeds};
-ghost use Rattle.batcher_voter.specs.Voting.{IsOfItsView, VoterMeets, VoterStays, is_recorded};
-ghost use Rattle.batcher_voter.specs.Voting.{Forwards};
-ghost use Rattle.batcher_log.specs.Copies.{KeepsCopy};
+ghost use Rattle.batcher_voter.specs.Voting.{IsOfItsView, VoterMeets, VoterStays, was_recorded};
+ghost use Rattle.batcher_voter.specs.Voting.{ForwardsProposal};
+ghost use Rattle.batcher_bytes.specs.Copies.{KeepsCopy};
 
 use crate::voter::Voter;
 use batcher::messages::{Certificate, Digest, Identical, Proposal, Subject, Vote};
 use batcher::positions::{Participant, View};
 use batcher::round::Admission;
 use batcher::scheme::Scheme;
-use batcher_codec::{Codec, OwnedCodec, encode_owned};
-use batcher_log::Log;
+use batcher_bytes::{Codec, Log, OwnedCodec, encode_owned};
 use batcher_node::{Construction, EnterFault, NodeConfigs, Receipt, Verdict};
 use rand_core::CryptoRng;
 use std::alloc::AllocError;
@@ -63,7 +65,7 @@ where
         peer: S::PublicKey,
         vote: Vote<S::Signature, D>,
     ) -> Result<Receipt<Admission<S::Signature, D>>, AllocError>
-        ensures meets { IfOk result (λ receipt. Meets (⟦<S as NodeConfigs<D>>⟧.of self.old.node)
+        ensures meets { IfOk result (λ receipt. NodeMeets (⟦<S as NodeConfigs<D>>⟧.of self.old.node)
             self.old.node (vote_came peer vote receipt) self.new.node) }
         ensures heard { OnErr result (IsHeard (⟦<S as NodeConfigs<D>>⟧.of self.old.node)
             self.old.node peer (round_in (subject_of vote))) }
@@ -104,7 +106,7 @@ where
 
     // The node enters a view.
     fn call_enter(&mut self, view: View, leader: Participant) -> Result<(), EnterFault>
-        ensures meets { OnOk result (Meets (⟦<S as NodeConfigs<D>>⟧.of self.old.node)
+        ensures meets { OnOk result (NodeMeets (⟦<S as NodeConfigs<D>>⟧.of self.old.node)
             self.old.node (view_entered view.0 leader) self.new.node) }
         ensures passed { view.0 < self.old.node.window.finalized
             → result ≡ Err EnterFault.Passed }
@@ -125,7 +127,8 @@ where
 
     /// The selected proposal of a view, to be handed on, as the node says.
     pub fn try_forward_proposal(&mut self, view: View, me: Participant) -> Option<Proposal<D>>
-        ensures meets { Forwards (⟦<S as NodeConfigs<D>>⟧.of self.old.node) self.old self.new
+        ensures meets { ForwardsProposal
+            (⟦<S as NodeConfigs<D>>⟧.of self.old.node) self.old self.new
             view.0 me result }
         ensures same { SameNode self.old.node self.new.node }
         ensures contents { self.new.journal.contents ≡ self.old.journal.contents }
@@ -247,9 +250,9 @@ where
         peer: S::PublicKey,
         certificate: &Certificate<S::Certificate, D>,
     ) -> Result<Receipt<Verdict>, AllocError>
-        ensures meets { IfOk result (λ receipt. Meets (⟦<S as NodeConfigs<D>>⟧.of self.old.node)
+        ensures meets { IfOk result (λ receipt. NodeMeets (⟦<S as NodeConfigs<D>>⟧.of self.old.node)
             self.old.node (certificate_came peer certificate.now receipt) self.new.node) }
-        ensures within { IfOk result (λ receipt. is_recorded receipt ≡ true
+        ensures within { IfOk result (λ receipt. was_recorded receipt ≡ true
             → is_of self.old.node.epoch self.old.node.window
             (round_in (subject_certified certificate.now)) ≡ true) }
         ensures heard { OnErr result (IsHeard (⟦<S as NodeConfigs<D>>⟧.of self.old.node)
@@ -349,7 +352,7 @@ where
         rng: &mut R,
     ) -> Result<Construction<S::Certificate, D>, AllocError>
         requires next { IsNext self.old.node.rounds view.0 }
-        ensures meets { IfOk result (λ one. Meets (⟦<S as NodeConfigs<D>>⟧.of self.old.node)
+        ensures meets { IfOk result (λ one. NodeMeets (⟦<S as NodeConfigs<D>>⟧.of self.old.node)
             self.old.node (constructed one.view.0 one.batch) self.new.node) }
         ensures next { IfOk result (λ one. one.view ≡ view) }
         ensures of_view { IfOk result (IsOfItsView self.old.node.epoch) }
@@ -372,7 +375,7 @@ where
         rng: &mut R,
     ) -> Result<Option<Construction<S::Certificate, D>>, AllocError>
         ensures meets { IfOk result (λ made. IfSome made (λ one.
-            Meets (⟦<S as NodeConfigs<D>>⟧.of self.old.node)
+            NodeMeets (⟦<S as NodeConfigs<D>>⟧.of self.old.node)
             self.old.node (constructed one.view.0 one.batch) self.new.node)) }
         ensures of_view { IfOk result (λ made. IfSome made
             (IsOfItsView self.old.node.epoch)) }
@@ -443,7 +446,7 @@ where
         ensures room { OnOk result (HasRoom self.new.knowledge view) }
         ensures needed { OnErr result (HasRoom self.old.knowledge view → ⊥) }
         ensures stays { VoterStays (⟦<S as NodeConfigs<D>>⟧.of self.old.node) self.old self.new }
-        ensures knowledge { IsSame self.old.knowledge self.new.knowledge }
+        ensures knowledge { SameKnowledge self.old.knowledge self.new.knowledge }
         ensures node { self.new.node ≡ self.old.node }
         ensures journal { self.new.journal ≡ self.old.journal }
     {
@@ -456,7 +459,7 @@ where
     fn take_room(&mut self, view: u64) -> Result<(), AllocError>
         ensures room { OnOk result (HasRoom self.new.knowledge view) }
         ensures needed { OnErr result (HasRoom self.old.knowledge view → ⊥) }
-        ensures knowledge { IsSame self.old.knowledge self.new.knowledge }
+        ensures knowledge { SameKnowledge self.old.knowledge self.new.knowledge }
         ensures node { self.new.node ≡ self.old.node }
         ensures journal { self.new.journal ≡ self.old.journal }
     {
@@ -466,7 +469,7 @@ where
 
 // Whether a certificate was recorded.
 fn is_recorded(receipt: &Receipt<Verdict>) -> bool
-    ensures { result ≡ is_recorded receipt.now }
+    ensures { result ≡ was_recorded receipt.now }
 {
     match receipt {
         Receipt::Answered(Verdict::Recorded(_)) => true,

@@ -1,32 +1,36 @@
 //! A vote is written, and then shown to the node.
 
-ghost use Rattle.std.specs.Prelude.{◌≡◌, ◌≢◌, ◌∷◌, [], Contains, Err, IfErr, IfOk, List, MatchBool, Ok, OnErr, OnOk, ℕ, true, false};
+ghost use Rattle.std.specs.Prelude.{◌≡◌, ◌≢◌, ◌∷◌, [], Contains, Err, IfErr, IfOk, List, MatchBool};
+ghost use Rattle.std.specs.Prelude.{Ok, OnErr, OnOk, ℕ, true, false};
 ghost use Rattle.batcher.specs.Votes.{attestation_of, round_in, subject_of};
 ghost use Rattle.batcher_agreement.specs.Lives.{written};
 ghost use Rattle.batcher_node.specs.Events.{view_history};
-ghost use Rattle.batcher_journal.specs.Answers.{MayFollow};
-ghost use Rattle.batcher_journal.specs.Ready.{Has, IsAsBefore, WriteLeaves, with_more};
+ghost use Rattle.batcher_journal.specs.Answers.{MayBeWrittenBehind};
+ghost use Rattle.batcher_journal.specs.Ready.{HasContents, IsAsBefore, WriteLeaves, with_more};
 ghost use Rattle.batcher_voter.specs.Journals.{MayGain};
-ghost use Rattle.batcher_codec.specs.Messages.{vote_format};
-ghost use Rattle.batcher_journal.specs.declared.journal.WriteFault.TheVariants.{Closed as WriteClosed, Full as NoRoom, NotFree, OutOfMemory as NoMemory};
+ghost use Rattle.batcher_bytes.specs.Messages.{vote_format};
+ghost use Rattle.batcher_journal.specs.declared.journal.WriteFault.TheVariants.{Closed as WriteClosed};
+ghost use Rattle.batcher_journal.specs.declared.journal.WriteFault.TheVariants.{Full as NoRoom};
+ghost use Rattle.batcher_journal.specs.declared.journal.WriteFault.TheVariants.{NotFree};
+ghost use Rattle.batcher_journal.specs.declared.journal.WriteFault.TheVariants.{OutOfMemory as NoMemory};
 ghost use Rattle.batcher_node.specs.Nodes.{SameNode};
 ghost use Rattle.batcher_node.specs.Represents.{ForEachNodeHistory, SimulatesCast, config_of};
 ghost use Rattle.batcher.specs.Answers.{own_answer};
 ghost use Rattle.batcher.specs.Steps.{fault_or_memory};
 ghost use Rattle.batcher_voter.specs.declared.answers.CastFault.{CastFault};
 ghost use Rattle.batcher_voter.specs.declared.answers.Permission.TheVariants.{Known, Sign};
-ghost use Rattle.batcher_voter.specs.Voting.{ForEachLife, IsVoting, VoterStays};
-ghost use Rattle.batcher_voter.specs.Voting.{Casts, LeavesVote, IsInJournal, MayWrite, Permits, Says, Shows, WhyNotCast, WhyNotShown};
-ghost use Rattle.batcher_log.specs.Copies.{KeepsCopy};
+ghost use Rattle.batcher_voter.specs.Voting.{ForEachLife, IsVoting, VoterStays, Casts, LeavesVote};
+ghost use Rattle.batcher_voter.specs.Voting.{IsInJournal, MayWrite, Permits, Says, Shows};
+ghost use Rattle.batcher_voter.specs.Voting.{WhyNotCast, WhyNotShown};
+ghost use Rattle.batcher_bytes.specs.Copies.{KeepsCopy};
 
 use crate::answers::{CastFault, Permission};
 use crate::voter::Voter;
 use batcher::messages::{Digest, Identical, Vote};
 use batcher::round::OwnFault;
 use batcher::scheme::Scheme;
-use batcher_codec::Codec;
+use batcher_bytes::{Codec, Log};
 use batcher_journal::{WriteFault, bytes_are_of_one_journal};
-use batcher_log::Log;
 use batcher_node::{Cast, NodeConfigs};
 
 impl<S: Scheme<D>, D: Digest + Codec, L: Log> Voter<S, D, L>
@@ -182,11 +186,12 @@ where
     // Puts a vote into the journal.
     fn put(&mut self, vote: &Vote<S::Signature, D>) -> Result<(), WriteFault>
         requires { self.old.journal.is_open ≡ true }
-        ensures ok { OnOk result (Has self.new.journal
+        ensures ok { OnOk result (HasContents self.new.journal
             (with_more self.old.journal.contents (vote.now ∷ []) self.old.journal.unwritten)) }
         ensures memory { result ≡ Err NoMemory → IsAsBefore self.old.journal self.new.journal }
         ensures full { result ≡ Err NoRoom → IsAsBefore self.old.journal self.new.journal }
-        ensures not_free { result ≡ Err NotFree → MayFollow D.eq self.old.journal.contents.floor
+        ensures not_free { result ≡ Err NotFree
+            → MayBeWrittenBehind D.eq self.old.journal.contents.floor
             self.old.journal.contents.votes (vote.now ∷ []) → ⊥ }
         ensures closed { result ≡ Err WriteClosed → (self.new.journal.is_open ≡ false)
             × L.has_failed self.new.journal.log }
@@ -210,11 +215,12 @@ where
     // Puts votes into the journal.
     fn write_all(&mut self, votes: &[Vote<S::Signature, D>]) -> Result<(), WriteFault>
         requires { self.old.journal.is_open ≡ true }
-        ensures ok { OnOk result (Has self.new.journal
+        ensures ok { OnOk result (HasContents self.new.journal
             (with_more self.old.journal.contents votes.now self.old.journal.unwritten)) }
         ensures memory { result ≡ Err NoMemory → IsAsBefore self.old.journal self.new.journal }
         ensures full { result ≡ Err NoRoom → IsAsBefore self.old.journal self.new.journal }
-        ensures not_free { result ≡ Err NotFree → MayFollow D.eq self.old.journal.contents.floor
+        ensures not_free { result ≡ Err NotFree
+            → MayBeWrittenBehind D.eq self.old.journal.contents.floor
             self.old.journal.contents.votes votes.now → ⊥ }
         ensures closed { result ≡ Err WriteClosed → (self.new.journal.is_open ≡ false)
             × L.has_failed self.new.journal.log }

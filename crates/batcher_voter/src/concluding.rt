@@ -1,17 +1,18 @@
 //! The constructions of a voter's node by verdicts, or by a certificate, from elsewhere.
 
-ghost use Rattle.std.specs.Prelude.{◌≡◌, IfOk, IfSome, None, Ok, OnErr, Some, is_some, map, true, ℕ};
+ghost use Rattle.std.specs.Prelude.{◌≡◌, IfOk, IfSome, None, Ok, OnErr, Some, is_some, map, true};
+ghost use Rattle.std.specs.Prelude.{ℕ};
 ghost use Rattle.batcher.specs.VerifierSteps.{certificate_for};
 ghost use Rattle.batcher.specs.Verdicts.{BatchIsAssembled};
 ghost use Rattle.batcher.specs.Verifiers.{IfGiven};
 ghost use Rattle.batcher_node.specs.Events.{constructed};
 ghost use Rattle.batcher_node.specs.Nodes.{IsNext, SameNode, slot_at};
-ghost use Rattle.batcher_node.specs.Represents.{Meets, NextMayNeed};
+ghost use Rattle.batcher_node.specs.Represents.{NodeMeets, NextMayNeed};
 ghost use Rattle.batcher_node.specs.Verdicts.{LooksAtThere, MayBeQuorumThere};
 ghost use Rattle.batcher_voter.specs.Knowledge.{HasRoom};
 ghost use Rattle.batcher_voter.specs.Needing.{ConstructionNeeds, NeedsRoom};
 ghost use Rattle.batcher_voter.specs.Voting.{IsOfItsView, VoterMeets, VoterStays};
-ghost use Rattle.batcher_log.specs.Copies.{KeepsCopy};
+ghost use Rattle.batcher_bytes.specs.Copies.{KeepsCopy};
 
 use crate::calls::certificate_in;
 use crate::voter::Voter;
@@ -19,8 +20,7 @@ use batcher::messages::{Attestation, Digest, Identical, Subject};
 use batcher::positions::View;
 use batcher::round::RoundConfigs;
 use batcher::scheme::Scheme;
-use batcher_codec::{Codec, OwnedCodec};
-use batcher_log::Log;
+use batcher_bytes::{Codec, Log, OwnedCodec};
 use batcher_node::{Construction, NodeConfigs};
 use std::alloc::AllocError;
 
@@ -137,7 +137,7 @@ where
         requires verdicts { verdicts.now
             ≡ map ((S.meaning self.old.node.scheme).attests subject) list.now }
         requires next { IsNext self.old.node.rounds view.0 }
-        ensures meets { IfGiven result (λ one. Meets (⟦<S as NodeConfigs<D>>⟧.of self.old.node)
+        ensures meets { IfGiven result (λ one. NodeMeets (⟦<S as NodeConfigs<D>>⟧.of self.old.node)
             self.old.node (constructed one.view.0 one.batch) self.new.node) }
         ensures view { IfGiven result (λ one. one.view ≡ view) }
         ensures of_view { IfGiven result (IsOfItsView self.old.node.epoch) }
@@ -172,7 +172,7 @@ where
         verdicts: &[bool],
     ) -> Result<Option<Construction<S::Certificate, D>>, AllocError>
         requires { verdicts.now ≡ map ((S.meaning self.old.node.scheme).attests subject) list.now }
-        ensures meets { IfGiven result (λ one. Meets (⟦<S as NodeConfigs<D>>⟧.of self.old.node)
+        ensures meets { IfGiven result (λ one. NodeMeets (⟦<S as NodeConfigs<D>>⟧.of self.old.node)
             self.old.node (constructed one.view.0 one.batch) self.new.node) }
         ensures of_view { IfGiven result (IsOfItsView self.old.node.epoch) }
         ensures gives { IfGiven result (λ one. is_some one.batch ≡ true) }
@@ -306,7 +306,7 @@ where
     ) -> Option<Construction<S::Certificate, D>>
         requires certifies { (S.meaning self.old.node.scheme).certifies subject certificate ≡ true }
         requires next { IsNext self.old.node.rounds view.0 }
-        ensures meets { IfSome result (λ one. Meets (⟦<S as NodeConfigs<D>>⟧.of self.old.node)
+        ensures meets { IfSome result (λ one. NodeMeets (⟦<S as NodeConfigs<D>>⟧.of self.old.node)
             self.old.node (constructed one.view.0 one.batch) self.new.node) }
         ensures view { IfSome result (λ one. one.view ≡ view) }
         ensures of_view { IfSome result (IsOfItsView self.old.node.epoch) }
@@ -339,7 +339,7 @@ where
         certificate: S::Certificate,
     ) -> Option<Construction<S::Certificate, D>>
         requires { (S.meaning self.old.node.scheme).certifies subject certificate ≡ true }
-        ensures meets { IfSome result (λ one. Meets (⟦<S as NodeConfigs<D>>⟧.of self.old.node)
+        ensures meets { IfSome result (λ one. NodeMeets (⟦<S as NodeConfigs<D>>⟧.of self.old.node)
             self.old.node (constructed one.view.0 one.batch) self.new.node) }
         ensures of_view { IfSome result (IsOfItsView self.old.node.epoch) }
         ensures gives { IfSome result (λ one. IfSome one.batch (λ batch. batch.certificate

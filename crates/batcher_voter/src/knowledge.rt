@@ -1,12 +1,15 @@
 //! What a voter knows to be certified.
 
-ghost use Rattle.std.specs.Prelude.{◌≡◌, ◌≤◌, ◌<◌, [], IfSome, MatchBool, MatchOption, None, OnErr, OnOk, Some, false, true, ℕ};
+ghost use Rattle.std.specs.Prelude.{◌≡◌, ◌≤◌, ◌<◌, [], IfSome, MatchBool, MatchOption, None, OnErr};
+ghost use Rattle.std.specs.Prelude.{OnOk, Some, false, true, ℕ};
 ghost use Rattle.std.specs.BTreeMap.{get};
 ghost use Rattle.std.specs.Ordering.{nat_cmp};
 ghost use Rattle.batcher.specs.Votes.{round_in, same_proposal};
 ghost use Rattle.batcher.specs.messages.Subject.TheVariants.{Notarize};
 ghost use Rattle.batcher_agreement.specs.Policy.{Conduct, Knows};
-ghost use Rattle.batcher_voter.specs.Knowledge.{AreNullified, Forgets, HasLearned, HaveNoParent, HasRoom, IsHighest, IsParent, IsSame, Learns, learned_at, with_learned};
+ghost use Rattle.batcher_voter.specs.Knowledge.{AreNullified, Forgets, HasLearned, HaveNoParent};
+ghost use Rattle.batcher_voter.specs.Knowledge.{HasRoom, IsHighest, IsParent, SameKnowledge};
+ghost use Rattle.batcher_voter.specs.Knowledge.{Learns, learned_at, with_learned};
 ghost use Rattle.batcher_voter.specs.Refusals.{HasGround, HasNoGround, IsNotNotarized};
 
 use crate::answers::Rule;
@@ -114,7 +117,7 @@ impl<D: Digest> Knowledge<D> {
     pub(crate) fn make_room(&mut self, view: u64) -> Result<(), AllocError>
         ensures room { OnOk result (HasRoom self.new view) }
         ensures needed { OnErr result (HasRoom self.old view → ⊥) }
-        ensures same { IsSame self.old self.new }
+        ensures same { SameKnowledge self.old self.new }
     {
         if self.views.contains_key(&view) {
             return Ok(());

@@ -1,32 +1,34 @@
 //! A view is made the final one.
 
-ghost use Rattle.std.specs.Prelude.{◌≡◌, ◌≢◌, ◌<◌, ◌≤◌, ◌⊎◌, ◌∷◌, Err, List, Ok, OnErr, OnOk, ℕ, true, false};
+ghost use Rattle.std.specs.Prelude.{◌≡◌, ◌≢◌, ◌<◌, ◌≤◌, ◌⊎◌, ◌∷◌, Err, List, Ok, OnErr, OnOk, ℕ};
+ghost use Rattle.std.specs.Prelude.{true, false};
 ghost use Rattle.batcher.specs.Votes.{kind_certified, round_in, subject_certified};
 ghost use Rattle.batcher_agreement.specs.Lives.{called, verified};
 ghost use Rattle.batcher_node.specs.Events.{view_finalized};
-ghost use Rattle.batcher_journal.specs.Ready.{Has, IsAsBefore, RaiseLeaves, raised};
-ghost use Rattle.batcher_codec.specs.Messages.{vote_format};
+ghost use Rattle.batcher_journal.specs.Ready.{HasContents, IsAsBefore, RaiseLeaves, raised};
+ghost use Rattle.batcher_bytes.specs.Messages.{vote_format};
 ghost use Rattle.batcher_journal.specs.Floors.{is_below};
 ghost use Rattle.batcher_voter.specs.Journals.{IsRaised};
-ghost use Rattle.batcher_journal.specs.declared.journal.RaiseFault.TheVariants.{Closed as RaiseClosed, Full as RaiseFull, Lower, OutOfMemory as RaiseMemory};
+ghost use Rattle.batcher_journal.specs.declared.journal.RaiseFault.TheVariants.{Closed as RaiseClosed};
+ghost use Rattle.batcher_journal.specs.declared.journal.RaiseFault.TheVariants.{Full as RaiseFull};
+ghost use Rattle.batcher_journal.specs.declared.journal.RaiseFault.TheVariants.{Lower};
+ghost use Rattle.batcher_journal.specs.declared.journal.RaiseFault.TheVariants.{OutOfMemory as RaiseMemory};
 ghost use Rattle.batcher_node.specs.Nodes.{SameNode};
-ghost use Rattle.batcher_node.specs.Represents.{Meets};
+ghost use Rattle.batcher_node.specs.Represents.{NodeMeets};
 ghost use Rattle.batcher.specs.Verifiers.{certifies_itself};
 ghost use Rattle.batcher.specs.messages.Kind.TheVariants.{Finalization};
 ghost use Rattle.batcher_voter.specs.declared.answers.FinalizeFault.{FinalizeFault};
 ghost use Rattle.batcher_voter.specs.Knowledge.{Forgets, HasRoom};
-ghost use Rattle.batcher_voter.specs.Voting.{ForEachLife, IsVoting, VoterStays};
-ghost use Rattle.batcher_voter.specs.Voting.{LeavesWhatWasDone};
-ghost use Rattle.batcher_log.specs.Copies.{KeepsCopy};
+ghost use Rattle.batcher_voter.specs.Voting.{ForEachLife, IsVoting, VoterStays, LeavesWhatWasDone};
+ghost use Rattle.batcher_bytes.specs.Copies.{KeepsCopy};
 
 use crate::answers::FinalizeFault;
 use crate::voter::Voter;
 use batcher::messages::{Certificate, Digest, Identical, Kind};
 use batcher::positions::Round;
 use batcher::scheme::Scheme;
-use batcher_codec::{Codec, OwnedCodec, encode_owned};
+use batcher_bytes::{Codec, Log, OwnedCodec, encode_owned};
 use batcher_journal::{RaiseFault, bytes_are_of_one_journal};
-use batcher_log::Log;
 use batcher_node::NodeConfigs;
 
 impl<S: Scheme<D>, D: Digest + Codec, L: Log> Voter<S, D, L>
@@ -159,10 +161,11 @@ where
         requires epoch { round.epoch ≡ self.old.node.epoch }
         requires up { self.old.node.window.finalized ≤ round.view.0 }
         ensures raised { OnOk result ((self.old.journal.is_open ≡ true)
-            × (is_below self.old.journal.contents.floor round ≡ false) × Has self.new.journal
+            × (is_below self.old.journal.contents.floor round ≡ false)
+            × HasContents self.new.journal
             (raised self.old.journal.contents self.old.journal.unwritten
             self.old.journal.contents.owner round finalization.now)) }
-        ensures meets { OnOk result (Meets (⟦<S as NodeConfigs<D>>⟧.of self.old.node)
+        ensures meets { OnOk result (NodeMeets (⟦<S as NodeConfigs<D>>⟧.of self.old.node)
             self.old.node (view_finalized round.view.0) self.new.node) }
         ensures begins { OnOk result (self.new.node.window.finalized ≡ round.view.0) }
         ensures forgets { OnOk result (Forgets round.view.0 self.old.knowledge

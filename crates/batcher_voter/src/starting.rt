@@ -1,11 +1,12 @@
 //! A voter is made from its journal.
 
-ghost use Rattle.std.specs.Prelude.{◌≡◌, ◌≢◌, ◌≤◌, ◌⊎◌, ◌∷◌, [], All, HoldsAt, IfErr, IfOk, OnOk, length, true};
+ghost use Rattle.std.specs.Prelude.{◌≡◌, ◌≢◌, ◌≤◌, ◌⊎◌, ◌∷◌, [], All, HoldsAt, IfErr, IfOk, OnOk};
+ghost use Rattle.std.specs.Prelude.{length, true};
 ghost use Rattle.batcher.specs.Verifiers.{certifies_itself};
 ghost use Rattle.batcher.specs.Votes.{kind_certified, round_in, subject_certified};
 ghost use Rattle.batcher.specs.messages.Kind.TheVariants.{Finalization};
 ghost use Rattle.batcher_voter.specs.Knowledge.{HasLearned, HasRoom, IsHighest, Learns};
-ghost use Rattle.batcher_codec.specs.Messages.{certificate_format, versioned};
+ghost use Rattle.batcher_bytes.specs.Messages.{certificate_format, versioned};
 ghost use Rattle.batcher_voter.specs.Reopening.{IsFinalView, IsKindKnown, IsTakenIn, StaysKnown};
 ghost use Rattle.batcher_agreement.specs.Policy.{Conduct, KeepsPolicy};
 ghost use Rattle.batcher_node.specs.Events.{started};
@@ -19,9 +20,8 @@ use crate::voter::Voter;
 use batcher::messages::{Certificate, Digest, Identical, Kind};
 use batcher::positions::Round;
 use batcher::scheme::Scheme;
-use batcher_codec::{Codec, DecodeError, OwnedCodec, decode_owned};
+use batcher_bytes::{Codec, DecodeError, Log, OwnedCodec, decode_owned};
 use batcher_journal::Journal;
-use batcher_log::Log;
 use batcher_node::{Node, NodeConfigs};
 use std::alloc::Global;
 use std::rc::Rc;

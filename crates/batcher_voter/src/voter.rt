@@ -1,21 +1,20 @@
 //! A voter: a node and a journal, which vote by the policy.
 
 ghost use Rattle.std.specs.Prelude.{◌≡◌, ◌≤◌, [], List, length, ℕ, true};
-ghost use Rattle.batcher_journal.specs.Answers.{MayFollow};
+ghost use Rattle.batcher_journal.specs.Answers.{MayBeWrittenBehind};
 ghost use Rattle.batcher_journal.specs.Ready.{IsOnDisk};
-ghost use Rattle.batcher_codec.specs.Messages.{vote_format};
+ghost use Rattle.batcher_bytes.specs.Messages.{vote_format};
 ghost use Rattle.batcher_node.specs.Windows.{is_of};
 ghost use Rattle.batcher_voter.specs.Voting.{BeginWithOneView, ForEachLife, VoterView};
-ghost use Rattle.batcher_log.specs.Copies.{all_copied};
 ghost use Rattle.batcher_voter.specs.Voting.{LeavesWhatWasDone, VoterStays};
+ghost use Rattle.batcher_bytes.specs.Copies.{all_copied};
 
 use crate::knowledge::Knowledge;
 use batcher::messages::{Digest, Identical};
 use batcher::positions::{Epoch, Round};
 use batcher::scheme::Scheme;
-use batcher_codec::Codec;
+use batcher_bytes::{Codec, CopiedLog, Log};
 use batcher_journal::{Journal, bytes_are_of_one_journal};
-use batcher_log::{CopiedLog, Log};
 use batcher_node::{Node, NodeConfigs};
 use std::alloc::Global;
 use std::marker::Model;
@@ -76,7 +75,7 @@ where
         ensures open { result ≡ self.now.journal.is_open }
         ensures on_disk { self.now.journal.is_open ≡ true → IsOnDisk
             (vote_format S.Signature.format D.format) D.eq L.is_settled L.written self.now.journal }
-        ensures followed { self.now.journal.is_open ≡ true → MayFollow D.eq
+        ensures followed { self.now.journal.is_open ≡ true → MayBeWrittenBehind D.eq
             self.now.journal.contents.floor [] self.now.journal.contents.votes }
     {
         self.journal.is_open()

@@ -4,7 +4,9 @@ use Rattle.std.specs.List.{list_all}
 use Rattle.batcher_types.specs.declared.messages.Attestation.{Attestation}
 use Rattle.batcher_types.specs.declared.messages.Proposal.{Proposal}
 use Rattle.batcher_types.specs.declared.messages.Subject.{Subject}
-use Rattle.batcher_types.specs.declared.messages.Subject.TheVariants.{Notarize as NotarizeSubject, Nullify as NullifySubject, Finalize as FinalizeSubject}
+use Rattle.batcher_types.specs.declared.messages.Subject.TheVariants.{Notarize as NotarizeSubject}
+use Rattle.batcher_types.specs.declared.messages.Subject.TheVariants.{Nullify as NullifySubject}
+use Rattle.batcher_types.specs.declared.messages.Subject.TheVariants.{Finalize as FinalizeSubject}
 use Rattle.batcher_types.specs.declared.messages.Vote.{Vote}
 use Rattle.batcher_votes.specs.declared.verifier.buffer.Run.{Run}
 use Rattle.batcher_votes.specs.VerifierSteps.{vote_for}

@@ -4,7 +4,8 @@ use Rattle.batcher_types.specs.declared.positions.Participant.{Participant}
 use Rattle.batcher_types.specs.declared.messages.Vote.{Vote}
 use Rattle.batcher_votes.specs.declared.verifier.ProposalState.{ProposalState}
 use Rattle.batcher_votes.specs.declared.verifier.certification.Certification.{Certification}
-use Rattle.batcher_votes.specs.declared.verifier.certification.Certification.TheVariants.{Open, Complete}
+use Rattle.batcher_votes.specs.declared.verifier.certification.Certification.TheVariants.{Open}
+use Rattle.batcher_votes.specs.declared.verifier.certification.Certification.TheVariants.{Complete}
 use Rattle.batcher_votes.specs.RoundState.{PerKind, VerifierState}
 
 -- what each is mapped to
@@ -45,9 +46,9 @@ module _ {G D : Type 0} where
   room_for_run (Open pending verified) = verified.room_for_run
   room_for_run Complete = 2 ^ 64 - 1
 
-  abbrev pub held_by : Option Participant → ProposalState D → PerKind (Certification G D)
+  abbrev pub verifier_holding : Option Participant → ProposalState D → PerKind (Certification G D)
       → VerifierState G D
-  held_by leader selection kinds =
+  verifier_holding leader selection kinds =
       record {
         leader = leader;
         selection = selection;

@@ -1,17 +1,27 @@
 -- What a tracker keeps of each signer, and how its entries and the votes that it keeps show what is
 -- tracked.
-use Rattle.std.specs.Prelude.{◌≡◌, ◌<◌, ◌^◌, ◌++◌, ◌∷◌, ◌&&◌, ℕ, Bool, true, false, not, cond, is_some, if◌then◌else◌, List, [], Option, Some, None, length, map, ◌-◌, vec_len, vec_capacity}
+use Rattle.std.specs.Prelude.{◌≡◌, ◌<◌, ◌^◌, ◌++◌, ◌∷◌, ◌&&◌, ℕ, Bool, true, false, not, cond}
+use Rattle.std.specs.Prelude.{is_some, if◌then◌else◌, List, [], Option, Some, None, length, map}
+use Rattle.std.specs.Prelude.{◌-◌, vec_len, vec_capacity}
 use Rattle.std.specs.List.{AllPass, filter_map, slice_get}
 use Rattle.batcher_types.specs.declared.positions.Participant.{Participant}
 use Rattle.batcher_types.specs.declared.messages.Proposal.{Proposal}
 use Rattle.batcher_types.specs.declared.messages.Vote.{Vote}
-use Rattle.batcher_types.specs.declared.messages.Vote.TheVariants.{Notarize as NotarizeVote, Nullify as NullifyVote, Finalize as FinalizeVote}
+use Rattle.batcher_types.specs.declared.messages.Vote.TheVariants.{Notarize as NotarizeVote}
+use Rattle.batcher_types.specs.declared.messages.Vote.TheVariants.{Nullify as NullifyVote}
+use Rattle.batcher_types.specs.declared.messages.Vote.TheVariants.{Finalize as FinalizeVote}
 use Rattle.batcher_types.specs.declared.messages.Kind.{Kind}
-use Rattle.batcher_types.specs.declared.messages.Kind.TheVariants.{Notarization, Nullification, Finalization}
+use Rattle.batcher_types.specs.declared.messages.Kind.TheVariants.{Notarization, Nullification}
+use Rattle.batcher_types.specs.declared.messages.Kind.TheVariants.{Finalization}
 use Rattle.batcher_votes.specs.declared.votes.entry.Seen.{Seen}
-use Rattle.batcher_votes.specs.declared.votes.entry.Seen.TheVariants.{Nothing, Uncompared, Differs, Matches, Kept}
+use Rattle.batcher_votes.specs.declared.votes.entry.Seen.TheVariants.{Nothing, Uncompared, Differs}
+use Rattle.batcher_votes.specs.declared.votes.entry.Seen.TheVariants.{Matches, Kept}
 use Rattle.batcher_votes.specs.declared.votes.entry.Mark.{Mark}
-use Rattle.batcher_votes.specs.declared.votes.entry.Mark.TheVariants.{Nothing as NothingMark, Uncompared as UncomparedMark, Differs as DiffersMark, Matches as MatchesMark, Kept as KeptMark}
+use Rattle.batcher_votes.specs.declared.votes.entry.Mark.TheVariants.{Nothing as NothingMark}
+use Rattle.batcher_votes.specs.declared.votes.entry.Mark.TheVariants.{Uncompared as UncomparedMark}
+use Rattle.batcher_votes.specs.declared.votes.entry.Mark.TheVariants.{Differs as DiffersMark}
+use Rattle.batcher_votes.specs.declared.votes.entry.Mark.TheVariants.{Matches as MatchesMark}
+use Rattle.batcher_votes.specs.declared.votes.entry.Mark.TheVariants.{Kept as KeptMark}
 use Rattle.batcher_votes.specs.declared.votes.kept.KeptLists.{KeptLists}
 use Rattle.batcher_votes.specs.declared.votes.Marks.{Marks}
 use Rattle.batcher_votes.specs.declared.votes.Outcome.{Outcome}
@@ -66,8 +76,8 @@ nothing_seen i =
     record { signer = i; notarize = Nothing; nullify = Nothing; finalize = Nothing }
 
 -- the number by which entries ascend
-abbrev pub key_of : Entry → ℕ
-key_of entry = entry.signer.0
+abbrev pub entry_key : Entry → ℕ
+entry_key entry = entry.signer.0
 
 -- what the signer's entry says of a kind, if it has one
 abbrev pub seen_in : Kind → Option Entry → Seen
@@ -88,7 +98,7 @@ put_by signer item items =
 -- the entries, of which the signer's says this of a kind
 abbrev pub entries_with : Participant → Kind → Seen → List Entry → List Entry
 entries_with i kind seen entries =
-    put_by key_of (with_part kind seen (entry_or_new i (item_of key_of entries i.0))) entries
+    put_by entry_key (with_part kind seen (entry_or_new i (item_of entry_key entries i.0))) entries
 
 -- whether any vote was seen
 abbrev pub is_any : Seen → Bool
@@ -254,7 +264,7 @@ module _ {G D : Type 0} where
   -- are no more votes than indices.
   pub record Fits (compacted : Bool) (kind : Kind) (votes : List (Vote G D))
       (entries : List Entry) : Type 0 where
-    pub each : AllPass (λ e. may_say compacted kind votes (key_of e) (part kind e)) entries
+    pub each : AllPass (λ e. may_say compacted kind votes (entry_key e) (part kind e)) entries
     pub counted : length votes ≡ count (λ e. has_index (part kind e)) entries
 
   -- what a tracker keeps true: an index fits into 32 bits, and of each kind entries and votes fit

@@ -1,7 +1,8 @@
 -- One of each kind, of which one changes or all do.
 use Rattle.std.specs.Borrow.{Lends, MutBor, Fml, RattleType}
 use Rattle.batcher_types.specs.declared.messages.Kind.{Kind}
-use Rattle.batcher_types.specs.declared.messages.Kind.TheVariants.{Notarization, Nullification, Finalization}
+use Rattle.batcher_types.specs.declared.messages.Kind.TheVariants.{Notarization, Nullification}
+use Rattle.batcher_types.specs.declared.messages.Kind.TheVariants.{Finalization}
 use Rattle.batcher_votes.specs.RoundState.{PerKind}
 use Rattle.batcher_votes.specs.contracts.per_kind.PerKind.{the_row}
 

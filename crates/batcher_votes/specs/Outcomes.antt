@@ -1,5 +1,6 @@
 -- What an attempt at a certificate comes to, and what taking it in changes.
-use Rattle.std.specs.Prelude.{◌≡◌, ◌≢◌, true, false, if◌then◌else◌, List, [], ◌++◌, Some, is_some, IfSome, map}
+use Rattle.std.specs.Prelude.{◌≡◌, ◌≢◌, true, false, if◌then◌else◌, List, [], ◌++◌, Some, is_some}
+use Rattle.std.specs.Prelude.{IfSome, map}
 use Rattle.std.specs.List.{AllPass}
 use Rattle.batcher_types.specs.declared.positions.Round.{Round}
 use Rattle.batcher_types.specs.declared.messages.Attestation.{Attestation}
@@ -27,9 +28,9 @@ pub record IsFine {D K G C : Type 0} (m : Meaning D K G C) (subject : Subject D)
 
 -- what an attempt gives: a batch, and attestations that join the verified ones where it has no
 -- certificate
-abbrev pub outcome_of : {G C : Type 0} → List (Attestation G) → Batch C → List (Attestation G)
+abbrev pub attempt_result : {G C : Type 0} → List (Attestation G) → Batch C → List (Attestation G)
     → AttemptResult G C
-outcome_of verified batch joining =
+attempt_result verified batch joining =
     record {
       processed = batch.processed;
       invalid = batch.invalid;

@@ -4,7 +4,8 @@ use Rattle.batcher_types.specs.declared.positions.Participant.{Participant}
 use Rattle.batcher_types.specs.declared.positions.Round.{Round}
 use Rattle.batcher_types.specs.declared.messages.Vote.{Vote}
 use Rattle.batcher_types.specs.declared.messages.Kind.{Kind}
-use Rattle.batcher_types.specs.declared.messages.Kind.TheVariants.{Notarization, Nullification, Finalization}
+use Rattle.batcher_types.specs.declared.messages.Kind.TheVariants.{Notarization, Nullification}
+use Rattle.batcher_types.specs.declared.messages.Kind.TheVariants.{Finalization}
 use Rattle.batcher_votes.specs.declared.verifier.ProposalState.{ProposalState}
 use Rattle.batcher_votes.specs.declared.votes.Mode.{Mode}
 

@@ -1,5 +1,6 @@
 -- What a verifier keeps true of the votes that wait.
-use Rattle.std.specs.Prelude.{is_some, ◌==◌, ◌≡◌, ◌≤◌, ℕ, Bool, true, false, cond, ◌&&◌, List, [], ◌++◌, length, filter, Option, Some, None}
+use Rattle.std.specs.Prelude.{is_some, ◌==◌, ◌≡◌, ◌≤◌, ℕ, Bool, true, false, cond, ◌&&◌, List, []}
+use Rattle.std.specs.Prelude.{◌++◌, length, filter, Option, Some, None}
 use Rattle.std.specs.List.{AllPass}
 use Rattle.batcher_types.specs.declared.positions.Round.{Round}
 use Rattle.batcher_types.specs.declared.messages.Proposal.{Proposal}
@@ -10,9 +11,11 @@ use Rattle.batcher_types.specs.Quorum.{quorum_of}
 use Rattle.batcher_types.specs.Lists.{EachOnce, count}
 use Rattle.batcher_types.specs.Meaning.{Meaning}
 use Rattle.batcher_votes.specs.declared.verifier.ProposalState.{ProposalState}
-use Rattle.batcher_types.specs.Votes.{is_kind, is_of_kind, has_proposals, signer_of, subject_of, attestation_of, same_subject, is_eligible}
+use Rattle.batcher_types.specs.Votes.{is_kind, is_of_kind, has_proposals, signer_of, subject_of}
+use Rattle.batcher_types.specs.Votes.{attestation_of, same_subject, is_eligible}
 use Rattle.batcher_votes.specs.ProposalStates.{proposal_of, replaces}
-use Rattle.batcher_votes.specs.RoundState.{PerKind, of_kind, VerifierState, VerifierView, TrackerState}
+use Rattle.batcher_votes.specs.RoundState.{PerKind, of_kind, VerifierState, VerifierView}
+use Rattle.batcher_votes.specs.RoundState.{TrackerState}
 use Rattle.batcher_votes.specs.VerifierSteps.{subject_from}
 use Rattle.batcher_votes.specs.TrackerSteps.{kept_vote}
 

@@ -1,10 +1,14 @@
 -- What a tracker knows of each signer, and what recording a vote and releasing a kind change.
-use Rattle.std.specs.Prelude.{◌≡◌, ◌≤◌, ℕ, Bool, true, false, not, cond, ◌&&◌, ◌||◌, ◌==◌, nat_lt, List, [], Option, Some, None, is_some, Result, IfErr, find, map}
+use Rattle.std.specs.Prelude.{◌≡◌, ◌≤◌, ℕ, Bool, true, false, not, cond, ◌&&◌, ◌||◌, ◌==◌, nat_lt}
+use Rattle.std.specs.Prelude.{List, [], Option, Some, None, is_some, Result, IfErr, find, map}
 use Rattle.batcher_types.specs.declared.messages.Proposal.{Proposal}
 use Rattle.batcher_types.specs.declared.messages.Vote.{Vote}
-use Rattle.batcher_types.specs.declared.messages.Vote.TheVariants.{Notarize as NotarizeVote, Nullify as NullifyVote, Finalize as FinalizeVote}
+use Rattle.batcher_types.specs.declared.messages.Vote.TheVariants.{Notarize as NotarizeVote}
+use Rattle.batcher_types.specs.declared.messages.Vote.TheVariants.{Nullify as NullifyVote}
+use Rattle.batcher_types.specs.declared.messages.Vote.TheVariants.{Finalize as FinalizeVote}
 use Rattle.batcher_types.specs.declared.messages.Kind.{Kind}
-use Rattle.batcher_types.specs.declared.messages.Kind.TheVariants.{Notarization, Nullification, Finalization}
+use Rattle.batcher_types.specs.declared.messages.Kind.TheVariants.{Notarization, Nullification}
+use Rattle.batcher_types.specs.declared.messages.Kind.TheVariants.{Finalization}
 use Rattle.batcher_votes.specs.declared.votes.Mode.{Mode}
 use Rattle.batcher_votes.specs.declared.votes.Mode.TheVariants.{Retaining, Releasing, Skipped}
 use Rattle.batcher_votes.specs.declared.votes.Outcome.{Outcome}
@@ -14,7 +18,8 @@ use Rattle.batcher_votes.specs.declared.votes.ObservedVote.TheVariants.{Retained
 use Rattle.batcher_types.specs.Ascending.{insert_by}
 use Rattle.std.specs.List.{AllPass}
 use Rattle.batcher_types.specs.Lists.{count, is_some_and, exactly_one}
-use Rattle.batcher_types.specs.Votes.{kind_of, signer_of, is_of_kind, is_vote_of, has_proposals, is_for}
+use Rattle.batcher_types.specs.Votes.{kind_of, signer_of, is_of_kind, is_vote_of, has_proposals}
+use Rattle.batcher_types.specs.Votes.{is_for}
 use Rattle.batcher_votes.specs.RoundState.{of_kind, for_each, Facts, TrackerState, TrackerView}
 
 -- What is known of a signer's votes of a kind: none was seen, one is kept in full, or facts are.

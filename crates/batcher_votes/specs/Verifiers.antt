@@ -1,14 +1,18 @@
 -- Questions that a verifier's calls answer of what it holds.
-use Rattle.std.specs.Prelude.{◌≡◌, ◌≢◌, ◌≤◌, ◌&&◌, ℕ, Bool, true, false, not, cond, List, [], length, filter, Option, None, Result, IsOk, IfOk, IfSome}
+use Rattle.std.specs.Prelude.{◌≡◌, ◌≢◌, ◌≤◌, ◌&&◌, ℕ, Bool, true, false, not, cond, List, []}
+use Rattle.std.specs.Prelude.{length, filter, Option, None, Result, IsOk, IfOk, IfSome}
 use Rattle.rand_core.specs.Stream.{Stream}
 use Rattle.batcher_types.specs.declared.positions.Round.{Round}
 use Rattle.batcher_types.specs.declared.messages.Kind.{Kind}
 use Rattle.batcher_types.specs.declared.messages.Subject.{Subject}
 use Rattle.batcher_types.specs.declared.messages.Vote.{Vote}
-use Rattle.batcher_types.specs.declared.messages.Vote.TheVariants.{Notarize as NotarizeVote, Nullify as NullifyVote, Finalize as FinalizeVote}
+use Rattle.batcher_types.specs.declared.messages.Vote.TheVariants.{Notarize as NotarizeVote}
+use Rattle.batcher_types.specs.declared.messages.Vote.TheVariants.{Nullify as NullifyVote}
+use Rattle.batcher_types.specs.declared.messages.Vote.TheVariants.{Finalize as FinalizeVote}
 use Rattle.batcher_types.specs.declared.messages.Certificate.{Certificate}
 use Rattle.batcher_votes.specs.declared.verifier.Batch.{Batch}
-use Rattle.batcher_types.specs.Votes.{is_kind, is_of_kind, is_eligible, same_round, subject_certified, content_of}
+use Rattle.batcher_types.specs.Votes.{is_kind, is_of_kind, is_eligible, same_round}
+use Rattle.batcher_types.specs.Votes.{subject_certified, content_of}
 use Rattle.batcher_types.specs.Meaning.{Meaning}
 use Rattle.batcher_votes.specs.ProposalStates.{proposal_of}
 use Rattle.batcher_votes.specs.RoundState.{of_kind, VerifierState, VerifierView}
@@ -71,8 +75,8 @@ RestoresAll same old kind votes new =
 
 module _ {S D K G C : Type 0} (meaning : S → Meaning D K G C) where
   -- whether a kind of a verifier is ready
-  abbrev pub is_ready_in : (D → D → Bool) → VerifierView S G D → Kind → Bool
-  is_ready_in same v kind = is_ready same (meaning v.scheme).batchable v.quorum v.holds kind
+  abbrev pub is_ready_kind : (D → D → Bool) → VerifierView S G D → Kind → Bool
+  is_ready_kind same v kind = is_ready same (meaning v.scheme).batchable v.quorum v.holds kind
 
   -- An attempt at a kind's certificate, with the votes that are buffered.
   abbrev pub Tries : VerifierView S G D → Kind → Stream → Batch (Certificate C D) → Stream

@@ -1,28 +1,41 @@
 //! Votes on their way to a certificate: the selected proposal, two buffers of votes a kind, and
 //! the attempts to make certificates out of them.
 
-ghost use Rattle.std.specs.Prelude.{◌≡◌, ◌≢◌, ◌+◌, ◌≤◌, ◌&&◌, not, cond, true, false, ◌++◌, ◌↔◌, [], Ok, IsTrue, length, filter, map, Some, None, is_some, is_none, IsOk, IfOk, IfSome, OnOk, OnErr};
+ghost use Rattle.std.specs.Prelude.{◌≡◌, ◌≢◌, ◌+◌, ◌≤◌, ◌&&◌, not, cond, true, false, ◌++◌, ◌↔◌};
+ghost use Rattle.std.specs.Prelude.{[], Ok, IsTrue, length, filter, map, Some, None, is_some};
+ghost use Rattle.std.specs.Prelude.{is_none, IsOk, IfOk, IfSome, OnOk, OnErr};
 ghost use Rattle.std.specs.Option.{option_copied, option_map};
 ghost use Rattle.batcher_types.specs.declared.messages.Kind.{Kind as TheKind};
-ghost use Rattle.batcher_types.specs.declared.messages.Kind.TheVariants.{Notarization as TheNotarization, Nullification as TheNullification, Finalization as TheFinalization};
+ghost use Rattle.batcher_types.specs.declared.messages.Kind.TheVariants.{Notarization as TheNotarization};
+ghost use Rattle.batcher_types.specs.declared.messages.Kind.TheVariants.{Nullification as TheNullification};
+ghost use Rattle.batcher_types.specs.declared.messages.Kind.TheVariants.{Finalization as TheFinalization};
 ghost use Rattle.batcher_votes.specs.declared.verifier.ProposalState.TheVariants.{Certificate as FixedProposal};
 ghost use Rattle.batcher_types.specs.Quorum.{quorum_of};
 ghost use Rattle.std.specs.List.{AllPass};
 ghost use Rattle.batcher_types.specs.Lists.{EachOnce};
 ghost use Rattle.batcher_types.specs.Attestations.{index_of_signer};
-ghost use Rattle.batcher_types.specs.Votes.{is_kind, kind_of, is_of_kind, has_proposals, signer_of, subject_of, attestation_of, is_eligible};
-ghost use Rattle.batcher_votes.specs.ProposalStates.{proposal_of, selects, updated, same_selected, replaces};
+ghost use Rattle.batcher_types.specs.Votes.{is_kind, kind_of, is_of_kind, has_proposals, signer_of};
+ghost use Rattle.batcher_types.specs.Votes.{subject_of, attestation_of, is_eligible};
+ghost use Rattle.batcher_votes.specs.ProposalStates.{proposal_of, selects, updated, same_selected};
+ghost use Rattle.batcher_votes.specs.ProposalStates.{replaces};
 ghost use Rattle.batcher_votes.specs.RoundState.{of_kind, SameVerifier};
 ghost use Rattle.batcher_types.specs.Attempts.{attempt_of};
-ghost use Rattle.batcher_votes.specs.VerifierSteps.{attestations_of, nothing_buffered, subject_from, is_buffered, is_dropped, leaders_vote, leader_answer, subject_tried, certificate_for};
-ghost use Rattle.batcher_votes.specs.VerifierSteps.{AddsVote, SetsLeader, SetsProposal, CompletesKind};
+ghost use Rattle.batcher_votes.specs.VerifierSteps.{attestations_of, nothing_buffered};
+ghost use Rattle.batcher_votes.specs.VerifierSteps.{subject_from, is_buffered, is_dropped};
+ghost use Rattle.batcher_votes.specs.VerifierSteps.{leaders_vote, leader_answer, subject_tried};
+ghost use Rattle.batcher_votes.specs.VerifierSteps.{certificate_for, AddsVote, SetsLeader};
+ghost use Rattle.batcher_votes.specs.VerifierSteps.{SetsProposal, CompletesKind};
 ghost use Rattle.batcher_votes.specs.AttemptInputs.{pending_tried, verified_tried};
-ghost use Rattle.batcher_votes.specs.Outcomes.{IsFine, TakesIn, outcome_of};
-ghost use Rattle.batcher_votes.specs.Verdicts.{judged, judged_in, judged_with_in, LooksAt, MayBeQuorum};
+ghost use Rattle.batcher_votes.specs.Outcomes.{IsFine, TakesIn, attempt_result};
+ghost use Rattle.batcher_votes.specs.Verdicts.{judged, judged_in, judged_with_in, LooksAt};
+ghost use Rattle.batcher_votes.specs.Verdicts.{MayBeQuorum};
 ghost use Rattle.rand_core.specs.Stream.{Stream};
-ghost use Rattle.batcher_votes.specs.Soundness.{IsSound, KeepsAllRoom, KeepsOtherRoom, RestoresRoom};
-ghost use Rattle.batcher_votes.specs.Verifiers.{is_of_round, subject_ready, is_ready_in, Tries, IfGiven, BatchCertifies, NamesSomebody, IsLeftAlone};
-ghost use Rattle.batcher_votes.specs.Verifiers.{room_for, taken_by, HasRoomToRestore, RestoresAll};
+ghost use Rattle.batcher_votes.specs.Soundness.{IsSound, KeepsAllRoom, KeepsOtherRoom};
+ghost use Rattle.batcher_votes.specs.Soundness.{RestoresRoom};
+ghost use Rattle.batcher_votes.specs.Verifiers.{is_of_round, subject_ready, is_ready_kind, Tries};
+ghost use Rattle.batcher_votes.specs.Verifiers.{IfGiven, BatchCertifies, NamesSomebody};
+ghost use Rattle.batcher_votes.specs.Verifiers.{IsLeftAlone, room_for, taken_by, HasRoomToRestore};
+ghost use Rattle.batcher_votes.specs.Verifiers.{RestoresAll};
 
 mod attempt;
 mod buffer;
@@ -119,14 +132,15 @@ impl<S: Scheme<D>, D: Digest> Model for Verifier<S, D> {
 
     ghost Value = { VerifierView S S.Signature D };
 
-    ghost use Rattle.batcher_votes.specs.Certifications.{map_kinds, pending_room, verified_room, held_by};
+    ghost use Rattle.batcher_votes.specs.Certifications.{map_kinds, pending_room, verified_room};
+    ghost use Rattle.batcher_votes.specs.Certifications.{verifier_holding};
     ghost use Rattle.batcher_votes.specs.Soundness.{IsSound};
 
     ghost view = { λ v. record {
       scheme = v.scheme.value;
       number = v.round;
       quorum = v.quorum;
-      holds = held_by v.leader v.proposal v.kinds;
+      holds = verifier_holding v.leader v.proposal v.kinds;
       pending_room = map_kinds pending_room v.kinds;
       verified_room = map_kinds verified_room
           v.kinds;
@@ -134,7 +148,7 @@ impl<S: Scheme<D>, D: Digest> Model for Verifier<S, D> {
 
     ghost invariant = { λ v.
         IsSound (S.meaning v.scheme.value) D.eq v.round v.quorum
-        (held_by v.leader v.proposal v.kinds) };
+        (verifier_holding v.leader v.proposal v.kinds) };
 }
 
 impl<S: Scheme<D>, D: Digest> Verifier<S, D> {
@@ -404,12 +418,12 @@ impl<S: Scheme<D>, D: Digest> Verifier<S, D> {
         rng: &mut R,
     ) -> Result<Option<Batch<Certificate<S::Certificate, D>>>, AllocError>
         ensures ready { IfOk result (λ given. is_some given
-            ≡ is_ready_in S.meaning D.eq self.old TheNotarization) }
+            ≡ is_ready_kind S.meaning D.eq self.old TheNotarization) }
         ensures tries { IfGiven result (λ batch. Tries S.meaning self.old TheNotarization
             (R.stream rng.old) batch (R.stream rng.new) self.new) }
         ensures certifies { IfGiven result (BatchCertifies (S.meaning self.old.scheme)) }
         ensures names { IfGiven result NamesSomebody }
-        ensures not_ready { is_ready_in S.meaning D.eq self.old TheNotarization ≡ false
+        ensures not_ready { is_ready_kind S.meaning D.eq self.old TheNotarization ≡ false
             → IsLeftAlone result self.old self.new (R.stream rng.old) (R.stream rng.new) }
         ensures unchanged { OnErr result (self.new.holds ≡ self.old.holds) }
         ensures same { SameVerifier self.old self.new }
@@ -423,12 +437,12 @@ impl<S: Scheme<D>, D: Digest> Verifier<S, D> {
         rng: &mut R,
     ) -> Result<Option<Batch<Certificate<S::Certificate, D>>>, AllocError>
         ensures ready { IfOk result (λ given. is_some given
-            ≡ is_ready_in S.meaning D.eq self.old TheNullification) }
+            ≡ is_ready_kind S.meaning D.eq self.old TheNullification) }
         ensures tries { IfGiven result (λ batch. Tries S.meaning self.old TheNullification
             (R.stream rng.old) batch (R.stream rng.new) self.new) }
         ensures certifies { IfGiven result (BatchCertifies (S.meaning self.old.scheme)) }
         ensures names { IfGiven result NamesSomebody }
-        ensures not_ready { is_ready_in S.meaning D.eq self.old TheNullification ≡ false
+        ensures not_ready { is_ready_kind S.meaning D.eq self.old TheNullification ≡ false
             → IsLeftAlone result self.old self.new (R.stream rng.old) (R.stream rng.new) }
         ensures unchanged { OnErr result (self.new.holds ≡ self.old.holds) }
         ensures same { SameVerifier self.old self.new }
@@ -442,12 +456,12 @@ impl<S: Scheme<D>, D: Digest> Verifier<S, D> {
         rng: &mut R,
     ) -> Result<Option<Batch<Certificate<S::Certificate, D>>>, AllocError>
         ensures ready { IfOk result (λ given. is_some given
-            ≡ is_ready_in S.meaning D.eq self.old TheFinalization) }
+            ≡ is_ready_kind S.meaning D.eq self.old TheFinalization) }
         ensures tries { IfGiven result (λ batch. Tries S.meaning self.old TheFinalization
             (R.stream rng.old) batch (R.stream rng.new) self.new) }
         ensures certifies { IfGiven result (BatchCertifies (S.meaning self.old.scheme)) }
         ensures names { IfGiven result NamesSomebody }
-        ensures not_ready { is_ready_in S.meaning D.eq self.old TheFinalization ≡ false
+        ensures not_ready { is_ready_kind S.meaning D.eq self.old TheFinalization ≡ false
             → IsLeftAlone result self.old self.new (R.stream rng.old) (R.stream rng.new) }
         ensures unchanged { OnErr result (self.new.holds ≡ self.old.holds) }
         ensures same { SameVerifier self.old self.new }
@@ -462,14 +476,14 @@ impl<S: Scheme<D>, D: Digest> Verifier<S, D> {
         rng: &mut R,
     ) -> Result<Option<Batch<Certificate<S::Certificate, D>>>, AllocError>
         ensures ready { IfOk result (λ given. is_some given
-            ≡ is_ready_in S.meaning D.eq self.old kind) }
+            ≡ is_ready_kind S.meaning D.eq self.old kind) }
         ensures tries { IfGiven result (λ batch. Tries S.meaning self.old kind
             (R.stream rng.old) batch (R.stream rng.new) self.new) }
         ensures certifies { IfGiven result (BatchCertifies (S.meaning self.old.scheme)) }
         ensures names { IfGiven result NamesSomebody }
         ensures sound { IsSound (S.meaning self.old.scheme) D.eq self.old.number self.old.quorum
             self.old.holds }
-        ensures not_ready { is_ready_in S.meaning D.eq self.old kind ≡ false
+        ensures not_ready { is_ready_kind S.meaning D.eq self.old kind ≡ false
             → IsLeftAlone result self.old self.new (R.stream rng.old) (R.stream rng.new) }
         ensures unchanged { OnErr result (self.new.holds ≡ self.old.holds) }
         ensures same { SameVerifier self.old self.new }
@@ -482,7 +496,7 @@ impl<S: Scheme<D>, D: Digest> Verifier<S, D> {
 
     /// What an attempt at a kind's certificate would look at, where the kind is ready.
     pub fn next_attempt(&self, kind: Kind) -> Option<NextAttempt<'_, S::Signature, D>>
-        ensures ready { is_some result ≡ is_ready_in S.meaning D.eq self.now kind }
+        ensures ready { is_some result ≡ is_ready_kind S.meaning D.eq self.now kind }
         ensures subject { option_map (λ a. a.subject) result
             ≡ subject_ready D.eq (S.meaning self.now.scheme).batchable self.now.quorum
             self.now.holds self.now.number kind }
@@ -571,7 +585,7 @@ impl<S: Scheme<D>, D: Digest> Verifier<S, D> {
     fn subject_ready(&self, kind: Kind) -> Option<Subject<D>>
         ensures subject { result ≡ subject_ready D.eq (S.meaning self.now.scheme).batchable
             self.now.quorum self.now.holds self.now.number kind }
-        ensures ready { is_some result ≡ is_ready_in S.meaning D.eq self.now kind }
+        ensures ready { is_some result ≡ is_ready_kind S.meaning D.eq self.now kind }
         ensures sound { IsSound (S.meaning self.now.scheme) D.eq self.now.number self.now.quorum
             self.now.holds }
     {
@@ -614,14 +628,14 @@ impl<S: Scheme<D>, D: Digest> Verifier<S, D> {
         requires { subject_ready D.eq (S.meaning self.now.scheme).batchable self.now.quorum
             self.now.holds self.now.number kind ≡ Some subject }
         ensures attempt { IfOk result (λ a. (
-          outcome_of (verified_tried self.now.holds kind) a.batch a.joining.items,
+          attempt_result (verified_tried self.now.holds kind) a.batch a.joining.items,
           R.stream rng.new,
         )
             ≡ attempt_of (S.meaning self.now.scheme) subject self.now.quorum
             (attestations_of (of_kind self.now.holds.verified kind))
             (attestations_of (of_kind self.now.holds.pending kind)) (R.stream rng.old)) }
         ensures fine { IfOk result (λ a. IsFine (S.meaning self.now.scheme) subject
-            (outcome_of (verified_tried self.now.holds kind) a.batch a.joining.items)) }
+            (attempt_result (verified_tried self.now.holds kind) a.batch a.joining.items)) }
     {
         let scheme: &S = &self.scheme;
         let certification = self.kinds.get(kind);
@@ -667,9 +681,9 @@ impl<S: Scheme<D>, D: Digest> Verifier<S, D> {
         requires ready { subject_ready D.eq (S.meaning self.old.scheme).batchable self.old.quorum
             self.old.holds self.old.number kind ≡ Some subject }
         requires fine { IsFine (S.meaning self.old.scheme) subject
-            (outcome_of (verified_tried self.old.holds kind) tried.batch tried.joining.items) }
+            (attempt_result (verified_tried self.old.holds kind) tried.batch tried.joining.items) }
         ensures takes { IfOk result (λ batch. TakesIn self.old.number self.old.holds kind subject
-            (outcome_of (verified_tried self.old.holds kind) tried.batch tried.joining.items)
+            (attempt_result (verified_tried self.old.holds kind) tried.batch tried.joining.items)
             batch self.new.holds) }
         ensures certifies { IfOk result (BatchCertifies (S.meaning self.old.scheme)) }
         ensures names { IfOk result NamesSomebody }

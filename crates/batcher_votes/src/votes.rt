@@ -1,15 +1,22 @@
 //! The votes of a round: the first of each kind per signer, in full or as facts.
 
-ghost use Rattle.std.specs.Prelude.{ℕ, ◌≡◌, ◌≤◌, ◌<◌, ◌+◌, ◌^◌, true, false, ◌&&◌, ◌||◌, nat_lt, cond, if◌then◌else◌, is_ok, is_some, IsOk, IfOk, IfErr, OnOk, OnErr, Some, None, length, filter, map, slice_set, slice_index_or};
+ghost use Rattle.std.specs.Prelude.{ℕ, ◌≡◌, ◌≤◌, ◌<◌, ◌+◌, ◌^◌, true, false, ◌&&◌, ◌||◌, nat_lt};
+ghost use Rattle.std.specs.Prelude.{cond, if◌then◌else◌, is_ok, is_some, IsOk, IfOk, IfErr, OnOk};
+ghost use Rattle.std.specs.Prelude.{OnErr, Some, None, length, filter, map, slice_set};
+ghost use Rattle.std.specs.Prelude.{slice_index_or};
 ghost use Rattle.std.specs.Option.{option_copied, option_map};
 ghost use Rattle.std.specs.Iterator.{YieldsFirst, item_count};
 ghost use Rattle.batcher_types.specs.declared.messages.Kind.{Kind};
-ghost use Rattle.batcher_types.specs.declared.messages.Kind.TheVariants.{Notarization, Nullification, Finalization};
+ghost use Rattle.batcher_types.specs.declared.messages.Kind.TheVariants.{Notarization};
+ghost use Rattle.batcher_types.specs.declared.messages.Kind.TheVariants.{Nullification};
+ghost use Rattle.batcher_types.specs.declared.messages.Kind.TheVariants.{Finalization};
 ghost use Rattle.batcher_types.specs.Ascending.{IsAscending};
 ghost use Rattle.batcher_types.specs.Lists.{count, is_some_and};
 ghost use Rattle.batcher_types.specs.Votes.{kind_of, attestation_of, is_eligible};
 ghost use Rattle.batcher_votes.specs.RoundState.{of_kind};
-ghost use Rattle.batcher_votes.specs.Entries.{Entry as TheEntry, key_of, part, with_part, seen_in, entries_with, entry_released, votes_in, room_in, vote_at};
+ghost use Rattle.batcher_votes.specs.Entries.{Entry as TheEntry, entry_key, part, with_part};
+ghost use Rattle.batcher_votes.specs.Entries.{seen_in, entries_with, entry_released, votes_in};
+ghost use Rattle.batcher_votes.specs.Entries.{room_in, vote_at};
 ghost use Rattle.batcher_types.specs.Items.{item_of, place_of};
 ghost use Rattle.batcher_votes.specs.Texts.{mode_text, outcome_text};
 
@@ -141,9 +148,9 @@ impl Marks {
 
 // What is known of a signer's votes of the kind, where `place` is that of its entry.
 fn seen_at(entries: &AttributableMap<Entry>, place: Place, kind: Kind) -> Seen
-    ensures seen { (i : ℕ) → place ≡ place_of (map key_of entries.now.items) i
-        → result ≡ seen_in kind (item_of key_of entries.now.items i) }
-    ensures ascending { IsAscending key_of entries.now.items }
+    ensures seen { (i : ℕ) → place ≡ place_of (map entry_key entries.now.items) i
+        → result ≡ seen_in kind (item_of entry_key entries.now.items i) }
+    ensures ascending { IsAscending entry_key entries.now.items }
     ensures few { length entries.now.items ≤ entries.now.participants }
 {
     match entries.get_at(place) {
@@ -157,7 +164,7 @@ fn set_at(entries: &mut AttributableMap<Entry>, index: usize, kind: Kind, seen: 
     requires { index < length entries.old.items }
     ensures items { (default : TheEntry) → entries.new.items ≡ slice_set entries.old.items index
         (with_part kind seen (slice_index_or entries.old.items index default)) }
-    ensures ascending { IsAscending key_of entries.old.items }
+    ensures ascending { IsAscending entry_key entries.old.items }
     ensures participants { entries.new.participants ≡ entries.old.participants }
     ensures room { entries.new.room ≡ entries.old.room }
 {
@@ -172,7 +179,7 @@ fn put_at(
     kind: Kind,
     seen: Seen,
 )
-    requires place { place ≡ place_of (map key_of entries.old.items) signer.0 }
+    requires place { place ≡ place_of (map entry_key entries.old.items) signer.0 }
     requires range { signer.0 < entries.old.participants }
     requires room { IfErr place (λ _. 1 ≤ entries.old.room) }
     ensures items { entries.new.items ≡ entries_with signer kind seen entries.old.items }
@@ -194,7 +201,7 @@ fn insert_entry(
     kind: Kind,
     seen: Seen,
 )
-    requires place { place_of (map key_of entries.old.items) signer.0 ≡ Err index }
+    requires place { place_of (map entry_key entries.old.items) signer.0 ≡ Err index }
     requires range { signer.0 < entries.old.participants }
     requires room { 1 ≤ entries.old.room }
     ensures items { entries.new.items ≡ entries_with signer kind seen entries.old.items }
@@ -270,13 +277,14 @@ impl<G: Copy, D: Digest> Model for VoteTracker<G, D> {
     ghost Value = { TrackerView G D };
 
     ghost use Rattle.std.specs.Prelude.{map};
-    ghost use Rattle.batcher_votes.specs.Entries.{tracked_by, marks_of, key_of, votes_in, room_in, IsTracked};
+    ghost use Rattle.batcher_votes.specs.Entries.{tracked_by, marks_of, entry_key, votes_in};
+    ghost use Rattle.batcher_votes.specs.Entries.{room_in, IsTracked};
 
     ghost view = { λ t. record {
       participants = t.entries.participants;
       mode = t.mode;
       holds = tracked_by (marks_of t.compacted) (votes_in t.kept) t.entries.items;
-      signers = map key_of t.entries.items;
+      signers = map entry_key t.entries.items;
       room = t.entries.room;
       vote_room = room_in t.kept;
     } };
@@ -287,8 +295,11 @@ impl<G: Copy, D: Digest> Model for VoteTracker<G, D> {
 
 impl<G: Copy, D: Digest> VoteTracker<G, D> {
     ghost use Rattle.batcher_types.specs.declared.messages.Vote.TheVariants.{Notarize as NotarizeVote};
-    ghost use Rattle.batcher_votes.specs.TrackerSteps.{nothing_tracked, outcome_of, outcome_by, RecordsKind, ReleasesKind, SameTrackerState, is_known};
-    ghost use Rattle.batcher_votes.specs.TrackerSteps.{is_seen, kept_vote, observed, shown, is_seen_for, is_released_in, KeepsEach, HasRoomToRecord};
+    ghost use Rattle.batcher_votes.specs.TrackerSteps.{nothing_tracked, outcome_of, outcome_by};
+    ghost use Rattle.batcher_votes.specs.TrackerSteps.{RecordsKind, ReleasesKind, SameTrackerState};
+    ghost use Rattle.batcher_votes.specs.TrackerSteps.{is_known, is_seen, kept_vote, observed};
+    ghost use Rattle.batcher_votes.specs.TrackerSteps.{shown, is_seen_for, is_released_in};
+    ghost use Rattle.batcher_votes.specs.TrackerSteps.{KeepsEach, HasRoomToRecord};
     ghost use Rattle.batcher_types.specs.Votes.{signer_of, is_kind};
 
     /// A tracker that keeps votes as the mode says. It takes no memory.

@@ -5,12 +5,12 @@ ghost use Rattle.batcher_votes.specs.declared.votes.Mode.{Mode};
 ghost use Rattle.batcher_histories.specs.Config.{config};
 ghost use Rattle.batcher_histories.specs.Steps.{nothing_held};
 ghost use Rattle.batcher_histories.specs.Runs.{MayCall};
-ghost use Rattle.batcher_promises.specs.Pairs.{IsPairRun, ends_pair};
+ghost use Rattle.batcher_histories.specs.Pairs.{IsPairRun, ends_pair};
 
 use crate::messages::Digest;
 use crate::round::Round;
+use crate::run::lists::{Answer, Call, Ran, step};
 use crate::scheme::Scheme;
-use batcher_run::run::{Answer, Call, Ran, step};
 use rand_core::CryptoRng;
 use std::alloc::{AllocError, Global};
 

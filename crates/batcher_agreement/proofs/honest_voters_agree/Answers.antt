@@ -1,5 +1,4 @@
-use Rattle.std.proofs.Common.{refl}
-use Rattle.batcher_node.specs.Nodes.{node_config}
+use Rattle.batcher_agreement.proofs.Words.{refl, node_config}
 use Rattle.batcher_agreement.proofs.Agreeing.{agree}
 use Rattle.batcher_agreement.proofs.Living.{voters_are_sound}
 use Rattle.batcher_agreement.proofs.honest_voters_agree.Goals as goal

@@ -1,36 +1,14 @@
 -- How a round stays right as it takes in a vote, and what an objection changes.
-use Rattle.std.proofs.Common.{◌≡◌, ◌∙◌, ◌≤◌, ◌+◌, ◌==◌, ◌++◌, ◌∷◌, [], ℕ, Bool, true, false, not, cond, ◌&&◌, ◌||◌, nat_le, nat_lt, List, Option, Some, None, is_some, refl, sym, ap, subst, arith}
-use Rattle.std.proofs.lemmas.Bool.Decides.{nat_tests}
-use Rattle.std.specs.Prelude.{find}
-use Rattle.std.specs.List.{list_any}
-use Rattle.batcher_types.specs.declared.positions.Participant.{Participant}
-use Rattle.batcher_types.specs.declared.messages.Proposal.{Proposal}
-use Rattle.batcher_types.specs.declared.messages.Vote.{Vote}
-use Rattle.batcher_types.specs.declared.messages.Vote.TheVariants.{Notarize as NotarizeVote, Nullify as NullifyVote, Finalize as FinalizeVote}
-use Rattle.batcher_types.specs.declared.messages.Kind.{Kind}
-use Rattle.batcher_types.specs.declared.messages.Kind.TheVariants.{Finalization}
-use Rattle.batcher_histories.specs.declared.answers.Admission.{Admission}
-use Rattle.batcher_votes.specs.declared.votes.Outcome.TheVariants.{Added, Duplicate, Conflicting}
-use Rattle.batcher_types.specs.Ascending.{insert_by}
-use Rattle.batcher_types.specs.Lists.{count, is_some_and}
-use Rattle.batcher_types.specs.Meaning.{Meaning}
-use Rattle.batcher_histories.specs.Config.{Config, sender_in}
-use Rattle.batcher_types.specs.Votes.{is_kind, kind_of, signer_of, is_vote_of, is_of_kind, same_proposal}
-use Rattle.batcher_types.proofs.CountLemmas.{count-append}
-use Rattle.batcher_types.proofs.KindLemmas.{is_kind-refl, is_kind-true}
-use Rattle.batcher_votes.specs.RoundState.{of_kind, Facts, TrackerState, VerifierState, TrackerView, RoundState}
-use Rattle.batcher_votes.specs.TrackerSteps.{Observed, unseen, in_full, as_facts, is_seen, observed, observed_opposite, kept_vote, from_kept, from_facts, known_facts, outcome_of, outcome_by, conflicts_with, RecordsKind, is_released_in}
-use Rattle.batcher_votes.specs.VerifierSteps.{AddsVote, is_buffered, selected_in}
-use Rattle.batcher_histories.specs.Admissions.{same_vote, addition, block_for, mismatch_reason, admission_beside, admission_after, admission_after_facts}
-use Rattle.std.specs.Prelude.{MatchBool}
-use Rattle.std.proofs.lemmas.Option.{none-some}
-use Rattle.std.proofs.lemmas.Bool.{and_parts, or_left}
-use Rattle.batcher_histories.specs.Known.{Known, known_in, admission_from}
-use Rattle.batcher_votes.specs.ProposalStates.{proposal_of}
-use Rattle.batcher_histories.specs.Steps.{IsRight, AfterNetwork, rejection_to, rejection_by, admission, admission_by, admission_named, is_recorded}
-use Rattle.batcher_votes.proofs.VerifierLemmas.RestoredVotes.{count_buffers}
-use Rattle.batcher_votes.specs.ProposalStates.{is_fixed}
-use Rattle.batcher_votes.proofs.VerifierLemmas.FixedProposal.{selects_fixed}
+use Rattle.batcher_histories.proofs.Words.{◌≡◌, ◌∙◌, ◌≤◌, ◌+◌, ◌==◌, ◌++◌, ◌∷◌, [], ℕ, Bool, true, false, not, cond, ◌&&◌, ◌||◌, nat_le, nat_lt, List, Option}
+use Rattle.batcher_histories.proofs.Words.{Some, None, is_some, refl, sym, ap, subst, arith, nat_tests, find, list_any, Participant, Proposal, Vote}
+use Rattle.batcher_histories.proofs.Words.{NotarizeVote, NullifyVote, FinalizeVote, Kind, Finalization, Admission, Added, Duplicate, Conflicting, insert_by}
+use Rattle.batcher_histories.proofs.Words.{count, is_some_and, Meaning, Config, sender_in, is_kind, kind_of, signer_of, is_vote_of, is_of_kind, same_proposal}
+use Rattle.batcher_histories.proofs.Words.{count-append, is_kind-refl, is_kind-true, of_kind, Facts, TrackerState, VerifierState, TrackerView, RoundState}
+use Rattle.batcher_histories.proofs.Words.{Observed, unseen, in_full, as_facts, is_seen, observed, observed_opposite, kept_vote, from_kept, from_facts}
+use Rattle.batcher_histories.proofs.Words.{known_facts, outcome_of, outcome_by, conflicts_with, RecordsKind, is_released_in, AddsVote, is_buffered, selected_in}
+use Rattle.batcher_histories.proofs.Words.{same_vote, addition, block_for, mismatch_reason, admission_beside, admission_after, admission_after_facts, MatchBool}
+use Rattle.batcher_histories.proofs.Words.{none-some, and_parts, or_left, Known, known_in, admission_from, proposal_of, IsRight, AfterNetwork, rejection_to}
+use Rattle.batcher_histories.proofs.Words.{rejection_by, admission, admission_by, admission_named, is_recorded, count_buffers, is_fixed, selects_fixed}
 
 or_true : (b : Bool) → (b || true) ≡ true
 or_true true = refl

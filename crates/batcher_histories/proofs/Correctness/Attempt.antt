@@ -1,35 +1,12 @@
 -- What an attempt at a certificate, and the certificate, keep right of a round.
-use Rattle.std.proofs.Common.{◌≡◌, ◌∙◌, ◌≤◌, ◌+◌, ◌==◌, ◌++◌, [], ℕ, Bool, true, false, cond, ◌&&◌, ◌||◌, nat_le, List, filter, map, length, Option, Some, None, is_some, refl, sym, ap, subst, arith}
-use Rattle.std.specs.Prelude.{if◌then◌else◌, find}
-use Rattle.rand_core.specs.Stream.{Stream}
-use Rattle.batcher_types.specs.declared.positions.Round.{Round}
-use Rattle.batcher_types.specs.declared.messages.Proposal.{Proposal}
-use Rattle.batcher_types.specs.declared.messages.Subject.{Subject}
-use Rattle.batcher_types.specs.declared.messages.Subject.TheVariants.{Notarize as NotarizeSubject, Nullify as NullifySubject, Finalize as FinalizeSubject}
-use Rattle.batcher_types.specs.declared.messages.Attestation.{Attestation}
-use Rattle.batcher_types.specs.declared.messages.Certificate.{Certificate}
-use Rattle.batcher_types.specs.declared.messages.Vote.{Vote}
-use Rattle.batcher_types.specs.declared.messages.Kind.{Kind}
-use Rattle.batcher_votes.specs.declared.verifier.Batch.{Batch}
-use Rattle.batcher_votes.specs.declared.votes.Mode.{Mode}
-use Rattle.batcher_votes.specs.declared.votes.Mode.TheVariants.{Retaining, Releasing, Skipped}
-use Rattle.batcher_types.specs.Lists.{count}
-use Rattle.batcher_types.specs.Attestations.{index_of_signer}
-use Rattle.batcher_types.specs.Meaning.{Meaning}
-use Rattle.batcher_histories.specs.Config.{Config}
-use Rattle.batcher_types.specs.Attempts.{AttemptResult, checked, one_by_one, at_once, attempt_of}
-use Rattle.batcher_types.specs.Votes.{is_kind, signer_of, attestation_of, is_vote_of}
-use Rattle.batcher_votes.specs.RoundState.{of_kind, VerifierState, TrackerView}
-use Rattle.batcher_votes.specs.TrackerSteps.{kept_vote, is_released_in, ReleasesKind, SameTrackerState}
-use Rattle.batcher_votes.specs.VerifierSteps.{TriesKind, SameVerifierState, attestations_of, vote_for}
-use Rattle.batcher_histories.specs.Steps.{IsRight, Fixes}
-use Rattle.batcher_votes.proofs.VerifierLemmas.RestoredVotes.{count_buffers}
-use Rattle.batcher_types.proofs.KindLemmas.{is_kind-true}
-use Rattle.batcher_votes.specs.ProposalStates.{is_fixed, fixes as to_fixed}
-use Rattle.batcher_types.specs.declared.messages.Kind.TheVariants.{Finalization}
-use Rattle.batcher_types.proofs.CountLemmas.{count-append, count-filter_le, count-map}
-use Rattle.batcher_types.proofs.OptionLemmas.{is_some-option_map}
-use Rattle.batcher_votes.proofs.VerifierLemmas.FixedProposal.{fixes_fixed, fixes_any}
+use Rattle.batcher_histories.proofs.Words.{◌≡◌, ◌∙◌, ◌≤◌, ◌+◌, ◌==◌, ◌++◌, [], ℕ, Bool, true, false, cond, ◌&&◌, ◌||◌, nat_le, List, filter, map, length}
+use Rattle.batcher_histories.proofs.Words.{Option, Some, None, is_some, refl, sym, ap, subst, arith, if◌then◌else◌, find, Stream, Round, Proposal, Subject}
+use Rattle.batcher_histories.proofs.Words.{NotarizeSubject, NullifySubject, FinalizeSubject, Attestation, Certificate, Vote, Kind, Batch, Mode, Retaining}
+use Rattle.batcher_histories.proofs.Words.{Releasing, Skipped, count, index_of_signer, Meaning, Config, AttemptResult, checked, one_by_one, at_once, attempt_of}
+use Rattle.batcher_histories.proofs.Words.{is_kind, signer_of, attestation_of, is_vote_of, of_kind, VerifierState, TrackerView, kept_vote, is_released_in}
+use Rattle.batcher_histories.proofs.Words.{ReleasesKind, SameTrackerState, TriesKind, SameVerifierState, attestations_of, vote_for, IsRight, Fixes}
+use Rattle.batcher_histories.proofs.Words.{count_buffers, is_kind-true, is_fixed, to_fixed, Finalization, count-append, count-filter_le, count-map}
+use Rattle.batcher_histories.proofs.Words.{is_some-option_map, fixes_fixed, fixes_any}
 
 module _ {D K G C : Type 0} (m : Meaning D K G C) (subject : Subject D) (q : ℕ)
     (v p : List (Attestation G)) where

@@ -1,28 +1,10 @@
 -- What a round keeps true through its calls.
-use Rattle.std.proofs.Common.{◌≡◌, ◌∙◌, ◌≤◌, ◌==◌, ◌++◌, ◌∷◌, [], ℕ, Bool, true, false, cond, List, length, Option, Some, None, is_some, refl, sym, ap, subst, arith}
-use Rattle.std.specs.Prelude.{find, Result, Ok, Err, OnOk, OnErr}
-use Rattle.std.specs.Option.{option_map}
-use Rattle.std.proofs.lemmas.Option.{none-some}
-use Rattle.batcher_votes.specs.declared.verifier.LeaderFault.{LeaderFault}
-use Rattle.batcher_types.specs.declared.messages.Vote.TheVariants.{Notarize as NotarizeVote}
-use Rattle.batcher_types.specs.declared.positions.Participant.{Participant}
-use Rattle.batcher_types.specs.declared.messages.Notarize.{Notarize}
-use Rattle.batcher_types.specs.declared.messages.Proposal.{Proposal}
-use Rattle.batcher_types.specs.declared.messages.Kind.{Kind}
-use Rattle.batcher_types.specs.declared.messages.Kind.TheVariants.{Notarization, Nullification, Finalization}
-use Rattle.batcher_votes.specs.declared.votes.Mode.{Mode}
-use Rattle.batcher_votes.specs.declared.votes.Mode.TheVariants.{Retaining, Releasing, Skipped}
-use Rattle.batcher_types.specs.Quorum.{quorum_of}
-use Rattle.batcher_types.specs.Lists.{count}
-use Rattle.batcher_types.specs.Meaning.{Meaning}
-use Rattle.batcher_types.specs.Votes.{signer_of, is_vote_of}
-use Rattle.batcher_votes.specs.RoundState.{of_kind, TrackerState, VerifierState, TrackerView}
-use Rattle.batcher_votes.specs.ProposalStates.{is_fixed}
-use Rattle.batcher_votes.specs.TrackerSteps.{kept_vote, nothing_tracked, is_released_in}
-use Rattle.batcher_votes.specs.VerifierSteps.{Buffers, nothing_buffered, SetsLeader, leader_answer}
-use Rattle.batcher_histories.specs.Steps.{IsRight, leader_set_answer}
-use Rattle.batcher_votes.proofs.VerifierLemmas.FixedProposal.{selects_fixed}
-use Rattle.batcher_votes.proofs.VerifierLemmas.RestoredVotes.{count_buffers}
+use Rattle.batcher_histories.proofs.Words.{◌≡◌, ◌∙◌, ◌≤◌, ◌==◌, ◌++◌, ◌∷◌, [], ℕ, Bool, true, false, cond, List, length, Option, Some, None, is_some, refl, sym}
+use Rattle.batcher_histories.proofs.Words.{ap, subst, arith, find, Result, Ok, Err, OnOk, OnErr, option_map, none-some, LeaderFault, NotarizeVote, Participant}
+use Rattle.batcher_histories.proofs.Words.{Notarize, Proposal, Kind, Notarization, Nullification, Finalization, Mode, Retaining, Releasing, Skipped, quorum_of}
+use Rattle.batcher_histories.proofs.Words.{count, Meaning, signer_of, is_vote_of, of_kind, TrackerState, VerifierState, TrackerView, is_fixed, kept_vote}
+use Rattle.batcher_histories.proofs.Words.{nothing_tracked, is_released_in, Buffers, nothing_buffered, SetsLeader, leader_answer, IsRight, leader_set_answer}
+use Rattle.batcher_histories.proofs.Words.{selects_fixed, count_buffers}
 
 -- with nothing held
 module _ {D K G C : Type 0} (m : Meaning D K G C) where

@@ -1,27 +1,13 @@
 -- What comes of own votes, and what certificates from outside keep right.
-use Rattle.std.specs.Prelude.{find, MatchBool}
-use Rattle.std.proofs.Common.{◌≡◌, ◌∙◌, ◌≤◌, ◌==◌, ◌&&◌, ◌||◌, ◌++◌, [], ℕ, Bool, true, false, cond, nat_lt, List, filter, Option, Some, None, is_some, Result, Ok, refl, sym, ap, subst, arith}
-use Rattle.batcher_types.specs.declared.messages.Proposal.{Proposal}
-use Rattle.batcher_types.specs.declared.messages.Vote.{Vote}
-use Rattle.batcher_types.specs.declared.messages.Activity.{Activity}
-use Rattle.batcher_types.specs.declared.messages.Kind.{Kind}
-use Rattle.batcher_types.specs.declared.messages.Kind.TheVariants.{Notarization, Nullification, Finalization}
-use Rattle.batcher_histories.specs.declared.answers.OwnFault.{OwnFault}
-use Rattle.batcher_votes.specs.declared.votes.Mode.{Mode}
-use Rattle.batcher_votes.specs.declared.votes.Mode.TheVariants.{Retaining, Releasing, Skipped}
-use Rattle.batcher_votes.specs.declared.votes.Outcome.{Outcome}
-use Rattle.batcher_votes.specs.declared.votes.Outcome.TheVariants.{Added, Duplicate, Conflicting}
-use Rattle.batcher_types.specs.Lists.{count}
-use Rattle.batcher_types.specs.Meaning.{Meaning}
-use Rattle.batcher_histories.specs.Config.{Config}
-use Rattle.batcher_types.specs.Votes.{is_kind, kind_of, signer_of, is_vote_of, is_eligible}
-use Rattle.batcher_votes.specs.ProposalStates.{proposal_of, fixes, is_fixed}
-use Rattle.batcher_votes.specs.RoundState.{PerKind, of_kind, TrackerState, VerifierState, TrackerView, RoundState}
-use Rattle.batcher_votes.specs.TrackerSteps.{Observed, unseen, in_full, as_facts, shown, observed, observed_opposite, is_seen, kept_vote, outcome_by, outcome_of, is_released_in, conflicts_with, RecordsKind, ReleasesKind, SameTrackerState}
-use Rattle.batcher_votes.specs.VerifierSteps.{AddsVote, MayFix, CompletesKind, restored_by_fix}
-use Rattle.batcher_histories.specs.Steps.{IsRight, AfterOwn, fixed_by, unopposed_result, duplicate_result, own_result, own_result_by, report_by, is_added, is_kept}
-use Rattle.batcher_votes.specs.Soundness.{BuffersOnlyKept}
-use Rattle.batcher_votes.proofs.VerifierLemmas.FixedProposal.{fixes_fixed, fixes_any}
+use Rattle.batcher_histories.proofs.Words.{find, MatchBool, ◌≡◌, ◌∙◌, ◌≤◌, ◌==◌, ◌&&◌, ◌||◌, ◌++◌, [], ℕ, Bool, true, false, cond, nat_lt, List, filter, Option}
+use Rattle.batcher_histories.proofs.Words.{Some, None, is_some, Result, Ok, refl, sym, ap, subst, arith, Proposal, Vote, Activity, Kind, Notarization}
+use Rattle.batcher_histories.proofs.Words.{Nullification, Finalization, OwnFault, Mode, Retaining, Releasing, Skipped, Outcome}
+use Rattle.batcher_histories.proofs.Words.{Added, Duplicate, Conflicting, count, Meaning, Config, is_kind, kind_of, signer_of, is_vote_of, is_eligible}
+use Rattle.batcher_histories.proofs.Words.{proposal_of, fixes, is_fixed, PerKind, of_kind, TrackerState, VerifierState, TrackerView, RoundState}
+use Rattle.batcher_histories.proofs.Words.{Observed, unseen, in_full, as_facts, shown, observed, observed_opposite, is_seen, kept_vote, outcome_by, outcome_of}
+use Rattle.batcher_histories.proofs.Words.{is_released_in, conflicts_with, RecordsKind, ReleasesKind, SameTrackerState, AddsVote, MayFix, CompletesKind}
+use Rattle.batcher_histories.proofs.Words.{restored_by_fix, IsRight, AfterOwn, fixed_by, unopposed_result, duplicate_result, own_result, own_result_by}
+use Rattle.batcher_histories.proofs.Words.{report_by, is_added, is_kept, BuffersOnlyKept, fixes_fixed, fixes_any}
 
 pub ok_is : {A B : Type 0} (a b : A) → ◌≡◌ {A = Result A B} (Ok a) (Ok b) → a ≡ b
 ok_is a b h = cc

@@ -1,19 +1,8 @@
 -- Where no vote is restored, no room is needed.
-use Rattle.std.proofs.Common.{◌≡◌, ◌∙◌, ◌||◌, [], List, ℕ, Bool, true, false, subst, Option, Some, refl, sym, arith}
-use Rattle.batcher_types.specs.declared.messages.Proposal.{Proposal}
-use Rattle.batcher_types.specs.declared.messages.Vote.{Vote}
-use Rattle.batcher_types.specs.declared.messages.Certificate.{Certificate}
-use Rattle.batcher_types.specs.declared.messages.Kind.{Kind}
-use Rattle.batcher_types.specs.declared.messages.Kind.TheVariants.{Notarization, Nullification, Finalization}
-use Rattle.batcher_histories.specs.Config.{Config}
-use Rattle.batcher_types.specs.Votes.{is_kind, has_proposals, proposal_in, kind_certified, subject_certified}
-use Rattle.batcher_votes.specs.ProposalStates.{replaces}
-use Rattle.batcher_votes.specs.RoundState.{PerKind, of_kind, VerifierState, RoundState}
-use Rattle.std.proofs.Math.Nat.{le_trans}
-use Rattle.batcher_types.specs.Lists.{is_some_and}
-use Rattle.batcher_votes.specs.VerifierSteps.{CompletesKind}
-use Rattle.batcher_votes.specs.Soundness.{HasRoomFor, KeepsOtherRoom, WhereItReplaces}
-use Rattle.batcher_histories.specs.Steps.{restored_by, restored_with}
+use Rattle.batcher_histories.proofs.Words.{◌≡◌, ◌∙◌, ◌||◌, [], List, ℕ, Bool, true, false, subst, Option, Some, refl, sym, arith, Proposal, Vote, Certificate}
+use Rattle.batcher_histories.proofs.Words.{Kind, Notarization, Nullification, Finalization, Config, is_kind, has_proposals, proposal_in, kind_certified}
+use Rattle.batcher_histories.proofs.Words.{subject_certified, replaces, PerKind, of_kind, VerifierState, RoundState, le_trans, is_some_and, CompletesKind}
+use Rattle.batcher_histories.proofs.Words.{HasRoomFor, KeepsOtherRoom, WhereItReplaces, restored_by, restored_with}
 
 module _ {D K G C : Type 0} (x : Config D K G C) (held : RoundState G D) (fixed : Proposal D)
     (kind : Kind) (room : PerKind ℕ) (takes : replaces x.same_digest held.buffered.selection fixed

@@ -1,44 +1,25 @@
 -- Whom an attempt names, what it leaves, and what has been tried.
-use Rattle.std.proofs.Common.{inl, inr, ◌≡◌, ℕ, ◌+◌, ◌≤◌, Bool, true, false, not, cond, ◌&&◌, ◌||◌, ◌⊎◌, List, [], ◌∷◌, ◌++◌, length, map, Option, Some, None, refl, ap, sym, ◌∙◌, arith, ⊎_elim, eqb, ltb, leb, subst, length-append}
-use Rattle.std.specs.Prelude.{filter, is_some, IfSome}
-use Rattle.std.proofs.lemmas.Bool.{cases_Bool, and_parts, and_from, or_cases, cond_both, false_from_ne_true, leb-true, le-leb, or_right, true≢false}
-use Rattle.std.proofs.lemmas.Option.{same_Some}
-use Rattle.batcher_histories.specs.Answers.{IsPossible, MayAnswer}
-use Rattle.batcher_votes.specs.VerifierSteps.{have_one_subject, is_enough}
-use Rattle.batcher_histories.specs.FirstVotes.{first_vote, first_votes}
-use Rattle.batcher_histories.specs.History.{Event, History, batch_given}
-use Rattle.batcher_types.specs.Lists.{SameElements, count, is_some_and}
-use Rattle.batcher_votes.specs.ProposalStates.{proposal_of}
-use Rattle.batcher_histories.specs.Selection.{certificate_of, is_restored, fixed_proposal, fixing_evidence, is_certified, leaders_proposal, selected_proposal, selection_by}
-use Rattle.batcher_histories.specs.Config.{Config, quorum_in}
-use Rattle.batcher_histories.specs.Eligible.{fresh_votes, is_among, is_counted, is_ready_by, is_trusted, is_valid, proven_votes, ready_kind, eligible_votes, was_eligible, trials, was_invalid}
-use Rattle.batcher_histories.specs.Represents.{tries_kind}
-use Rattle.batcher_votes.specs.TrackerSteps.{is_skipped}
-use Rattle.batcher_histories.specs.Attempts.{Attempt, AttemptAfter, are_of, bad_signers, certifies_subject, votes_checked}
-use Rattle.batcher_types.specs.Votes.{attestation_of, has_proposals, is_for, is_kind, is_of_kind, is_vote_of, kind_certified, kind_of, same_subject, signer_of, subject_certified, subject_of, is_eligible}
-use Rattle.batcher_types.specs.declared.messages.Certificate.{Certificate}
-use Rattle.batcher_types.specs.declared.messages.Certificate.TheVariants.{Finalization as FinalizationCertificate, Notarization as NotarizationCertificate, Nullification as NullificationCertificate}
-use Rattle.batcher_types.specs.declared.messages.Kind.{Kind}
-use Rattle.batcher_types.specs.declared.messages.Kind.TheVariants.{Finalization, Notarization, Nullification}
-use Rattle.batcher_types.specs.declared.messages.Proposal.{Proposal}
-use Rattle.batcher_types.specs.declared.messages.Subject.{Subject}
-use Rattle.batcher_types.specs.declared.messages.Subject.TheVariants.{Finalize as FinalizeSubject, Notarize as NotarizeSubject, Nullify as NullifySubject}
-use Rattle.batcher_types.specs.declared.messages.Vote.{Vote}
-use Rattle.batcher_types.specs.declared.messages.Vote.TheVariants.{Finalize as FinalizeVote, Notarize as NotarizeVote, Nullify as NullifyVote}
-use Rattle.batcher_types.specs.declared.positions.Participant.{Participant}
-use Rattle.batcher_types.proofs.CountLemmas.{count-append, count-false, count-map, count_same, length_same, keeps_all, count-filter}
-use Rattle.batcher_types.proofs.VoteLemmas.{same_subject-true}
-use Rattle.batcher_types.proofs.KindLemmas.{is_kind-refl, is_kind-true}
-use Rattle.batcher_histories.specs.declared.answers.Answer.{Answer}
-use Rattle.batcher_histories.specs.declared.answers.Answer.TheVariants.{Certificate as CertificateAnswer, Construct as ConstructAnswer, Forward as ForwardAnswer, Leader as LeaderAnswer, Missing as MissingAnswer, Network as NetworkAnswer}
-use Rattle.batcher_histories.specs.declared.answers.Answer.TheVariants.{OutOfMemory as OutOfMemoryAnswer, Own as OwnAnswer, OwnRefused as OwnRefusedAnswer}
-use Rattle.batcher_histories.specs.declared.calls.Call.{Call}
-use Rattle.batcher_histories.specs.declared.calls.Call.TheVariants.{Certificate as CertificateCall, Construct as ConstructCall, Forward as ForwardCall, Leader as LeaderCall, Missing as MissingCall, Network as NetworkCall, Own as OwnCall}
-use Rattle.batcher_votes.specs.declared.verifier.Batch.{Batch}
+use Rattle.batcher_histories.proofs.Words.{inl, inr, ◌≡◌, ℕ, ◌+◌, ◌≤◌, Bool, true, false, not, cond, ◌&&◌, ◌||◌, ◌⊎◌, List, [], ◌∷◌, ◌++◌, length, map, Option}
+use Rattle.batcher_histories.proofs.Words.{Some, None, refl, ap, sym, ◌∙◌, arith, ⊎_elim, eqb, ltb, leb, subst, length-append, filter, is_some, IfSome}
+use Rattle.batcher_histories.proofs.Words.{cases_Bool, and_parts, and_from, or_cases, cond_both, false_from_ne_true, leb-true, le-leb, or_right, true≢false}
+use Rattle.batcher_histories.proofs.Words.{same_Some, IsPossible, MayAnswer, have_one_subject, is_enough, first_vote, first_votes, Event, History, batch_given}
+use Rattle.batcher_histories.proofs.Words.{SameElements, count, is_some_and, proposal_of, certificate_of, is_restored, fixed_proposal, fixing_evidence}
+use Rattle.batcher_histories.proofs.Words.{is_certified, leaders_proposal, selected_proposal, selection_by, Config, quorum_in, fresh_votes, is_among}
+use Rattle.batcher_histories.proofs.Words.{is_counted, is_ready_by, is_trusted, is_valid, proven_votes, ready_kind, eligible_votes, was_eligible, trials}
+use Rattle.batcher_histories.proofs.Words.{was_invalid, tries_kind, is_skipped, Attempt, AttemptAfter, are_of, bad_signers, certifies_subject, votes_checked}
+use Rattle.batcher_histories.proofs.Words.{attestation_of, has_proposals, is_for, is_kind, is_of_kind, is_vote_of, kind_certified, kind_of, same_subject}
+use Rattle.batcher_histories.proofs.Words.{signer_of, subject_certified, subject_of, is_eligible, Certificate, FinalizationCertificate, NotarizationCertificate}
+use Rattle.batcher_histories.proofs.Words.{NullificationCertificate, Kind, Finalization, Notarization, Nullification, Proposal, Subject, FinalizeSubject}
+use Rattle.batcher_histories.proofs.Words.{NotarizeSubject, NullifySubject, Vote, FinalizeVote, NotarizeVote, NullifyVote, Participant, count-append}
+use Rattle.batcher_histories.proofs.Words.{count-false, count-map, count_same, length_same, keeps_all, count-filter, same_subject-true, is_kind-refl}
+use Rattle.batcher_histories.proofs.Words.{is_kind-true, Answer, CertificateAnswer, ConstructAnswer, ForwardAnswer, LeaderAnswer, MissingAnswer, NetworkAnswer}
+use Rattle.batcher_histories.proofs.Words.{OutOfMemoryAnswer, OwnAnswer, OwnRefusedAnswer, Call, CertificateCall, ConstructCall, ForwardCall, LeaderCall}
+use Rattle.batcher_histories.proofs.Words.{MissingCall, NetworkCall, OwnCall, Batch}
 use Rattle.batcher_histories.proofs.History.Distinct.{IsAt, any_count, count_at, first_stays, firsts_apart, positive, some_of, where_holds, option_cases}
 use Rattle.batcher_histories.proofs.History.Laws.{HasLaws}
 use Rattle.batcher_histories.proofs.KnownLemmas.Named.{or_none}
-use Rattle.batcher_histories.proofs.History.Past.{among_eligible, closed_is_empty, count_fresh, count_proven, invalid_after, invalid_in, tried_after, tried_filled}
+use Rattle.batcher_histories.proofs.History.Past.{among_eligible, closed_is_empty, count_fresh, count_proven, invalid_after, invalid_in, tried_after}
+use Rattle.batcher_histories.proofs.History.Past.{tried_filled}
 use Rattle.batcher_histories.proofs.History.Selection.{back_not_counted, certified_before, is_restored_by, leaders_stays}
 
 module _ {D K G C : Type 0} (x : Config D K G C) where

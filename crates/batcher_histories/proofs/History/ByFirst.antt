@@ -1,30 +1,13 @@
 -- What a history answers to votes, by the first votes, by whether their kind is released and by
 -- whether they conflict. What is promised of answers is proved so.
-use Rattle.std.proofs.Common.{◌≡◌, ◌∙◌, ◌==◌, ◌||◌, ◌&&◌, ℕ, Bool, true, false, not, cond, List, Option, Some, None, Result, Err, refl, sym, ap}
-use Rattle.std.proofs.lemmas.Bool.{and_right}
-use Rattle.std.specs.List.{list_any}
-use Rattle.batcher_types.specs.declared.positions.Participant.{Participant}
-use Rattle.batcher_types.specs.declared.messages.Proposal.{Proposal}
-use Rattle.batcher_types.specs.declared.messages.Vote.{Vote}
-use Rattle.batcher_types.specs.declared.messages.Kind.{Kind}
-use Rattle.batcher_types.specs.declared.messages.Kind.TheVariants.{Notarization, Finalization}
-use Rattle.batcher_votes.specs.declared.votes.Outcome.{Outcome}
-use Rattle.batcher_votes.specs.declared.votes.Outcome.TheVariants.{Added, Duplicate, Conflicting}
-use Rattle.batcher_histories.specs.declared.answers.Admission.{Admission}
-use Rattle.batcher_histories.specs.declared.answers.BlockReason.TheVariants.{UnknownParticipant}
-use Rattle.batcher_histories.specs.declared.answers.OwnFault.{OwnFault}
-use Rattle.batcher_types.specs.Lists.{is_empty, is_some_and, exactly_one}
-use Rattle.batcher_types.specs.Votes.{kind_of, signer_of, is_for}
-use Rattle.batcher_votes.specs.RoundState.{Facts}
-use Rattle.batcher_votes.specs.TrackerSteps.{as_facts, in_full, is_seen_for, outcome_by}
-use Rattle.batcher_histories.specs.Config.{Config, sender_in}
-use Rattle.batcher_histories.specs.Admissions.{addition, refusal, block_for, mismatch_reason, conflict_reason, admission_after, admission_after_facts, admission_beside}
-use Rattle.batcher_histories.specs.Known.{known_by, opposite_fault, unopposed_result, own_result_by, admission_by, admission_named, admission_from}
-use Rattle.batcher_histories.specs.History.{History}
-use Rattle.batcher_histories.specs.FirstVotes.{first_vote, first_like, opposite_vote}
-use Rattle.batcher_histories.specs.Selection.{selected_proposal, is_released}
-use Rattle.batcher_histories.specs.Comparison.{compared_votes_of, is_matched, conflicts, facts_of, known_after, known_opposite, has_block}
-use Rattle.batcher_histories.specs.Answers.{network_answer, own_answer}
+use Rattle.batcher_histories.proofs.Words.{◌≡◌, ◌∙◌, ◌==◌, ◌||◌, ◌&&◌, ℕ, Bool, true, false, not, cond, List, Option, Some, None, Result, Err, refl, sym, ap}
+use Rattle.batcher_histories.proofs.Words.{and_right, list_any, Participant, Proposal, Vote, Kind, Notarization, Finalization, Outcome, Added, Duplicate}
+use Rattle.batcher_histories.proofs.Words.{Conflicting, Admission, UnknownParticipant, OwnFault, is_empty, is_some_and, exactly_one, kind_of, signer_of, is_for}
+use Rattle.batcher_histories.proofs.Words.{Facts, as_facts, in_full, is_seen_for, outcome_by, Config, sender_in, addition, refusal, block_for, mismatch_reason}
+use Rattle.batcher_histories.proofs.Words.{conflict_reason, admission_after, admission_after_facts, admission_beside, known_by, admission_from, History}
+use Rattle.batcher_histories.proofs.Words.{first_vote, first_like, opposite_vote, selected_proposal, is_released, compared_votes_of, is_matched, conflicts}
+use Rattle.batcher_histories.proofs.Words.{facts_of, known_after, known_opposite, has_block, network_answer, own_answer}
+use Rattle.batcher_histories.specs.Known.{opposite_fault, unopposed_result, own_result_by, admission_by, admission_named}
 use Rattle.batcher_histories.proofs.KnownLemmas.Observed.{none_compared, nothing_matches}
 
 module _ {D K G C : Type 0} (x : Config D K G C) where

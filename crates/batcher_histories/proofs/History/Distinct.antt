@@ -1,18 +1,10 @@
 -- First votes are of different kinds or signers, and a first vote stays.
-use Rattle.std.proofs.Common.{inl, inr, ◌≡◌, ℕ, ◌+◌, Bool, true, false, not, cond, ◌&&◌, ◌||◌, ◌⊎◌, List, [], ◌∷◌, Option, Some, None, refl, ap, sym, ◌∙◌, arith, ⊎_elim, eqb, ltb, subst}
-use Rattle.std.specs.Prelude.{filter, find, is_some}
-use Rattle.std.specs.List.{list_any}
-use Rattle.std.proofs.lemmas.Bool.{cases_Bool, eqb-true, eq-eqb, and_parts, and_from, or_parts, not-true, false_from_ne_true, lt-ltb, le-ltb}
-use Rattle.batcher_types.specs.declared.messages.Vote.{Vote}
-use Rattle.batcher_types.specs.declared.messages.Kind.{Kind}
-use Rattle.batcher_histories.specs.declared.calls.Call.TheVariants.{Network as NetworkCall, Own as OwnCall, Certificate as CertificateCall, Leader as LeaderCall, Construct as ConstructCall, Forward as ForwardCall, Missing as MissingCall}
-use Rattle.batcher_histories.specs.Config.{Config}
-use Rattle.batcher_types.specs.Lists.{count, is_some_and}
-use Rattle.batcher_types.specs.Votes.{is_kind, kind_of, signer_of, is_vote_of, excludes, are_opposite}
-use Rattle.batcher_types.proofs.KindLemmas.{is_kind-true, is_kind-refl}
-use Rattle.batcher_types.proofs.CountLemmas.{count-filter}
-use Rattle.batcher_histories.specs.History.{Event, History, cast_votes, names_sender}
-use Rattle.batcher_histories.specs.FirstVotes.{is_free, first_votes, first_vote}
+use Rattle.batcher_histories.proofs.Words.{inl, inr, ◌≡◌, ℕ, ◌+◌, Bool, true, false, not, cond, ◌&&◌, ◌||◌, ◌⊎◌, List, [], ◌∷◌, Option, Some, None, refl, ap}
+use Rattle.batcher_histories.proofs.Words.{sym, ◌∙◌, arith, ⊎_elim, eqb, ltb, subst, filter, find, is_some, list_any, cases_Bool, eqb-true, eq-eqb, and_parts}
+use Rattle.batcher_histories.proofs.Words.{and_from, or_parts, not-true, false_from_ne_true, lt-ltb, le-ltb, Vote, Kind, NetworkCall, OwnCall, CertificateCall}
+use Rattle.batcher_histories.proofs.Words.{LeaderCall, ConstructCall, ForwardCall, MissingCall, Config, count, is_some_and, is_kind, kind_of, signer_of}
+use Rattle.batcher_histories.proofs.Words.{is_vote_of, excludes, are_opposite, is_kind-true, is_kind-refl, count-filter, Event, History, cast_votes}
+use Rattle.batcher_histories.proofs.Words.{names_sender, is_free, first_votes, first_vote}
 
 pub positive : (b : Bool) → ltb 0 (cond b 1 0) ≡ b
 positive true = refl

@@ -1,8 +1,6 @@
 -- What the lemmas over histories ask of a configuration: its scheme is lawful, someone takes part,
 -- and digests are the same exactly where they are equal.
-use Rattle.std.proofs.Common.{◌≡◌, ◌≤◌, true}
-use Rattle.batcher_types.specs.Meaning.{IsLawful}
-use Rattle.batcher_histories.specs.Config.{Config, participants_in}
+use Rattle.batcher_histories.proofs.Words.{◌≡◌, ◌≤◌, true, IsLawful, Config, participants_in}
 
 pub record HasLaws {D K G C : Type 0} (x : Config D K G C) : Type 0 where
   pub scheme : IsLawful x.meaning

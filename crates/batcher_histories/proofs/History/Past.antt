@@ -1,26 +1,14 @@
 -- What holds of the first votes, of the trials and of the eligible votes of a history.
-use Rattle.std.proofs.Common.{◌≡◌, ℕ, Bool, true, false, not, ◌&&◌, ◌||◌, List, [], ◌∷◌, map, Option, Some, None, refl, ap, sym, ◌∙◌, ⊎_elim, eqb, ltb, subst}
-use Rattle.std.specs.Prelude.{filter, is_some}
-use Rattle.std.specs.List.{list_any}
-use Rattle.std.proofs.lemmas.Bool.{cases_Bool, and_parts, or_cases, false_from_ne_true}
-use Rattle.std.proofs.lemmas.List.Folds.{list_any-append}
-use Rattle.batcher_histories.specs.FirstVotes.{first_vote, first_votes, is_free, own_first_votes}
-use Rattle.batcher_histories.specs.History.{Event, History, batch_given, own_votes}
-use Rattle.batcher_types.specs.Lists.{count, is_some_and}
-use Rattle.batcher_histories.specs.Selection.{is_restored, is_certified, restored_votes, selected_proposal, votes_restored_by}
-use Rattle.batcher_histories.specs.Config.{Config}
-use Rattle.batcher_histories.specs.Eligible.{fresh_votes, holds_vote, is_among, is_trusted, proven_votes, ready_kind, eligible_votes, was_eligible, trials, was_invalid, with_batch, eligible_among}
-use Rattle.batcher_histories.specs.Represents.{tries_kind}
-use Rattle.batcher_votes.specs.TrackerSteps.{is_skipped}
-use Rattle.batcher_types.specs.Votes.{is_kind, is_of_kind, is_vote_of, kind_of, signer_of, is_eligible}
-use Rattle.batcher_types.specs.declared.messages.Certificate.{Certificate}
-use Rattle.batcher_types.specs.declared.messages.Kind.{Kind}
-use Rattle.batcher_types.specs.declared.messages.Vote.{Vote}
-use Rattle.batcher_types.proofs.CountLemmas.{count-map, count_same, count-filter}
-use Rattle.batcher_types.proofs.KindLemmas.{is_kind-true}
-use Rattle.batcher_histories.specs.declared.calls.Call.TheVariants.{Certificate as CertificateCall, Construct as ConstructCall, Forward as ForwardCall, Leader as LeaderCall, Missing as MissingCall, Network as NetworkCall, Own as OwnCall}
-use Rattle.batcher_votes.specs.declared.verifier.Batch.{Batch}
-use Rattle.batcher_histories.proofs.History.Distinct.{free_apart, new_votes, new_cases, firsts_apart, filled_stays, IsAt, any_count, any_filtered, any_is_found, count_at, positive, some_where}
+use Rattle.batcher_histories.proofs.Words.{◌≡◌, ℕ, Bool, true, false, not, ◌&&◌, ◌||◌, List, [], ◌∷◌, map, Option, Some, None, refl, ap, sym, ◌∙◌, ⊎_elim, eqb}
+use Rattle.batcher_histories.proofs.Words.{ltb, subst, filter, is_some, list_any, cases_Bool, and_parts, or_cases, false_from_ne_true, list_any-append}
+use Rattle.batcher_histories.proofs.Words.{first_vote, first_votes, is_free, own_first_votes, Event, History, batch_given, own_votes, count, is_some_and}
+use Rattle.batcher_histories.proofs.Words.{is_restored, is_certified, restored_votes, selected_proposal, votes_restored_by, Config, fresh_votes, holds_vote}
+use Rattle.batcher_histories.proofs.Words.{is_among, is_trusted, proven_votes, ready_kind, eligible_votes, was_eligible, trials, was_invalid, with_batch}
+use Rattle.batcher_histories.proofs.Words.{eligible_among, tries_kind, is_skipped, is_kind, is_of_kind, is_vote_of, kind_of, signer_of, is_eligible}
+use Rattle.batcher_histories.proofs.Words.{Certificate, Kind, Vote, count-map, count_same, count-filter, is_kind-true, CertificateCall, ConstructCall}
+use Rattle.batcher_histories.proofs.Words.{ForwardCall, LeaderCall, MissingCall, NetworkCall, OwnCall, Batch}
+use Rattle.batcher_histories.proofs.History.Distinct.{free_apart, new_votes, new_cases, firsts_apart, filled_stays, IsAt, any_count, any_filtered, any_is_found}
+use Rattle.batcher_histories.proofs.History.Distinct.{count_at, positive, some_where}
 
 module _ {D K G C : Type 0} (x : Config D K G C) where
   -- the eligible votes of a kind, by signer

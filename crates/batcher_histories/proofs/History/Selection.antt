@@ -1,25 +1,11 @@
 -- How the selection goes on, and which votes a replacement restores.
-use Rattle.std.proofs.Common.{inl, inr, ◌≡◌, Bool, true, false, not, cond, ◌&&◌, ◌||◌, ◌⊎◌, ◌∷◌, Option, Some, None, refl, ap, sym, ◌∙◌, ⊎_elim, subst}
-use Rattle.std.specs.Prelude.{option_and_then}
-use Rattle.std.specs.Option.{option_or}
-use Rattle.std.proofs.lemmas.Bool.{cases_Bool, and_parts, or_parts, not-true, false_from_ne_true, or_right}
-use Rattle.std.proofs.Math.Bool.{and-true}
-use Rattle.batcher_histories.specs.FirstVotes.{first_vote}
-use Rattle.batcher_histories.specs.History.{Event, History}
-use Rattle.batcher_types.specs.Lists.{is_some_and}
-use Rattle.batcher_votes.specs.ProposalStates.{proposal_of, replaces, fixes}
-use Rattle.batcher_histories.specs.Selection.{is_restored, fixed_proposal, fixing_evidence, is_certified, leader_of, leaders_proposal, replacement, selected_proposal, selection_by, selection}
-use Rattle.batcher_histories.specs.Config.{Config}
-use Rattle.batcher_histories.specs.Eligible.{is_counted}
-use Rattle.batcher_votes.specs.TrackerSteps.{is_skipped}
-use Rattle.batcher_types.specs.Votes.{has_proposals, is_for, kind_of, proposal_in, same_proposal, subject_of, is_eligible}
-use Rattle.batcher_types.specs.declared.messages.Kind.{Kind}
-use Rattle.batcher_types.specs.declared.messages.Kind.TheVariants.{Notarization}
-use Rattle.batcher_types.specs.declared.messages.Proposal.{Proposal}
-use Rattle.batcher_types.specs.declared.messages.Vote.{Vote}
-use Rattle.batcher_types.specs.declared.messages.Vote.TheVariants.{Finalize as FinalizeVote, Notarize as NotarizeVote, Nullify as NullifyVote}
-use Rattle.batcher_types.specs.declared.positions.Participant.{Participant}
-use Rattle.batcher_types.proofs.VoteLemmas.{same_proposal-true, same_proposal-refl}
+use Rattle.batcher_histories.proofs.Words.{inl, inr, ◌≡◌, Bool, true, false, not, cond, ◌&&◌, ◌||◌, ◌⊎◌, ◌∷◌, Option, Some, None, refl, ap, sym, ◌∙◌, ⊎_elim}
+use Rattle.batcher_histories.proofs.Words.{subst, option_and_then, option_or, cases_Bool, and_parts, or_parts, not-true, false_from_ne_true, or_right, and-true}
+use Rattle.batcher_histories.proofs.Words.{first_vote, Event, History, is_some_and, proposal_of, replaces, fixes, is_restored, fixed_proposal, fixing_evidence}
+use Rattle.batcher_histories.proofs.Words.{is_certified, leader_of, leaders_proposal, replacement, selected_proposal, selection_by, selection, Config}
+use Rattle.batcher_histories.proofs.Words.{is_counted, is_skipped, has_proposals, is_for, kind_of, proposal_in, same_proposal, subject_of, is_eligible, Kind}
+use Rattle.batcher_histories.proofs.Words.{Notarization, Proposal, Vote, FinalizeVote, NotarizeVote, NullifyVote, Participant, same_proposal-true}
+use Rattle.batcher_histories.proofs.Words.{same_proposal-refl}
 use Rattle.batcher_histories.proofs.History.Distinct.{first_stays}
 use Rattle.batcher_histories.proofs.History.Laws.{HasLaws}
 

@@ -1,18 +1,7 @@
 -- A new round represents the empty history.
-use Rattle.std.proofs.Common.{◌≡◌, Bool, true, false, cond, not, ◌&&◌, ◌||◌, [], None, refl, ap, sym}
-use Rattle.std.specs.Prelude.{filter}
-use Rattle.batcher_types.specs.declared.messages.Kind.{Kind}
-use Rattle.batcher_types.specs.declared.messages.Kind.TheVariants.{Notarization, Nullification, Finalization}
-use Rattle.batcher_votes.specs.declared.votes.Mode.{Mode}
-use Rattle.batcher_votes.specs.declared.votes.Mode.TheVariants.{Retaining, Releasing, Skipped}
-use Rattle.batcher_histories.specs.Config.{Config}
-use Rattle.batcher_types.specs.Lists.{count}
-use Rattle.batcher_types.proofs.ListLemmas.{either_same}
-use Rattle.batcher_votes.specs.TrackerSteps.{is_skipped, is_released_in}
-use Rattle.batcher_histories.specs.Steps.{nothing_held}
-use Rattle.batcher_histories.specs.Selection.{selection_by}
-use Rattle.batcher_histories.specs.Eligible.{is_trusted, was_eligible, was_invalid}
-use Rattle.batcher_histories.specs.Represents.{Represents, RepresentsKind}
+use Rattle.batcher_histories.proofs.Words.{◌≡◌, Bool, true, false, cond, not, ◌&&◌, ◌||◌, [], None, refl, ap, sym, filter, Kind, Notarization, Nullification}
+use Rattle.batcher_histories.proofs.Words.{Finalization, Mode, Retaining, Releasing, Skipped, Config, count, either_same, is_skipped, is_released_in}
+use Rattle.batcher_histories.proofs.Words.{nothing_held, selection_by, is_trusted, was_eligible, was_invalid, Represents, RepresentsKind}
 
 released_at_first : (m : Mode) → is_skipped m ≡ is_released_in m false
 released_at_first Retaining = refl

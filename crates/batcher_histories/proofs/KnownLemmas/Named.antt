@@ -1,35 +1,17 @@
 -- What is answered by what is held is what the history names.
-use Rattle.std.proofs.Common.{◌≡◌, ℕ, Bool, true, false, not, ◌&&◌, List, [], ◌∷◌, ◌++◌, Option, Some, None, refl, ap, sym, ◌∙◌, ⊎_elim, eqb}
-use Rattle.std.specs.Prelude.{filter, find, is_some, option_and_then}
-use Rattle.std.specs.Option.{option_or}
-use Rattle.std.proofs.lemmas.Bool.{cases_Bool, and_parts, false_from_ne_true, and_right, and_left, eqb-true}
-use Rattle.std.proofs.Math.Bool.{and-true}
-use Rattle.batcher_types.specs.declared.positions.Participant.{Participant}
-use Rattle.batcher_types.specs.declared.messages.Proposal.{Proposal}
-use Rattle.batcher_types.specs.declared.messages.Vote.{Vote}
-use Rattle.batcher_types.specs.declared.messages.Vote.TheVariants.{Notarize as NotarizeVote, Nullify as NullifyVote, Finalize as FinalizeVote}
-use Rattle.batcher_types.specs.declared.messages.Kind.{Kind}
-use Rattle.batcher_types.specs.declared.messages.Kind.TheVariants.{Notarization, Nullification, Finalization}
-use Rattle.batcher_types.specs.declared.messages.Certificate.{Certificate}
-use Rattle.batcher_types.specs.declared.messages.Certificate.TheVariants.{Notarization as NotarizationCertificate, Nullification as NullificationCertificate, Finalization as FinalizationCertificate}
-use Rattle.batcher_votes.specs.declared.votes.Mode.{Mode}
-use Rattle.batcher_votes.specs.declared.votes.Mode.TheVariants.{Retaining, Releasing, Skipped}
-use Rattle.batcher_histories.specs.Config.{Config, participants_in}
-use Rattle.batcher_types.specs.Lists.{is_some_and}
-use Rattle.batcher_types.specs.Votes.{is_kind, kind_of, signer_of, proposal_in, kind_certified, subject_certified, has_proposals, is_vote_of, opposes, are_opposite}
-use Rattle.batcher_types.proofs.ListLemmas.{filter_none}
-use Rattle.batcher_types.proofs.KindLemmas.{is_kind-true}
-use Rattle.batcher_votes.specs.ProposalStates.{proposal_of}
-use Rattle.batcher_votes.specs.RoundState.{RoundState}
-use Rattle.batcher_votes.specs.TrackerSteps.{observed_opposite, is_skipped, is_released_in}
-use Rattle.batcher_histories.specs.Steps.{admission, own_result, forward_answer, missing_in, has_block as has_block_held}
-use Rattle.batcher_histories.specs.Known.{known_in, known_by, forward_by, has_block_by, missing_by, network_by, own_by}
-use Rattle.batcher_histories.specs.History.{History, cast_votes}
-use Rattle.batcher_histories.specs.FirstVotes.{first_votes, first_vote}
-use Rattle.batcher_histories.specs.Selection.{selection_by, selected_proposal, is_certified, certificate_of, finalized_by, fixed_proposal, fixing_evidence, leaders_proposal, is_released}
-use Rattle.batcher_histories.specs.Comparison.{compared_votes, is_compared, is_compared_at_release, facts_of, known_opposite, known_after, has_block}
-use Rattle.batcher_histories.specs.Answers.{network_answer, own_answer, forward_after, missing_after}
-use Rattle.batcher_histories.specs.Represents.{Represents}
+use Rattle.batcher_histories.proofs.Words.{◌≡◌, ℕ, Bool, true, false, not, ◌&&◌, List, [], ◌∷◌, ◌++◌, Option, Some, None, refl, ap, sym, ◌∙◌, ⊎_elim, eqb}
+use Rattle.batcher_histories.proofs.Words.{filter, find, is_some, option_and_then, option_or, cases_Bool, and_parts, false_from_ne_true, and_right, and_left}
+use Rattle.batcher_histories.proofs.Words.{eqb-true, and-true, Participant, Proposal, Vote, NotarizeVote, NullifyVote, FinalizeVote, Kind, Notarization}
+use Rattle.batcher_histories.proofs.Words.{Nullification, Finalization, Certificate, NotarizationCertificate, NullificationCertificate, FinalizationCertificate}
+use Rattle.batcher_histories.proofs.Words.{Mode, Retaining, Releasing, Skipped, Config, participants_in, is_some_and}
+use Rattle.batcher_histories.proofs.Words.{is_kind, kind_of, signer_of, proposal_in, kind_certified, subject_certified, has_proposals, is_vote_of}
+use Rattle.batcher_histories.proofs.Words.{opposes, are_opposite, filter_none, is_kind-true, proposal_of, RoundState, observed_opposite}
+use Rattle.batcher_histories.proofs.Words.{is_skipped, is_released_in, admission, own_result}
+use Rattle.batcher_histories.proofs.Words.{forward_answer, missing_in, has_block_held, known_in, known_by, forward_by, has_block_by, missing_by, network_by}
+use Rattle.batcher_histories.proofs.Words.{own_by, History, cast_votes, first_votes, first_vote, selection_by, selection, selected_proposal}
+use Rattle.batcher_histories.proofs.Words.{is_certified, certificate_of, finalized_by, fixed_proposal, fixing_evidence, leaders_proposal, is_released}
+use Rattle.batcher_histories.proofs.Words.{compared_votes, is_compared, is_compared_at_release, facts_of, known_opposite, known_after, has_block}
+use Rattle.batcher_histories.proofs.Words.{network_answer, own_answer, forward_after, missing_after, Represents}
 use Rattle.batcher_histories.proofs.History.Distinct.{found_is_of}
 use Rattle.batcher_histories.proofs.KnownLemmas.Observed.{observed_is}
 

@@ -1,30 +1,15 @@
 -- What a round has observed of a signer is what the history says, and so who has the block.
-use Rattle.std.proofs.Common.{inl, inr, ◌≡◌, ◌<◌, ℕ, Bool, true, false, not, cond, ◌&&◌, ◌||◌, ◌⊎◌, List, [], ◌∷◌, ◌++◌, map, Option, Some, None, refl, ap, sym, ◌∙◌, arith, ⊎_elim, eqb, leb, subst}
-use Rattle.std.specs.Prelude.{filter, find, is_some, is_none, option_and_then}
-use Rattle.std.specs.List.{list_any}
-use Rattle.std.proofs.lemmas.Bool.{cases_Bool, and_parts, or_cases, or_parts, not-false, false_from_ne_true, eqb-true, leb-false, or_right}
-use Rattle.std.proofs.lemmas.List.Folds.{list_any-append}
-use Rattle.batcher_types.specs.declared.messages.Proposal.{Proposal}
-use Rattle.batcher_types.specs.declared.messages.Vote.{Vote}
-use Rattle.batcher_types.specs.declared.messages.Kind.{Kind}
-use Rattle.batcher_types.specs.declared.messages.Kind.TheVariants.{Nullification}
-use Rattle.batcher_histories.specs.declared.calls.Call.{Call}
-use Rattle.batcher_histories.specs.declared.calls.Call.TheVariants.{Network as NetworkCall, Own as OwnCall, Certificate as CertificateCall, Leader as LeaderCall, Construct as ConstructCall, Forward as ForwardCall, Missing as MissingCall}
-use Rattle.batcher_histories.specs.Config.{Config}
-use Rattle.batcher_types.specs.Ascending.{insert_by, ordered_by}
-use Rattle.batcher_types.specs.Lists.{is_some_and}
-use Rattle.batcher_types.specs.Votes.{is_kind, kind_of, signer_of, is_of_kind, is_vote_of, is_for, excludes, opposes, are_opposite}
-use Rattle.batcher_types.proofs.KindLemmas.{is_kind-true}
-use Rattle.batcher_votes.specs.RoundState.{RoundState}
-use Rattle.batcher_votes.specs.TrackerSteps.{from_kept, from_facts, known_facts, kept_vote, observed}
-use Rattle.batcher_histories.specs.History.{Event, History, cast_votes, names_sender}
-use Rattle.batcher_histories.specs.FirstVotes.{is_free, first_votes, first_vote, opposite_vote}
-use Rattle.batcher_histories.specs.Selection.{is_released}
-use Rattle.batcher_histories.specs.Known.{known_by}
-use Rattle.batcher_histories.specs.Comparison.{compared_votes, compared_votes_of, is_compared, is_compared_at_release, facts_of, known_after}
-use Rattle.batcher_histories.specs.Answers.{keeps_nullify}
-use Rattle.batcher_histories.specs.Represents.{Represents, first_by_signer}
-use Rattle.batcher_histories.proofs.History.Distinct.{any_filtered, any_is_found, found_is_of, is_itself, new_votes, firsts_apart, filled_stays, filter_one, some_where}
+use Rattle.batcher_histories.proofs.Words.{inl, inr, ◌≡◌, ◌<◌, ℕ, Bool, true, false, not, cond, ◌&&◌, ◌||◌, ◌⊎◌, List, [], ◌∷◌, ◌++◌, map, Option, Some, None}
+use Rattle.batcher_histories.proofs.Words.{refl, ap, sym, ◌∙◌, arith, ⊎_elim, eqb, leb, subst, filter, find, is_some, is_none, option_and_then, list_any}
+use Rattle.batcher_histories.proofs.Words.{cases_Bool, and_parts, or_cases, or_parts, not-false, false_from_ne_true, eqb-true, leb-false, or_right}
+use Rattle.batcher_histories.proofs.Words.{list_any-append, Proposal, Vote, Kind, Nullification, Call, NetworkCall, OwnCall, CertificateCall, LeaderCall}
+use Rattle.batcher_histories.proofs.Words.{ConstructCall, ForwardCall, MissingCall, Config, insert_by, ordered_by, is_some_and, is_kind, kind_of, signer_of}
+use Rattle.batcher_histories.proofs.Words.{is_of_kind, is_vote_of, is_for, excludes, opposes, are_opposite, is_kind-true, RoundState, from_kept, from_facts}
+use Rattle.batcher_histories.proofs.Words.{known_facts, kept_vote, observed, Event, History, cast_votes, names_sender, is_free, first_votes, first_vote}
+use Rattle.batcher_histories.proofs.Words.{opposite_vote, is_released, known_by, compared_votes, compared_votes_of, is_compared, is_compared_at_release}
+use Rattle.batcher_histories.proofs.Words.{facts_of, known_after, keeps_nullify, Represents, first_by_signer}
+use Rattle.batcher_histories.proofs.History.Distinct.{any_filtered, any_is_found, found_is_of, is_itself, new_votes, firsts_apart, filled_stays, filter_one}
+use Rattle.batcher_histories.proofs.History.Distinct.{some_where}
 
 -- In a list by numbers the first of a number is the first of it.
 pub find_inserted : {X : Type 0} (number : X → ℕ) (p : X → Bool) (i : ℕ) (v : X) (vs : List X)

@@ -1,27 +1,10 @@
 -- Which kind is ready by what is held is what the history names: the order of the buffers makes no
 -- difference.
-use Rattle.std.proofs.Common.{◌≡◌, ◌+◌, Bool, true, not, cond, ◌&&◌, ◌||◌, nat_le, nat_lt, List, [], ◌∷◌, length, Option, Some, is_none, refl, ap, sym, ◌∙◌, arith, subst}
-use Rattle.std.specs.List.{list_all}
-use Rattle.std.proofs.lemmas.Bool.{and_parts, and_from}
-use Rattle.std.specs.Cmp.{both_ways}
-use Rattle.batcher_types.specs.declared.messages.Proposal.{Proposal}
-use Rattle.batcher_types.specs.declared.messages.Subject.{Subject}
-use Rattle.batcher_types.specs.declared.messages.Vote.{Vote}
-use Rattle.batcher_types.specs.declared.messages.Kind.{Kind}
-use Rattle.batcher_histories.specs.Config.{Config, quorum_in}
-use Rattle.batcher_types.specs.Lists.{SameElements}
-use Rattle.batcher_types.specs.Votes.{subject_of, has_proposals, same_subject}
-use Rattle.batcher_types.proofs.CountLemmas.{all_count, length_same, none_fails}
-use Rattle.batcher_types.proofs.VoteLemmas.{same_subject-true, same_subject-refl}
-use Rattle.batcher_votes.specs.ProposalStates.{proposal_of}
-use Rattle.batcher_votes.specs.RoundState.{of_kind, RoundState}
-use Rattle.batcher_votes.specs.VerifierSteps.{have_one_subject, is_enough}
-use Rattle.batcher_histories.specs.Steps.{is_ready_in, kind_tried}
-use Rattle.batcher_histories.specs.History.{History}
-use Rattle.batcher_histories.specs.Selection.{selected_proposal, is_certified}
-use Rattle.batcher_histories.specs.Eligible.{is_ready_by, trials, proven_votes, fresh_votes, ready_kind}
-use Rattle.batcher_histories.specs.Known.{first_ready}
-use Rattle.batcher_histories.specs.Represents.{Represents}
+use Rattle.batcher_histories.proofs.Words.{◌≡◌, ◌+◌, Bool, true, not, cond, ◌&&◌, ◌||◌, nat_le, nat_lt, List, [], ◌∷◌, length, Option, Some, is_none, refl, ap}
+use Rattle.batcher_histories.proofs.Words.{sym, ◌∙◌, arith, subst, list_all, and_parts, and_from, both_ways, Proposal, Subject, Vote, Kind, Config, quorum_in}
+use Rattle.batcher_histories.proofs.Words.{SameElements, subject_of, has_proposals, same_subject, all_count, length_same, none_fails, same_subject-true}
+use Rattle.batcher_histories.proofs.Words.{same_subject-refl, proposal_of, of_kind, RoundState, have_one_subject, is_enough, is_ready_in, kind_tried, History}
+use Rattle.batcher_histories.proofs.Words.{selected_proposal, is_certified, is_ready_by, trials, proven_votes, fresh_votes, ready_kind, first_ready, Represents}
 use Rattle.batcher_histories.proofs.History.Laws.{HasLaws}
 use Rattle.batcher_histories.proofs.History.Attempts.{chosen}
 

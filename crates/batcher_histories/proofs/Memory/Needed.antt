@@ -1,31 +1,12 @@
 -- A call is refused for memory only where the history says that it may need some.
-use Rattle.std.proofs.Common.{◌≡◌, Bool, true, false, [], None, refl, ap, sym, ◌∙◌}
-use Rattle.std.specs.Prelude.{Result, Ok, Err, is_some, is_ok, IsOk, IfErr, OnErr, ◌||◌, not, ℕ}
-use Rattle.std.specs.Result.{result_ok}
-use Rattle.std.proofs.lemmas.Bool.{and_from, not-false}
-use Rattle.batcher_types.specs.declared.messages.Vote.{Vote}
-use Rattle.batcher_types.specs.declared.messages.Kind.{Kind}
-use Rattle.batcher_types.specs.declared.messages.Certificate.{Certificate}
-use Rattle.batcher_types.specs.declared.messages.Kind.TheVariants.{Notarization, Nullification, Finalization}
-use Rattle.batcher_votes.specs.declared.votes.Outcome.{Outcome}
-use Rattle.batcher_votes.specs.declared.votes.Outcome.TheVariants.{Added, Duplicate, Conflicting}
+use Rattle.batcher_histories.proofs.Words.{◌≡◌, Bool, true, false, [], None, refl, ap, sym, ◌∙◌, Result, Ok, Err, is_some, is_ok, IsOk, IfErr, OnErr, ◌||◌, not}
+use Rattle.batcher_histories.proofs.Words.{ℕ, result_ok, and_from, not-false, Vote, Kind, Certificate, Notarization, Nullification, Finalization, Outcome}
+use Rattle.batcher_histories.proofs.Words.{Added, Duplicate, Conflicting, Observed, unseen, in_full, as_facts, is_seen, is_known, observed, kind_of, signer_of}
+use Rattle.batcher_histories.proofs.Words.{OwnFault, NetworkCall, OwnCall, CertificateCall, ConstructCall, CertificateAnswer, Config, is_empty, is_some_and}
+use Rattle.batcher_histories.proofs.Words.{is_some-false, of_kind, RoundState, opposite_fault, unopposed_result, own_result_by, fault_or_memory, is_added}
+use Rattle.batcher_histories.proofs.Words.{admission, own_result, restored_with, kind_tried, History, first_vote, votes_restored_by, ready_kind}
+use Rattle.batcher_histories.proofs.Words.{certificate_answer, has_voted, needs_memory, Represents}
 use Rattle.batcher_histories.specs.declared.answers.OwnFault.TheVariants.{OutOfMemory}
-use Rattle.batcher_votes.specs.TrackerSteps.{Observed, unseen, in_full, as_facts, is_seen, is_known, observed}
-use Rattle.batcher_types.specs.Votes.{kind_of, signer_of}
-use Rattle.batcher_histories.specs.declared.answers.OwnFault.{OwnFault}
-use Rattle.batcher_histories.specs.declared.calls.Call.TheVariants.{Network as NetworkCall, Own as OwnCall, Certificate as CertificateCall, Construct as ConstructCall}
-use Rattle.batcher_histories.specs.declared.answers.Answer.TheVariants.{Certificate as CertificateAnswer}
-use Rattle.batcher_histories.specs.Config.{Config}
-use Rattle.batcher_types.specs.Lists.{is_empty, is_some_and}
-use Rattle.batcher_types.proofs.OptionLemmas.{is_some-false}
-use Rattle.batcher_votes.specs.RoundState.{of_kind, RoundState}
-use Rattle.batcher_histories.specs.Steps.{opposite_fault, unopposed_result, own_result_by, fault_or_memory, is_added, admission, own_result, restored_with, kind_tried}
-use Rattle.batcher_histories.specs.History.{History}
-use Rattle.batcher_histories.specs.FirstVotes.{first_vote}
-use Rattle.batcher_histories.specs.Selection.{votes_restored_by}
-use Rattle.batcher_histories.specs.Eligible.{ready_kind}
-use Rattle.batcher_histories.specs.Answers.{certificate_answer, has_voted, needs_memory}
-use Rattle.batcher_histories.specs.Represents.{Represents}
 use Rattle.batcher_histories.proofs.History.Laws.{HasLaws}
 use Rattle.batcher_histories.proofs.KnownLemmas.Named.{network_same, own_same}
 use Rattle.batcher_histories.proofs.Simulation.FirstVotes.{seen_is}

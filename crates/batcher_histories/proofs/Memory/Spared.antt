@@ -1,26 +1,10 @@
 -- Calls that take no memory, by the history.
-use Rattle.std.proofs.Common.{◌≡◌, Bool, true, false, cond, ◌&&◌, ◌||◌, List, [], ◌∷◌, length, Option, Some, None, refl, ap, sym, ◌∙◌, arith}
-use Rattle.std.specs.Prelude.{filter}
-use Rattle.std.proofs.lemmas.List.{nil_from_length}
-use Rattle.std.proofs.Math.Bool.{and-true}
-use Rattle.batcher_types.specs.declared.messages.Proposal.{Proposal}
-use Rattle.batcher_types.specs.declared.messages.Kind.{Kind}
-use Rattle.batcher_types.specs.declared.messages.Certificate.{Certificate}
-use Rattle.batcher_histories.specs.declared.calls.Call.TheVariants.{Certificate as CertificateCall}
-use Rattle.batcher_histories.specs.declared.answers.Answer.TheVariants.{Certificate as CertificateAnswer}
-use Rattle.batcher_histories.specs.Config.{Config}
-use Rattle.batcher_types.specs.Lists.{count, is_empty}
-use Rattle.batcher_types.specs.Votes.{is_kind, is_of_kind, has_proposals, kind_certified, subject_certified, proposal_in, signer_of, is_eligible}
-use Rattle.batcher_types.proofs.CountLemmas.{count-filter_le, count_same, count-true, count-filter}
-use Rattle.batcher_types.proofs.KindLemmas.{is_kind-refl, is_kind-true}
-use Rattle.batcher_votes.specs.ProposalStates.{proposal_of, replaces, fixes}
-use Rattle.batcher_votes.specs.RoundState.{of_kind, RoundState}
-use Rattle.batcher_votes.specs.VerifierSteps.{restored_by_fix}
-use Rattle.batcher_histories.specs.Steps.{restored_by, restored_with}
-use Rattle.batcher_histories.specs.History.{Event, History}
-use Rattle.batcher_histories.specs.FirstVotes.{first_votes}
-use Rattle.batcher_histories.specs.Selection.{selected_proposal, leader_of, is_certified, leaders_proposal, is_restored, votes_restored_by, is_released}
-use Rattle.batcher_histories.specs.Represents.{Represents, first_by_signer}
+use Rattle.batcher_histories.proofs.Words.{◌≡◌, Bool, true, false, cond, ◌&&◌, ◌||◌, List, [], ◌∷◌, length, Option, Some, None, refl, ap, sym, ◌∙◌, arith}
+use Rattle.batcher_histories.proofs.Words.{filter, nil_from_length, and-true, Proposal, Kind, Certificate, CertificateCall, CertificateAnswer, Config, count}
+use Rattle.batcher_histories.proofs.Words.{is_empty, is_kind, is_of_kind, has_proposals, kind_certified, subject_certified, proposal_in, signer_of, is_eligible}
+use Rattle.batcher_histories.proofs.Words.{count-filter_le, count_same, count-true, count-filter, is_kind-refl, is_kind-true, proposal_of, replaces, fixes}
+use Rattle.batcher_histories.proofs.Words.{of_kind, RoundState, restored_by_fix, restored_by, restored_with, Event, History, first_votes, selected_proposal}
+use Rattle.batcher_histories.proofs.Words.{leader_of, is_certified, leaders_proposal, is_restored, votes_restored_by, is_released, Represents, first_by_signer}
 use Rattle.batcher_histories.proofs.Simulation.Buffers.{count_ordered}
 use Rattle.batcher_histories.proofs.Simulation.Frame.{or_nothing, leaders_same}
 use Rattle.batcher_histories.proofs.Simulation.Restored.{returned, replaced_is}

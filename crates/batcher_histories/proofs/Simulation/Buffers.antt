@@ -1,39 +1,23 @@
 -- The buffers after a call are the fresh and the proven votes of the history with it, for every
 -- call.
-use Rattle.std.proofs.Common.{◌≡◌, ℕ, ◌+◌, Bool, true, false, not, cond, ◌&&◌, ◌||◌, List, [], ◌∷◌, ◌++◌, map, Option, Some, None, refl, ap, sym, ◌∙◌, arith, ⊎_elim, leb, subst}
-use Rattle.std.specs.Prelude.{filter, is_some, IfSome}
-use Rattle.std.proofs.lemmas.Bool.{cases_Bool, and_from, or_parts, cond_both, false_from_ne_true}
-use Rattle.std.proofs.lemmas.List.{append-nil}
-use Rattle.std.proofs.lemmas.List.Folds.{list_any-append}
-use Rattle.std.proofs.lemmas.Option.{same_Some}
-use Rattle.batcher_histories.specs.Answers.{IsPossible, MayAnswer}
-use Rattle.batcher_types.specs.Ascending.{insert_by, ordered_by}
-use Rattle.batcher_histories.specs.FirstVotes.{first_vote, first_votes, is_free, own_first_votes}
-use Rattle.batcher_votes.specs.RoundState.{RoundState, of_kind}
-use Rattle.batcher_histories.specs.History.{Event, History, batch_given, cast_votes, own_votes, sent_votes}
-use Rattle.batcher_types.specs.Lists.{SameElements, count, is_some_and}
-use Rattle.batcher_histories.specs.Selection.{is_restored, is_certified, is_released, restored_votes, selected_proposal, votes_restored_by}
-use Rattle.batcher_histories.specs.Config.{Config, quorum_in}
-use Rattle.batcher_histories.specs.Eligible.{fresh_votes, holds_vote, is_among, is_trusted, is_valid, proven_votes, ready_kind, eligible_votes, was_eligible, trials, eligible_among, was_invalid}
-use Rattle.batcher_histories.specs.Represents.{TriesBuffers, Represents, arrivals, first_by_signer, pending_after, tries_kind, verified_after}
-use Rattle.batcher_votes.specs.TrackerSteps.{is_skipped}
-use Rattle.batcher_histories.specs.Attempts.{Attempt, bad_signers, left_verified, votes_checked}
-use Rattle.batcher_types.specs.Votes.{is_kind, is_of_kind, is_vote_of, kind_of, signer_of, is_eligible}
-use Rattle.batcher_types.specs.declared.messages.Certificate.{Certificate}
-use Rattle.batcher_types.specs.declared.messages.Kind.{Kind}
-use Rattle.batcher_types.specs.declared.messages.Vote.{Vote}
-use Rattle.batcher_types.proofs.CountLemmas.{count-append, count-false, count_same, count-filter}
-use Rattle.batcher_types.proofs.KindLemmas.{is_kind-true}
-use Rattle.batcher_histories.specs.declared.answers.Answer.{Answer}
-use Rattle.batcher_histories.specs.declared.calls.Call.{Call}
-use Rattle.batcher_histories.specs.declared.calls.Call.TheVariants.{Certificate as CertificateCall, Construct as ConstructCall, Forward as ForwardCall, Leader as LeaderCall, Missing as MissingCall, Network as NetworkCall, Own as OwnCall}
-use Rattle.batcher_votes.specs.declared.verifier.Batch.{Batch}
+use Rattle.batcher_histories.proofs.Words.{◌≡◌, ℕ, ◌+◌, Bool, true, false, not, cond, ◌&&◌, ◌||◌, List, [], ◌∷◌, ◌++◌, map, Option, Some, None, refl, ap, sym}
+use Rattle.batcher_histories.proofs.Words.{◌∙◌, arith, ⊎_elim, leb, subst, filter, is_some, IfSome, cases_Bool, and_from, or_parts, cond_both}
+use Rattle.batcher_histories.proofs.Words.{false_from_ne_true, append-nil, list_any-append, same_Some, IsPossible, MayAnswer, insert_by, ordered_by, first_vote}
+use Rattle.batcher_histories.proofs.Words.{first_votes, is_free, own_first_votes, RoundState, of_kind, Event, History, batch_given, cast_votes, own_votes}
+use Rattle.batcher_histories.proofs.Words.{sent_votes, SameElements, count, is_some_and, is_restored, is_certified, is_released, restored_votes}
+use Rattle.batcher_histories.proofs.Words.{selected_proposal, votes_restored_by, Config, quorum_in, fresh_votes, holds_vote, is_among, is_trusted, is_valid}
+use Rattle.batcher_histories.proofs.Words.{proven_votes, ready_kind, eligible_votes, was_eligible, trials, eligible_among, was_invalid, TriesBuffers}
+use Rattle.batcher_histories.proofs.Words.{Represents, arrivals, first_by_signer, pending_after, tries_kind, verified_after, is_skipped, Attempt, bad_signers}
+use Rattle.batcher_histories.proofs.Words.{left_verified, votes_checked, is_kind, is_of_kind, is_vote_of, kind_of, signer_of, is_eligible, Certificate, Kind}
+use Rattle.batcher_histories.proofs.Words.{Vote, count-append, count-false, count_same, count-filter, is_kind-true, Answer, Call, CertificateCall}
+use Rattle.batcher_histories.proofs.Words.{ConstructCall, ForwardCall, LeaderCall, MissingCall, NetworkCall, OwnCall, Batch}
 use Rattle.batcher_histories.proofs.KnownLemmas.Named.{released_where}
 use Rattle.batcher_histories.proofs.History.Distinct.{IsAt, any_filtered, count_sum, firsts_apart, free_is_new, is_itself, new_votes, vote_at, option_cases}
-use Rattle.batcher_histories.proofs.History.Attempts.{any_bad_fresh, back_not_tried, bad_of_all, invalid_tried, is_fresh_bad, tries_by, given_certified, batch_made}
+use Rattle.batcher_histories.proofs.History.Attempts.{any_bad_fresh, back_not_tried, bad_of_all, invalid_tried, is_fresh_bad, tries_by, given_certified}
+use Rattle.batcher_histories.proofs.History.Attempts.{batch_made}
 use Rattle.batcher_histories.proofs.History.Laws.{HasLaws}
-use Rattle.batcher_histories.proofs.History.Past.{among_eligible, closed_is_empty, count_fresh, count_proven, invalid_after, invalid_in, own_filled, own_stays, restored_after, restored_filled, tried_after, tried_filled, nothing_eligible}
-use Rattle.batcher_histories.proofs.History.Past.{open_eligible}
+use Rattle.batcher_histories.proofs.History.Past.{among_eligible, closed_is_empty, count_fresh, count_proven, invalid_after, invalid_in, own_filled, own_stays}
+use Rattle.batcher_histories.proofs.History.Past.{restored_after, restored_filled, tried_after, tried_filled, nothing_eligible, open_eligible}
 use Rattle.batcher_histories.proofs.History.Selection.{back_eligible_after, back_eligible_before, certified_before, waited_before}
 
 fresh_table : (t k w w' own rest td cb T : Bool) →

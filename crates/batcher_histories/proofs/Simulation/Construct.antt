@@ -1,42 +1,20 @@
 -- A construction goes on as the history names: what it tries, what it answers, and what it leaves.
-use Rattle.std.proofs.Common.{inl, inr, ◌≡◌, true, false, cond, ◌||◌, ◌⊎◌, List, [], ◌∷◌, Option, Some, None, IfSome, is_some, refl, ap, sym, ◌∙◌, ⊎_elim, subst}
-use Rattle.std.specs.Prelude.{option_and_then}
-use Rattle.std.specs.Option.{option_or}
-use Rattle.std.proofs.lemmas.Bool.{cases_Bool, and_parts, not-true, or_right, or_left}
-use Rattle.rand_core.specs.Stream.{Stream}
-use Rattle.batcher_types.specs.declared.messages.Proposal.{Proposal}
-use Rattle.batcher_types.specs.declared.messages.Subject.{Subject}
-use Rattle.batcher_types.specs.declared.messages.Vote.{Vote}
-use Rattle.batcher_types.specs.declared.messages.Certificate.{Certificate}
-use Rattle.batcher_types.specs.declared.messages.Kind.{Kind}
-use Rattle.batcher_votes.specs.declared.verifier.Batch.{Batch}
-use Rattle.batcher_histories.specs.declared.calls.Call.TheVariants.{Construct as ConstructCall}
-use Rattle.batcher_histories.specs.declared.answers.Answer.TheVariants.{Construct as ConstructAnswer}
-use Rattle.batcher_histories.specs.Config.{Config, quorum_in}
-use Rattle.batcher_types.specs.Lists.{is_some_and}
-use Rattle.batcher_types.specs.Votes.{is_kind, has_proposals, kind_certified, subject_certified, proposal_in}
-use Rattle.batcher_types.proofs.ListLemmas.{either_same}
-use Rattle.batcher_types.proofs.KindLemmas.{is_kind-true}
-use Rattle.batcher_types.proofs.OptionLemmas.{is_some-option_map}
-use Rattle.batcher_votes.specs.ProposalStates.{proposal_of, fixes}
-use Rattle.batcher_votes.specs.RoundState.{of_kind, VerifierState, RoundState}
-use Rattle.batcher_votes.specs.TrackerSteps.{is_skipped}
-use Rattle.batcher_votes.specs.VerifierSteps.{TriesKind, subject_tried, proposal_tried, first_proposal, certificate_for, batch_of}
-use Rattle.batcher_votes.specs.Soundness.{IsSound}
-use Rattle.batcher_votes.specs.Verifiers.{certifies_itself}
-use Rattle.batcher_histories.specs.Steps.{is_ready_in, Settles, AfterGiven, AfterBatch, AfterConstruct}
-use Rattle.batcher_histories.specs.History.{Event, History}
-use Rattle.batcher_histories.specs.Selection.{leader_of, selection, selected_proposal, fixing_evidence, is_certified, certificate_of, is_restored}
-use Rattle.batcher_histories.specs.Eligible.{eligible_among, ready_kind}
-use Rattle.batcher_histories.specs.Attempts.{Attempt, AttemptAfter, left_verified}
-use Rattle.batcher_histories.specs.Represents.{Represents, Simulates, tries_kind, pending_after, verified_after}
+use Rattle.batcher_histories.proofs.Words.{inl, inr, ◌≡◌, true, false, cond, ◌||◌, ◌⊎◌, List, [], ◌∷◌, Option, Some, None, IfSome, is_some, refl, ap, sym, ◌∙◌}
+use Rattle.batcher_histories.proofs.Words.{⊎_elim, subst, option_and_then, option_or, cases_Bool, and_parts, not-true, or_right, or_left, Stream, Proposal}
+use Rattle.batcher_histories.proofs.Words.{Subject, Vote, Certificate, Kind, Batch, ConstructCall, ConstructAnswer, Config, quorum_in, is_some_and, is_kind}
+use Rattle.batcher_histories.proofs.Words.{has_proposals, kind_certified, subject_certified, proposal_in, either_same, is_kind-true, is_some-option_map}
+use Rattle.batcher_histories.proofs.Words.{proposal_of, fixes, of_kind, VerifierState, RoundState, is_skipped, TriesKind, subject_tried, proposal_tried}
+use Rattle.batcher_histories.proofs.Words.{first_proposal, certificate_for, batch_of, IsSound, certifies_itself, is_ready_in, Settles, AfterGiven, AfterBatch}
+use Rattle.batcher_histories.proofs.Words.{AfterConstruct, Event, History, leader_of, selection, selected_proposal, fixing_evidence, is_certified}
+use Rattle.batcher_histories.proofs.Words.{certificate_of, is_restored, eligible_among, ready_kind, Attempt, AttemptAfter, left_verified, Represents, Simulates}
+use Rattle.batcher_histories.proofs.Words.{tries_kind, pending_after, verified_after, verified_about, made_about}
 use Rattle.batcher_histories.proofs.History.Attempts.{witnessed}
 use Rattle.batcher_histories.proofs.History.Laws.{HasLaws}
-use Rattle.batcher_votes.proofs.VerifierLemmas.Construction.{verified_about}
-use Rattle.batcher_votes.proofs.VerifierLemmas.Certificates.{made_about}
-use Rattle.batcher_histories.proofs.Simulation.Frame.{MovesKind, Moves, followed, certified_same, no_evidence, leader_same, none_back, pending_wait, verified_wait, closed_pending, closed_verified, still_waits}
+use Rattle.batcher_histories.proofs.Simulation.Frame.{MovesKind, Moves, followed, certified_same, no_evidence, leader_same, none_back, pending_wait}
+use Rattle.batcher_histories.proofs.Simulation.Frame.{verified_wait, closed_pending, closed_verified, still_waits}
 use Rattle.batcher_histories.proofs.Simulation.Evidence.{evidence_tried, tried_selected, IsEvidence, none_is_restored}
-use Rattle.batcher_histories.proofs.Simulation.Settled.{constructed, selection_then, evidence_selects, fixes_leader, fixes_selection, fixes_certified, fixes_no_pending, fixes_no_verified, fixes_pending, fixes_verified}
+use Rattle.batcher_histories.proofs.Simulation.Settled.{constructed, selection_then, evidence_selects, fixes_leader, fixes_selection, fixes_certified}
+use Rattle.batcher_histories.proofs.Simulation.Settled.{fixes_no_pending, fixes_no_verified, fixes_pending, fixes_verified}
 use Rattle.batcher_histories.proofs.Simulation.Outcomes.{checked_about, goes_so, attempt_is, left_is}
 use Rattle.batcher_histories.proofs.KnownLemmas.Ready.{tried_is_ready, tried_ready}
 use Rattle.batcher_histories.proofs.Simulation.Released.{tracks_release, tracks_stay, moves_tracked}

@@ -1,37 +1,18 @@
 -- What a vote that a call casts selects, and what waits after it.
-use Rattle.std.proofs.Common.{◌≡◌, Bool, true, false, not, cond, ◌&&◌, ◌||◌, List, [], ◌∷◌, ◌++◌, Option, Some, None, refl, ap, sym, ◌∙◌, ⊎_elim, eqb}
-use Rattle.std.specs.Prelude.{filter, find, option_and_then, MatchBool}
-use Rattle.std.specs.Option.{option_or}
-use Rattle.std.proofs.lemmas.Bool.{cases_Bool, and_parts, and_right, eqb-true, eq-eqb, eqb-false, ne_eqb, not-true, false_from_ne_true}
-use Rattle.std.proofs.lemmas.List.Elements.{filter-append}
-use Rattle.std.proofs.lemmas.List.{append-nil}
-use Rattle.batcher_types.specs.declared.messages.Proposal.{Proposal}
-use Rattle.batcher_types.specs.declared.messages.Vote.{Vote}
-use Rattle.batcher_types.specs.declared.messages.Vote.TheVariants.{Notarize as NotarizeVote, Nullify as NullifyVote, Finalize as FinalizeVote}
-use Rattle.batcher_types.specs.declared.messages.Kind.{Kind}
-use Rattle.batcher_types.specs.declared.messages.Kind.TheVariants.{Notarization}
-use Rattle.batcher_types.specs.declared.positions.Participant.{Participant}
-use Rattle.batcher_votes.specs.declared.verifier.ProposalState.{ProposalState}
-use Rattle.batcher_votes.specs.declared.verifier.ProposalState.TheVariants.{Unknown, Leader as LeadersProposal, Certificate as FixedProposal}
-use Rattle.batcher_votes.specs.declared.votes.Mode.{Mode}
-use Rattle.batcher_votes.specs.declared.votes.Mode.TheVariants.{Retaining, Releasing, Skipped}
-use Rattle.batcher_histories.specs.Config.{Config}
-use Rattle.batcher_types.specs.Lists.{is_some_and}
-use Rattle.batcher_types.specs.Votes.{kind_of, signer_of, subject_of, proposal_in, has_proposals, is_of_kind, is_vote_of, is_eligible}
-use Rattle.batcher_types.proofs.ListLemmas.{filter_again, either_same, filter_none}
-use Rattle.batcher_types.proofs.KindLemmas.{is_kind-true}
-use Rattle.batcher_votes.specs.ProposalStates.{proposal_of, selects, fixes}
-use Rattle.batcher_votes.specs.RoundState.{of_kind, VerifierState, RoundState}
-use Rattle.batcher_votes.specs.TrackerSteps.{is_skipped, is_released_in, RecordsKind}
-use Rattle.batcher_votes.specs.VerifierSteps.{leaders_vote, AddsVote}
-use Rattle.batcher_histories.specs.History.{Event, History}
-use Rattle.batcher_histories.specs.FirstVotes.{first_votes, first_vote}
-use Rattle.batcher_histories.specs.Selection.{leader_of, leader_named, selection_by, selection, selected_proposal, fixed_proposal, fixing_evidence, leaders_proposal, certificate_of, is_certified, is_released, is_restored}
-use Rattle.batcher_histories.specs.Eligible.{eligible_among}
-use Rattle.batcher_histories.specs.Represents.{Represents}
+use Rattle.batcher_histories.proofs.Words.{◌≡◌, Bool, true, false, not, cond, ◌&&◌, ◌||◌, List, [], ◌∷◌, ◌++◌, Option, Some, None, refl, ap, sym, ◌∙◌, ⊎_elim}
+use Rattle.batcher_histories.proofs.Words.{eqb, filter, find, option_and_then, MatchBool, option_or, cases_Bool, and_parts, and_right, eqb-true, eq-eqb}
+use Rattle.batcher_histories.proofs.Words.{eqb-false, ne_eqb, not-true, false_from_ne_true, filter-append, append-nil, Proposal, Vote, NotarizeVote}
+use Rattle.batcher_histories.proofs.Words.{NullifyVote, FinalizeVote, Kind, Notarization, Participant, ProposalState, Unknown, LeadersProposal, FixedProposal}
+use Rattle.batcher_histories.proofs.Words.{Mode, Retaining, Releasing, Skipped, Config, is_some_and, kind_of, signer_of, subject_of, proposal_in, has_proposals}
+use Rattle.batcher_histories.proofs.Words.{is_of_kind, is_vote_of, is_eligible, filter_again, either_same, filter_none, is_kind-true, proposal_of, selects}
+use Rattle.batcher_histories.proofs.Words.{fixes, of_kind, VerifierState, RoundState, is_skipped, is_released_in, RecordsKind, leaders_vote, AddsVote, Event}
+use Rattle.batcher_histories.proofs.Words.{History, first_votes, first_vote, leader_of, leader_named, selection_by, selection, selected_proposal}
+use Rattle.batcher_histories.proofs.Words.{fixed_proposal, fixing_evidence, leaders_proposal, certificate_of, is_certified, is_released, is_restored}
+use Rattle.batcher_histories.proofs.Words.{eligible_among, Represents}
 use Rattle.batcher_histories.proofs.History.Distinct.{free_is_new}
 use Rattle.batcher_histories.proofs.KnownLemmas.Named.{always_released, or_none, released_where, certified_fixes}
-use Rattle.batcher_histories.proofs.Simulation.Frame.{MovesKind, or_nothing, certified_same, released_same, leader_same, none_back, pending_wait, verified_wait, leaders_same}
+use Rattle.batcher_histories.proofs.Simulation.Frame.{MovesKind, or_nothing, certified_same, released_same, leader_same, none_back, pending_wait, verified_wait}
+use Rattle.batcher_histories.proofs.Simulation.Frame.{leaders_same}
 use Rattle.batcher_histories.proofs.Simulation.FirstVotes.{Casts, is_new, is_taken, firsts_are, kept_taken, facts_taken, never_chosen}
 
 -- TABLES

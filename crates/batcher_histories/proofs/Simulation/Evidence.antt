@@ -1,23 +1,10 @@
 -- What a certificate that is given selects: its proposal was the selected one, or none was, so it
 -- takes the place of none.
-use Rattle.std.proofs.Common.{inl, inr, ◌≡◌, true, false, not, cond, ◌⊎◌, Option, Some, None, refl, ap, sym, ◌∙◌, subst}
-use Rattle.std.specs.Prelude.{is_none, option_and_then}
-use Rattle.batcher_types.specs.declared.positions.Round.{Round}
-use Rattle.batcher_types.specs.declared.messages.Proposal.{Proposal}
-use Rattle.batcher_types.specs.declared.messages.Subject.{Subject}
-use Rattle.batcher_types.specs.declared.messages.Subject.TheVariants.{Notarize as NotarizeSubject, Nullify as NullifySubject, Finalize as FinalizeSubject}
-use Rattle.batcher_types.specs.declared.messages.Vote.{Vote}
-use Rattle.batcher_types.specs.declared.messages.Kind.{Kind}
-use Rattle.batcher_types.specs.declared.messages.Kind.TheVariants.{Notarization, Nullification, Finalization}
-use Rattle.batcher_votes.specs.declared.verifier.ProposalState.{ProposalState}
-use Rattle.batcher_votes.specs.declared.verifier.ProposalState.TheVariants.{Unknown, Leader as LeadersProposal, Certificate as FixedProposal}
-use Rattle.batcher_histories.specs.Config.{Config}
-use Rattle.batcher_types.specs.Votes.{has_proposals, proposal_in, same_proposal}
-use Rattle.batcher_types.proofs.VoteLemmas.{same_proposal-refl}
-use Rattle.batcher_votes.specs.ProposalStates.{proposal_of, updated, replaces}
-use Rattle.batcher_votes.specs.VerifierSteps.{subject_from}
-use Rattle.batcher_histories.specs.History.{Event, History}
-use Rattle.batcher_histories.specs.Selection.{selection, selected_proposal, fixing_evidence, replacement, is_restored}
+use Rattle.batcher_histories.proofs.Words.{inl, inr, ◌≡◌, true, false, not, cond, ◌⊎◌, Option, Some, None, refl, ap, sym, ◌∙◌, subst, is_none, option_and_then}
+use Rattle.batcher_histories.proofs.Words.{Round, Proposal, Subject, NotarizeSubject, NullifySubject, FinalizeSubject, Vote, Kind, Notarization, Nullification}
+use Rattle.batcher_histories.proofs.Words.{Finalization, ProposalState, Unknown, LeadersProposal, FixedProposal, Config, has_proposals, proposal_in}
+use Rattle.batcher_histories.proofs.Words.{same_proposal, same_proposal-refl, proposal_of, updated, replaces, subject_from, Event, History, selection}
+use Rattle.batcher_histories.proofs.Words.{selected_proposal, fixing_evidence, replacement, is_restored}
 use Rattle.batcher_histories.proofs.History.Laws.{HasLaws}
 use Rattle.batcher_histories.proofs.History.Selection.{unreplaced}
 

@@ -1,26 +1,12 @@
 -- What a vote that a call casts changes of the first votes, and of what is tracked of its kind.
-use Rattle.std.proofs.Common.{◌≡◌, ℕ, Bool, true, false, not, cond, ◌&&◌, ◌||◌, List, [], ◌∷◌, ◌++◌, map, Option, Some, None, refl, ap, sym, ◌∙◌, ⊎_elim, eqb, leb, subst}
-use Rattle.std.specs.Prelude.{filter, find, is_some, is_none, option_and_then}
-use Rattle.std.specs.List.{list_any}
-use Rattle.std.proofs.lemmas.Bool.{cases_Bool, and_parts, and_right, eqb-true, eq-eqb, eqb-false, ne_eqb}
-use Rattle.batcher_types.specs.declared.messages.Proposal.{Proposal}
-use Rattle.batcher_types.specs.declared.messages.Vote.{Vote}
-use Rattle.batcher_types.specs.declared.messages.Kind.{Kind}
-use Rattle.batcher_histories.specs.Config.{Config}
-use Rattle.batcher_types.specs.Ascending.{insert_by, ordered_by}
-use Rattle.batcher_types.specs.Lists.{is_some_and, is_empty}
-use Rattle.batcher_types.specs.Votes.{is_kind, kind_of, signer_of, has_proposals, is_of_kind, is_vote_of, is_for, excludes, opposes, are_opposite}
-use Rattle.batcher_types.proofs.ListLemmas.{map_same}
-use Rattle.batcher_types.proofs.KindLemmas.{is_kind-true, is_kind-refl}
-use Rattle.batcher_types.proofs.OptionLemmas.{is_some-false}
-use Rattle.batcher_votes.specs.RoundState.{of_kind, Facts, TrackerState, RoundState}
-use Rattle.batcher_votes.specs.TrackerSteps.{is_seen, observed, facts_with, facts_of_kept, no_facts, recorded_facts, RecordsKind}
-use Rattle.batcher_histories.specs.History.{Event, History, cast_votes}
-use Rattle.batcher_histories.specs.FirstVotes.{is_free, first_votes, first_vote, first_like, opposite_vote}
-use Rattle.batcher_histories.specs.Selection.{selected_proposal, is_released}
-use Rattle.batcher_histories.specs.Known.{known_by}
-use Rattle.batcher_histories.specs.Comparison.{compared_votes_of, is_compared, is_matched, facts_of, known_opposite, known_after}
-use Rattle.batcher_histories.specs.Represents.{Represents, first_by_signer}
+use Rattle.batcher_histories.proofs.Words.{◌≡◌, ℕ, Bool, true, false, not, cond, ◌&&◌, ◌||◌, List, [], ◌∷◌, ◌++◌, map, Option, Some, None, refl, ap, sym, ◌∙◌}
+use Rattle.batcher_histories.proofs.Words.{⊎_elim, eqb, leb, subst, filter, find, is_some, is_none, option_and_then, list_any, cases_Bool, and_parts, and_right}
+use Rattle.batcher_histories.proofs.Words.{eqb-true, eq-eqb, eqb-false, ne_eqb, Proposal, Vote, Kind, Config, insert_by, ordered_by, is_some_and, is_empty}
+use Rattle.batcher_histories.proofs.Words.{is_kind, kind_of, signer_of, has_proposals, is_of_kind, is_vote_of, is_for, excludes, opposes, are_opposite}
+use Rattle.batcher_histories.proofs.Words.{map_same, is_kind-true, is_kind-refl, is_some-false, of_kind, Facts, TrackerState, RoundState, is_seen, observed}
+use Rattle.batcher_histories.proofs.Words.{facts_with, facts_of_kept, no_facts, recorded_facts, RecordsKind, Event, History, cast_votes, is_free, first_votes}
+use Rattle.batcher_histories.proofs.Words.{first_vote, first_like, opposite_vote, selected_proposal, is_released, known_by, compared_votes_of, is_compared}
+use Rattle.batcher_histories.proofs.Words.{is_matched, facts_of, known_opposite, known_after, Represents, first_by_signer}
 use Rattle.batcher_histories.proofs.History.Distinct.{new_votes}
 use Rattle.batcher_histories.proofs.KnownLemmas.Observed.{observed_is, facts_known, none_compared}
 use Rattle.batcher_histories.proofs.KnownLemmas.Named.{and_swap}

@@ -1,38 +1,17 @@
 -- How what a history names goes on with one more event, piece by piece, and that a call which moves
 -- what is held so is followed.
-use Rattle.std.proofs.Common.{◌≡◌, ℕ, Bool, true, false, not, cond, ◌&&◌, ◌||◌, List, [], ◌∷◌, ◌++◌, length, map, Option, Some, None, refl, ap, sym, ◌∙◌, ⊎_elim}
-use Rattle.std.specs.Prelude.{filter, option_and_then, find}
-use Rattle.std.specs.List.{list_any}
-use Rattle.std.specs.Option.{option_or}
-use Rattle.std.proofs.lemmas.Bool.{cases_Bool, and_parts}
-use Rattle.std.proofs.lemmas.List.Elements.{filter-append}
-use Rattle.std.proofs.lemmas.List.{nil_from_length, append-nil}
-use Rattle.batcher_types.specs.declared.messages.Proposal.{Proposal}
-use Rattle.batcher_types.specs.declared.messages.Vote.{Vote}
-use Rattle.batcher_types.specs.declared.messages.Kind.{Kind}
-use Rattle.batcher_histories.specs.declared.calls.Call.{Call}
-use Rattle.batcher_histories.specs.declared.answers.Answer.{Answer}
-use Rattle.batcher_histories.specs.Config.{Config}
-use Rattle.batcher_types.specs.Lists.{count, SameElements, is_some_and, is_empty}
-use Rattle.batcher_types.specs.Votes.{is_kind, kind_of, signer_of, has_proposals, kind_certified, subject_certified, proposal_in, is_of_kind, is_vote_of, is_for, is_eligible, subject_of}
-use Rattle.batcher_votes.specs.ProposalStates.{proposal_of}
-use Rattle.batcher_votes.specs.RoundState.{of_kind, RoundState, VerifierState}
-use Rattle.batcher_votes.specs.TrackerSteps.{is_skipped, is_released_in}
-use Rattle.batcher_histories.specs.Runs.{MayCall}
-use Rattle.batcher_histories.specs.History.{Event, History, is_made, cast_votes}
-use Rattle.batcher_histories.specs.FirstVotes.{is_free, first_votes, first_vote}
-use Rattle.batcher_histories.specs.Selection.{selection_by, selection, selected_proposal, leader_of, leader_named, is_certified, certificate_of, finalized_by, fixed_proposal, fixing_evidence, leaders_proposal, was_forwarded, is_restored}
-use Rattle.batcher_histories.specs.Selection.{is_released}
-use Rattle.batcher_histories.specs.Comparison.{compared_votes, compared_votes_of, is_compared, is_compared_at_release, is_matched, facts_of}
-use Rattle.batcher_histories.specs.Eligible.{eligible_among, is_trusted, was_eligible, was_invalid, trials, fresh_votes, proven_votes}
-use Rattle.batcher_histories.specs.Answers.{MayAnswer}
-use Rattle.batcher_histories.specs.Represents.{Represents, Simulates, TriesBuffers, first_by_signer, pending_after, verified_after}
-use Rattle.batcher_votes.specs.VerifierSteps.{still_eligible}
-use Rattle.batcher_types.specs.Ascending.{ordered_by}
-use Rattle.batcher_types.specs.declared.messages.Kind.TheVariants.{Notarization}
-use Rattle.batcher_types.proofs.CountLemmas.{count-false, count_same, filter_all, length_same}
-use Rattle.batcher_types.proofs.ListLemmas.{none_both, open_or_closed, filter_behind}
-use Rattle.batcher_types.proofs.KindLemmas.{is_kind-true}
+use Rattle.batcher_histories.proofs.Words.{◌≡◌, ℕ, Bool, true, false, not, cond, ◌&&◌, ◌||◌, List, [], ◌∷◌, ◌++◌, length, map, Option, Some, None, refl, ap}
+use Rattle.batcher_histories.proofs.Words.{sym, ◌∙◌, ⊎_elim, filter, option_and_then, find, list_any, option_or, cases_Bool, and_parts, filter-append}
+use Rattle.batcher_histories.proofs.Words.{nil_from_length, append-nil, Proposal, Vote, Kind, Call, Answer, Config, count, SameElements, is_some_and, is_empty}
+use Rattle.batcher_histories.proofs.Words.{is_kind, kind_of, signer_of, has_proposals, kind_certified, subject_certified, proposal_in, is_of_kind, is_vote_of}
+use Rattle.batcher_histories.proofs.Words.{is_for, is_eligible, subject_of, proposal_of, of_kind, RoundState, VerifierState, is_skipped, is_released_in}
+use Rattle.batcher_histories.proofs.Words.{MayCall, Event, History, is_made, cast_votes, is_free, first_votes, first_vote, selection_by, selection}
+use Rattle.batcher_histories.proofs.Words.{selected_proposal, leader_of, leader_named, is_certified, certificate_of, finalized_by, fixed_proposal}
+use Rattle.batcher_histories.proofs.Words.{fixing_evidence, leaders_proposal, was_forwarded, is_restored, is_released, compared_votes, compared_votes_of}
+use Rattle.batcher_histories.proofs.Words.{is_compared, is_compared_at_release, is_matched, facts_of, eligible_among, is_trusted, was_eligible, was_invalid}
+use Rattle.batcher_histories.proofs.Words.{trials, fresh_votes, proven_votes, MayAnswer, Represents, Simulates, TriesBuffers, first_by_signer, pending_after}
+use Rattle.batcher_histories.proofs.Words.{verified_after, still_eligible, ordered_by, Notarization, count-false, count_same, filter_all, length_same}
+use Rattle.batcher_histories.proofs.Words.{none_both, open_or_closed, filter_behind, is_kind-true}
 use Rattle.batcher_histories.proofs.History.Distinct.{option_cases}
 use Rattle.batcher_histories.proofs.KnownLemmas.Named.{compared_if_fixed, always_released}
 use Rattle.batcher_histories.proofs.History.Past.{count_fresh, count_proven, closed_is_empty, nothing_eligible, open_eligible}

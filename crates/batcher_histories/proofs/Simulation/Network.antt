@@ -1,33 +1,16 @@
 -- A network vote: what a round does with it is what the history with it names.
-use Rattle.std.proofs.Common.{◌≡◌, Bool, true, false, not, cond, ◌&&◌, [], ◌∷◌, ◌++◌, refl, ap, sym, ◌∙◌, subst}
-use Rattle.std.specs.Prelude.{is_none}
-use Rattle.std.proofs.lemmas.List.{append-nil}
-use Rattle.std.proofs.Math.Bool.{and-true}
-use Rattle.batcher_types.specs.declared.messages.Vote.{Vote}
-use Rattle.batcher_types.specs.declared.messages.Kind.{Kind}
-use Rattle.batcher_histories.specs.declared.answers.Admission.{Admission}
-use Rattle.batcher_histories.specs.declared.calls.Call.TheVariants.{Network as NetworkCall}
-use Rattle.batcher_histories.specs.declared.answers.Answer.TheVariants.{Network as NetworkAnswer}
-use Rattle.batcher_histories.specs.Config.{Config, sender_in}
-use Rattle.batcher_types.specs.Votes.{kind_of, is_of_kind}
-use Rattle.batcher_votes.specs.ProposalStates.{proposal_of}
-use Rattle.batcher_votes.specs.RoundState.{of_kind, RoundState}
-use Rattle.batcher_votes.specs.TrackerSteps.{is_seen, observed_opposite, RecordsKind}
-use Rattle.batcher_histories.specs.Steps.{AfterNetwork}
-use Rattle.batcher_histories.specs.Runs.{MayCall}
-use Rattle.batcher_histories.specs.History.{Event, History, names_sender}
-use Rattle.batcher_histories.specs.FirstVotes.{is_free, first_votes, opposite_vote}
-use Rattle.batcher_histories.specs.Answers.{network_answer}
-use Rattle.batcher_histories.specs.Comparison.{known_after}
+use Rattle.batcher_histories.proofs.Words.{◌≡◌, Bool, true, false, not, cond, ◌&&◌, [], ◌∷◌, ◌++◌, refl, ap, sym, ◌∙◌, subst, is_none, append-nil, and-true}
+use Rattle.batcher_histories.proofs.Words.{Vote, Kind, Admission, NetworkCall, NetworkAnswer, Config, sender_in, kind_of, is_of_kind, proposal_of, of_kind}
+use Rattle.batcher_histories.proofs.Words.{RoundState, is_seen, observed_opposite, RecordsKind, AfterNetwork, MayCall, Event, History, names_sender, is_free}
+use Rattle.batcher_histories.proofs.Words.{first_votes, opposite_vote, network_answer, known_after, eligible_among, Represents, Simulates, pending_after}
+use Rattle.batcher_histories.proofs.Words.{verified_after, selected_in}
 use Rattle.batcher_histories.proofs.Correctness.Admission.{added_from}
-use Rattle.batcher_histories.specs.Eligible.{eligible_among}
-use Rattle.batcher_histories.specs.Represents.{Represents, Simulates, pending_after, verified_after}
-use Rattle.batcher_votes.specs.VerifierSteps.{selected_in}
 use Rattle.batcher_histories.proofs.History.Laws.{HasLaws}
 use Rattle.batcher_histories.proofs.KnownLemmas.Named.{network_same, opposite_same}
 use Rattle.batcher_histories.proofs.Simulation.Frame.{Moves, followed, leader_same}
 use Rattle.batcher_histories.proofs.Simulation.FirstVotes.{filter_given, is_new, is_taken, unseen_opposite, free_known}
-use Rattle.batcher_histories.proofs.Simulation.EligibleVotes.{none_joins, is_kept_new, WaitsAfter, released_selects, eligible_after, moves_kind, with_restored, eligible_unfixed}
+use Rattle.batcher_histories.proofs.Simulation.EligibleVotes.{none_joins, is_kept_new, WaitsAfter, released_selects, eligible_after, moves_kind, with_restored}
+use Rattle.batcher_histories.proofs.Simulation.EligibleVotes.{eligible_unfixed}
 
 added_table : (n k f : Bool) → (n && (k && f)) ≡ (k && ((n && f) && true))
 added_table true true f = sym (and-true f)

@@ -1,40 +1,16 @@
 -- What an attempt of a verifier gives, in terms of the votes that it tries: the way it went, and what
 -- it leaves.
-use Rattle.std.proofs.Common.{inl, inr, ◌≡◌, ◌≤◌, ◌<◌, ◌+◌, ◌⊎◌, ℕ, Bool, true, false, not, cond, nat_le, List, [], ◌∷◌, ◌++◌, length, map, Option, Some, None, IfSome, is_some, is_none, refl, sym, ap, subst, ◌∙◌, ⊎_elim, arith}
-use Rattle.std.proofs.Common.{length-append}
-use Rattle.std.specs.Prelude.{filter}
-use Rattle.std.specs.List.{All, AllPass}
-use Rattle.std.specs.Option.{option_map}
-use Rattle.std.proofs.lemmas.Bool.{cases_Bool, and_parts, and_from}
-use Rattle.std.proofs.lemmas.Bool.Decides.{nat_tests}
-use Rattle.std.proofs.lemmas.List.{length-map, map-append}
-use Rattle.std.proofs.lemmas.List.Elements.{All-nil, All-cons, All-head, All-tail, All-filter, All-append}
-use Rattle.rand_core.specs.Stream.{Stream}
-use Rattle.batcher_types.specs.declared.positions.Participant.{Participant}
-use Rattle.batcher_types.specs.declared.positions.Round.{Round}
-use Rattle.batcher_types.specs.declared.messages.Attestation.{Attestation}
-use Rattle.batcher_types.specs.declared.messages.Proposal.{Proposal}
-use Rattle.batcher_types.specs.declared.messages.Subject.{Subject}
-use Rattle.batcher_types.specs.declared.messages.Vote.{Vote}
-use Rattle.batcher_types.specs.declared.messages.Kind.{Kind}
-use Rattle.batcher_types.specs.declared.messages.Kind.TheVariants.{Notarization, Nullification, Finalization}
-use Rattle.batcher_types.specs.Lists.{EachOnce}
-use Rattle.batcher_types.specs.Attestations.{IsQuorum, signers, failing}
-use Rattle.batcher_types.specs.Meaning.{Meaning, MayTry}
-use Rattle.batcher_histories.specs.Config.{Config, quorum_in, participants_in}
-use Rattle.batcher_types.specs.Votes.{signer_of, subject_of, attestation_of, same_subject}
-use Rattle.batcher_types.specs.Attempts.{AttemptResult, checked, one_by_one, at_once, attempt_with, attempt_of}
-use Rattle.batcher_types.proofs.VoteLemmas.{same_subject-refl}
-use Rattle.batcher_types.proofs.OptionLemmas.{is_some-option_map}
-use Rattle.batcher_votes.specs.VerifierSteps.{attestations_of, vote_for, subject_from, is_enough, certificate_for, batch_of}
-use Rattle.batcher_votes.specs.Soundness.{attests_itself, may_be_buffered}
-use Rattle.batcher_votes.specs.Verifiers.{certifies_itself}
-use Rattle.batcher_histories.specs.Eligible.{is_valid}
-use Rattle.batcher_histories.specs.Attempts.{Attempt, GivenAtOnce, FellBack, OnlyVerified, votes_checked, bad_signers, are_of, certifies_subject, left_verified}
+use Rattle.batcher_histories.proofs.Words.{inl, inr, ◌≡◌, ◌≤◌, ◌<◌, ◌+◌, ◌⊎◌, ℕ, Bool, true, false, not, cond, nat_le, List, [], ◌∷◌, ◌++◌, length, map, Option}
+use Rattle.batcher_histories.proofs.Words.{Some, None, IfSome, is_some, is_none, refl, sym, ap, subst, ◌∙◌, ⊎_elim, arith, length-append, filter, All, AllPass}
+use Rattle.batcher_histories.proofs.Words.{option_map, cases_Bool, and_parts, and_from, nat_tests, length-map, map-append, All-nil, All-cons, All-head}
+use Rattle.batcher_histories.proofs.Words.{All-tail, All-filter, All-append, Stream, Participant, Round, Attestation, Proposal, Subject, Vote, Kind}
+use Rattle.batcher_histories.proofs.Words.{Notarization, Nullification, Finalization, EachOnce, IsQuorum, signers, failing, Meaning, MayTry, Config, quorum_in}
+use Rattle.batcher_histories.proofs.Words.{participants_in, signer_of, subject_of, attestation_of, same_subject, AttemptResult, checked, one_by_one, at_once}
+use Rattle.batcher_histories.proofs.Words.{attempt_with, attempt_of, same_subject-refl, is_some-option_map, attestations_of, vote_for, subject_from, is_enough}
+use Rattle.batcher_histories.proofs.Words.{certificate_for, batch_of, attests_itself, may_be_buffered, certifies_itself, is_valid, Attempt, GivenAtOnce}
+use Rattle.batcher_histories.proofs.Words.{FellBack, OnlyVerified, votes_checked, bad_signers, are_of, certifies_subject, left_verified, IsQuorum-checked}
+use Rattle.batcher_histories.proofs.Words.{attested_about, once_attestations, votes_again, known, certified_subject}
 use Rattle.batcher_histories.proofs.History.Laws.{HasLaws}
-use Rattle.batcher_votes.proofs.VerifierLemmas.CheckedQuorum.{IsQuorum-checked}
-use Rattle.batcher_votes.proofs.VerifierLemmas.Construction.{attested_about, once_attestations, votes_again, known}
-use Rattle.batcher_votes.proofs.VerifierLemmas.Certificates.{certified_subject}
 
 -- THE WAY THAT AN ATTEMPT GOES, with the pending attestations that it checks
 module _ {D K G C : Type 0} (m : Meaning D K G C) (subject : Subject D) (q : ℕ)

@@ -1,43 +1,20 @@
 -- An own vote: what a round does with it is what the history with it names.
-use Rattle.std.proofs.Common.{◌≡◌, Bool, true, false, not, cond, ◌&&◌, [], ◌∷◌, ◌++◌, Option, Some, None, Ok, refl, ap, sym, ◌∙◌, subst}
-use Rattle.std.specs.Prelude.{filter, is_none}
-use Rattle.std.proofs.lemmas.Bool.{or_right}
-use Rattle.std.proofs.lemmas.List.{append-nil}
-use Rattle.std.proofs.Math.Bool.{and-true}
-use Rattle.batcher_types.specs.declared.messages.Proposal.{Proposal}
-use Rattle.batcher_types.specs.declared.messages.Vote.{Vote}
-use Rattle.batcher_types.specs.declared.messages.Vote.TheVariants.{Notarize as NotarizeVote, Nullify as NullifyVote, Finalize as FinalizeVote}
-use Rattle.batcher_types.specs.declared.messages.Kind.{Kind}
-use Rattle.batcher_types.specs.declared.messages.Activity.{Activity}
-use Rattle.batcher_votes.specs.declared.verifier.ProposalState.TheVariants.{Certificate as FixedProposal}
-use Rattle.batcher_votes.specs.declared.votes.Outcome.{Outcome}
-use Rattle.batcher_votes.specs.declared.votes.Outcome.TheVariants.{Duplicate, Conflicting}
-use Rattle.batcher_histories.specs.declared.calls.Call.TheVariants.{Own as OwnCall}
-use Rattle.batcher_histories.specs.declared.answers.Answer.TheVariants.{Own as OwnAnswer}
-use Rattle.batcher_histories.specs.Config.{Config}
-use Rattle.batcher_types.specs.Votes.{kind_of, signer_of, is_of_kind, is_eligible}
-use Rattle.batcher_types.proofs.ListLemmas.{open_or_closed, filter_behind}
-use Rattle.batcher_votes.specs.ProposalStates.{proposal_of, updated, fixes}
-use Rattle.batcher_votes.specs.RoundState.{of_kind, VerifierState, RoundState}
-use Rattle.batcher_votes.specs.TrackerSteps.{is_skipped, outcome_by, RecordsKind}
-use Rattle.batcher_votes.specs.VerifierSteps.{MayFix, FixesProposal, restored_by_fix, selected_in}
-use Rattle.batcher_histories.specs.Steps.{fixed_by, is_kept, AfterOwn}
-use Rattle.batcher_histories.specs.Runs.{MayCall}
-use Rattle.batcher_histories.specs.History.{Event, History}
-use Rattle.batcher_histories.specs.FirstVotes.{is_free, first_votes, first_like, opposite_vote}
-use Rattle.batcher_histories.specs.Selection.{selection, selected_proposal, fixing_evidence, is_restored, is_certified, is_released}
-use Rattle.batcher_histories.specs.Comparison.{conflicts, facts_of, known_after}
-use Rattle.batcher_histories.specs.Eligible.{eligible_among}
-use Rattle.batcher_histories.specs.Answers.{own_answer}
-use Rattle.batcher_histories.specs.Known.{known_by}
+use Rattle.batcher_histories.proofs.Words.{◌≡◌, Bool, true, false, not, cond, ◌&&◌, [], ◌∷◌, ◌++◌, Option, Some, None, Ok, refl, ap, sym, ◌∙◌, subst, filter}
+use Rattle.batcher_histories.proofs.Words.{is_none, or_right, append-nil, and-true, Proposal, Vote, NotarizeVote, NullifyVote, FinalizeVote, Kind, Activity}
+use Rattle.batcher_histories.proofs.Words.{FixedProposal, Outcome, Duplicate, Conflicting, OwnCall, OwnAnswer, Config, kind_of, signer_of, is_of_kind}
+use Rattle.batcher_histories.proofs.Words.{is_eligible, open_or_closed, filter_behind, proposal_of, updated, fixes, of_kind, VerifierState, RoundState}
+use Rattle.batcher_histories.proofs.Words.{is_skipped, outcome_by, RecordsKind, MayFix, FixesProposal, restored_by_fix, selected_in, fixed_by, is_kept}
+use Rattle.batcher_histories.proofs.Words.{AfterOwn, MayCall, Event, History, is_free, first_votes, first_like, opposite_vote, selection, selected_proposal}
+use Rattle.batcher_histories.proofs.Words.{fixing_evidence, is_restored, is_certified, is_released, conflicts, facts_of, known_after, eligible_among}
+use Rattle.batcher_histories.proofs.Words.{own_answer, known_by, Represents, Simulates, pending_after, verified_after}
 use Rattle.batcher_histories.proofs.Correctness.Own.{own_unseen, result_is, may_fix_selects}
 use Rattle.batcher_histories.proofs.KnownLemmas.Observed.{none_from}
-use Rattle.batcher_histories.specs.Represents.{Represents, Simulates, pending_after, verified_after}
 use Rattle.batcher_histories.proofs.History.Laws.{HasLaws}
 use Rattle.batcher_histories.proofs.KnownLemmas.Named.{own_same}
 use Rattle.batcher_histories.proofs.Simulation.Frame.{Moves, followed, leader_same, closed_verified}
 use Rattle.batcher_histories.proofs.Simulation.FirstVotes.{free_is, is_taken, unseen_opposite}
-use Rattle.batcher_histories.proofs.Simulation.EligibleVotes.{none_joins, is_closed, state_fixed, eligible_by, WaitsFixed, WaitsAfter, released_selects, eligible_after, moves_kind, with_restored, eligible_unfixed}
+use Rattle.batcher_histories.proofs.Simulation.EligibleVotes.{none_joins, is_closed, state_fixed, eligible_by, WaitsFixed, WaitsAfter, released_selects}
+use Rattle.batcher_histories.proofs.Simulation.EligibleVotes.{eligible_after, moves_kind, with_restored, eligible_unfixed}
 use Rattle.batcher_histories.proofs.Simulation.Restored.{returned_fixed, nothing_comes}
 
 module _ {D K G C : Type 0} (x : Config D K G C) where

@@ -1,39 +1,18 @@
 -- A recorded certificate is followed: it completes its kind, fixes its proposal, and releases the
 -- votes of its kind.
-use Rattle.std.proofs.Common.{◌≡◌, Bool, true, false, not, cond, ◌&&◌, ◌||◌, List, [], ◌∷◌, ◌++◌, Option, Some, None, refl, ap, sym, ◌∙◌, subst}
-use Rattle.std.specs.Prelude.{filter, is_some, is_none}
-use Rattle.std.specs.Option.{option_or}
-use Rattle.std.proofs.lemmas.Bool.{or_parts, or_right, or_left}
-use Rattle.std.proofs.lemmas.List.{append-nil}
-use Rattle.batcher_types.specs.declared.messages.Proposal.{Proposal}
-use Rattle.batcher_types.specs.declared.messages.Vote.{Vote}
-use Rattle.batcher_types.specs.declared.messages.Kind.{Kind}
-use Rattle.batcher_types.specs.declared.messages.Kind.TheVariants.{Notarization}
-use Rattle.batcher_types.specs.declared.messages.Certificate.{Certificate}
-use Rattle.batcher_types.specs.declared.messages.Certificate.TheVariants.{Notarization as NotarizationCertificate, Nullification as NullificationCertificate, Finalization as FinalizationCertificate}
-use Rattle.batcher_votes.specs.declared.verifier.ProposalState.{ProposalState}
-use Rattle.batcher_votes.specs.declared.verifier.ProposalState.TheVariants.{Unknown, Leader as LeadersProposal, Certificate as FixedProposal}
-use Rattle.batcher_histories.specs.declared.calls.Call.TheVariants.{Certificate as CertificateCall}
-use Rattle.batcher_histories.specs.declared.answers.Answer.TheVariants.{Certificate as CertificateAnswer}
-use Rattle.batcher_histories.specs.Config.{Config}
-use Rattle.batcher_types.specs.Votes.{is_kind, kind_certified, subject_certified, proposal_in, has_proposals, is_eligible}
-use Rattle.batcher_types.proofs.ListLemmas.{filter_none, first_only}
-use Rattle.batcher_types.proofs.VoteLemmas.{same_proposal-refl}
-use Rattle.batcher_types.proofs.KindLemmas.{is_kind-true}
-use Rattle.batcher_votes.specs.ProposalStates.{proposal_of, updated, replaces, same_selected}
-use Rattle.batcher_votes.specs.RoundState.{of_kind, RoundState}
-use Rattle.batcher_votes.specs.TrackerSteps.{is_skipped}
-use Rattle.batcher_votes.specs.VerifierSteps.{still_eligible, restored_by_fix, FixesProposal, MayFix}
-use Rattle.batcher_histories.specs.Steps.{AfterCertificate}
-use Rattle.batcher_histories.specs.Runs.{MayCall}
-use Rattle.batcher_histories.specs.History.{Event, History}
-use Rattle.batcher_histories.specs.Selection.{selection_by, selection, selected_proposal, leader_of, is_certified, fixed_proposal, leaders_proposal, is_restored}
-use Rattle.batcher_histories.specs.Eligible.{eligible_among}
-use Rattle.batcher_histories.specs.Answers.{certificate_answer}
-use Rattle.batcher_histories.specs.Represents.{Represents, Simulates, pending_after, verified_after}
+use Rattle.batcher_histories.proofs.Words.{◌≡◌, Bool, true, false, not, cond, ◌&&◌, ◌||◌, List, [], ◌∷◌, ◌++◌, Option, Some, None, refl, ap, sym, ◌∙◌, subst}
+use Rattle.batcher_histories.proofs.Words.{filter, is_some, is_none, option_or, or_parts, or_right, or_left, append-nil, Proposal, Vote, Kind, Notarization}
+use Rattle.batcher_histories.proofs.Words.{Certificate, NotarizationCertificate, NullificationCertificate, FinalizationCertificate, ProposalState, Unknown}
+use Rattle.batcher_histories.proofs.Words.{LeadersProposal, FixedProposal, CertificateCall, CertificateAnswer, Config, is_kind, kind_certified}
+use Rattle.batcher_histories.proofs.Words.{subject_certified, proposal_in, has_proposals, is_eligible, filter_none, first_only, same_proposal-refl}
+use Rattle.batcher_histories.proofs.Words.{is_kind-true, proposal_of, updated, replaces, same_selected, of_kind, RoundState, is_skipped, still_eligible}
+use Rattle.batcher_histories.proofs.Words.{restored_by_fix, FixesProposal, MayFix, AfterCertificate, MayCall, Event, History, selection_by, selection}
+use Rattle.batcher_histories.proofs.Words.{selected_proposal, leader_of, is_certified, fixed_proposal, leaders_proposal, is_restored, eligible_among}
+use Rattle.batcher_histories.proofs.Words.{certificate_answer, Represents, Simulates, pending_after, verified_after}
 use Rattle.batcher_histories.proofs.KnownLemmas.Named.{certificate_has_proposal}
 use Rattle.batcher_histories.proofs.History.Laws.{HasLaws}
-use Rattle.batcher_histories.proofs.Simulation.Frame.{or_nothing, none_back, closed_verified, pending_wait, verified_wait, MovesKind, followed, leaders_same, still_waits, still_is_eligible, fixed_eligible, eligible_behind}
+use Rattle.batcher_histories.proofs.Simulation.Frame.{or_nothing, none_back, closed_verified, pending_wait, verified_wait, MovesKind, followed, leaders_same}
+use Rattle.batcher_histories.proofs.Simulation.Frame.{still_waits, still_is_eligible, fixed_eligible, eligible_behind}
 use Rattle.batcher_histories.proofs.Simulation.Restored.{returned, nothing_comes}
 use Rattle.batcher_histories.proofs.Simulation.Released.{tracks_release, moves_tracked}
 use Rattle.batcher_histories.proofs.History.Selection.{selection_fixes}

@@ -10,30 +10,14 @@
 -- (event ∷ past)) v
 -- `tracks_release` says so of all that is tracked after `ReleasesKind`, and `tracks_stay` where
 -- nothing is certified.
-use Rattle.std.proofs.Common.{◌≡◌, ℕ, Bool, true, false, not, cond, ◌&&◌, ◌||◌, List, [], ◌∷◌, ◌++◌, map, Option, Some, None, refl, ap, sym, ◌∙◌, ⊎_elim, subst}
-use Rattle.std.specs.Prelude.{filter, is_some, is_none}
-use Rattle.std.specs.List.{All, list_any}
-use Rattle.std.proofs.lemmas.Bool.{cases_Bool, and_parts, eqb-true}
-use Rattle.std.proofs.lemmas.List.Elements.{All-nil, All-cons, All-head, All-tail, All-weaker, filter_passes}
-use Rattle.std.proofs.lemmas.List.{append-nil}
-use Rattle.batcher_types.specs.declared.messages.Proposal.{Proposal}
-use Rattle.batcher_types.specs.declared.messages.Vote.{Vote}
-use Rattle.batcher_types.specs.declared.messages.Kind.{Kind}
-use Rattle.batcher_votes.specs.declared.votes.Mode.{Mode}
-use Rattle.batcher_votes.specs.declared.votes.Mode.TheVariants.{Retaining, Releasing, Skipped}
-use Rattle.batcher_histories.specs.Config.{Config}
-use Rattle.batcher_types.specs.Ordered.{All-ordered}
-use Rattle.batcher_types.specs.Lists.{is_some_and, is_empty}
-use Rattle.batcher_types.specs.Votes.{kind_of, signer_of, has_proposals, is_of_kind, is_vote_of, is_for}
-use Rattle.batcher_types.proofs.ListLemmas.{none_both, filter_again, map_same}
-use Rattle.batcher_types.proofs.KindLemmas.{is_kind-true}
-use Rattle.batcher_votes.specs.RoundState.{of_kind, Facts, TrackerState, RoundState}
-use Rattle.batcher_votes.specs.TrackerSteps.{is_released_in, no_facts, facts_of_kept, ReleasesKind}
-use Rattle.batcher_histories.specs.History.{Event, History, cast_votes}
-use Rattle.batcher_histories.specs.FirstVotes.{first_votes, first_vote, opposite_vote}
-use Rattle.batcher_histories.specs.Selection.{selected_proposal, is_certified, is_released}
-use Rattle.batcher_histories.specs.Comparison.{compared_votes_of, is_compared, is_compared_at_release, facts_of}
-use Rattle.batcher_histories.specs.Represents.{Represents, first_by_signer}
+use Rattle.batcher_histories.proofs.Words.{◌≡◌, ℕ, Bool, true, false, not, cond, ◌&&◌, ◌||◌, List, [], ◌∷◌, ◌++◌, map, Option, Some, None, refl, ap, sym, ◌∙◌}
+use Rattle.batcher_histories.proofs.Words.{⊎_elim, subst, filter, is_some, is_none, All, list_any, cases_Bool, and_parts, eqb-true, All-nil, All-cons, All-head}
+use Rattle.batcher_histories.proofs.Words.{All-tail, All-weaker, filter_passes, append-nil, Proposal, Vote, Kind, Mode, Retaining, Releasing, Skipped, Config}
+use Rattle.batcher_histories.proofs.Words.{All-ordered, is_some_and, is_empty, kind_of, signer_of, has_proposals, is_of_kind, is_vote_of, is_for, none_both}
+use Rattle.batcher_histories.proofs.Words.{filter_again, map_same, is_kind-true, of_kind, Facts, TrackerState, RoundState, is_released_in, no_facts}
+use Rattle.batcher_histories.proofs.Words.{facts_of_kept, ReleasesKind, Event, History, cast_votes, first_votes, first_vote, opposite_vote, selected_proposal}
+use Rattle.batcher_histories.proofs.Words.{is_certified, is_released, compared_votes_of, is_compared, is_compared_at_release, facts_of, Represents}
+use Rattle.batcher_histories.proofs.Words.{first_by_signer}
 use Rattle.batcher_histories.proofs.History.Distinct.{AreApart, IsAt, vote_at, found_behind, found_is_of, firsts_apart, found_here}
 use Rattle.batcher_histories.proofs.Simulation.Frame.{released_same, MovesKind, compared_parts, facts_same, first_by_same}
 use Rattle.batcher_histories.proofs.KnownLemmas.Named.{uncompared_pair, unreleased_pair}

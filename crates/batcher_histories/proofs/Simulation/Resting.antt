@@ -1,47 +1,21 @@
 -- Calls that cast no vote and bring no certificate: a leader, a proposal that is handed on, and a
 -- question.
-use Rattle.std.proofs.Common.{◌≡◌, Bool, true, false, cond, ◌&&◌, ◌||◌, List, [], ◌∷◌, ◌++◌, Option, Some, None, refl, ap, sym, ◌∙◌, subst}
-use Rattle.std.specs.Option.{option_map, option_or}
-use Rattle.std.specs.Prelude.{Err, Result, OnOk, OnErr, filter, find, is_some, IfSome, option_and_then, Ok, MatchBool}
-use Rattle.std.proofs.lemmas.List.{append-nil}
-use Rattle.std.proofs.lemmas.Bool.{or_right}
-use Rattle.batcher_types.specs.declared.messages.Notarize.{Notarize}
-use Rattle.batcher_types.specs.declared.messages.Vote.TheVariants.{Notarize as NotarizeVote}
-use Rattle.batcher_votes.specs.declared.verifier.LeaderFault.{LeaderFault}
-use Rattle.batcher_votes.specs.RoundState.{VerifierState, TrackerState, of_kind, RoundState}
-use Rattle.batcher_types.specs.declared.positions.Participant.{Participant}
-use Rattle.batcher_types.specs.declared.messages.Proposal.{Proposal}
-use Rattle.batcher_types.specs.declared.messages.Vote.{Vote}
-use Rattle.batcher_types.specs.declared.messages.Kind.{Kind}
-use Rattle.batcher_types.specs.declared.messages.Kind.TheVariants.{Notarization}
-use Rattle.batcher_types.specs.declared.messages.Certificate.{Certificate}
-use Rattle.batcher_votes.specs.declared.verifier.Batch.{Batch}
-use Rattle.batcher_histories.specs.declared.calls.Call.{Call}
-use Rattle.batcher_histories.specs.declared.calls.Call.TheVariants.{Leader as LeaderCall, Forward as ForwardCall, Missing as MissingCall}
-use Rattle.batcher_histories.specs.declared.answers.Answer.{Answer}
-use Rattle.batcher_histories.specs.declared.answers.Answer.TheVariants.{Leader as LeaderAnswer, Forward as ForwardAnswer, Missing as MissingAnswer}
-use Rattle.batcher_histories.specs.Config.{Config, participants_in}
-use Rattle.batcher_types.specs.Lists.{is_some_and}
-use Rattle.batcher_types.specs.Votes.{is_kind, subject_of, proposal_in, is_vote_of}
-use Rattle.batcher_types.proofs.ListLemmas.{either_same, filter_none, first_only}
-use Rattle.batcher_votes.specs.ProposalStates.{proposal_of, selects}
-use Rattle.batcher_votes.specs.TrackerSteps.{is_skipped, kept_vote}
-use Rattle.batcher_votes.specs.VerifierSteps.{SetsLeader}
-use Rattle.batcher_histories.specs.Steps.{option_proposal, forward_answer, leader_set_answer, missing_in, AfterLeader}
-use Rattle.batcher_histories.specs.Runs.{MayCall}
-use Rattle.batcher_histories.specs.History.{Event, History, is_made, own_votes, sent_votes, cast_votes, batch_given}
-use Rattle.batcher_histories.specs.FirstVotes.{first_vote}
-use Rattle.batcher_histories.specs.Selection.{selection_by, selection, leader_of, is_certified, certificate_of, finalized_by, fixed_proposal, leaders_proposal, was_forwarded, is_restored}
-use Rattle.batcher_histories.specs.Eligible.{eligible_among, ready_kind}
-use Rattle.batcher_histories.specs.Attempts.{Attempt, left_verified}
-use Rattle.batcher_histories.specs.Answers.{MayAnswer}
-use Rattle.batcher_histories.specs.Represents.{Meets, Represents, Simulates, TriesBuffers, arrivals, pending_after, verified_after}
+use Rattle.batcher_histories.proofs.Words.{◌≡◌, Bool, true, false, cond, ◌&&◌, ◌||◌, List, [], ◌∷◌, ◌++◌, Option, Some, None, refl, ap, sym, ◌∙◌, subst}
+use Rattle.batcher_histories.proofs.Words.{option_map, option_or, Err, Result, OnOk, OnErr, filter, find, is_some, IfSome, option_and_then, Ok, MatchBool}
+use Rattle.batcher_histories.proofs.Words.{append-nil, or_right, Notarize, NotarizeVote, LeaderFault, VerifierState, TrackerState, of_kind, RoundState}
+use Rattle.batcher_histories.proofs.Words.{Participant, Proposal, Vote, Kind, Notarization, Certificate, Batch, Call, LeaderCall, ForwardCall, MissingCall}
+use Rattle.batcher_histories.proofs.Words.{Answer, LeaderAnswer, ForwardAnswer, MissingAnswer, Config, participants_in, is_some_and, is_kind, subject_of}
+use Rattle.batcher_histories.proofs.Words.{proposal_in, is_vote_of, either_same, filter_none, first_only, proposal_of, selects, is_skipped, kept_vote}
+use Rattle.batcher_histories.proofs.Words.{SetsLeader, option_proposal, forward_answer, leader_set_answer, missing_in, AfterLeader, MayCall, Event, History}
+use Rattle.batcher_histories.proofs.Words.{is_made, own_votes, sent_votes, cast_votes, batch_given, first_vote, selection_by, selection, leader_of}
+use Rattle.batcher_histories.proofs.Words.{is_certified, certificate_of, finalized_by, fixed_proposal, leaders_proposal, was_forwarded, is_restored}
+use Rattle.batcher_histories.proofs.Words.{eligible_among, ready_kind, Attempt, left_verified, MayAnswer, Meets, Represents, Simulates, TriesBuffers, arrivals}
+use Rattle.batcher_histories.proofs.Words.{pending_after, verified_after}
 use Rattle.batcher_histories.proofs.KnownLemmas.Observed.{kept_is_first}
 use Rattle.batcher_histories.proofs.KnownLemmas.Named.{forward_same, missing_same, certified_fixes, released_where}
 use Rattle.batcher_histories.proofs.History.Laws.{HasLaws}
 use Rattle.batcher_histories.proofs.Simulation.Frame.{or_nothing, pending_wait, verified_wait, closed_pending, closed_verified, certified_same, no_evidence}
-use Rattle.batcher_histories.proofs.Simulation.Frame.{none_back, MovesKind, followed, leaders_same, still_waits, fixed_eligible, none_kept}
-use Rattle.batcher_histories.proofs.Simulation.Frame.{no_firsts}
+use Rattle.batcher_histories.proofs.Simulation.Frame.{none_back, MovesKind, followed, leaders_same, still_waits, fixed_eligible, none_kept, no_firsts}
 use Rattle.batcher_histories.proofs.Simulation.Released.{TracksKind, tracks_stay, moves_tracked}
 use Rattle.batcher_histories.proofs.History.Selection.{selection_fixes}
 

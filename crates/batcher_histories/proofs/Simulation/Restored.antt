@@ -1,29 +1,12 @@
 -- Which kept votes wait again where a proposal is fixed: by what is held, and by what a history
 -- names.
-use Rattle.std.proofs.Common.{◌≡◌, Bool, true, false, not, cond, ◌&&◌, ◌||◌, List, [], ◌∷◌, Some, None, refl, ap, sym, ◌∙◌, ⊎_elim, ◌++◌}
-use Rattle.std.specs.Prelude.{filter, option_and_then}
-use Rattle.std.proofs.lemmas.Bool.{cases_Bool, or_right}
-use Rattle.std.proofs.Math.Bool.{and-not_self}
-use Rattle.batcher_types.specs.declared.messages.Proposal.{Proposal}
-use Rattle.batcher_types.specs.declared.messages.Vote.{Vote}
-use Rattle.batcher_types.specs.declared.messages.Vote.TheVariants.{Notarize as NotarizeVote, Nullify as NullifyVote, Finalize as FinalizeVote}
-use Rattle.batcher_types.specs.declared.messages.Kind.{Kind}
-use Rattle.batcher_votes.specs.declared.verifier.ProposalState.{ProposalState}
-use Rattle.batcher_votes.specs.declared.verifier.ProposalState.TheVariants.{Unknown, Leader as LeadersProposal, Certificate as FixedProposal}
-use Rattle.batcher_histories.specs.Config.{Config}
-use Rattle.batcher_types.specs.Lists.{count, is_some_and}
-use Rattle.batcher_types.specs.Votes.{kind_of, signer_of, has_proposals, is_of_kind, is_for, is_eligible}
-use Rattle.batcher_types.proofs.CountLemmas.{keeps_all, count-false, count_same, count-filter}
-use Rattle.batcher_types.proofs.ListLemmas.{filter_twice, filter_none, either_same}
-use Rattle.batcher_types.proofs.KindLemmas.{is_kind-true}
-use Rattle.batcher_votes.specs.ProposalStates.{proposal_of, replaces, fixes}
-use Rattle.batcher_votes.specs.RoundState.{of_kind, VerifierState, RoundState}
-use Rattle.batcher_votes.specs.VerifierSteps.{restored_by_fix}
-use Rattle.batcher_histories.specs.History.{Event, History}
-use Rattle.batcher_histories.specs.FirstVotes.{first_votes}
-use Rattle.batcher_histories.specs.Selection.{selection, selected_proposal, is_certified, fixing_evidence, leaders_proposal, is_restored, is_released}
-use Rattle.batcher_histories.specs.Represents.{Represents, first_by_signer}
-use Rattle.batcher_votes.specs.TrackerSteps.{is_skipped}
+use Rattle.batcher_histories.proofs.Words.{◌≡◌, Bool, true, false, not, cond, ◌&&◌, ◌||◌, List, [], ◌∷◌, Some, None, refl, ap, sym, ◌∙◌, ⊎_elim, ◌++◌, filter}
+use Rattle.batcher_histories.proofs.Words.{option_and_then, cases_Bool, or_right, and-not_self, Proposal, Vote, NotarizeVote, NullifyVote, FinalizeVote, Kind}
+use Rattle.batcher_histories.proofs.Words.{ProposalState, Unknown, LeadersProposal, FixedProposal, Config, count, is_some_and, kind_of, signer_of}
+use Rattle.batcher_histories.proofs.Words.{has_proposals, is_of_kind, is_for, is_eligible, keeps_all, count-false, count_same, count-filter, filter_twice}
+use Rattle.batcher_histories.proofs.Words.{filter_none, either_same, is_kind-true, proposal_of, replaces, fixes, of_kind, VerifierState, RoundState}
+use Rattle.batcher_histories.proofs.Words.{restored_by_fix, Event, History, first_votes, selection, selected_proposal, is_certified, fixing_evidence}
+use Rattle.batcher_histories.proofs.Words.{leaders_proposal, is_restored, is_released, Represents, first_by_signer, is_skipped}
 use Rattle.batcher_histories.proofs.Simulation.Buffers.{count_ordered}
 use Rattle.batcher_histories.proofs.History.Selection.{selection_fixes}
 use Rattle.batcher_histories.proofs.Simulation.Frame.{closed_pending, none_kept}

@@ -1,22 +1,7 @@
 -- What the certificate of a construction fixes, of what is held and of what the history names.
-use Rattle.std.proofs.Common.{◌≡◌, true, ◌⊎◌, List, [], ◌∷◌, ◌++◌, Option, Some, None, refl, ap, sym, ◌∙◌}
-use Rattle.batcher_types.specs.declared.messages.Proposal.{Proposal}
-use Rattle.batcher_types.specs.declared.messages.Vote.{Vote}
-use Rattle.batcher_types.specs.declared.messages.Certificate.{Certificate}
-use Rattle.batcher_types.specs.declared.messages.Kind.{Kind}
-use Rattle.batcher_types.proofs.ListLemmas.{either_same}
-use Rattle.batcher_votes.specs.declared.verifier.Batch.{Batch}
-use Rattle.batcher_histories.specs.declared.calls.Call.TheVariants.{Construct as ConstructCall}
-use Rattle.batcher_histories.specs.declared.answers.Answer.TheVariants.{Construct as ConstructAnswer}
-use Rattle.batcher_histories.specs.Config.{Config}
-use Rattle.batcher_votes.specs.ProposalStates.{proposal_of, fixes}
-use Rattle.batcher_votes.specs.RoundState.{of_kind, VerifierState}
-use Rattle.batcher_votes.specs.TrackerSteps.{is_skipped}
-use Rattle.batcher_votes.specs.VerifierSteps.{still_eligible}
-use Rattle.batcher_histories.specs.Steps.{Fixes}
-use Rattle.batcher_histories.specs.History.{Event, History}
-use Rattle.batcher_histories.specs.Selection.{selection, selected_proposal, fixing_evidence, is_certified}
-use Rattle.batcher_histories.specs.Eligible.{eligible_among}
+use Rattle.batcher_histories.proofs.Words.{◌≡◌, true, ◌⊎◌, List, [], ◌∷◌, ◌++◌, Option, Some, None, refl, ap, sym, ◌∙◌, Proposal, Vote, Certificate, Kind}
+use Rattle.batcher_histories.proofs.Words.{either_same, Batch, ConstructCall, ConstructAnswer, Config, proposal_of, fixes, of_kind, VerifierState, is_skipped}
+use Rattle.batcher_histories.proofs.Words.{still_eligible, Fixes, Event, History, selection, selected_proposal, fixing_evidence, is_certified, eligible_among}
 use Rattle.batcher_histories.proofs.Simulation.Frame.{leader_same, fixed_eligible, leaders_same}
 use Rattle.batcher_histories.proofs.Simulation.Evidence.{selected_then}
 use Rattle.batcher_histories.proofs.History.Selection.{selection_fixes}

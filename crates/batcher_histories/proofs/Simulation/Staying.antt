@@ -1,26 +1,9 @@
 -- What stays in the buffers at a construction.
-use Rattle.std.proofs.Common.{◌≡◌, Bool, true, false, cond, ◌||◌, nat_le, List, [], ◌∷◌, ◌++◌, length, Option, refl, ap, ◌∙◌, ◌&&◌, sym}
-use Rattle.std.specs.Prelude.{filter}
-use Rattle.std.proofs.lemmas.List.Elements.{filter-append, filter_agree}
-use Rattle.std.proofs.lemmas.List.{append-nil}
-use Rattle.std.proofs.Math.Bool.{and-true}
-use Rattle.std.proofs.lemmas.Bool.{and_right}
-use Rattle.batcher_types.specs.declared.messages.Vote.{Vote}
-use Rattle.batcher_types.specs.declared.messages.Certificate.{Certificate}
-use Rattle.batcher_types.specs.declared.messages.Kind.{Kind}
-use Rattle.batcher_votes.specs.declared.verifier.Batch.{Batch}
-use Rattle.batcher_histories.specs.declared.calls.Call.TheVariants.{Construct as ConstructCall}
-use Rattle.batcher_histories.specs.declared.answers.Answer.TheVariants.{Construct as ConstructAnswer}
-use Rattle.batcher_histories.specs.Config.{Config, quorum_in}
-use Rattle.batcher_types.specs.Votes.{is_eligible}
-use Rattle.batcher_types.proofs.ListLemmas.{either_same, filter_twice, filter_none, first_only}
-use Rattle.batcher_votes.specs.RoundState.{of_kind, RoundState}
-use Rattle.batcher_votes.specs.TrackerSteps.{is_skipped}
-use Rattle.batcher_histories.specs.History.{History}
-use Rattle.batcher_histories.specs.Selection.{selected_proposal, is_certified, is_restored}
-use Rattle.batcher_histories.specs.Eligible.{is_valid, eligible_among}
-use Rattle.batcher_histories.specs.Attempts.{left_verified}
-use Rattle.batcher_histories.specs.Represents.{tries_kind, pending_after, verified_after}
+use Rattle.batcher_histories.proofs.Words.{◌≡◌, Bool, true, false, cond, ◌||◌, nat_le, List, [], ◌∷◌, ◌++◌, length, Option, refl, ap, ◌∙◌, ◌&&◌, sym, filter}
+use Rattle.batcher_histories.proofs.Words.{filter-append, filter_agree, append-nil, and-true, and_right, Vote, Certificate, Kind, Batch, ConstructCall}
+use Rattle.batcher_histories.proofs.Words.{ConstructAnswer, Config, quorum_in, is_eligible, either_same, filter_twice, filter_none, first_only, of_kind}
+use Rattle.batcher_histories.proofs.Words.{RoundState, is_skipped, History, selected_proposal, is_certified, is_restored, is_valid, eligible_among}
+use Rattle.batcher_histories.proofs.Words.{left_verified, tries_kind, pending_after, verified_after}
 
 -- two filters in either order
 filter_swap : {X : Type 0} (p q : X → Bool) (xs : List X) → filter p (filter q xs)

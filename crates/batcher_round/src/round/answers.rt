@@ -3,8 +3,12 @@
 ghost use Rattle.std.specs.Prelude.{◌≡◌, ◌&&◌};
 ghost use Rattle.batcher_types.specs.declared.messages.Kind.TheVariants.{Notarization as NotarizeKind};
 ghost use Rattle.batcher_types.specs.Votes.{is_kind};
-ghost use Rattle.batcher_histories.specs.Admissions.{refusal, block_for, addition, report_of, mismatch_reason, conflict_reason, admission_of, admission_beside, admission_after, admission_after_facts};
-ghost use Rattle.batcher_histories.specs.Steps.{fixed_by, is_added, is_kept, opposite_fault, report_by, unopposed_result};
+ghost use Rattle.batcher_histories.specs.Admissions.{refusal, block_for, addition, report_of};
+ghost use Rattle.batcher_histories.specs.Admissions.{mismatch_reason, conflict_reason};
+ghost use Rattle.batcher_histories.specs.Admissions.{admission_of, admission_beside};
+ghost use Rattle.batcher_histories.specs.Admissions.{admission_after, admission_after_facts};
+ghost use Rattle.batcher_histories.specs.Steps.{fixed_by, is_added, is_kept, opposite_fault};
+ghost use Rattle.batcher_histories.specs.Steps.{report_by, unopposed_result};
 
 use crate::round::{Admission, BlockReason, OwnFault};
 use batcher_types::messages::{Activity, Digest, Kind, Proposal, Vote};

@@ -1,7 +1,8 @@
 //! The votes of a round and their owner. A change makes all the room that it needs, and then
 //! changes tracker and verifier with no way back.
 
-ghost use Rattle.std.specs.Prelude.{◌≡◌, ◌≤◌, ◌<◌, ◌^◌, ◌&&◌, ◌||◌, not, None, true, false, length, is_some, [], map, Some, IfOk, IfErr, IfSome, OnOk, IsOk, Ok};
+ghost use Rattle.std.specs.Prelude.{◌≡◌, ◌≤◌, ◌<◌, ◌^◌, ◌&&◌, ◌||◌, not, None, true, false, length};
+ghost use Rattle.std.specs.Prelude.{is_some, [], map, Some, IfOk, IfErr, IfSome, OnOk, IsOk, Ok};
 ghost use Rattle.batcher_types.specs.declared.messages.Kind.{Kind as TheKind};
 ghost use Rattle.batcher_types.specs.declared.messages.Kind.TheVariants.{Nullification as NullifyKind};
 ghost use Rattle.batcher_types.specs.declared.positions.Round.{Round as TheNumber};
@@ -10,20 +11,28 @@ ghost use Rattle.batcher_types.specs.Items.{place_of};
 ghost use Rattle.batcher_types.specs.Lists.{is_some_and};
 ghost use Rattle.batcher_types.specs.Meaning.{Meaning};
 ghost use Rattle.batcher_types.specs.Quorum.{quorum_of};
-ghost use Rattle.batcher_types.specs.Votes.{is_kind, kind_of, signer_of, attestation_of, subject_of, round_in};
+ghost use Rattle.batcher_types.specs.Votes.{is_kind, kind_of, signer_of, attestation_of};
+ghost use Rattle.batcher_types.specs.Votes.{subject_of, round_in};
 ghost use Rattle.batcher_votes.specs.ProposalStates.{same_selected};
 ghost use Rattle.batcher_votes.specs.RoundState.{RoundState, of_kind, SameVerifier, SameTracker};
-ghost use Rattle.batcher_votes.specs.TrackerSteps.{shown, is_known, is_seen, HasRoomToRecord, observed_opposite, kept_vote};
+ghost use Rattle.batcher_votes.specs.TrackerSteps.{shown, is_known, is_seen, HasRoomToRecord};
+ghost use Rattle.batcher_votes.specs.TrackerSteps.{observed_opposite, kept_vote};
 ghost use Rattle.batcher_votes.specs.VerifierSteps.{certificate_for, selected_in, MayFix};
-ghost use Rattle.batcher_votes.specs.Soundness.{IsSound, BuffersOnlyKept, HasRoomFor, WhereItReplaces};
+ghost use Rattle.batcher_votes.specs.Soundness.{IsSound, BuffersOnlyKept, HasRoomFor};
+ghost use Rattle.batcher_votes.specs.Soundness.{WhereItReplaces};
 ghost use Rattle.batcher_votes.specs.Verifiers.{IfGiven, BatchCertifies};
 ghost use Rattle.rand_core.specs.Stream.{Stream};
-ghost use Rattle.batcher_round.specs.Verdicts.{judged, judged_with, LooksAtKind, MayBeQuorumOf};
+ghost use Rattle.batcher_round.specs.Verdicts.{judged_config, judged_config_with, LooksAtKind};
+ghost use Rattle.batcher_round.specs.Verdicts.{MayBeQuorumOf};
 ghost use Rattle.batcher_histories.specs.Config.{config};
-ghost use Rattle.batcher_histories.specs.Steps.{nothing_held, missing_in, has_block as has_block_held, rejection_by, own_result, admission_by, is_ready_in, restored_with, fault_or_memory, leader_set_answer, is_added, report_by};
-ghost use Rattle.batcher_histories.specs.Steps.{AfterOwn, AfterLeader, AfterCertificate, TriesHeld};
+ghost use Rattle.batcher_histories.specs.Steps.{nothing_held, missing_in, has_block_held};
+ghost use Rattle.batcher_histories.specs.Steps.{rejection_by, own_result, admission_by};
+ghost use Rattle.batcher_histories.specs.Steps.{is_ready_in, restored_with, fault_or_memory};
+ghost use Rattle.batcher_histories.specs.Steps.{leader_set_answer, is_added, report_by, AfterOwn};
+ghost use Rattle.batcher_histories.specs.Steps.{AfterLeader, AfterCertificate, TriesHeld};
 ghost use Rattle.batcher_round.specs.Observations.{observed_like};
-ghost use Rattle.batcher_round.specs.BallotsView.{round_with, SameRoundState, Admits, AllOrNothing, GrowsVerifier, GrowsTracker, IsVoteAt};
+ghost use Rattle.batcher_round.specs.BallotsView.{round_with, SameRoundState, Admits, AllOrNothing};
+ghost use Rattle.batcher_round.specs.BallotsView.{GrowsVerifier, GrowsTracker, IsVoteAt};
 
 use crate::round::answers::{
     compare_with_kept, conflict_with_facts, conflict_with_opposite, fixed_by, is_added, is_kept,
@@ -391,7 +400,7 @@ where
             → IfOk result (λ given. is_some given ≡ true) }
         ensures stale { result ≡ Ok None → SameRoundState self.old self.new }
         ensures tries { IfGiven result (λ batch. (stream : Stream) → TriesHeld
-            (judged (⟦<S as RoundConfigs<D>>⟧.of (round_with self.old)))
+            (judged_config (⟦<S as RoundConfigs<D>>⟧.of (round_with self.old)))
             (round_with self.old).holds
             kind stream batch (round_with self.new).holds stream) }
         ensures sound { IsSound (S.meaning self.old.verifier.scheme) D.eq self.old.verifier.number
@@ -431,7 +440,7 @@ where
             (round_with self.old).holds kind → is_some result ≡ true }
         ensures stale { result ≡ None → SameRoundState self.old self.new }
         ensures tries { IfSome result (λ batch. (stream : Stream) → TriesHeld
-            (judged_with (⟦<S as RoundConfigs<D>>⟧.of (round_with self.old)) certificate)
+            (judged_config_with (⟦<S as RoundConfigs<D>>⟧.of (round_with self.old)) certificate)
             (round_with self.old).holds
             kind stream batch (round_with self.new).holds stream) }
         ensures gives { IfSome result (λ batch. batch.certificate

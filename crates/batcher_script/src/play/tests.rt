@@ -1,3 +1,5 @@
+//! Tests of the player of scripts.
+
 mod keeping;
 mod questions;
 

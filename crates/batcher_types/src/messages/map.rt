@@ -1,12 +1,15 @@
 //! A map from signers to their items.
 
-ghost use Rattle.std.specs.Prelude.{ℕ, ◌≡◌, ◌+◌, ◌-◌, ◌<◌, ◌≤◌, ◌↔◌, List, [], Some, None, false, length, IsTrue, IsOk, IfOk, OnOk, OnErr, IfErr, vec_len, vec_capacity, slice_get, slice_index_or, slice_set, insert, map, Err, if◌then◌else◌};
-ghost use Rattle.std.specs.Prelude.{MatchResult, is_ok, nat_lt, ◌==◌};
+ghost use Rattle.std.specs.Prelude.{ℕ, ◌≡◌, ◌+◌, ◌-◌, ◌<◌, ◌≤◌, ◌↔◌, List, [], Some, None, false};
+ghost use Rattle.std.specs.Prelude.{length, IsTrue, IsOk, IfOk, OnOk, OnErr, IfErr, vec_len};
+ghost use Rattle.std.specs.Prelude.{vec_capacity, slice_get, slice_index_or, slice_set, insert};
+ghost use Rattle.std.specs.Prelude.{map, Err, if◌then◌else◌, MatchResult, is_ok, nat_lt, ◌==◌};
 ghost use Rattle.std.specs.List.{All};
 ghost use Rattle.std.specs.Option.{option_copied};
 ghost use Rattle.std.specs.Iterator.{YieldsFirstRef, item_count};
 ghost use Rattle.batcher_types.specs.Ascending.{IsAscending, insert_by};
-ghost use Rattle.batcher_types.specs.Items.{Items, item_of, is_new, replace_by, place_of, IsPlaced, GoesTo};
+ghost use Rattle.batcher_types.specs.Items.{Items, item_of, is_new, replace_by, place_of, IsPlaced};
+ghost use Rattle.batcher_types.specs.Items.{GoesTo};
 ghost use Rattle.batcher_types.specs.Lists.{count, is_some_and};
 
 use crate::messages::Attributable;

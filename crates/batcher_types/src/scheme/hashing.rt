@@ -2,7 +2,8 @@
 
 ghost use Rattle.std.specs.Prelude.{◌≡◌, ◌++◌, ◌<◌, ℕ, List, true};
 ghost use Rattle.sha2.specs.Hashers.{Holds256};
-ghost use Rattle.batcher_types.specs.Hashed.{key_of, signature_of, seal_of, subject_bytes, round_bytes, proposal_bytes, is_signed};
+ghost use Rattle.batcher_types.specs.Hashed.{key_of, hashed_signature, seal_of, hashed_subject};
+ghost use Rattle.batcher_types.specs.Hashed.{round_bytes, proposal_bytes, is_signed};
 
 use crate::messages::{Attestation, Proposal, Sha256Digest, Subject};
 use crate::positions::{Participant, Round};
@@ -26,7 +27,7 @@ fn add_proposal(hasher: &mut Sha256, proposal: Proposal<Sha256Digest>)
 
 fn add_subject(hasher: &mut Sha256, subject: Subject<Sha256Digest>)
     ensures { (m : List ℕ) → Holds256 hasher.old m
-        → Holds256 hasher.new (m ++ subject_bytes subject) }
+        → Holds256 hasher.new (m ++ hashed_subject subject) }
 {
     match subject {
         Subject::Notarize { proposal } => {
@@ -56,7 +57,7 @@ fn key(root: &[u8; 32], index: u32) -> [u8; 32]
 
 // The signature of an index over a subject.
 fn signature(root: &[u8; 32], index: u32, subject: Subject<Sha256Digest>) -> [u8; 32]
-    ensures { result ≡ signature_of root.now index subject }
+    ensures { result ≡ hashed_signature root.now index subject }
 {
     let mut hasher = Sha256::new();
     let key = key(root, index);
@@ -83,7 +84,7 @@ pub(super) fn attestation(
     subject: Subject<Sha256Digest>,
 ) -> Attestation<[u8; 32]>
     ensures signer { result.signer ≡ signer }
-    ensures signature { result.signature ≡ signature_of root.now signer.0 subject }
+    ensures signature { result.signature ≡ hashed_signature root.now signer.0 subject }
     ensures attests { (n : ℕ) → signer.0 < n → is_signed n root.now subject result ≡ true }
 {
     Attestation {

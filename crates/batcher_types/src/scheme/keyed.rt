@@ -1,9 +1,10 @@
 //! A scheme whose certificates list their attestations.
 
-ghost use Rattle.std.specs.Prelude.{◌≡◌, ◌++◌, ◌<◌, ◌≤◌, ◌&&◌, true, length, All, IfOk, IfErr, OnOk};
+ghost use Rattle.std.specs.Prelude.{◌≡◌, ◌++◌, ◌<◌, ◌≤◌, ◌&&◌, true, length, All, IfOk, IfErr};
+ghost use Rattle.std.specs.Prelude.{OnOk};
 ghost use Rattle.std.specs.Result.{result_ok};
 ghost use Rattle.std.specs.List.{AllPass, list_all};
-ghost use Rattle.batcher_types.specs.Hashed.{is_signed, is_signed-range, signature_of};
+ghost use Rattle.batcher_types.specs.Hashed.{is_signed, is_signed-range, hashed_signature};
 ghost use Rattle.batcher_types.specs.Lists.{EachOnce};
 ghost use Rattle.batcher_types.specs.Attestations.{Sorts, IsQuorum, index_of_signer};
 ghost use Rattle.batcher_types.specs.Ascending.{is_ascending as ascends, ordered_by};
@@ -174,7 +175,7 @@ impl<const BATCHABLE: bool> Keyed<BATCHABLE> {
     /// no memory.
     pub fn sign(&self, signer: Participant, subject: Subject<Sha256Digest>) -> Attestation<[u8; 32]>
         ensures signer { result.signer ≡ signer }
-        ensures signature { result.signature ≡ signature_of self.now.root signer.0 subject }
+        ensures signature { result.signature ≡ hashed_signature self.now.root signer.0 subject }
         ensures attests { signer.0 < length self.now.participants
             → is_signed (length self.now.participants) self.now.root subject result ≡ true }
     {

@@ -4,7 +4,7 @@
 ghost use Rattle.std.specs.Prelude.{◌≡◌, ◌++◌, ◌<◌, ◌≤◌, true, length, IfOk, IfErr, OnOk};
 ghost use Rattle.std.specs.Result.{result_ok};
 ghost use Rattle.std.specs.List.{AllPass};
-ghost use Rattle.batcher_types.specs.Hashed.{is_signed, is_signed-range, signature_of, seal_of};
+ghost use Rattle.batcher_types.specs.Hashed.{is_signed, is_signed-range, hashed_signature, seal_of};
 ghost use Rattle.batcher_types.specs.Attestations.{Sorts, IsQuorum};
 ghost use Rattle.batcher_types.specs.Sealed.{is_sealed, sealed_at_once};
 
@@ -37,7 +37,7 @@ impl Sealed {
     /// no memory.
     pub fn sign(&self, signer: Participant, subject: Subject<Sha256Digest>) -> Attestation<[u8; 32]>
         ensures signer { result.signer ≡ signer }
-        ensures signature { result.signature ≡ signature_of self.now.root signer.0 subject }
+        ensures signature { result.signature ≡ hashed_signature self.now.root signer.0 subject }
         ensures attests { signer.0 < length self.now.participants
             → is_signed (length self.now.participants) self.now.root subject result ≡ true }
     {

@@ -1,12 +1,6 @@
 -- The votes that are kept, as lists of each kind.
-use Rattle.std.proofs.Common.{◌≡◌, ◌∙◌, ℕ, List, Option, Some, None, map, refl, ap}
-use Rattle.std.proofs.lemmas.Option.{slice_get-map}
-use Rattle.std.specs.List.{slice_get}
-use Rattle.std.specs.Option.{option_map}
-use Rattle.batcher_types.specs.declared.messages.Nullify.{Nullify}
-use Rattle.batcher_types.specs.declared.messages.Finalize.{Finalize}
-use Rattle.batcher_types.specs.declared.messages.Vote.TheVariants.{Nullify as NullifyVote, Finalize as FinalizeVote}
-use Rattle.batcher_votes.specs.Entries.{proposal_at}
+use Rattle.batcher_votes.proofs.Words.{◌≡◌, ◌∙◌, ℕ, List, Option, Some, None, map, refl, ap, slice_get-map, slice_get, option_map, Nullify, Finalize}
+use Rattle.batcher_votes.proofs.Words.{NullifyVote, FinalizeVote, proposal_at}
 
 module _ {G D : Type 0} where
   -- A nullify carries no proposal.

@@ -1,17 +1,9 @@
 -- The votes of a kind that a tracker keeps: each is of the kind, and no signer has two.
-use Rattle.std.proofs.Common.{◌≡◌, ◌≤◌, ◌<◌, ◌==◌, ◌&&◌, ℕ, Bool, true, false, cond, List, [], ◌∷◌, length, filter, find, Option, Some, None, is_some, refl, ap, sym, subst, ◌∙◌, arith}
-use Rattle.std.proofs.lemmas.Bool.Decides.{nat_tests}
-use Rattle.std.proofs.lemmas.List.Sums.{AllPass-from_list_all}
-use Rattle.std.specs.List.{AllByRecursion, AllPass, list_all, filter_map, cons_option}
-use Rattle.batcher_types.specs.declared.messages.Vote.{Vote}
-use Rattle.batcher_types.specs.declared.messages.Kind.{Kind}
+use Rattle.batcher_votes.proofs.Words.{◌≡◌, ◌≤◌, ◌<◌, ◌==◌, ◌&&◌, ℕ, Bool, true, false, cond, List, [], ◌∷◌, length, filter, find, Option, Some, None, is_some}
+use Rattle.batcher_votes.proofs.Words.{refl, ap, sym, subst, ◌∙◌, arith, nat_tests, AllPass-from_list_all, AllByRecursion, AllPass, list_all, filter_map}
+use Rattle.batcher_votes.proofs.Words.{cons_option, Vote, Kind, count, is_some_and, rec_from_all, rec_weaker, signer_of, is_of_kind, is_vote_of, PerKind}
+use Rattle.batcher_votes.proofs.Words.{of_kind, KeepsEach, Entry, entry_key, part, vote_at, kept_part, kept_among, may_say, Fits, tracked_by}
 use Rattle.batcher_types.specs.Ascending.{IsAscending}
-use Rattle.batcher_types.specs.Lists.{count, is_some_and}
-use Rattle.batcher_types.specs.Ordered.{rec_from_all, rec_weaker}
-use Rattle.batcher_types.specs.Votes.{signer_of, is_of_kind, is_vote_of}
-use Rattle.batcher_votes.specs.RoundState.{PerKind, of_kind}
-use Rattle.batcher_votes.specs.TrackerSteps.{KeepsEach}
-use Rattle.batcher_votes.specs.Entries.{Entry, key_of, part, vote_at, kept_part, kept_among, may_say, Fits, tracked_by}
 use Rattle.batcher_votes.proofs.TrackerLemmas.ShownParts.{Of}
 use Rattle.batcher_votes.proofs.TrackerLemmas.SignerFacts.{kept_numbered, kept_kinded, kept_is, kept_says, no_vote}
 use Rattle.batcher_votes.proofs.TrackerLemmas.RecordVote.{filter_map-same_each}
@@ -80,12 +72,12 @@ module _ {G D : Type 0} where
   tested_of kind i (Some v) h = ap (λ b. b && (signer_of v == i)) h
 
   once_among : (c : Bool) (votes : List (Vote G D)) (kind : Kind) (es : List Entry)
-      → IsAscending key_of es → (i : ℕ)
+      → IsAscending entry_key es → (i : ℕ)
       → count (λ v. signer_of v == i) (kept_among c votes kind es)
       ≤ cond (is_some (find (is_vote_of kind i) (kept_among c votes kind es))) 1 0
   once_among true votes kind es up i = omega arith
   once_among false votes kind es up i =
-      one_each key_of (kept_part votes kind) signer_of (kept_numbered votes kind) (is_vote_of kind i) i
+      one_each entry_key (kept_part votes kind) signer_of (kept_numbered votes kind) (is_vote_of kind i) i
       (λ e. tested_of kind i (kept_part votes kind e) (kept_kinded votes kind e)) es up
 
   kinds_among : (c : Bool) (votes : List (Vote G D)) (kind : Kind) (es : List Entry)
@@ -96,7 +88,7 @@ module _ {G D : Type 0} where
       (all_parts (kept_part votes kind) (is_of_kind kind) (kept_kinded votes kind) es)
 
   pub keeps_each : (c : PerKind Bool) (votes : PerKind (List (Vote G D))) (es : List Entry)
-      (kind : Kind) → IsAscending key_of es → KeepsEach (tracked_by c votes es) kind
+      (kind : Kind) → IsAscending entry_key es → KeepsEach (tracked_by c votes es) kind
   keeps_each c votes es kind up =
       record {
         kinds = rw (kept_is c votes es kind) (kinds_among (of_kind c kind) (of_kind votes kind) kind es);
@@ -105,19 +97,19 @@ module _ {G D : Type 0} where
 
   -- what is kept, by the places that may be there
   shown_among : (b : Bool) (votes : List (Vote G D)) (kind : Kind) (es : List Entry)
-      → AllPass (λ e. may_say b kind votes (key_of e) (part kind e)) es
+      → AllPass (λ e. may_say b kind votes (entry_key e) (part kind e)) es
       → kept_among b votes kind es ≡ filter_map (λ e. vote_at votes (part kind e)) es
-  shown_among true votes kind es each = sym (none_among es (rec_from_all (λ e. may_say true kind votes (key_of e) (part kind e) ≡ true) es each)) where
+  shown_among true votes kind es each = sym (none_among es (rec_from_all (λ e. may_say true kind votes (entry_key e) (part kind e) ≡ true) es each)) where
     none_among : (es : List Entry)
-        → AllByRecursion (λ e. may_say true kind votes (key_of e) (part kind e) ≡ true) es
+        → AllByRecursion (λ e. may_say true kind votes (entry_key e) (part kind e) ≡ true) es
         → filter_map (λ e. vote_at votes (part kind e)) es ≡ []
     none_among [] h = refl
-    none_among (e ∷ es) h = let rest = none_among es h.1 in rw (no_vote votes kind (key_of e) (part kind e) h.0, rest)
+    none_among (e ∷ es) h = let rest = none_among es h.1 in rw (no_vote votes kind (entry_key e) (part kind e) h.0, rest)
   shown_among false votes kind es each =
       filter_map-same_each (kept_part votes kind) (λ e. vote_at votes (part kind e)) es
-      (rec_weaker (λ e. may_say false kind votes (key_of e) (part kind e) ≡ true) (λ e. kept_part votes kind e ≡ vote_at votes (part kind e))
-      (λ e h. kept_says votes false kind (key_of e) (part kind e) h) es
-      (rec_from_all (λ e. may_say false kind votes (key_of e) (part kind e) ≡ true) es each))
+      (rec_weaker (λ e. may_say false kind votes (entry_key e) (part kind e) ≡ true) (λ e. kept_part votes kind e ≡ vote_at votes (part kind e))
+      (λ e h. kept_says votes false kind (entry_key e) (part kind e) h) es
+      (rec_from_all (λ e. may_say false kind votes (entry_key e) (part kind e) ≡ true) es each))
 
   pub kept_shown : (c : PerKind Bool) (votes : PerKind (List (Vote G D))) (es : List Entry)
       (kind : Kind) → Fits (of_kind c kind) kind (of_kind votes kind) es

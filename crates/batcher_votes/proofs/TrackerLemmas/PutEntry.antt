@@ -1,14 +1,10 @@
 -- An item put into an ascending list, in the place of its signer's or where it would be.
-use Rattle.std.proofs.Common.{◌≡◌, ◌∙◌, ◌≤◌, ◌<◌, ◌+◌, ℕ, suc, zero, Bool, true, false, cond, nat_eq, nat_le, List, [], ◌∷◌, length, get_or, set, find, Option, Some, None, is_some, map, refl, ap, sym, subst, arith}
-use Rattle.std.proofs.lemmas.List.Elements.{All-set}
-use Rattle.std.specs.List.{All, filter_map}
-use Rattle.batcher_types.specs.Ascending.{IsAscending, insert_by}
+use Rattle.batcher_votes.proofs.Words.{◌≡◌, ◌∙◌, ◌≤◌, ◌<◌, ◌+◌, ℕ, suc, zero, Bool, true, false, cond, nat_eq, nat_le, List, [], ◌∷◌, length, get_or, set, find}
+use Rattle.batcher_votes.proofs.Words.{Option, Some, None, is_some, map, refl, ap, sym, subst, arith, All-set, All, filter_map, IsAscending, insert_by, count}
+use Rattle.batcher_votes.proofs.Words.{put_by, found_key, find_at, replace_at, All-insert_by, rank_below, rank_is, rank_replace, lower_count}
 use Rattle.batcher_types.specs.Items.{replace_by}
-use Rattle.batcher_types.specs.Lists.{count}
-use Rattle.batcher_votes.specs.Entries.{put_by}
-use Rattle.batcher_types.proofs.AscendingLemmas.{found_key, find_at, replace_at, All-insert_by}
-use Rattle.batcher_votes.proofs.TrackerLemmas.ShownParts.{Of, shown_by, filter_map-insert_none, filter_map-insert_some, filter_map-set_same, filter_map-set_new, filter_map-set_changed}
-use Rattle.batcher_types.proofs.PlaceLemmas.{rank_below, rank_is, rank_replace, lower_count}
+use Rattle.batcher_votes.proofs.TrackerLemmas.ShownParts.{Of, shown_by, filter_map-insert_none, filter_map-insert_some, filter_map-set_same, filter_map-set_new}
+use Rattle.batcher_votes.proofs.TrackerLemmas.ShownParts.{filter_map-set_changed}
 
 pub count_few : {E : Type 0} (test : E → Bool) (es : List E) → count test es ≤ length es
 count_few test [] = omega arith

@@ -1,32 +1,20 @@
 -- What recording a vote changes of what a tracker shows, by its entries and the votes that it keeps.
-use Rattle.std.proofs.Common.{◌≡◌, ◌<◌, ◌∙◌, ◌+◌, ◌^◌, ℕ, suc, zero, Bool, true, false, not, cond, nat_eq, nat_lt, ◌&&◌, ◌||◌, List, [], ◌∷◌, ◌++◌, length, get_or, set, find, Option, Some, None, Result, Ok, Err, is_some}
-use Rattle.std.proofs.Common.{map, refl, ap, sym, subst, arith, length-append}
-use Rattle.std.specs.List.{AllByRecursion, AllPass, filter_map, slice_get}
-use Rattle.std.specs.Prelude.{IfErr}
-use Rattle.std.proofs.lemmas.Bool.{and_parts, eq-eqb}
-use Rattle.batcher_types.specs.declared.positions.Participant.{Participant}
-use Rattle.batcher_types.specs.declared.messages.Proposal.{Proposal}
-use Rattle.batcher_types.specs.declared.messages.Vote.{Vote}
-use Rattle.batcher_types.specs.declared.messages.Vote.TheVariants.{Notarize as NotarizeVote, Nullify as NullifyVote, Finalize as FinalizeVote}
-use Rattle.batcher_types.specs.declared.messages.Kind.{Kind}
-use Rattle.batcher_types.specs.declared.messages.Kind.TheVariants.{Notarization, Nullification, Finalization}
-use Rattle.batcher_votes.specs.declared.votes.entry.Seen.{Seen}
-use Rattle.batcher_votes.specs.declared.votes.entry.Seen.TheVariants.{Nothing, Uncompared, Differs, Matches, Kept}
-use Rattle.batcher_votes.specs.declared.votes.Outcome.TheVariants.{Added, Duplicate}
-use Rattle.batcher_types.specs.Ascending.{IsAscending, insert_by}
-use Rattle.batcher_types.specs.Items.{place_of}
-use Rattle.batcher_types.specs.Lists.{is_some_and, exactly_one}
-use Rattle.batcher_types.specs.Ordered.{rec_from_all, all_from_rec, rec_weaker}
-use Rattle.batcher_types.specs.Votes.{kind_of, attestation_of, signer_of, is_kind, is_of_kind, is_vote_of, has_proposals, same_proposal, is_for}
-use Rattle.batcher_votes.specs.RoundState.{PerKind, of_kind, for_each, Facts, TrackerState}
-use Rattle.batcher_votes.specs.TrackerSteps.{from_kept, is_seen, is_known, observed, kept_vote, no_facts, facts_with, facts_of_kept, recorded_facts, RecordsKind, outcome_by, outcome_of}
-use Rattle.batcher_votes.specs.Entries.{Entry, part, with_part, nothing_seen, key_of, seen_in, entry_or_new, put_by, entries_with, is_any, has_index, compared, seen_outcome, facts_seen, facts_part, facts_among, with_vote}
-use Rattle.batcher_votes.specs.Entries.{own_vote, vote_at, kept_part, kept_among, tracked_by, observed_seen, may_say, Fits, IsTracked, tested}
-use Rattle.batcher_types.proofs.AscendingLemmas.{found_key}
+use Rattle.batcher_votes.proofs.Words.{◌≡◌, ◌<◌, ◌∙◌, ◌+◌, ◌^◌, ℕ, suc, zero, Bool, true, false, not, cond, nat_eq, nat_lt, ◌&&◌, ◌||◌, List, [], ◌∷◌, ◌++◌}
+use Rattle.batcher_votes.proofs.Words.{length, get_or, set, find, Option, Some, None, Result, Ok, Err, is_some, map, refl, ap, sym, subst, arith, length-append}
+use Rattle.batcher_votes.proofs.Words.{AllByRecursion, AllPass, filter_map, slice_get, IfErr, and_parts, eq-eqb, Participant, Proposal, Vote, NotarizeVote}
+use Rattle.batcher_votes.proofs.Words.{NullifyVote, FinalizeVote, Kind, Notarization, Nullification, Finalization, Seen, Nothing, Uncompared, Differs, Matches}
+use Rattle.batcher_votes.proofs.Words.{Kept, Added, Duplicate, IsAscending, insert_by, place_of, is_some_and, exactly_one, rec_from_all, all_from_rec}
+use Rattle.batcher_votes.proofs.Words.{rec_weaker, kind_of, attestation_of, signer_of, is_kind, is_of_kind, is_vote_of, has_proposals, same_proposal, is_for}
+use Rattle.batcher_votes.proofs.Words.{PerKind, of_kind, for_each, Facts, TrackerState, from_kept, is_seen, is_known, observed, kept_vote, no_facts, facts_with}
+use Rattle.batcher_votes.proofs.Words.{facts_of_kept, recorded_facts, RecordsKind, outcome_by, outcome_of, Entry, part, with_part, nothing_seen, entry_key}
+use Rattle.batcher_votes.proofs.Words.{seen_in, entry_or_new, put_by, entries_with, is_any, has_index, compared, seen_outcome, facts_seen, facts_part}
+use Rattle.batcher_votes.proofs.Words.{facts_among, with_vote, own_vote, vote_at, kept_part, kept_among, tracked_by, observed_seen, may_say, Fits, IsTracked}
+use Rattle.batcher_votes.proofs.Words.{tested, found_key, place_item, place_below, place_absent}
 use Rattle.batcher_votes.proofs.TrackerLemmas.ShownParts.{Of, shown_by}
-use Rattle.batcher_types.proofs.PlaceLemmas.{place_item, place_below, place_absent}
-use Rattle.batcher_votes.proofs.TrackerLemmas.PutEntry.{put_there, put_new, Puts, puts, All-put, of_old, passes, count-put, filter_map-put_same, filter_map-put_new, filter_map-put_changed}
-use Rattle.batcher_votes.proofs.TrackerLemmas.SignerFacts.{facts_numbered, facts_found, kept_numbered, kept_is, facts_is, observed_by, observed_is, observed_says, nothing_by, kept_found, kept_says, no_vote, unknown}
+use Rattle.batcher_votes.proofs.TrackerLemmas.PutEntry.{put_there, put_new, Puts, puts, All-put, of_old, passes, count-put, filter_map-put_same}
+use Rattle.batcher_votes.proofs.TrackerLemmas.PutEntry.{filter_map-put_new, filter_map-put_changed}
+use Rattle.batcher_votes.proofs.TrackerLemmas.SignerFacts.{facts_numbered, facts_found, kept_numbered, kept_is, facts_is, observed_by, observed_is}
+use Rattle.batcher_votes.proofs.TrackerLemmas.SignerFacts.{observed_says, nothing_by, kept_found, kept_says, no_vote, unknown}
 
 -- what holds of all elements holds of one that is found
 pub found_passes : {E : Type 0} (key : E → ℕ) (P : E → Type 0) (es : List E) (i : ℕ) (x : E)
@@ -101,10 +89,10 @@ no_index kind votes i (Kept p) h = absurd (cc)
 -- among the entries.
 pub record IsPut (es : List Entry) (i : ℕ) (k : Kind) (next : Seen) (e : Entry) (es' : List Entry)
     (o : Option Entry) : Type 0 where
-  pub up : IsAscending key_of es
-  pub found : find (λ x. nat_eq (key_of x) i) es ≡ o
-  pub is_put : Puts key_of es e es' o
-  pub number : key_of e ≡ i
+  pub up : IsAscending entry_key es
+  pub found : find (λ x. nat_eq (entry_key x) i) es ≡ o
+  pub is_put : Puts entry_key es e es' o
+  pub number : entry_key e ≡ i
   pub parts : (kind : Kind) → part kind e ≡ cond (is_kind k kind) next (seen_in kind o)
 
 pub part_with : (k kind : Kind) (next : Seen) (e : Entry)
@@ -119,7 +107,7 @@ part_with Finalization Notarization next e = refl
 part_with Finalization Nullification next e = refl
 part_with Finalization Finalization next e = refl
 
-pub key_with : (k : Kind) (next : Seen) (e : Entry) → key_of (with_part k next e) ≡ key_of e
+pub key_with : (k : Kind) (next : Seen) (e : Entry) → entry_key (with_part k next e) ≡ entry_key e
 key_with Notarization next e = refl
 key_with Nullification next e = refl
 key_with Finalization next e = refl
@@ -131,42 +119,44 @@ part_new Nullification i None = refl
 part_new Finalization i None = refl
 part_new kind i (Some e) = refl
 
-pub is_put_by : (es : List Entry) (i : Participant) (k : Kind) (next : Seen) → IsAscending key_of es
-    → IsPut es i.0 k next (with_part k next (entry_or_new i (find (λ x. nat_eq (key_of x) i.0) es)))
-    (entries_with i k next es) (find (λ x. nat_eq (key_of x) i.0) es)
+pub is_put_by : (es : List Entry) (i : Participant) (k : Kind) (next : Seen)
+    → IsAscending entry_key es
+    → IsPut es i.0 k next
+    (with_part k next (entry_or_new i (find (λ x. nat_eq (entry_key x) i.0) es)))
+    (entries_with i k next es) (find (λ x. nat_eq (entry_key x) i.0) es)
 is_put_by es i k next up =
-    let o = find (λ x. nat_eq (key_of x) i.0) es in
+    let o = find (λ x. nat_eq (entry_key x) i.0) es in
     let e = with_part k next (entry_or_new i o) in
-    let number : key_of e ≡ i.0 = key_with k next (entry_or_new i o) ∙ numbered (find (λ x. nat_eq (key_of x) i.0) es) refl in
-    let there : Puts key_of es e (put_by key_of e es) (find (λ x. nat_eq (key_of x) (key_of e)) es) = puts key_of es e up in
+    let number : entry_key e ≡ i.0 = key_with k next (entry_or_new i o) ∙ numbered (find (λ x. nat_eq (entry_key x) i.0) es) refl in
+    let there : Puts entry_key es e (put_by entry_key e es) (find (λ x. nat_eq (entry_key x) (entry_key e)) es) = puts entry_key es e up in
     record {
       up = up;
       found = refl;
-      is_put = subst (λ n. Puts key_of es e (put_by key_of e es) (find (λ x. nat_eq (key_of x) n) es)) number there;
+      is_put = subst (λ n. Puts entry_key es e (put_by entry_key e es) (find (λ x. nat_eq (entry_key x) n) es)) number there;
       number = number;
       parts = λ kind. part_with k kind next (entry_or_new i o) ∙ ap (λ s. cond (is_kind k kind) next s) (part_new kind i o);
     } where
-      numbered : (o : Option Entry) → find (λ x. nat_eq (key_of x) i.0) es ≡ o
-          → key_of (entry_or_new i o) ≡ i.0
+      numbered : (o : Option Entry) → find (λ x. nat_eq (entry_key x) i.0) es ≡ o
+          → entry_key (entry_or_new i o) ≡ i.0
       numbered None is = refl
-      numbered (Some old) is = found_key key_of es i.0 old is
+      numbered (Some old) is = found_key entry_key es i.0 old is
 
 -- The signer's entry, changed where it is, or inserted where there is none.
 pub changed_at : (es : List Entry) (i : Participant) (k : Kind) (next : Seen) (j : ℕ) (d : Entry)
-    → IsAscending key_of es → place_of (map key_of es) i.0 ≡ Ok j
+    → IsAscending entry_key es → place_of (map entry_key es) i.0 ≡ Ok j
     → set es j (with_part k next (get_or es j d)) ≡ entries_with i k next es
 changed_at es i k next j d up place =
-    let found = place_item key_of es i.0 j d up place in
-    let below = place_below key_of es i.0 j place in
-    rw found (put_there key_of es (with_part k next (get_or es j d)) j d up below (sym (key_with k next (get_or es j d))))
+    let found = place_item entry_key es i.0 j d up place in
+    let below = place_below entry_key es i.0 j place in
+    rw found (put_there entry_key es (with_part k next (get_or es j d)) j d up below (sym (key_with k next (get_or es j d))))
 
 pub inserted_at : (es : List Entry) (i : Participant) (k : Kind) (next : Seen) (j : ℕ)
-    → place_of (map key_of es) i.0 ≡ Err j
-    → insert_by key_of (with_part k next (nothing_seen i)) es ≡ entries_with i k next es
+    → place_of (map entry_key es) i.0 ≡ Err j
+    → insert_by entry_key (with_part k next (nothing_seen i)) es ≡ entries_with i k next es
 inserted_at es i k next j place =
-    let absent = place_absent key_of es i.0 j place in
-    rw absent (put_new key_of es (with_part k next (nothing_seen i))
-    (subst (λ n. find (λ x. nat_eq (key_of x) n) es ≡ None) (sym (key_with k next (nothing_seen i))) absent))
+    let absent = place_absent entry_key es i.0 j place in
+    rw absent (put_new entry_key es (with_part k next (nothing_seen i))
+    (subst (λ n. find (λ x. nat_eq (entry_key x) n) es ≡ None) (sym (key_with k next (nothing_seen i))) absent))
 
 module _ {X : Type 0} where
   slice_get_before : (xs ys : List X) (p : ℕ) (x : X) → slice_get xs p ≡ Some x
@@ -214,13 +204,13 @@ module _ {G D : Type 0} where
 
   pub more_kept : (b : Bool) (kind : Kind) (votes : List (Vote G D)) (v : Vote G D)
       (es : List Entry)
-      → AllPass (λ e. may_say b kind votes (key_of e) (part kind e)) es
+      → AllPass (λ e. may_say b kind votes (entry_key e) (part kind e)) es
       → filter_map (kept_part (votes ++ v ∷ []) kind) es ≡ filter_map (kept_part votes kind) es
   more_kept b kind votes v es each =
       filter_map-same_each (kept_part (votes ++ v ∷ []) kind) (kept_part votes kind) es
-      (rec_weaker (λ e. may_say b kind votes (key_of e) (part kind e) ≡ true) (λ e. kept_part (votes ++ v ∷ []) kind e ≡ kept_part votes kind e)
-      (λ e h. ap (own_vote kind (key_of e)) (more_shown b kind votes v (key_of e) (part kind e) h)) es
-      (rec_from_all (λ e. may_say b kind votes (key_of e) (part kind e) ≡ true) es each))
+      (rec_weaker (λ e. may_say b kind votes (entry_key e) (part kind e) ≡ true) (λ e. kept_part (votes ++ v ∷ []) kind e ≡ kept_part votes kind e)
+      (λ e h. ap (own_vote kind (entry_key e)) (more_shown b kind votes v (entry_key e) (part kind e) h)) es
+      (rec_from_all (λ e. may_say b kind votes (entry_key e) (part kind e) ≡ true) es each))
 
   of_kind-with_vote : (vote : Vote G D) (votes : PerKind (List (Vote G D))) (kind : Kind)
       → of_kind (with_vote vote votes) kind
@@ -249,20 +239,20 @@ module _ {G D : Type 0} where
 -- what the entry shows of a kind of which it says what its signer's did
 module _ (es : List Entry) (i : ℕ) (k : Kind) (next : Seen) (e : Entry) (es' : List Entry)
     (o : Option Entry) (put : IsPut es i k next e es' o) where
-  old_number : (x : Entry) → o ≡ Some x → key_of x ≡ i
-  old_number x is = found_key key_of es i x (put.found ∙ is)
+  old_number : (x : Entry) → o ≡ Some x → entry_key x ≡ i
+  old_number x is = found_key entry_key es i x (put.found ∙ is)
 
   kept_as : {G D : Type 0} → (votes : List (Vote G D)) (kind : Kind) (o' : Option Entry) → o ≡ o'
       → part kind e ≡ seen_in kind o' → kept_part votes kind e ≡ shown_by (kept_part votes kind) o'
   kept_as votes kind None is same = rw same
   kept_as votes kind (Some old) is same =
-      let number : key_of e ≡ key_of old = put.number ∙ sym (old_number old is) in rw (same, number)
+      let number : entry_key e ≡ entry_key old = put.number ∙ sym (old_number old is) in rw (same, number)
 
   facts_as : (kind : Kind) (o' : Option Entry) → o ≡ o' → part kind e ≡ seen_in kind o'
       → facts_part kind e ≡ shown_by (facts_part kind) o'
   facts_as kind None is same = rw same
   facts_as kind (Some old) is same =
-      let number : key_of e ≡ key_of old = put.number ∙ sym (old_number old is) in rw (same, number)
+      let number : entry_key e ≡ entry_key old = put.number ∙ sym (old_number old is) in rw (same, number)
 
   known_as : (kind : Kind) (o' : Option Entry) → o ≡ o'
       → facts_seen i (seen_in kind o') ≡ shown_by (facts_part kind) o'
@@ -280,27 +270,27 @@ module _ (es : List Entry) (i : ℕ) (k : Kind) (next : Seen) (e : Entry) (es' :
       → kept_among b votes kind es' ≡ kept_among b votes kind es
   other_kept votes true kind other = refl
   other_kept votes false kind other =
-      filter_map-put_same key_of (kept_part votes kind) es e es' o put.is_put (kept_as votes kind o refl (other_part kind other))
+      filter_map-put_same entry_key (kept_part votes kind) es e es' o put.is_put (kept_as votes kind o refl (other_part kind other))
 
   other_facts : (b : Bool) (kind : Kind) → is_kind k kind ≡ false
       → facts_among b kind es' ≡ facts_among b kind es
-  other_facts true kind other = filter_map-put_same key_of (facts_part kind) es e es' o put.is_put (facts_as kind o refl (other_part kind other))
+  other_facts true kind other = filter_map-put_same entry_key (facts_part kind) es e es' o put.is_put (facts_as kind o refl (other_part kind other))
   other_facts false kind other = refl
 
   -- the old entry may be there
   pub represents_before : {G D : Type 0} → (b : Bool) (votes : List (Vote G D)) (kind : Kind)
-      → AllPass (λ x. may_say b kind votes (key_of x) (part kind x)) es
+      → AllPass (λ x. may_say b kind votes (entry_key x) (part kind x)) es
       → may_say b kind votes i (seen_in kind o) ≡ true
   represents_before b votes kind each =
-      represents_of o refl (of_old key_of (λ x. may_say b kind votes (key_of x) (part kind x) ≡ true) es e es' o put.is_put each) where
+      represents_of o refl (of_old entry_key (λ x. may_say b kind votes (entry_key x) (part kind x) ≡ true) es e es' o put.is_put each) where
         represents_of : (o' : Option Entry) → o ≡ o'
-            → Of o' (λ x. may_say b kind votes (key_of x) (part kind x) ≡ true)
+            → Of o' (λ x. may_say b kind votes (entry_key x) (part kind x) ≡ true)
             → may_say b kind votes i (seen_in kind o') ≡ true
         represents_of None is h = refl
         represents_of (Some old) is h = subst (λ n. may_say b kind votes n (part kind old) ≡ true) (old_number old is) h
 
   passes_as : (kind : Kind) (o' : Option Entry)
-      → passes key_of (λ x. has_index (part kind x)) o' ≡ has_index (seen_in kind o')
+      → passes entry_key (λ x. has_index (part kind x)) o' ≡ has_index (seen_in kind o')
   passes_as kind None = refl
   passes_as kind (Some x) = refl
 
@@ -310,12 +300,12 @@ module _ (es : List Entry) (i : ℕ) (k : Kind) (next : Seen) (e : Entry) (es' :
       → Fits b kind votes es → Fits b kind votes es'
   other_fits b votes kind other fits =
       let same = other_part kind other in
-      let represents : may_say b kind votes (key_of e) (part kind e) ≡ true = rw (same, put.number) (represents_before b votes kind fits.each) in
-      let counts = count-put key_of (λ x. has_index (part kind x)) es e es' o put.is_put in
+      let represents : may_say b kind votes (entry_key e) (part kind e) ≡ true = rw (same, put.number) (represents_before b votes kind fits.each) in
+      let counts = count-put entry_key (λ x. has_index (part kind x)) es e es' o put.is_put in
       let before = passes_as kind o in
       let after : has_index (part kind e) ≡ has_index (seen_in kind o) = ap has_index same in
       record {
-        each = All-put key_of (λ x. may_say b kind votes (key_of x) (part kind x) ≡ true) es e es' o put.is_put represents fits.each;
+        each = All-put entry_key (λ x. may_say b kind votes (entry_key x) (part kind x) ≡ true) es e es' o put.is_put represents fits.each;
         counted = fits.counted ∙ same_count (has_index (seen_in kind o)) (rw (before, after) at counts);
       } where
         same_count : {m n : ℕ} (b : Bool) → cond b 1 0 + m ≡ cond b 1 0 + n → n ≡ m
@@ -328,14 +318,14 @@ module _ (es : List Entry) (i : ℕ) (k : Kind) (next : Seen) (e : Entry) (es' :
   compared_fits votes kind test is none_carried own fits =
       let same = own_part kind own ∙ is in
       let before = represents_before true votes kind fits.each in
-      let after : may_say true kind votes (key_of e) (part kind e) ≡ true =
+      let after : may_say true kind votes (entry_key e) (part kind e) ≡ true =
       rw (same, put.number) (compared_represents kind votes i test (seen_in kind o) none_carried before) in
       let old_none = passes_as kind o ∙ no_index kind votes i (seen_in kind o) before in
-      let new_none = no_index kind votes (key_of e) (part kind e) after in
-      let counts = count-put key_of (λ x. has_index (part kind x)) es e es' o put.is_put in
+      let new_none = no_index kind votes (entry_key e) (part kind e) after in
+      let counts = count-put entry_key (λ x. has_index (part kind x)) es e es' o put.is_put in
       let equal = rw (old_none, new_none) at counts in
       record {
-        each = All-put key_of (λ x. may_say true kind votes (key_of x) (part kind x) ≡ true) es e es' o put.is_put after fits.each;
+        each = All-put entry_key (λ x. may_say true kind votes (entry_key x) (part kind x) ≡ true) es e es' o put.is_put after fits.each;
         counted = omega (arith, fits.counted, equal);
       }
 
@@ -347,18 +337,18 @@ module _ (es : List Entry) (i : ℕ) (k : Kind) (next : Seen) (e : Entry) (es' :
   kept_fits {G = G} {D = D} votes kind v is own mine none fits =
       let same = own_part kind own ∙ is in
       let more : List (Vote G D) = votes ++ v ∷ [] in
-      let after : may_say false kind more (key_of e) (part kind e) ≡ true = rw (same, put.number, slice_get_last votes v) mine in
+      let after : may_say false kind more (entry_key e) (part kind e) ≡ true = rw (same, put.number, slice_get_last votes v) mine in
       let old_none = passes_as kind o ∙ none in
       let new_some : has_index (part kind e) ≡ true = ap has_index same in
-      let counts = count-put key_of (λ x. has_index (part kind x)) es e es' o put.is_put in
+      let counts = count-put entry_key (λ x. has_index (part kind x)) es e es' o put.is_put in
       let equal = rw (old_none, new_some) at counts in
       record {
         each =
-            All-put key_of (λ x. may_say false kind more (key_of x) (part kind x) ≡ true) es e es' o put.is_put after
-            (all_from_rec (λ x. may_say false kind more (key_of x) (part kind x) ≡ true) es
-            (rec_weaker (λ x. may_say false kind votes (key_of x) (part kind x) ≡ true) (λ x. may_say false kind more (key_of x) (part kind x) ≡ true)
-            (λ x h. more_represents false kind votes v (key_of x) (part kind x) h) es
-            (rec_from_all (λ x. may_say false kind votes (key_of x) (part kind x) ≡ true) es fits.each)));
+            All-put entry_key (λ x. may_say false kind more (entry_key x) (part kind x) ≡ true) es e es' o put.is_put after
+            (all_from_rec (λ x. may_say false kind more (entry_key x) (part kind x) ≡ true) es
+            (rec_weaker (λ x. may_say false kind votes (entry_key x) (part kind x) ≡ true) (λ x. may_say false kind more (entry_key x) (part kind x) ≡ true)
+            (λ x h. more_represents false kind votes v (entry_key x) (part kind x) h) es
+            (rec_from_all (λ x. may_say false kind votes (entry_key x) (part kind x) ≡ true) es fits.each)));
         counted = omega (arith, equal, length-append votes (v ∷ []), fits.counted);
       }
 
@@ -374,7 +364,7 @@ none_shown : {G D : Type 0} → (votes : List (Vote G D)) (kind : Kind) (o : Opt
     → has_index (seen_in kind o) ≡ false → shown_by (kept_part votes kind) o ≡ None
 none_shown votes kind None none = refl
 none_shown votes kind (Some e) none = none_at (part kind e) none where
-  none_at : (s : Seen) → has_index s ≡ false → own_vote kind (key_of e) (vote_at votes s) ≡ None
+  none_at : (s : Seen) → has_index s ≡ false → own_vote kind (entry_key e) (vote_at votes s) ≡ None
   none_at Nothing none = refl
   none_at Uncompared none = refl
   none_at Differs none = refl
@@ -425,61 +415,61 @@ module _ {G D : Type 0} (same : D → D → Bool) where
 module _ {G D : Type 0} where
   -- What is observed of a signer, by what its entry says.
   pub observed_found : (c : PerKind Bool) (votes : PerKind (List (Vote G D))) (es : List Entry)
-      (kind : Kind) (i : ℕ) (o : Option Entry) → IsAscending key_of es
-      → AllPass (λ e. may_say (of_kind c kind) kind (of_kind votes kind) (key_of e)
+      (kind : Kind) (i : ℕ) (o : Option Entry) → IsAscending entry_key es
+      → AllPass (λ e. may_say (of_kind c kind) kind (of_kind votes kind) (entry_key e)
       (part kind e)) es
-      → find (λ e. nat_eq (key_of e) i) es ≡ o
+      → find (λ e. nat_eq (entry_key e) i) es ≡ o
       → observed (tracked_by c votes es) kind i
       ≡ observed_seen i (of_kind votes kind) (seen_in kind o)
   observed_found c votes es kind i None up each found =
       observed_is c votes es kind i up ∙ ap
       (observed_by (of_kind votes kind) (of_kind c kind) kind) found ∙ nothing_by (of_kind votes kind) (of_kind c kind) kind
   observed_found c votes es kind i (Some e) up each found =
-      let number : key_of e ≡ i = found_key key_of es i e found in
+      let number : entry_key e ≡ i = found_key entry_key es i e found in
       let represents = found_all es each found in
       observed_is c votes es kind i up ∙ ap (observed_by (of_kind votes kind) (of_kind c kind) kind) found
       ∙ observed_says (of_kind votes kind) (of_kind c kind) kind e represents ∙ ap (λ n. observed_seen n (of_kind votes kind) (part kind e)) number where
         found_all : (es : List Entry)
-            → AllPass (λ e. may_say (of_kind c kind) kind (of_kind votes kind) (key_of e)
+            → AllPass (λ e. may_say (of_kind c kind) kind (of_kind votes kind) (entry_key e)
             (part kind e)) es
-            → find (λ e. nat_eq (key_of e) i) es ≡ Some e
-            → may_say (of_kind c kind) kind (of_kind votes kind) (key_of e) (part kind e) ≡ true
-        found_all es each found = found_passes key_of (λ e. may_say (of_kind c kind) kind
-            (of_kind votes kind) (key_of e) (part kind e) ≡ true) es i e (rec_from_all _ es each) found
+            → find (λ e. nat_eq (entry_key e) i) es ≡ Some e
+            → may_say (of_kind c kind) kind (of_kind votes kind) (entry_key e) (part kind e) ≡ true
+        found_all es each found = found_passes entry_key (λ e. may_say (of_kind c kind) kind
+            (of_kind votes kind) (entry_key e) (part kind e) ≡ true) es i e (rec_from_all _ es each) found
 
   -- the vote of a signer that is kept, by what its entry says
   pub kept_vote_found : (c : PerKind Bool) (votes : PerKind (List (Vote G D))) (es : List Entry)
-      (kind : Kind) (i : ℕ) (o : Option Entry) → IsAscending key_of es
-      → AllPass (λ e. may_say (of_kind c kind) kind (of_kind votes kind) (key_of e)
+      (kind : Kind) (i : ℕ) (o : Option Entry) → IsAscending entry_key es
+      → AllPass (λ e. may_say (of_kind c kind) kind (of_kind votes kind) (entry_key e)
       (part kind e)) es
-      → find (λ e. nat_eq (key_of e) i) es ≡ o
+      → find (λ e. nat_eq (entry_key e) i) es ≡ o
       → kept_vote (tracked_by c votes es) kind i ≡ vote_at (of_kind votes kind) (seen_in kind o)
   kept_vote_found c votes es kind i o up each found =
       rw (kept_is c votes es kind) (by_kept (of_kind c kind) o each found) where
         by_kept : (b : Bool) (o : Option Entry)
-            → AllPass (λ e. may_say b kind (of_kind votes kind) (key_of e) (part kind e)) es
-            → find (λ e. nat_eq (key_of e) i) es ≡ o
+            → AllPass (λ e. may_say b kind (of_kind votes kind) (entry_key e) (part kind e)) es
+            → find (λ e. nat_eq (entry_key e) i) es ≡ o
             → find (is_vote_of kind i) (kept_among b (of_kind votes kind) kind es)
             ≡ vote_at (of_kind votes kind) (seen_in kind o)
         by_kept true None each found = refl
         by_kept false None each found = kept_found (of_kind votes kind) kind i es up ∙ ap (shown_by (kept_part (of_kind votes kind) kind)) found
-        by_kept b (Some e) each found = by_entry b (found_passes key_of (λ e. may_say b kind (of_kind votes kind) (key_of e) (part kind e) ≡ true) es i e
-            (rec_from_all (λ e. may_say b kind (of_kind votes kind) (key_of e) (part kind e) ≡ true) es each) found) where
+        by_kept b (Some e) each found = by_entry b (found_passes entry_key (λ e. may_say b kind (of_kind votes kind) (entry_key e) (part kind e) ≡ true) es i e
+            (rec_from_all (λ e. may_say b kind (of_kind votes kind) (entry_key e) (part kind e) ≡ true) es each) found) where
               by_entry : (b : Bool)
-                  → may_say b kind (of_kind votes kind) (key_of e) (part kind e) ≡ true
+                  → may_say b kind (of_kind votes kind) (entry_key e) (part kind e) ≡ true
                   → find (is_vote_of kind i) (kept_among b (of_kind votes kind) kind es)
                   ≡ vote_at (of_kind votes kind) (part kind e)
-              by_entry true represents = sym (no_vote (of_kind votes kind) kind (key_of e) (part kind e) represents)
+              by_entry true represents = sym (no_vote (of_kind votes kind) kind (entry_key e) (part kind e) represents)
               by_entry false represents =
                   kept_found (of_kind votes kind) kind i es up ∙ ap (shown_by (kept_part (of_kind votes kind) kind)) found
-                  ∙ kept_says (of_kind votes kind) false kind (key_of e) (part kind e) represents
+                  ∙ kept_says (of_kind votes kind) false kind (entry_key e) (part kind e) represents
 
   -- whether the signer's vote is kept
   pub has_kept_vote : (c : PerKind Bool) (votes : PerKind (List (Vote G D))) (es : List Entry)
-      (kind : Kind) (i : ℕ) (o : Option Entry) → IsAscending key_of es
-      → AllPass (λ e. may_say (of_kind c kind) kind (of_kind votes kind) (key_of e)
+      (kind : Kind) (i : ℕ) (o : Option Entry) → IsAscending entry_key es
+      → AllPass (λ e. may_say (of_kind c kind) kind (of_kind votes kind) (entry_key e)
       (part kind e)) es
-      → find (λ e. nat_eq (key_of e) i) es ≡ o
+      → find (λ e. nat_eq (entry_key e) i) es ≡ o
       → has_index (seen_in kind o) ≡ is_some (kept_vote (tracked_by c votes es) kind i)
   has_kept_vote c votes es kind i o up each found =
       by_found o found ∙ ap is_some (sym (kept_vote_found c votes es kind i o up each found)) where
@@ -495,20 +485,20 @@ module _ {G D : Type 0} where
           there None h = absurd (cc)
           there (Some v) h = refl
 
-        by_found : (o : Option Entry) → find (λ e. nat_eq (key_of e) i) es ≡ o
+        by_found : (o : Option Entry) → find (λ e. nat_eq (entry_key e) i) es ≡ o
             → has_index (seen_in kind o) ≡ is_some (vote_at (of_kind votes kind) (seen_in kind o))
         by_found None found = refl
         by_found (Some e) found =
-            by_seen (of_kind c kind) (key_of e) (part kind e)
-            (found_passes key_of (λ e. may_say (of_kind c kind) kind (of_kind votes kind) (key_of e) (part kind e) ≡ true) es i e
-            (rec_from_all (λ e. may_say (of_kind c kind) kind (of_kind votes kind) (key_of e) (part kind e) ≡ true) es each) found)
+            by_seen (of_kind c kind) (entry_key e) (part kind e)
+            (found_passes entry_key (λ e. may_say (of_kind c kind) kind (of_kind votes kind) (entry_key e) (part kind e) ≡ true) es i e
+            (rec_from_all (λ e. may_say (of_kind c kind) kind (of_kind votes kind) (entry_key e) (part kind e) ≡ true) es each) found)
 
   -- whether any vote of the signer was seen
   pub has_seen : (c : PerKind Bool) (votes : PerKind (List (Vote G D))) (es : List Entry)
-      (kind : Kind) (i : ℕ) (o : Option Entry) → IsAscending key_of es
-      → AllPass (λ e. may_say (of_kind c kind) kind (of_kind votes kind) (key_of e)
+      (kind : Kind) (i : ℕ) (o : Option Entry) → IsAscending entry_key es
+      → AllPass (λ e. may_say (of_kind c kind) kind (of_kind votes kind) (entry_key e)
       (part kind e)) es
-      → find (λ e. nat_eq (key_of e) i) es ≡ o
+      → find (λ e. nat_eq (entry_key e) i) es ≡ o
       → is_any (seen_in kind o) ≡ is_seen (observed (tracked_by c votes es) kind i)
   has_seen c votes es kind i o up each found =
       by_found o found ∙ ap is_seen (sym (observed_found c votes es kind i o up each found)) where
@@ -524,23 +514,23 @@ module _ {G D : Type 0} where
           there None h = absurd (cc)
           there (Some v) h = refl
 
-        by_found : (o : Option Entry) → find (λ e. nat_eq (key_of e) i) es ≡ o
+        by_found : (o : Option Entry) → find (λ e. nat_eq (entry_key e) i) es ≡ o
             → is_any (seen_in kind o)
             ≡ is_seen (observed_seen i (of_kind votes kind) (seen_in kind o))
         by_found None found = refl
         by_found (Some e) found =
-            by_seen (of_kind c kind) (key_of e) (part kind e)
-            (found_passes key_of (λ e. may_say (of_kind c kind) kind (of_kind votes kind) (key_of e) (part kind e) ≡ true) es i e
-            (rec_from_all (λ e. may_say (of_kind c kind) kind (of_kind votes kind) (key_of e) (part kind e) ≡ true) es each) found)
+            by_seen (of_kind c kind) (entry_key e) (part kind e)
+            (found_passes entry_key (λ e. may_say (of_kind c kind) kind (of_kind votes kind) (entry_key e) (part kind e) ≡ true) es i e
+            (rec_from_all (λ e. may_say (of_kind c kind) kind (of_kind votes kind) (entry_key e) (part kind e) ≡ true) es each) found)
 
   -- A signer that is known has an entry.
   pub known_entry : (c : PerKind Bool) (votes : PerKind (List (Vote G D))) (es : List Entry) (i : ℕ)
-      (place : Result ℕ ℕ) (R : Type 0) → IsAscending key_of es
-      → place ≡ place_of (map key_of es) i → is_known (tracked_by c votes es) i ≡ true
+      (place : Result ℕ ℕ) (R : Type 0) → IsAscending entry_key es
+      → place ≡ place_of (map entry_key es) i → is_known (tracked_by c votes es) i ≡ true
       → IfErr place (λ _. R)
   known_entry c votes es i (Ok j) R up is known = tt
   known_entry c votes es i (Err j) R up is known =
-      let never = unknown c votes es i up (place_absent key_of es i j (sym is)) in
+      let never = unknown c votes es i up (place_absent entry_key es i j (sym is)) in
       let clash : true ≡ false = sym known ∙ never in absurd (cc)
 
   pub seen_known : (held : TrackerState G D) (kind : Kind) (i : ℕ)
@@ -587,11 +577,12 @@ module _ {G D : Type 0} (same : D → D → Bool) (c : PerKind Bool) (votes : Pe
       ≡ recorded_facts same selected vote (filter_map (facts_part kind) es)
   facts_set kind None before after =
       rw (facts_at_found kind None before)
-      (filter_map-put_new key_of (facts_part kind) (λ f. f.signer) (facts_numbered kind) es e es' o (facts_of_kept same selected vote) put.is_put put.up before
+      (filter_map-put_new entry_key (facts_part kind) (λ f. f.signer) (facts_numbered kind) es e es' o
+      (facts_of_kept same selected vote) put.is_put put.up before
       after)
   facts_set kind (Some f) before after =
       rw (facts_at_found kind (Some f) before)
-      (filter_map-put_changed key_of (facts_part kind) (λ f. f.signer) (facts_numbered kind) (facts_with same selected vote) es e es' o (signer_of vote) f
+      (filter_map-put_changed entry_key (facts_part kind) (λ f. f.signer) (facts_numbered kind) (facts_with same selected vote) es e es' o (signer_of vote) f
       put.is_put
       put.up put.number before after)
 
@@ -638,7 +629,7 @@ module _ {G D : Type 0} (same : D → D → Bool) (c : PerKind Bool) (votes : Pe
           kept =
               rw (observed_is c votes es kind (signer_of vote) put.up, kept_is c votes es' kind, kept_is c votes es kind)
               (compared_kept kind (of_kind c kind) (is_of_kind kind vote)
-              (not (is_seen (observed_by (of_kind votes kind) (of_kind c kind) kind (find (λ x. nat_eq (key_of x) (signer_of vote)) es)))) refl refl);
+              (not (is_seen (observed_by (of_kind votes kind) (of_kind c kind) kind (find (λ x. nat_eq (entry_key x) (signer_of vote)) es)))) refl refl);
           facts = rw (facts_is c votes es' kind, facts_is c votes es kind) (compared_list kind (of_kind c kind) (is_of_kind kind vote) refl refl);
         }
 
@@ -699,7 +690,7 @@ module _ {G D : Type 0} (same : D → D → Bool) (c : PerKind Bool) (votes : Pe
         let before = none_shown (of_kind votes kind) kind o (none_own kind is_own) in
         let before_more = none_shown (of_kind votes kind ++ vote ∷ []) kind o (none_own kind is_own) in
         rw before
-        (filter_map-put_new key_of (kept_part (of_kind votes kind ++ vote ∷ []) kind) signer_of
+        (filter_map-put_new entry_key (kept_part (of_kind votes kind ++ vote ∷ []) kind) signer_of
         (kept_numbered (of_kind votes kind ++ vote ∷ []) kind) es e es' o vote put.is_put put.up before_more (shows_own kind is_own)
         ∙ ap (insert_by signer_of vote) (more_kept false kind (of_kind votes kind) vote es fits.each))
     kept_kept kind b false is_b is_own fits = other_kept es (signer_of vote) (kind_of vote) next e es' o put (of_kind votes kind) b kind is_own
@@ -746,9 +737,9 @@ module _ {G D : Type 0} (same : D → D → Bool) (c : PerKind Bool) (votes : Pe
         }
 
 module _ {G D : Type 0} (same : D → D → Bool) (c : PerKind Bool) (votes : PerKind (List (Vote G D)))
-    (es : List Entry) (selected : Option (Proposal D)) (vote : Vote G D) (up : IsAscending key_of es)
+    (es : List Entry) (selected : Option (Proposal D)) (vote : Vote G D) (up : IsAscending entry_key es)
     (fits : (kind : Kind) → Fits (of_kind c kind) kind (of_kind votes kind) es) (o : Option Entry)
-    (found : find (λ x. nat_eq (key_of x) (signer_of vote)) es ≡ o) where
+    (found : find (λ x. nat_eq (entry_key x) (signer_of vote)) es ≡ o) where
   -- what comes of recording a vote, by what its signer's entry says
   pub outcome_found : (participants : ℕ) → nat_lt (signer_of vote) participants ≡ true
       → seen_outcome (of_kind c (kind_of vote)) (tested same selected vote)
@@ -759,23 +750,23 @@ module _ {G D : Type 0} (same : D → D → Bool) (c : PerKind Bool) (votes : Pe
       (outcome_says same selected vote (of_kind votes (kind_of vote)) (of_kind c (kind_of vote)) (signer_of vote) (seen_in (kind_of vote) o)
       (represents_found (kind_of vote) o found)) where
         represents_found : (kind : Kind) (o : Option Entry)
-            → find (λ x. nat_eq (key_of x) (signer_of vote)) es ≡ o
+            → find (λ x. nat_eq (entry_key x) (signer_of vote)) es ≡ o
             → may_say (of_kind c kind) kind (of_kind votes kind) (signer_of vote) (seen_in kind o)
             ≡ true
         represents_found kind None found = refl
         represents_found kind (Some e) found =
-            subst (λ n. may_say (of_kind c kind) kind (of_kind votes kind) n (part kind e) ≡ true) (found_key key_of es (signer_of vote) e found)
-            (found_passes key_of (λ e. may_say (of_kind c kind) kind (of_kind votes kind) (key_of e) (part kind e) ≡ true) es (signer_of vote) e
-            (rec_from_all (λ e. may_say (of_kind c kind) kind (of_kind votes kind) (key_of e) (part kind e) ≡ true) es (fits kind).each) found)
+            subst (λ n. may_say (of_kind c kind) kind (of_kind votes kind) n (part kind e) ≡ true) (found_key entry_key es (signer_of vote) e found)
+            (found_passes entry_key (λ e. may_say (of_kind c kind) kind (of_kind votes kind) (entry_key e) (part kind e) ≡ true) es (signer_of vote) e
+            (rec_from_all (λ e. may_say (of_kind c kind) kind (of_kind votes kind) (entry_key e) (part kind e) ≡ true) es (fits kind).each) found)
 
   represents_here : (kind : Kind) (o : Option Entry)
-      → find (λ x. nat_eq (key_of x) (signer_of vote)) es ≡ o
+      → find (λ x. nat_eq (entry_key x) (signer_of vote)) es ≡ o
       → may_say (of_kind c kind) kind (of_kind votes kind) (signer_of vote) (seen_in kind o) ≡ true
   represents_here kind None found = refl
   represents_here kind (Some e) found =
-      subst (λ n. may_say (of_kind c kind) kind (of_kind votes kind) n (part kind e) ≡ true) (found_key key_of es (signer_of vote) e found)
-      (found_passes key_of (λ e. may_say (of_kind c kind) kind (of_kind votes kind) (key_of e) (part kind e) ≡ true) es (signer_of vote) e
-      (rec_from_all (λ e. may_say (of_kind c kind) kind (of_kind votes kind) (key_of e) (part kind e) ≡ true) es (fits kind).each) found)
+      subst (λ n. may_say (of_kind c kind) kind (of_kind votes kind) n (part kind e) ≡ true) (found_key entry_key es (signer_of vote) e found)
+      (found_passes entry_key (λ e. may_say (of_kind c kind) kind (of_kind votes kind) (entry_key e) (part kind e) ≡ true) es (signer_of vote) e
+      (rec_from_all (λ e. may_say (of_kind c kind) kind (of_kind votes kind) (entry_key e) (part kind e) ≡ true) es (fits kind).each) found)
 
   pub outcome_here : seen_outcome (of_kind c (kind_of vote)) (tested same selected vote)
       (seen_in (kind_of vote) o)
@@ -890,10 +881,10 @@ module _ {G D : Type 0} (same : D → D → Bool) (c : PerKind Bool) (votes : Pe
 
 -- The entries that a record leaves, with the votes that it leaves.
 module _ {G D : Type 0} (same : D → D → Bool) (c : PerKind Bool) (votes : PerKind (List (Vote G D)))
-    (es : List Entry) (selected : Option (Proposal D)) (vote : Vote G D) (up : IsAscending key_of es)
+    (es : List Entry) (selected : Option (Proposal D)) (vote : Vote G D) (up : IsAscending entry_key es)
   where
     abbrev pub its_entry : Option Entry
-    its_entry = find (λ x. nat_eq (key_of x) (signer_of vote)) es
+    its_entry = find (λ x. nat_eq (entry_key x) (signer_of vote)) es
 
     -- where facts are kept
     abbrev pub compared_entries : List Entry

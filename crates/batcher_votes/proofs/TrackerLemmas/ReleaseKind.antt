@@ -1,22 +1,11 @@
 -- What releasing a kind changes of what a tracker shows, by its entries and the votes that it keeps.
-use Rattle.std.proofs.Common.{◌≡◌, ◌∙◌, ℕ, Bool, true, false, cond, ◌&&◌, ◌||◌, List, [], ◌∷◌, map, Option, Some, None, refl, ap, sym, subst}
-use Rattle.std.specs.List.{AllByRecursion, filter_map, cons_option, slice_get}
-use Rattle.std.proofs.lemmas.Bool.{and_parts}
-use Rattle.batcher_types.specs.declared.messages.Proposal.{Proposal}
-use Rattle.batcher_types.specs.declared.messages.Vote.{Vote}
-use Rattle.batcher_types.specs.declared.messages.Kind.{Kind}
-use Rattle.batcher_types.specs.declared.messages.Kind.TheVariants.{Notarization, Nullification, Finalization}
-use Rattle.batcher_votes.specs.declared.votes.entry.Seen.{Seen}
-use Rattle.batcher_votes.specs.declared.votes.entry.Seen.TheVariants.{Nothing, Uncompared, Differs, Matches, Kept}
-use Rattle.batcher_types.specs.Lists.{count, is_some_and}
-use Rattle.batcher_types.specs.Ordered.{rec_from_all, all_from_rec, rec_weaker}
-use Rattle.batcher_types.specs.Votes.{is_kind, is_vote_of, has_proposals, kind_of}
-use Rattle.batcher_types.proofs.KindLemmas.{is_kind-true}
-use Rattle.batcher_types.proofs.ListLemmas.{and-true}
-use Rattle.batcher_votes.specs.RoundState.{PerKind, of_kind}
-use Rattle.batcher_votes.specs.TrackerSteps.{no_facts, facts_with, facts_of_kept, ReleasesKind, SameTrackerState}
-use Rattle.batcher_votes.specs.Entries.{Entry, with_mark, part, key_of, has_index, compared, facts_seen, facts_part, facts_among, without, own_vote, vote_at, kept_part, kept_among, tracked_by, may_say, Fits}
-use Rattle.batcher_votes.specs.Entries.{tested, tested_at, seen_released, entry_released}
+use Rattle.batcher_votes.proofs.Words.{◌≡◌, ◌∙◌, ℕ, Bool, true, false, cond, ◌&&◌, ◌||◌, List, [], ◌∷◌, map, Option, Some, None, refl, ap, sym, subst}
+use Rattle.batcher_votes.proofs.Words.{AllByRecursion, filter_map, cons_option, slice_get, and_parts, Proposal, Vote, Kind, Notarization, Nullification}
+use Rattle.batcher_votes.proofs.Words.{Finalization, Seen, Nothing, Uncompared, Differs, Matches, Kept, count, is_some_and, rec_from_all, all_from_rec}
+use Rattle.batcher_votes.proofs.Words.{rec_weaker, is_kind, is_vote_of, has_proposals, kind_of, is_kind-true, and-true, PerKind, of_kind, no_facts, facts_with}
+use Rattle.batcher_votes.proofs.Words.{facts_of_kept, ReleasesKind, SameTrackerState, Entry, with_mark, part, entry_key, has_index, compared, facts_seen}
+use Rattle.batcher_votes.proofs.Words.{facts_part, facts_among, without, own_vote, vote_at, kept_part, kept_among, tracked_by, may_say, Fits, tested, tested_at}
+use Rattle.batcher_votes.proofs.Words.{seen_released, entry_released}
 use Rattle.batcher_votes.proofs.TrackerLemmas.ShownParts.{made_of, filter_map-map_same}
 use Rattle.batcher_votes.proofs.TrackerLemmas.SignerFacts.{signed, kept_is, facts_is}
 use Rattle.batcher_votes.proofs.TrackerLemmas.RecordVote.{compared_facts, compared_represents, facts_with_vote, none_tested, part_with, key_with}
@@ -129,7 +118,7 @@ module _ {G D : Type 0} (same : D → D → Bool) (selected : Option (Proposal D
     abbrev pub after : Entry → Entry
     after = entry_released same selected released votes
 
-    key_after : (e : Entry) → key_of (after e) ≡ key_of e
+    key_after : (e : Entry) → entry_key (after e) ≡ entry_key e
     key_after e = key_with released (seen_released same selected votes (part released e)) e
 
     other_after : (kind : Kind) → is_kind released kind ≡ false → (e : Entry)
@@ -155,19 +144,19 @@ module _ {G D : Type 0} (same : D → D → Bool) (selected : Option (Proposal D
     kept_beside kind its other e = rw (other_after kind other e, key_after e)
 
     facts_own : (kind : Kind) → is_kind released kind ≡ true → (e : Entry)
-        → may_say false kind votes (key_of e) (part kind e) ≡ true
+        → may_say false kind votes (entry_key e) (part kind e) ≡ true
         → facts_part kind (after e) ≡ made_of (facts_of_kept same selected) (kept_part votes kind e)
-    facts_own kind own e represents = rw (own_after kind own e, key_after e) (seen_shows kind votes (key_of e) (part kind e) represents)
+    facts_own kind own e represents = rw (own_after kind own e, key_after e) (seen_shows kind votes (entry_key e) (part kind e) represents)
 
     represents_own : (kind : Kind) → is_kind released kind ≡ true → (e : Entry)
-        → may_say false kind votes (key_of e) (part kind e) ≡ true
-        → may_say {G = G} {D = D} true kind [] (key_of (after e)) (part kind (after e)) ≡ true
-    represents_own kind own e represents = rw (own_after kind own e, key_after e) (seen_represents kind votes (key_of e) (part kind e) represents)
+        → may_say false kind votes (entry_key e) (part kind e) ≡ true
+        → may_say {G = G} {D = D} true kind [] (entry_key (after e)) (part kind (after e)) ≡ true
+    represents_own kind own e represents = rw (own_after kind own e, key_after e) (seen_represents kind votes (entry_key e) (part kind e) represents)
 
     represents_beside : (b : Bool) (kind : Kind) (its : List (Vote G D)) → is_kind released kind
         ≡ false
-        → (e : Entry) → may_say b kind its (key_of e) (part kind e) ≡ true
-        → may_say b kind its (key_of (after e)) (part kind (after e)) ≡ true
+        → (e : Entry) → may_say b kind its (entry_key e) (part kind e) ≡ true
+        → may_say b kind its (entry_key (after e)) (part kind (after e)) ≡ true
     represents_beside b kind its other e represents = rw (other_after kind other e, key_after e) represents
 
     fits_beside : (b : Bool) (kind : Kind) (its : List (Vote G D)) (es : List Entry)
@@ -175,9 +164,9 @@ module _ {G D : Type 0} (same : D → D → Bool) (selected : Option (Proposal D
     fits_beside b kind its es other fits =
         record {
           each =
-              all_from_rec (λ e. may_say b kind its (key_of e) (part kind e) ≡ true) (map after es)
-              (all-map (λ e. may_say b kind its (key_of e) (part kind e) ≡ true) (λ e. may_say b kind its (key_of e) (part kind e) ≡ true) after
-              (represents_beside b kind its other) es (rec_from_all (λ e. may_say b kind its (key_of e) (part kind e) ≡ true) es fits.each));
+              all_from_rec (λ e. may_say b kind its (entry_key e) (part kind e) ≡ true) (map after es)
+              (all-map (λ e. may_say b kind its (entry_key e) (part kind e) ≡ true) (λ e. may_say b kind its (entry_key e) (part kind e) ≡ true) after
+              (represents_beside b kind its other) es (rec_from_all (λ e. may_say b kind its (entry_key e) (part kind e) ≡ true) es fits.each));
           counted =
               fits.counted ∙ sym (count-map_same (λ e. has_index (part kind e)) after (λ e. ap has_index (other_after kind other e)) es);
         }
@@ -187,10 +176,10 @@ module _ {G D : Type 0} (same : D → D → Bool) (selected : Option (Proposal D
     fits_own kind es own fits =
         record {
           each =
-              all_from_rec (λ e. may_say {G = G} {D = D} true kind [] (key_of e) (part kind e) ≡ true) (map after es)
-              (all-map (λ e. may_say false kind votes (key_of e) (part kind e) ≡ true)
-              (λ e. may_say {G = G} {D = D} true kind [] (key_of e) (part kind e) ≡ true) after
-              (represents_own kind own) es (rec_from_all (λ e. may_say false kind votes (key_of e) (part kind e) ≡ true) es fits.each));
+              all_from_rec (λ e. may_say {G = G} {D = D} true kind [] (entry_key e) (part kind e) ≡ true) (map after es)
+              (all-map (λ e. may_say false kind votes (entry_key e) (part kind e) ≡ true)
+              (λ e. may_say {G = G} {D = D} true kind [] (entry_key e) (part kind e) ≡ true) after
+              (represents_own kind own) es (rec_from_all (λ e. may_say false kind votes (entry_key e) (part kind e) ≡ true) es fits.each));
           counted =
               sym (count-map_none (λ e. has_index (part kind e)) after
               (λ e. ap has_index (own_after kind own e) ∙ none_left votes (part kind e)) es);
@@ -201,9 +190,9 @@ module _ {G D : Type 0} (same : D → D → Bool) (selected : Option (Proposal D
         ≡ map (facts_of_kept same selected) (filter_map (kept_part votes kind) es)
     facts_all kind es own fits =
         filter_map-map_each (kept_part votes kind) (facts_part kind) after (facts_of_kept same selected) es
-        (rec_weaker (λ e. may_say false kind votes (key_of e) (part kind e) ≡ true)
+        (rec_weaker (λ e. may_say false kind votes (entry_key e) (part kind e) ≡ true)
         (λ e. facts_part kind (after e) ≡ made_of (facts_of_kept same selected) (kept_part votes kind e)) (facts_own kind own) es
-        (rec_from_all (λ e. may_say false kind votes (key_of e) (part kind e) ≡ true) es fits.each))
+        (rec_from_all (λ e. may_say false kind votes (entry_key e) (part kind e) ≡ true) es fits.each))
 
   -- b: the kind was compacted before; own: it is the one that is released
   module _ (released kind : Kind) (votes : List (Vote G D)) (its : List (Vote G D))

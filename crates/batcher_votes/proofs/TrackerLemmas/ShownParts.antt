@@ -1,10 +1,8 @@
 -- What some elements of an ascending list show, as a list of its own.
-use Rattle.std.proofs.Common.{◌≡◌, ◌≢◌, ◌≤◌, ◌<◌, ℕ, suc, zero, Bool, true, false, cond, nat_eq, nat_le, List, [], ◌∷◌, length, get_or, set, find, Option, Some, None, map, refl, ap, sym, arith}
-use Rattle.std.specs.List.{AllByRecursion, filter_map, cons_option}
-use Rattle.std.proofs.lemmas.Bool.Decides.{nat_tests}
-use Rattle.std.proofs.lemmas.Bool.{ne_eqb, eq-eqb, le-leb, lt-leb}
-use Rattle.batcher_types.specs.Ascending.{IsAscending, insert_by}
-use Rattle.batcher_types.specs.Ordered.{rec_weaker, all_from_rec}
+use Rattle.batcher_votes.proofs.Words.{◌≡◌, ◌≢◌, ◌≤◌, ◌<◌, ℕ, suc, zero, Bool, true, false, cond, nat_eq, nat_le, List, [], ◌∷◌, length, get_or, set, find}
+use Rattle.batcher_votes.proofs.Words.{Option, Some, None, map, refl, ap, sym, arith, AllByRecursion, filter_map, cons_option, nat_tests, ne_eqb, eq-eqb}
+use Rattle.batcher_votes.proofs.Words.{le-leb, lt-leb, insert_by, rec_weaker, all_from_rec}
+use Rattle.batcher_types.specs.Ascending.{IsAscending}
 
 -- the fact, of the value if there is one
 abbrev pub Of : {X : Type 0} → Option X → (X → Type 0) → Type 0

@@ -1,19 +1,9 @@
 -- What a tracker shows of a signer, by its entries and the votes that it keeps.
-use Rattle.std.proofs.Common.{◌≡◌, ◌==◌, ℕ, Bool, true, false, not, cond, nat_eq, List, find, Option, Some, None, refl, ap, arith}
-use Rattle.std.proofs.lemmas.Bool.Decides.{nat_tests}
-use Rattle.std.specs.List.{filter_map, slice_get}
-use Rattle.std.proofs.lemmas.Bool.{and_parts}
-use Rattle.batcher_types.specs.declared.messages.Vote.{Vote}
-use Rattle.batcher_types.specs.declared.messages.Kind.{Kind}
-use Rattle.batcher_types.specs.declared.messages.Kind.TheVariants.{Notarization, Nullification, Finalization}
-use Rattle.batcher_votes.specs.declared.votes.entry.Seen.{Seen}
-use Rattle.batcher_votes.specs.declared.votes.entry.Seen.TheVariants.{Nothing, Uncompared, Differs, Matches, Kept}
-use Rattle.batcher_types.specs.Ascending.{IsAscending}
-use Rattle.batcher_types.specs.Lists.{is_some_and}
-use Rattle.batcher_types.specs.Votes.{kind_of, signer_of, is_kind, is_of_kind, is_vote_of}
-use Rattle.batcher_votes.specs.RoundState.{PerKind, of_kind, Facts}
-use Rattle.batcher_votes.specs.TrackerSteps.{Observed, unseen, from_kept, from_facts, observed, is_known}
-use Rattle.batcher_votes.specs.Entries.{Entry, part, key_of, facts_seen, facts_part, facts_among, own_vote, vote_at, kept_part, kept_among, tracked_by, observed_seen, may_say}
+use Rattle.batcher_votes.proofs.Words.{◌≡◌, ◌==◌, ℕ, Bool, true, false, not, cond, nat_eq, List, find, Option, Some, None, refl, ap, arith, nat_tests}
+use Rattle.batcher_votes.proofs.Words.{filter_map, slice_get, and_parts, Vote, Kind, Notarization, Nullification, Finalization, Seen, Nothing, Uncompared}
+use Rattle.batcher_votes.proofs.Words.{Differs, Matches, Kept, IsAscending, is_some_and, kind_of, signer_of, is_kind, is_of_kind, is_vote_of, PerKind, of_kind}
+use Rattle.batcher_votes.proofs.Words.{Facts, Observed, unseen, from_kept, from_facts, observed, is_known, Entry, part, entry_key, facts_seen, facts_part}
+use Rattle.batcher_votes.proofs.Words.{facts_among, own_vote, vote_at, kept_part, kept_among, tracked_by, observed_seen, may_say}
 use Rattle.batcher_votes.proofs.TrackerLemmas.ShownParts.{Of, shown_by, find-filter_map}
 
 facts_signed : (i : ℕ) (s : Seen) → Of (facts_seen i s) (λ f. f.signer ≡ i)
@@ -28,17 +18,18 @@ tested_by : (k n : ℕ) (o : Option Facts) → Of o (λ f. f.signer ≡ n)
 tested_by k n None same = tt
 tested_by k n (Some f) same = ap (λ m. nat_eq m k) same
 
-pub facts_numbered : (kind : Kind) (e : Entry) → Of (facts_part kind e) (λ f. f.signer ≡ key_of e)
+pub facts_numbered : (kind : Kind) (e : Entry) → Of (facts_part kind e)
+    (λ f. f.signer ≡ entry_key e)
 facts_numbered kind e = facts_signed e.signer.0 (part kind e)
 
 facts_tested : (k : ℕ) (kind : Kind) (e : Entry)
-    → Of (facts_part kind e) (λ f. nat_eq f.signer k ≡ nat_eq (key_of e) k)
-facts_tested k kind e = tested_by k (key_of e) (facts_part kind e) (facts_numbered kind e)
+    → Of (facts_part kind e) (λ f. nat_eq f.signer k ≡ nat_eq (entry_key e) k)
+facts_tested k kind e = tested_by k (entry_key e) (facts_part kind e) (facts_numbered kind e)
 
-pub facts_found : (kind : Kind) (k : ℕ) (es : List Entry) → IsAscending key_of es
+pub facts_found : (kind : Kind) (k : ℕ) (es : List Entry) → IsAscending entry_key es
     → find (λ f. nat_eq f.signer k) (filter_map (facts_part kind) es)
-    ≡ shown_by (facts_part kind) (find (λ e. nat_eq (key_of e) k) es)
-facts_found kind k es up = find-filter_map key_of (facts_part kind) (λ f. nat_eq f.signer k) k (facts_tested k kind) es up
+    ≡ shown_by (facts_part kind) (find (λ e. nat_eq (entry_key e) k) es)
+facts_found kind k es up = find-filter_map entry_key (facts_part kind) (λ f. nat_eq f.signer k) k (facts_tested k kind) es up
 
 module _ {G D : Type 0} where
   pub kept_is : (c : PerKind Bool) (votes : PerKind (List (Vote G D))) (es : List Entry)
@@ -77,16 +68,16 @@ module _ {G D : Type 0} where
 
   module _ (votes : List (Vote G D)) where
     pub kept_numbered : (kind : Kind) (e : Entry)
-        → Of (kept_part votes kind e) (λ v. signer_of v ≡ key_of e)
+        → Of (kept_part votes kind e) (λ v. signer_of v ≡ entry_key e)
     kept_numbered kind e =
-        of_weaker (λ v. is_vote_of kind (key_of e) v ≡ true) (λ v. signer_of v ≡ key_of e) (kept_part votes kind e)
-        (λ v own. signed kind (key_of e) v own) (own_of kind (key_of e) (vote_at votes (part kind e)))
+        of_weaker (λ v. is_vote_of kind (entry_key e) v ≡ true) (λ v. signer_of v ≡ entry_key e) (kept_part votes kind e)
+        (λ v own. signed kind (entry_key e) v own) (own_of kind (entry_key e) (vote_at votes (part kind e)))
 
     pub kept_kinded : (kind : Kind) (e : Entry)
         → Of (kept_part votes kind e) (λ v. is_of_kind kind v ≡ true)
     kept_kinded kind e =
-        of_weaker (λ v. is_vote_of kind (key_of e) v ≡ true) (λ v. is_of_kind kind v ≡ true) (kept_part votes kind e)
-        (λ v own. (and_parts (is_kind (kind_of v) kind) (signer_of v == key_of e) own).0) (own_of kind (key_of e) (vote_at votes (part kind e)))
+        of_weaker (λ v. is_vote_of kind (entry_key e) v ≡ true) (λ v. is_of_kind kind v ≡ true) (kept_part votes kind e)
+        (λ v own. (and_parts (is_kind (kind_of v) kind) (signer_of v == entry_key e) own).0) (own_of kind (entry_key e) (vote_at votes (part kind e)))
 
     tested_so : (k : ℕ) (kind : Kind) (i : ℕ) (v : Vote G D) → is_vote_of kind i v ≡ true
         → is_vote_of kind k v ≡ nat_eq i k
@@ -95,25 +86,25 @@ module _ {G D : Type 0} where
         rw both.0 (ap (λ n. nat_eq n k) (signed kind i v own))
 
     kept_tested : (k : ℕ) (kind : Kind) (e : Entry)
-        → Of (kept_part votes kind e) (λ v. is_vote_of kind k v ≡ nat_eq (key_of e) k)
+        → Of (kept_part votes kind e) (λ v. is_vote_of kind k v ≡ nat_eq (entry_key e) k)
     kept_tested k kind e =
-        of_weaker (λ v. is_vote_of kind (key_of e) v ≡ true) (λ v. is_vote_of kind k v ≡ nat_eq (key_of e) k) (kept_part votes kind e)
-        (λ v own. tested_so k kind (key_of e) v own) (own_of kind (key_of e) (vote_at votes (part kind e)))
+        of_weaker (λ v. is_vote_of kind (entry_key e) v ≡ true) (λ v. is_vote_of kind k v ≡ nat_eq (entry_key e) k) (kept_part votes kind e)
+        (λ v own. tested_so k kind (entry_key e) v own) (own_of kind (entry_key e) (vote_at votes (part kind e)))
 
-    pub kept_found : (kind : Kind) (k : ℕ) (es : List Entry) → IsAscending key_of es
+    pub kept_found : (kind : Kind) (k : ℕ) (es : List Entry) → IsAscending entry_key es
         → find (is_vote_of kind k) (filter_map (kept_part votes kind) es)
-        ≡ shown_by (kept_part votes kind) (find (λ e. nat_eq (key_of e) k) es)
-    kept_found kind k es up = find-filter_map key_of (kept_part votes kind) (is_vote_of kind k) k (kept_tested k kind) es up
+        ≡ shown_by (kept_part votes kind) (find (λ e. nat_eq (entry_key e) k) es)
+    kept_found kind k es up = find-filter_map entry_key (kept_part votes kind) (is_vote_of kind k) k (kept_tested k kind) es up
 
     -- what is known of a signer by its entry, of a kind that is compacted or isn't
     abbrev pub observed_by : Bool → Kind → Option Entry → Observed G D
     observed_by true kind o = from_facts (shown_by (facts_part kind) o)
     observed_by false kind o = from_kept (shown_by (kept_part votes kind) o)
 
-    observed_among : (b : Bool) (kind : Kind) (k : ℕ) (es : List Entry) → IsAscending key_of es
+    observed_among : (b : Bool) (kind : Kind) (k : ℕ) (es : List Entry) → IsAscending entry_key es
         → cond b (from_facts (find (λ f. nat_eq f.signer k) (facts_among b kind es)))
         (from_kept (find (is_vote_of kind k) (kept_among b votes kind es)))
-        ≡ observed_by b kind (find (λ e. nat_eq (key_of e) k) es)
+        ≡ observed_by b kind (find (λ e. nat_eq (entry_key e) k) es)
     observed_among true kind k es up = ap from_facts (facts_found kind k es up)
     observed_among false kind k es up = ap from_kept (kept_found kind k es up)
 
@@ -141,19 +132,19 @@ module _ {G D : Type 0} where
     no_vote kind i (Kept p) h = absurd (cc)
 
     pub observed_says : (b : Bool) (kind : Kind) (e : Entry)
-        → may_say b kind votes (key_of e) (part kind e) ≡ true
-        → observed_by b kind (Some e) ≡ observed_seen (key_of e) votes (part kind e)
+        → may_say b kind votes (entry_key e) (part kind e) ≡ true
+        → observed_by b kind (Some e) ≡ observed_seen (entry_key e) votes (part kind e)
     observed_says true kind e h = facts_says (part kind e) h where
-      facts_says : (s : Seen) → may_say true kind votes (key_of e) s ≡ true
-          → from_facts (facts_seen (key_of e) s) ≡ observed_seen (key_of e) votes s
+      facts_says : (s : Seen) → may_say true kind votes (entry_key e) s ≡ true
+          → from_facts (facts_seen (entry_key e) s) ≡ observed_seen (entry_key e) votes s
       facts_says Nothing h = refl
       facts_says Uncompared h = refl
       facts_says Differs h = refl
       facts_says Matches h = refl
       facts_says (Kept p) h = absurd (cc)
-    observed_says false kind e h = rw (kept_says false kind (key_of e) (part kind e) h) (vote_says (part kind e) h) where
-      vote_says : (s : Seen) → may_say false kind votes (key_of e) s ≡ true
-          → from_kept (vote_at votes s) ≡ observed_seen (key_of e) votes s
+    observed_says false kind e h = rw (kept_says false kind (entry_key e) (part kind e) h) (vote_says (part kind e) h) where
+      vote_says : (s : Seen) → may_say false kind votes (entry_key e) s ≡ true
+          → from_kept (vote_at votes s) ≡ observed_seen (entry_key e) votes s
       vote_says Nothing h = refl
       vote_says Uncompared h = absurd (cc)
       vote_says Differs h = absurd (cc)
@@ -161,8 +152,9 @@ module _ {G D : Type 0} where
       vote_says (Kept p) h = refl
 
   pub observed_is : (c : PerKind Bool) (votes : PerKind (List (Vote G D))) (es : List Entry)
-      (kind : Kind) (k : ℕ) → IsAscending key_of es → observed (tracked_by c votes es) kind k
-      ≡ observed_by (of_kind votes kind) (of_kind c kind) kind (find (λ e. nat_eq (key_of e) k) es)
+      (kind : Kind) (k : ℕ) → IsAscending entry_key es → observed (tracked_by c votes es) kind k
+      ≡ observed_by (of_kind votes kind) (of_kind c kind) kind
+      (find (λ e. nat_eq (entry_key e) k) es)
   observed_is c votes es kind k up =
       rw (kept_is c votes es kind, facts_is c votes es kind) (observed_among (of_kind votes kind) (of_kind c kind) kind k es up)
 
@@ -172,7 +164,7 @@ module _ {G D : Type 0} where
   nothing_by votes false kind = refl
 
   pub unknown : (c : PerKind Bool) (votes : PerKind (List (Vote G D))) (es : List Entry) (k : ℕ)
-      → IsAscending key_of es → find (λ x. nat_eq (key_of x) k) es ≡ None
+      → IsAscending entry_key es → find (λ x. nat_eq (entry_key x) k) es ≡ None
       → is_known (tracked_by c votes es) k ≡ false
   unknown c votes es k up absent =
       rw (

@@ -1,21 +1,9 @@
 -- What the laws of a scheme say of an attempt.
-use Rattle.std.proofs.Common.{◌≡◌, ◌≢◌, not, cond, ◌∷◌, ◌≤◌, ◌+◌, ℕ, Bool, true, false, nat_le, List, [], ◌++◌, length, filter, Option, Some, None, is_some, refl, sym, ap, ◌∙◌, arith}
-use Rattle.std.specs.List.{AllPass}
-use Rattle.std.proofs.lemmas.Bool.{true≢false, false≢true}
-use Rattle.std.proofs.lemmas.Bool.Decides.{nat_tests}
-use Rattle.std.proofs.lemmas.List.Elements.{All-cons}
-use Rattle.rand_core.specs.Stream.{Stream}
-use Rattle.batcher_types.specs.Quorum.{quorum_of}
-use Rattle.batcher_types.specs.Lists.{EachOnce}
-use Rattle.batcher_types.specs.Attestations.{index_of_signer, signers, failing}
-use Rattle.batcher_types.specs.Meaning.{Meaning, MayTry, IsLawful}
-use Rattle.batcher_types.specs.Attempts.{AttemptResult, checked, one_by_one, at_once, attempt_of}
-use Rattle.batcher_votes.specs.Outcomes.{IsFine}
+use Rattle.batcher_votes.proofs.Words.{◌≡◌, ◌≢◌, not, cond, ◌∷◌, ◌≤◌, ◌+◌, ℕ, Bool, true, false, nat_le, List, [], ◌++◌, length, filter, Option, Some, None}
+use Rattle.batcher_votes.proofs.Words.{is_some, refl, sym, ap, ◌∙◌, arith, AllPass, true≢false, false≢true, nat_tests, All-cons, Stream, quorum_of, EachOnce}
+use Rattle.batcher_votes.proofs.Words.{index_of_signer, signers, failing, Meaning, MayTry, IsLawful, AttemptResult, checked, one_by_one, at_once, attempt_of}
+use Rattle.batcher_votes.proofs.Words.{IsFine, Attestation, Subject, once_filter_end, once_none, AllPass-nil}
 use Rattle.batcher_votes.proofs.VerifierLemmas.CheckedQuorum.{IsQuorum-checked, IsQuorum-valid, AllPass-valid, once_checked}
-use Rattle.batcher_types.specs.declared.messages.Attestation.{Attestation}
-use Rattle.batcher_types.specs.declared.messages.Subject.{Subject}
-use Rattle.batcher_types.proofs.CountLemmas.{once_filter_end, once_none}
-use Rattle.batcher_types.proofs.ListLemmas.{AllPass-nil}
 
 -- where none fails, all pass
 all_of : {G : Type 0} (test : Attestation G → Bool) (a : Attestation G) (xs : List (Attestation G))

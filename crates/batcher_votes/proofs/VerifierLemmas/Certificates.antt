@@ -1,12 +1,6 @@
 -- What a certificate is about that is made for a subject.
-use Rattle.std.proofs.Common.{◌≡◌, ◌∙◌, Option, Some, None, refl, sym, ap}
-use Rattle.std.proofs.lemmas.Option.{none-some}
-use Rattle.std.specs.Option.{option_map}
-use Rattle.batcher_types.specs.declared.messages.Certificate.{Certificate}
-use Rattle.batcher_types.specs.declared.messages.Subject.{Subject}
-use Rattle.batcher_types.specs.declared.messages.Subject.TheVariants.{Notarize as NotarizeSubject, Nullify as NullifySubject, Finalize as FinalizeSubject}
-use Rattle.batcher_types.specs.Votes.{subject_certified}
-use Rattle.batcher_votes.specs.VerifierSteps.{certificate_for}
+use Rattle.batcher_votes.proofs.Words.{◌≡◌, ◌∙◌, Option, Some, None, refl, sym, ap, none-some, option_map, Certificate, Subject, NotarizeSubject}
+use Rattle.batcher_votes.proofs.Words.{NullifySubject, FinalizeSubject, subject_certified, certificate_for}
 
 module _ {C D : Type 0} where
   pub certified_subject : (subject : Subject D) (content : C)

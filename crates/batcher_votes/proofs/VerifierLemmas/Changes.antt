@@ -1,15 +1,6 @@
 -- What one call changes of what a verifier holds, by the votes of one kind.
-use Rattle.std.proofs.Common.{◌≡◌, Bool, true, false, not, cond, ◌&&◌, List, [], ◌∷◌, ◌++◌, filter, map, Some}
-use Rattle.std.specs.List.{AllPass}
-use Rattle.batcher_types.specs.declared.messages.Attestation.{Attestation}
-use Rattle.batcher_types.specs.declared.messages.Kind.{Kind}
-use Rattle.batcher_types.specs.declared.messages.Proposal.{Proposal}
-use Rattle.batcher_types.specs.declared.messages.Subject.{Subject}
-use Rattle.batcher_types.specs.declared.messages.Vote.{Vote}
-use Rattle.batcher_types.specs.Votes.{is_kind, is_of_kind, is_eligible}
-use Rattle.batcher_votes.specs.ProposalStates.{proposal_of}
-use Rattle.batcher_votes.specs.RoundState.{of_kind, VerifierState}
-use Rattle.batcher_votes.specs.VerifierSteps.{SameVerifierState, vote_for}
+use Rattle.batcher_votes.proofs.Words.{◌≡◌, Bool, true, false, not, cond, ◌&&◌, List, [], ◌∷◌, ◌++◌, filter, map, Some, AllPass, Attestation, Kind, Proposal}
+use Rattle.batcher_votes.proofs.Words.{Subject, Vote, is_kind, is_of_kind, is_eligible, proposal_of, of_kind, VerifierState, SameVerifierState, vote_for}
 
 -- What is to be known of the buffers of one kind: each vote waits with the selected
 -- proposal, and those of a certified kind are gone.

@@ -1,13 +1,7 @@
 -- That a quorum stays one where those that do not attest go.
-use Rattle.std.proofs.Common.{◌≡◌, ◌≤◌, ◌+◌, ℕ, Bool, true, false, nat_le, cond, List, [], ◌++◌, length, filter, append-nil, arith, length-append}
-use Rattle.std.specs.List.{AllPass}
-use Rattle.std.proofs.lemmas.List.Elements.{All-append, filter_passes}
-use Rattle.batcher_types.specs.Quorum.{quorum_of}
-use Rattle.batcher_types.specs.Lists.{EachOnce}
-use Rattle.batcher_types.specs.Attestations.{IsQuorum, index_of_signer}
-use Rattle.batcher_types.specs.Attempts.{checked}
-use Rattle.batcher_types.specs.declared.messages.Attestation.{Attestation}
-use Rattle.batcher_types.proofs.CountLemmas.{once_front, once_filter_end}
+use Rattle.batcher_votes.proofs.Words.{◌≡◌, ◌≤◌, ◌+◌, ℕ, Bool, true, false, nat_le, cond, List, [], ◌++◌, length, filter, append-nil, arith, length-append}
+use Rattle.batcher_votes.proofs.Words.{AllPass, All-append, filter_passes, quorum_of, EachOnce, IsQuorum, index_of_signer, checked, Attestation, once_front}
+use Rattle.batcher_votes.proofs.Words.{once_filter_end}
 
 module _ {G : Type 0} (n q : ℕ) (enough : quorum_of n ≤ q) (verified pending : List (Attestation G))
     (once : EachOnce index_of_signer (verified ++ pending)) where

@@ -1,43 +1,18 @@
 -- What an attempt is about, and what it leaves.
-use Rattle.std.proofs.Common.{◌≡◌, ◌≤◌, ◌+◌, ◌==◌, ◌&&◌, ◌||◌, ℕ, Bool, true, false, not, cond, nat_le, List, [], ◌∷◌, ◌++◌, length, map, Option, Some, None, IfSome, is_some, is_none, append-nil, refl, sym, ap, subst, ◌∙◌, arith}
-use Rattle.std.specs.List.{All, AllPass, list_all}
-use Rattle.std.specs.Option.{option_map}
-use Rattle.std.proofs.lemmas.Bool.Decides.{nat_tests}
-use Rattle.std.proofs.lemmas.List.{map-append}
-use Rattle.std.proofs.lemmas.List.Elements.{All-cons, All-head, All-tail, All-nil}
-use Rattle.std.proofs.lemmas.Option.{same_Some}
-use Rattle.std.proofs.lemmas.Bool.{and_parts, and_from, not-true}
-use Rattle.rand_core.specs.Stream.{Stream}
-use Rattle.batcher_types.specs.declared.positions.Round.{Round}
-use Rattle.batcher_types.specs.declared.messages.Attestation.{Attestation}
-use Rattle.batcher_types.specs.declared.messages.Proposal.{Proposal}
-use Rattle.batcher_types.specs.declared.messages.Subject.{Subject}
-use Rattle.batcher_types.specs.declared.messages.Subject.TheVariants.{Notarize as NotarizeSubject, Nullify as NullifySubject, Finalize as FinalizeSubject}
-use Rattle.batcher_types.specs.declared.messages.Vote.{Vote}
-use Rattle.batcher_types.specs.declared.messages.Vote.TheVariants.{Notarize as NotarizeVote, Nullify as NullifyVote, Finalize as FinalizeVote}
-use Rattle.batcher_types.specs.declared.messages.Certificate.{Certificate}
-use Rattle.batcher_types.specs.declared.messages.Certificate.TheVariants.{Notarization as NotarizationCertificate, Nullification as NullificationCertificate, Finalization as FinalizationCertificate}
-use Rattle.batcher_types.specs.declared.messages.Kind.{Kind}
-use Rattle.batcher_types.specs.declared.messages.Kind.TheVariants.{Notarization, Nullification, Finalization}
-use Rattle.batcher_votes.specs.declared.verifier.Batch.{Batch}
-use Rattle.batcher_types.specs.Quorum.{quorum_of}
-use Rattle.batcher_types.specs.Lists.{count, EachOnce}
-use Rattle.batcher_types.specs.Attestations.{index_of_signer}
-use Rattle.batcher_types.specs.Meaning.{Meaning, IsLawful}
-use Rattle.batcher_types.specs.Votes.{is_kind, is_of_kind, signer_of, subject_of, attestation_of, proposal_in, same_subject, subject_certified, content_of}
-use Rattle.batcher_votes.specs.ProposalStates.{proposal_of}
-use Rattle.batcher_votes.specs.RoundState.{of_kind, VerifierState}
-use Rattle.batcher_types.specs.Attempts.{AttemptResult, attempt_of, checked}
-use Rattle.batcher_types.proofs.CountLemmas.{count-map, once_front}
-use Rattle.batcher_types.proofs.KindLemmas.{is_kind-true, is_kind-refl}
-use Rattle.batcher_types.proofs.VoteLemmas.{same_subject-true, same_subject-refl}
-use Rattle.batcher_types.proofs.OptionLemmas.{given, is_some-option_map, is_some-false}
-use Rattle.batcher_votes.specs.VerifierSteps.{attestations_of, vote_for, subject_from, first_proposal, is_enough, is_ready, CompletesKind, certificate_for, subject_tried, batch_of, TriesKind, SameVerifierState}
-use Rattle.batcher_votes.specs.Soundness.{IsSound, IsSoundKind, attests_itself, is_about, may_be_buffered}
+use Rattle.batcher_votes.proofs.Words.{◌≡◌, ◌≤◌, ◌+◌, ◌==◌, ◌&&◌, ◌||◌, ℕ, Bool, true, false, not, cond, nat_le, List, [], ◌∷◌, ◌++◌, length, map, Option, Some}
+use Rattle.batcher_votes.proofs.Words.{None, IfSome, is_some, is_none, append-nil, refl, sym, ap, subst, ◌∙◌, arith, All, AllPass, list_all, option_map}
+use Rattle.batcher_votes.proofs.Words.{nat_tests, map-append, All-cons, All-head, All-tail, All-nil, same_Some, and_parts, and_from, not-true, Stream, Round}
+use Rattle.batcher_votes.proofs.Words.{Attestation, Proposal, Subject, NotarizeSubject, NullifySubject, FinalizeSubject, Vote, NotarizeVote, NullifyVote}
+use Rattle.batcher_votes.proofs.Words.{FinalizeVote, Certificate, NotarizationCertificate, NullificationCertificate, FinalizationCertificate, Kind}
+use Rattle.batcher_votes.proofs.Words.{Notarization, Nullification, Finalization, Batch, quorum_of, count, EachOnce, index_of_signer, Meaning, IsLawful}
+use Rattle.batcher_votes.proofs.Words.{is_kind, is_of_kind, signer_of, subject_of, attestation_of, proposal_in, same_subject, subject_certified, content_of}
+use Rattle.batcher_votes.proofs.Words.{proposal_of, of_kind, VerifierState, AttemptResult, attempt_of, checked, count-map, once_front, is_kind-true}
+use Rattle.batcher_votes.proofs.Words.{is_kind-refl, same_subject-true, same_subject-refl, given, is_some-option_map, is_some-false, attestations_of, vote_for}
+use Rattle.batcher_votes.proofs.Words.{subject_from, first_proposal, is_enough, is_ready, CompletesKind, certificate_for, subject_tried, batch_of, TriesKind}
+use Rattle.batcher_votes.proofs.Words.{SameVerifierState, IsSound, IsSoundKind, attests_itself, is_about, may_be_buffered, subject_ready, certifies_itself}
+use Rattle.batcher_votes.proofs.Words.{BatchCertifies, NamesSomebody, IsFine, TakesIn, attempt_result}
 use Rattle.batcher_votes.proofs.VerifierLemmas.Changes.{Absorbs}
-use Rattle.batcher_votes.specs.Verifiers.{subject_ready, certifies_itself, BatchCertifies, NamesSomebody}
 use Rattle.batcher_votes.proofs.VerifierLemmas.Runs.{vote_again, attestation_again, subject_again}
-use Rattle.batcher_votes.specs.Outcomes.{IsFine, TakesIn, outcome_of}
 use Rattle.batcher_votes.proofs.VerifierLemmas.AttemptLaws.{fine}
 
 module _ {D : Type 0} (same : D → D → Bool) (identical : (a b : D) → same a b ≡ true → a ≡ b) where
@@ -486,7 +461,7 @@ module _ {D K G C : Type 0} (m : Meaning D K G C) (same : D → D → Bool)
     (tried : Batch C) (joining : List (Attestation G)) where
   -- what an attempt gave
   abbrev gave : AttemptResult G C
-  gave = outcome_of (attestations_of (of_kind old.verified kind)) tried joining
+  gave = attempt_result (attestations_of (of_kind old.verified kind)) tried joining
 
   module _ (fine : IsFine m subject gave) (batch : Batch (Certificate C D))
       (batch_is : batch ≡ batch_of subject gave) where

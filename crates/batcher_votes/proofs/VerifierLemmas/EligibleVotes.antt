@@ -1,19 +1,8 @@
 -- Which votes wait, before and after a change of the selected proposal.
-use Rattle.std.proofs.Common.{◌≡◌, Bor, Bool, true, false, not, cond, ◌&&◌, List, [], ◌∷◌, ◌++◌, filter, Option, Some, None, is_some, append-nil, refl, ap, subst, ◌∙◌}
-use Rattle.std.specs.List.{AllPass}
-use Rattle.std.specs.Option.{option_copied}
-use Rattle.std.proofs.lemmas.List.Elements.{filter-append}
-use Rattle.batcher_types.specs.Lawful.{filter_all}
-use Rattle.batcher_types.specs.declared.messages.Proposal.{Proposal}
-use Rattle.batcher_types.specs.declared.messages.Vote.{Vote}
-use Rattle.batcher_types.specs.declared.messages.Kind.{Kind}
-use Rattle.batcher_votes.specs.declared.verifier.ProposalState.{ProposalState}
-use Rattle.batcher_votes.specs.declared.verifier.ProposalState.TheVariants.{Unknown, Leader as LeadersProposal, Certificate as FixedProposal}
-use Rattle.batcher_types.specs.Votes.{is_of_kind, same_proposal, is_eligible}
-use Rattle.batcher_types.proofs.VoteLemmas.{same_proposal-true}
-use Rattle.batcher_votes.specs.ProposalStates.{proposal_of, updated, selects, same_selected}
-use Rattle.batcher_votes.specs.RoundState.{of_kind, VerifierState}
-use Rattle.batcher_votes.specs.VerifierSteps.{leaders_vote, Buffers, AddsVote, SetsProposal}
+use Rattle.batcher_votes.proofs.Words.{◌≡◌, Bor, Bool, true, false, not, cond, ◌&&◌, List, [], ◌∷◌, ◌++◌, filter, Option, Some, None, is_some, append-nil, refl}
+use Rattle.batcher_votes.proofs.Words.{ap, subst, ◌∙◌, AllPass, option_copied, filter-append, filter_all, Proposal, Vote, Kind, ProposalState, Unknown}
+use Rattle.batcher_votes.proofs.Words.{LeadersProposal, FixedProposal, is_of_kind, same_proposal, is_eligible, same_proposal-true, proposal_of, updated}
+use Rattle.batcher_votes.proofs.Words.{selects, same_selected, of_kind, VerifierState, leaders_vote, Buffers, AddsVote, SetsProposal}
 use Rattle.batcher_votes.proofs.VerifierLemmas.Changes.{IsTidy, Places, Retains}
 
 module _ {D : Type 0} (same : D → D → Bool) (identical : (a b : D) → same a b ≡ true → a ≡ b) where

@@ -1,20 +1,8 @@
 -- A proposal that is fixed stays so, and no other takes its place.
-use Rattle.std.proofs.Common.{◌≡◌, ◌∙◌, true, Option, Some, None, is_some, refl, sym, ap}
-use Rattle.std.proofs.lemmas.Option.{none-some}
-use Rattle.std.specs.Option.{option_map}
-use Rattle.batcher_types.specs.declared.positions.Round.{Round}
-use Rattle.batcher_types.specs.declared.messages.Proposal.{Proposal}
-use Rattle.batcher_types.specs.declared.messages.Subject.{Subject}
-use Rattle.batcher_types.specs.declared.messages.Subject.TheVariants.{Finalize as FinalizeSubject}
-use Rattle.batcher_types.specs.declared.messages.Certificate.{Certificate}
-use Rattle.batcher_types.specs.declared.messages.Certificate.TheVariants.{Notarization as NotarizationCertificate, Nullification as NullificationCertificate, Finalization as FinalizationCertificate}
-use Rattle.batcher_types.specs.declared.messages.Kind.{Kind}
-use Rattle.batcher_types.specs.declared.messages.Kind.TheVariants.{Notarization, Nullification, Finalization}
-use Rattle.batcher_votes.specs.declared.verifier.ProposalState.{ProposalState}
-use Rattle.batcher_votes.specs.declared.verifier.ProposalState.TheVariants.{Unknown, Leader as LeadersProposal, Certificate as FixedProposal}
-use Rattle.batcher_types.specs.Votes.{is_kind, proposal_in, kind_certified, subject_certified}
-use Rattle.batcher_votes.specs.ProposalStates.{is_fixed, selects, fixes}
-use Rattle.batcher_votes.specs.VerifierSteps.{subject_from, certificate_for}
+use Rattle.batcher_votes.proofs.Words.{◌≡◌, ◌∙◌, true, Option, Some, None, is_some, refl, sym, ap, none-some, option_map, Round, Proposal, Subject}
+use Rattle.batcher_votes.proofs.Words.{FinalizeSubject, Certificate, NotarizationCertificate, NullificationCertificate, FinalizationCertificate, Kind}
+use Rattle.batcher_votes.proofs.Words.{Notarization, Nullification, Finalization, ProposalState, Unknown, LeadersProposal, FixedProposal, is_kind, proposal_in}
+use Rattle.batcher_votes.proofs.Words.{kind_certified, subject_certified, is_fixed, selects, fixes, subject_from, certificate_for}
 use Rattle.batcher_votes.proofs.VerifierLemmas.Certificates.{made_about}
 
 module _ {D : Type 0} where

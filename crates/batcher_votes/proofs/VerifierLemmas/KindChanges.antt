@@ -1,20 +1,9 @@
 -- What changes of what a verifier holds where its votes of one kind do.
-use Rattle.std.proofs.Common.{◌≡◌, ◌∙◌, ◌&&◌, ◌||◌, ◌++◌, ◌∷◌, [], Bool, true, false, not, cond, List, filter, map, Option, Some, append-nil, refl, sym, ap, subst}
-use Rattle.batcher_types.specs.declared.positions.Participant.{Participant}
-use Rattle.batcher_types.specs.declared.messages.Attestation.{Attestation}
-use Rattle.batcher_types.specs.declared.messages.Proposal.{Proposal}
-use Rattle.batcher_types.specs.declared.messages.Subject.{Subject}
-use Rattle.batcher_types.specs.declared.messages.Vote.{Vote}
-use Rattle.batcher_types.specs.declared.messages.Kind.{Kind}
-use Rattle.batcher_types.specs.declared.messages.Kind.TheVariants.{Notarization, Nullification, Finalization}
-use Rattle.batcher_types.specs.Votes.{is_kind, kind_of, is_of_kind, is_eligible}
-use Rattle.batcher_types.proofs.KindLemmas.{each_kind, is_kind-true, is_kind-refl}
-use Rattle.batcher_votes.specs.declared.verifier.ProposalState.{ProposalState}
-use Rattle.batcher_votes.specs.declared.verifier.certification.Certification.{Certification}
-use Rattle.batcher_votes.specs.RoundState.{PerKind, of_kind, VerifierState}
-use Rattle.batcher_votes.specs.Kinds.{with_kind}
-use Rattle.batcher_votes.specs.VerifierSteps.{SameVerifierState, CompletesKind, vote_for}
-use Rattle.batcher_votes.specs.Certifications.{map_kinds, is_complete, pending_of, verified_of, held_by}
+use Rattle.batcher_votes.proofs.Words.{◌≡◌, ◌∙◌, ◌&&◌, ◌||◌, ◌++◌, ◌∷◌, [], Bool, true, false, not, cond, List, filter, map, Option, Some, append-nil, refl}
+use Rattle.batcher_votes.proofs.Words.{sym, ap, subst, Participant, Attestation, Proposal, Subject, Vote, Kind, Notarization, Nullification, Finalization}
+use Rattle.batcher_votes.proofs.Words.{is_kind, kind_of, is_of_kind, is_eligible, each_kind, is_kind-true, is_kind-refl, ProposalState, Certification, PerKind}
+use Rattle.batcher_votes.proofs.Words.{of_kind, VerifierState, with_kind, SameVerifierState, CompletesKind, vote_for, map_kinds, is_complete, pending_of}
+use Rattle.batcher_votes.proofs.Words.{verified_of, verifier_holding}
 use Rattle.batcher_votes.proofs.VerifierLemmas.Changes.{Places, Restores, Absorbs, Retains}
 
 -- what holds of a kind and of each other one holds of each
@@ -59,10 +48,10 @@ module _ {X Y : Type 0} (f : X → Y) (all : PerKind X) where
 module _ {G D : Type 0} (leader : Option Participant) (selection : ProposalState D)
     (kinds : PerKind (Certification G D)) (kind : Kind) (one : Certification G D) where
   abbrev pub old : VerifierState G D
-  old = held_by leader selection kinds
+  old = verifier_holding leader selection kinds
 
   abbrev pub new : VerifierState G D
-  new = held_by leader selection (with_kind kinds kind one)
+  new = verifier_holding leader selection (with_kind kinds kind one)
 
   same_elsewhere : (other : Kind) → is_kind kind other ≡ false → SameVerifierState old new other
   same_elsewhere other e =
@@ -180,8 +169,9 @@ module _ {G D : Type 0} (leader : Option Participant) (selection : ProposalState
       → pending_of b ≡ kept (pending_of kinds.finalize) → verified_of b
       ≡ kept (verified_of kinds.finalize) → kept (pending_of kinds.nullify)
       ≡ pending_of kinds.nullify → kept (verified_of kinds.nullify) ≡ verified_of kinds.nullify
-      → Retains same (held_by leader selection kinds) p
-      (held_by leader selection (with_kind (with_kind kinds Notarization a) Finalization b))
+      → Retains same (verifier_holding leader selection kinds) p
+      (verifier_holding leader selection
+      (with_kind (with_kind kinds Notarization a) Finalization b))
   retains a b ca pa va cb pb vb pn vn =
       record {
         leader = refl;

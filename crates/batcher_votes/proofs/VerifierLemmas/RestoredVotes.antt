@@ -1,30 +1,12 @@
 -- Kept votes that are restored once a proposal takes another's place.
-use Rattle.std.proofs.Common.{◌≡◌, ◌∙◌, ◌≤◌, ◌==◌, ◌+◌, ◌&&◌, ◌++◌, ◌∷◌, [], ℕ, Bool, true, false, not, cond, List, filter, length, Option, Some, None, is_some, append-nil, refl, sym, ap, subst, arith}
-use Rattle.std.specs.List.{AllPass}
-use Rattle.std.proofs.lemmas.List.{append_assoc}
-use Rattle.std.proofs.lemmas.List.Elements.{All-head, All-tail, filter-append, filter_passes}
-use Rattle.std.proofs.lemmas.Bool.{and_parts}
-use Rattle.batcher_types.specs.declared.positions.Round.{Round}
-use Rattle.batcher_types.specs.declared.messages.Proposal.{Proposal}
-use Rattle.batcher_types.specs.declared.messages.Vote.{Vote}
-use Rattle.batcher_types.specs.declared.messages.Vote.TheVariants.{Notarize as NotarizeVote, Nullify as NullifyVote, Finalize as FinalizeVote}
-use Rattle.batcher_types.specs.declared.messages.Kind.{Kind}
-use Rattle.batcher_types.specs.declared.messages.Kind.TheVariants.{Notarization, Nullification, Finalization}
-use Rattle.batcher_votes.specs.declared.verifier.ProposalState.{ProposalState}
-use Rattle.batcher_votes.specs.declared.verifier.ProposalState.TheVariants.{Unknown, Leader as LeadersProposal, Certificate as FixedProposal}
-use Rattle.batcher_types.specs.Lawful.{filter_all}
-use Rattle.batcher_types.specs.Lists.{count, EachOnce}
-use Rattle.batcher_types.specs.Meaning.{Meaning}
-use Rattle.batcher_types.specs.Votes.{is_kind, is_of_kind, has_proposals, signer_of, same_proposal, is_eligible}
-use Rattle.batcher_types.proofs.CountLemmas.{count-append, count-filter_le}
-use Rattle.batcher_types.proofs.KindLemmas.{each_kind, is_kind-true}
-use Rattle.batcher_types.proofs.VoteLemmas.{same_proposal-true, same_proposal-refl}
-use Rattle.batcher_types.proofs.ListLemmas.{AllPass-nil, AllPass-weaker, and-true}
-use Rattle.batcher_votes.specs.ProposalStates.{proposal_of, updated, same_selected, replaces}
-use Rattle.batcher_votes.specs.RoundState.{of_kind, TrackerState, VerifierState}
-use Rattle.batcher_votes.specs.TrackerSteps.{KeepsEach, kept_vote}
-use Rattle.batcher_votes.specs.VerifierSteps.{Buffers, SetsProposal, FixesProposal, still_eligible}
-use Rattle.batcher_votes.specs.Soundness.{IsSound, IsSoundKind, may_be_buffered, BuffersOnlyKept}
+use Rattle.batcher_votes.proofs.Words.{◌≡◌, ◌∙◌, ◌≤◌, ◌==◌, ◌+◌, ◌&&◌, ◌++◌, ◌∷◌, [], ℕ, Bool, true, false, not, cond, List, filter, length, Option, Some, None}
+use Rattle.batcher_votes.proofs.Words.{is_some, append-nil, refl, sym, ap, subst, arith, AllPass, append_assoc, All-head, All-tail, filter-append}
+use Rattle.batcher_votes.proofs.Words.{filter_passes, and_parts, Round, Proposal, Vote, NotarizeVote, NullifyVote, FinalizeVote, Kind, Notarization}
+use Rattle.batcher_votes.proofs.Words.{Nullification, Finalization, ProposalState, Unknown, LeadersProposal, FixedProposal, filter_all, count, EachOnce}
+use Rattle.batcher_votes.proofs.Words.{Meaning, is_kind, is_of_kind, has_proposals, signer_of, same_proposal, is_eligible, count-append, count-filter_le}
+use Rattle.batcher_votes.proofs.Words.{each_kind, is_kind-true, same_proposal-true, same_proposal-refl, AllPass-nil, AllPass-weaker, and-true, proposal_of}
+use Rattle.batcher_votes.proofs.Words.{updated, same_selected, replaces, of_kind, TrackerState, VerifierState, KeepsEach, kept_vote, Buffers, SetsProposal}
+use Rattle.batcher_votes.proofs.Words.{FixesProposal, still_eligible, IsSound, IsSoundKind, may_be_buffered, BuffersOnlyKept}
 use Rattle.batcher_votes.proofs.VerifierLemmas.Changes.{IsTidy, Restores}
 use Rattle.batcher_votes.proofs.VerifierLemmas.EligibleVotes.{all_left, still_selected}
 use Rattle.batcher_votes.proofs.VerifierLemmas.Soundness.{sound_buffers, sound_left}

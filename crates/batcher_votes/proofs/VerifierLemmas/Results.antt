@@ -1,5 +1,5 @@
 -- What follows of a call's answer.
-use Rattle.std.specs.Prelude.{Result, Ok, Err, IfOk}
+use Rattle.batcher_votes.proofs.Words.{Result, Ok, Err, IfOk}
 
 pub if_ok : {A E : Type 0} (r : Result A E) (P Q : A → Type 0) → ((a : A) → P a → Q a)
     → IfOk r P → IfOk r Q

@@ -1,21 +1,12 @@
 -- Votes as their subjects and attestations side by side, and runs of one subject.
-use Rattle.std.proofs.Common.{◌≡◌, ◌≤◌, ◌<◌, ◌+◌, ℕ, zero, suc, Bool, true, false, Some, List, [], ◌∷◌, ◌++◌, length, map, filter, take}
-use Rattle.std.proofs.Common.{drop, get_or, set, refl, ap, sym, subst, arith, ◌==◌, ◌||◌, ◌&&◌, ◌-◌, ◌∙◌, cond, replicate, length-append, append-nil, append_assoc, add-one}
-use Rattle.std.proofs.Math.Seq.{paste}
-use Rattle.std.specs.List.{list_any, list_all}
-use Rattle.std.proofs.lemmas.List.{drop-drop, drop_more, length-drop, length-replicate, length-take-le, take-append-drop, take_at}
-use Rattle.std.proofs.lemmas.List.Edits.{drop-paste, length-paste, take-paste}
-use Rattle.std.proofs.lemmas.List.Elements.{filter-append}
-use Rattle.batcher_types.specs.declared.messages.Attestation.{Attestation}
-use Rattle.batcher_types.specs.declared.messages.Proposal.{Proposal}
-use Rattle.batcher_types.specs.declared.messages.Subject.{Subject}
-use Rattle.batcher_types.specs.declared.messages.Subject.TheVariants.{Notarize as NotarizeSubject, Nullify as NullifySubject, Finalize as FinalizeSubject}
-use Rattle.batcher_types.specs.declared.messages.Vote.{Vote}
-use Rattle.batcher_types.specs.declared.messages.Vote.TheVariants.{Notarize as NotarizeVote, Nullify as NullifyVote, Finalize as FinalizeVote}
-use Rattle.batcher_votes.specs.VerifierSteps.{vote_for, attestations_of, have_one_subject}
-use Rattle.batcher_types.specs.Votes.{subject_of, attestation_of, signer_of, same_subject, is_eligible}
-use Rattle.batcher_votes.specs.declared.verifier.buffer.Run.{Run}
-use Rattle.batcher_votes.specs.BufferView.{votes_from, may_be_eligible, one_subject, one_subject_in, subjects_of_runs, retained_attestations}
+use Rattle.batcher_votes.proofs.Words.{◌≡◌, ◌≤◌, ◌<◌, ◌+◌, ℕ, zero, suc, Bool, true, false, Some, List, [], ◌∷◌, ◌++◌, length, map, filter, take, drop, get_or}
+use Rattle.batcher_votes.proofs.Words.{set, refl, ap, sym, subst, arith, ◌==◌, ◌||◌, ◌&&◌, ◌-◌, ◌∙◌, cond, replicate, length-append, append-nil, add-one, paste}
+use Rattle.batcher_votes.proofs.Words.{list_any, list_all, drop-drop, drop_more, length-drop, length-replicate, length-take-le, take-append-drop, take_at}
+use Rattle.batcher_votes.proofs.Words.{drop-paste, length-paste, take-paste, filter-append, Attestation, Proposal, Subject, NotarizeSubject, NullifySubject}
+use Rattle.batcher_votes.proofs.Words.{FinalizeSubject, Vote, NotarizeVote, NullifyVote, FinalizeVote, vote_for, attestations_of, have_one_subject, subject_of}
+use Rattle.batcher_votes.proofs.Words.{attestation_of, signer_of, same_subject, is_eligible, Run, votes_from, may_be_eligible, one_subject, one_subject_in}
+use Rattle.batcher_votes.proofs.Words.{subjects_of_runs, retained_attestations}
+use Rattle.std.proofs.Common.{append_assoc}
 
 -- a vote is that of its subject and attestation
 pub vote_again : {G D : Type 0} (v : Vote G D) → vote_for (subject_of v) (attestation_of v) ≡ v

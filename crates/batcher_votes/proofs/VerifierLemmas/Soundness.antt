@@ -1,30 +1,13 @@
 -- What is true of the votes that wait stays true.
-use Rattle.std.proofs.Common.{◌≡◌, ◌≤◌, ◌+◌, ℕ, Bool, true, false, not, cond, ◌&&◌, ◌||◌, ◌==◌, List, [], ◌∷◌, ◌++◌, length, filter, Option, Some, None, append-nil, refl, sym, ap, subst, ◌∙◌, arith}
-use Rattle.std.specs.List.{AllPass, list_any}
-use Rattle.std.proofs.lemmas.List.Elements.{All-append, All-cons, All-filter, All-head, All-tail, filter_passes}
-use Rattle.std.proofs.lemmas.Bool.Decides.{nat_tests}
-use Rattle.std.proofs.lemmas.Bool.{and_parts, or_parts}
-use Rattle.batcher_types.specs.declared.positions.Round.{Round}
-use Rattle.batcher_types.specs.declared.messages.Proposal.{Proposal}
-use Rattle.batcher_types.specs.declared.messages.Vote.{Vote}
-use Rattle.batcher_types.specs.declared.messages.Vote.TheVariants.{Notarize as NotarizeVote, Nullify as NullifyVote, Finalize as FinalizeVote}
-use Rattle.batcher_types.specs.declared.messages.Kind.{Kind}
-use Rattle.batcher_types.specs.declared.messages.Kind.TheVariants.{Notarization, Nullification, Finalization}
-use Rattle.batcher_votes.specs.declared.verifier.ProposalState.{ProposalState}
-use Rattle.batcher_types.specs.Lawful.{filter_all}
-use Rattle.batcher_types.specs.Lists.{count, EachOnce}
-use Rattle.batcher_types.specs.Quorum.{quorum_of}
-use Rattle.batcher_types.specs.Meaning.{Meaning}
-use Rattle.batcher_types.specs.Votes.{is_kind, kind_of, is_of_kind, is_vote_of, signer_of, is_eligible}
-use Rattle.batcher_types.proofs.CountLemmas.{count-append, count-filter_le, once_fewer, once_none, count_none}
-use Rattle.batcher_types.proofs.KindLemmas.{is_kind-true, each_kind}
-use Rattle.batcher_types.proofs.ListLemmas.{AllPass-nil, AllPass-weaker}
-use Rattle.batcher_votes.specs.ProposalStates.{proposal_of}
-use Rattle.batcher_votes.specs.RoundState.{of_kind, VerifierState}
-use Rattle.batcher_votes.specs.VerifierSteps.{Buffers, is_buffered, nothing_buffered, CompletesKind, SetsProposal}
-use Rattle.batcher_votes.specs.Soundness.{IsSound, IsSoundKind, attests_itself, may_be_buffered}
+use Rattle.batcher_votes.proofs.Words.{◌≡◌, ◌≤◌, ◌+◌, ℕ, Bool, true, false, not, cond, ◌&&◌, ◌||◌, ◌==◌, List, [], ◌∷◌, ◌++◌, length, filter, Option, Some}
+use Rattle.batcher_votes.proofs.Words.{None, append-nil, refl, sym, ap, subst, ◌∙◌, arith, AllPass, list_any, All-append, All-cons, All-filter, All-head}
+use Rattle.batcher_votes.proofs.Words.{All-tail, filter_passes, nat_tests, and_parts, or_parts, Round, Proposal, Vote, NotarizeVote, NullifyVote, FinalizeVote}
+use Rattle.batcher_votes.proofs.Words.{Kind, Notarization, Nullification, Finalization, ProposalState, filter_all, count, EachOnce, quorum_of, Meaning, is_kind}
+use Rattle.batcher_votes.proofs.Words.{kind_of, is_of_kind, is_vote_of, signer_of, is_eligible, count-append, count-filter_le, once_fewer, once_none}
+use Rattle.batcher_votes.proofs.Words.{count_none, is_kind-true, each_kind, AllPass-nil, AllPass-weaker, proposal_of, of_kind, VerifierState, Buffers}
+use Rattle.batcher_votes.proofs.Words.{is_buffered, nothing_buffered, CompletesKind, SetsProposal, IsSound, IsSoundKind, attests_itself, may_be_buffered}
+use Rattle.batcher_votes.proofs.Words.{is_of_round}
 use Rattle.batcher_votes.proofs.VerifierLemmas.Changes.{IsTidy, Places}
-use Rattle.batcher_votes.specs.Verifiers.{is_of_round}
 use Rattle.batcher_votes.proofs.VerifierLemmas.EligibleVotes.{placed_buffers}
 
 all_left : {X : Type 0} (p : X → Bool) (b : Bool) (xs : List X) → AllPass p xs

@@ -1,30 +1,11 @@
 -- An attempt by verdicts from elsewhere, and the scheme that they make of any lawful one.
-use Rattle.std.proofs.Common.{◌≡◌, ◌∙◌, ◌≤◌, ◌+◌, ◌++◌, ◌&&◌, ◌∷◌, [], ℕ, Bool, true, false, not, cond, nat_le, List, length, filter, take, Option, Some, None, is_some, refl, ap, sym, subst, arith}
-use Rattle.std.specs.List.{All, list_all}
-use Rattle.std.proofs.lemmas.Bool.Decides.{nat_tests}
-use Rattle.std.proofs.lemmas.List.Elements.{All-append}
-use Rattle.std.proofs.lemmas.List.Sums.{list_all-from_AllPass, AllPass-from_list_all}
-use Rattle.rand_core.specs.Stream.{Stream}
-use Rattle.batcher_types.specs.declared.positions.Participant.{Participant}
-use Rattle.batcher_types.specs.declared.messages.Attestation.{Attestation}
-use Rattle.batcher_types.specs.declared.messages.Subject.{Subject}
-use Rattle.batcher_types.specs.Attestations.{signers, failing}
-use Rattle.batcher_types.specs.Attempts.{AttemptResult, attempt_of, attempt_with}
-use Rattle.batcher_types.specs.Lists.{is_empty}
-use Rattle.batcher_types.specs.Meaning.{Meaning, IsLawful}
-use Rattle.batcher_types.proofs.CountLemmas.{filter_all, none_fails}
-use Rattle.batcher_types.specs.declared.positions.Round.{Round}
-use Rattle.batcher_types.specs.declared.messages.Kind.{Kind}
-use Rattle.batcher_types.specs.Votes.{subject_of}
-use Rattle.batcher_votes.specs.Outcomes.{IsFine, TakesIn}
-use Rattle.batcher_votes.specs.RoundState.{of_kind, VerifierState}
-use Rattle.batcher_votes.specs.VerifierSteps.{attestations_of, TriesKind}
-use Rattle.batcher_votes.specs.AttemptInputs.{pending_tried, verified_tried}
-use Rattle.batcher_types.specs.declared.messages.Certificate.{Certificate}
-use Rattle.batcher_votes.specs.declared.verifier.Batch.{Batch}
+use Rattle.batcher_votes.proofs.Words.{◌≡◌, ◌∙◌, ◌≤◌, ◌+◌, ◌++◌, ◌&&◌, ◌∷◌, [], ℕ, Bool, true, false, not, cond, nat_le, List, length, filter, take, Option}
+use Rattle.batcher_votes.proofs.Words.{Some, None, is_some, refl, ap, sym, subst, arith, All, list_all, nat_tests, All-append, list_all-from_AllPass}
+use Rattle.batcher_votes.proofs.Words.{AllPass-from_list_all, Stream, Participant, Attestation, Subject, signers, failing, AttemptResult, attempt_of}
+use Rattle.batcher_votes.proofs.Words.{attempt_with, is_empty, Meaning, IsLawful, none_fails, Round, Kind, subject_of, IsFine, TakesIn, of_kind, VerifierState}
+use Rattle.batcher_votes.proofs.Words.{attestations_of, TriesKind, pending_tried, verified_tried, Certificate, Batch, IsSound, judged, judged_with}
+use Rattle.batcher_types.proofs.CountLemmas.{filter_all}
 use Rattle.batcher_votes.proofs.VerifierLemmas.Construction.{fine_attempt, tries_by}
-use Rattle.batcher_votes.specs.Soundness.{IsSound}
-use Rattle.batcher_votes.specs.Verdicts.{judged, judged_with}
 
 -- some stream, where none is drawn from
 pub no_stream : Stream

@@ -1,6 +1,7 @@
 //! One attempt at a certificate.
 
-ghost use Rattle.std.specs.Prelude.{◌≡◌, ◌≤◌, ◌++◌, ◌&&◌, [], Bool, not, Some, false, length, map, nat_le, IfOk};
+ghost use Rattle.std.specs.Prelude.{◌≡◌, ◌≤◌, ◌++◌, ◌&&◌, [], Bool, not, Some, false, length, map};
+ghost use Rattle.std.specs.Prelude.{nat_le, IfOk};
 ghost use Rattle.std.specs.List.{AllPass};
 ghost use Rattle.rand_core.specs.Stream.{Stream};
 ghost use Rattle.batcher_types.specs.declared.messages.Attestation.{Attestation as TheAttestation};
@@ -8,7 +9,7 @@ ghost use Rattle.batcher_types.specs.Quorum.{quorum_of};
 ghost use Rattle.batcher_types.specs.Lists.{EachOnce, is_empty};
 ghost use Rattle.batcher_types.specs.Attestations.{index_of_signer, Sorts};
 ghost use Rattle.batcher_types.specs.Attempts.{checked, attempt_of};
-ghost use Rattle.batcher_votes.specs.Outcomes.{outcome_of};
+ghost use Rattle.batcher_votes.specs.Outcomes.{attempt_result};
 ghost use Rattle.batcher_votes.specs.Verdicts.{judged};
 
 use crate::verifier::Batch;
@@ -98,7 +99,7 @@ pub(crate) fn attempt<S: Scheme<D>, D: Digest, R: CryptoRng>(
     requires once { EachOnce index_of_signer (verified.now ++ pending.now) }
     requires attested { AllPass ((S.meaning scheme.now).attests subject) verified.now }
     ensures attempt { IfOk result (λ a.
-        (outcome_of verified.now a.batch a.joining.items, R.stream rng.new)
+        (attempt_result verified.now a.batch a.joining.items, R.stream rng.new)
         ≡ attempt_of (S.meaning scheme.now) subject quorum verified.now pending.now
         (R.stream rng.old)) }
 {
@@ -145,7 +146,7 @@ pub(crate) fn attempt_by_verdicts<S: Scheme<D>, D: Digest>(
     requires verdicts { verdicts.now
         ≡ map ((S.meaning scheme.now).attests subject) (checked quorum verified.now pending.now) }
     ensures attempt { IfOk result (λ a. (stream : Stream)
-        → (outcome_of verified.now a.batch a.joining.items, stream)
+        → (attempt_result verified.now a.batch a.joining.items, stream)
         ≡ attempt_of (judged (S.meaning scheme.now)) subject quorum verified.now pending.now
         stream) }
 {

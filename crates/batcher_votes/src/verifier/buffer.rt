@@ -1,10 +1,13 @@
 //! A buffer of votes that wait for a certificate.
 
-ghost use Rattle.std.specs.Prelude.{◌≡◌, ◌+◌, ◌-◌, ◌≤◌, ◌<◌, ◌==◌, ◌++◌, ◌∷◌, [], Some, length, filter, map, replicate, take, OnOk, vec_len, vec_capacity};
+ghost use Rattle.std.specs.Prelude.{◌≡◌, ◌+◌, ◌-◌, ◌≤◌, ◌<◌, ◌==◌, ◌++◌, ◌∷◌, [], Some, length};
+ghost use Rattle.std.specs.Prelude.{filter, map, replicate, take, OnOk, vec_len, vec_capacity};
 ghost use Rattle.std.specs.List.{list_all, list_any};
 ghost use Rattle.batcher_types.specs.Votes.{signer_of, subject_of, same_subject, is_eligible};
-ghost use Rattle.batcher_votes.specs.VerifierSteps.{attestations_of, first_proposal, have_one_subject, vote_for};
-ghost use Rattle.batcher_votes.specs.BufferView.{may_be_eligible, one_subject_in, subjects_of_runs, retained_attestations};
+ghost use Rattle.batcher_votes.specs.VerifierSteps.{attestations_of, first_proposal};
+ghost use Rattle.batcher_votes.specs.VerifierSteps.{have_one_subject, vote_for};
+ghost use Rattle.batcher_votes.specs.BufferView.{may_be_eligible, one_subject_in, subjects_of_runs};
+ghost use Rattle.batcher_votes.specs.BufferView.{retained_attestations};
 
 use crate::votes::KeptVotes;
 use batcher_types::messages::{Attestation, Digest, Proposal, Subject, Vote, make_room_below};

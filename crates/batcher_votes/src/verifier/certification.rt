@@ -1,10 +1,14 @@
 //! Votes of one kind on their way to a certificate.
 
-ghost use Rattle.std.specs.Prelude.{◌≡◌, ◌+◌, ◌≤◌, ◌&&◌, ◌||◌, ◌==◌, ◌++◌, ◌∷◌, [], not, cond, true, false, length, filter, map, nat_le, nat_lt, Some, OnOk, IsOk};
+ghost use Rattle.std.specs.Prelude.{◌≡◌, ◌+◌, ◌≤◌, ◌&&◌, ◌||◌, ◌==◌, ◌++◌, ◌∷◌, [], not, cond};
+ghost use Rattle.std.specs.Prelude.{true, false, length, filter, map, nat_le, nat_lt, Some, OnOk};
+ghost use Rattle.std.specs.Prelude.{IsOk};
 ghost use Rattle.std.specs.List.{list_any};
 ghost use Rattle.batcher_types.specs.Votes.{signer_of, is_eligible};
-ghost use Rattle.batcher_votes.specs.VerifierSteps.{attestations_of, first_proposal, have_one_subject, vote_for};
-ghost use Rattle.batcher_votes.specs.Certifications.{is_complete, pending_of, verified_of, pending_room, verified_room, room_for_run};
+ghost use Rattle.batcher_votes.specs.VerifierSteps.{attestations_of, first_proposal};
+ghost use Rattle.batcher_votes.specs.VerifierSteps.{have_one_subject, vote_for};
+ghost use Rattle.batcher_votes.specs.Certifications.{is_complete, pending_of, verified_of};
+ghost use Rattle.batcher_votes.specs.Certifications.{pending_room, verified_room, room_for_run};
 
 use crate::verifier::buffer::Buffer;
 use crate::votes::KeptVotes;

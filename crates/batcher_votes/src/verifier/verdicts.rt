@@ -1,15 +1,18 @@
 //! Attempts at certificates by verdicts from elsewhere, or by a certificate from there.
 
-ghost use Rattle.std.specs.Prelude.{◌≡◌, true, ◌↔◌, Ok, IsTrue, map, Some, None, is_some, IfOk, IfSome, OnErr};
+ghost use Rattle.std.specs.Prelude.{◌≡◌, true, ◌↔◌, Ok, IsTrue, map, Some, None, is_some, IfOk};
+ghost use Rattle.std.specs.Prelude.{IfSome, OnErr};
 ghost use Rattle.batcher_votes.specs.RoundState.{of_kind, SameVerifier};
 ghost use Rattle.batcher_types.specs.Attempts.{attempt_of};
 ghost use Rattle.batcher_votes.specs.VerifierSteps.{attestations_of, certificate_for};
 ghost use Rattle.batcher_votes.specs.AttemptInputs.{pending_tried, verified_tried};
-ghost use Rattle.batcher_votes.specs.Outcomes.{IsFine, outcome_of};
-ghost use Rattle.batcher_votes.specs.Verdicts.{judged, judged_in, judged_with_in, LooksAt, MayBeQuorum};
+ghost use Rattle.batcher_votes.specs.Outcomes.{IsFine, attempt_result};
+ghost use Rattle.batcher_votes.specs.Verdicts.{judged, judged_in, judged_with_in, LooksAt};
+ghost use Rattle.batcher_votes.specs.Verdicts.{MayBeQuorum};
 ghost use Rattle.rand_core.specs.Stream.{Stream};
 ghost use Rattle.batcher_votes.specs.Soundness.{IsSound};
-ghost use Rattle.batcher_votes.specs.Verifiers.{subject_ready, Tries, IfGiven, BatchCertifies, NamesSomebody};
+ghost use Rattle.batcher_votes.specs.Verifiers.{subject_ready, Tries, IfGiven, BatchCertifies};
+ghost use Rattle.batcher_votes.specs.Verifiers.{NamesSomebody};
 
 use crate::verifier::attempt::{Attempted, attempt_by_verdicts, looked_at};
 use crate::verifier::{Batch, Verifier};
@@ -161,12 +164,12 @@ impl<S: Scheme<D>, D: Digest> Verifier<S, D> {
         requires verdicts { verdicts.now ≡ map ((S.meaning self.now.scheme).attests subject)
             (pending_tried self.now.quorum self.now.holds kind) }
         ensures attempt { IfOk result (λ a. (stream : Stream)
-            → (outcome_of (verified_tried self.now.holds kind) a.batch a.joining.items, stream)
+            → (attempt_result (verified_tried self.now.holds kind) a.batch a.joining.items, stream)
             ≡ attempt_of (judged (S.meaning self.now.scheme)) subject self.now.quorum
             (attestations_of (of_kind self.now.holds.verified kind))
             (attestations_of (of_kind self.now.holds.pending kind)) stream) }
         ensures fine { IfOk result (λ a. IsFine (S.meaning self.now.scheme) subject
-            (outcome_of (verified_tried self.now.holds kind) a.batch a.joining.items)) }
+            (attempt_result (verified_tried self.now.holds kind) a.batch a.joining.items)) }
     {
         let scheme: &S = &self.scheme;
         let certification = self.kinds.get(kind);

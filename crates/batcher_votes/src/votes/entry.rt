@@ -75,7 +75,8 @@ impl Attributable for Entry {
 }
 
 impl Seen {
-    ghost use Rattle.batcher_votes.specs.Entries.{is_any, has_index, compared, seen_by, seen_outcome};
+    ghost use Rattle.batcher_votes.specs.Entries.{is_any, has_index, compared, seen_by};
+    ghost use Rattle.batcher_votes.specs.Entries.{seen_outcome};
 
     // What a mark says, with the index of the vote that is kept.
     fn by(mark: Mark, index: u32) -> Self

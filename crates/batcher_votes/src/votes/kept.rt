@@ -22,7 +22,8 @@ pub(crate) struct KeptLists<G: Copy, D: Copy> {
 }
 
 impl<G: Copy, D: Digest> KeptLists<G, D> {
-    ghost use Rattle.batcher_votes.specs.Entries.{votes_in, room_in, with_vote, without, vote_at, proposal_at, observed_seen, seen_released};
+    ghost use Rattle.batcher_votes.specs.Entries.{votes_in, room_in, with_vote, without, vote_at};
+    ghost use Rattle.batcher_votes.specs.Entries.{proposal_at, observed_seen, seen_released};
     ghost use Rattle.batcher_votes.specs.TrackerSteps.{shown, is_seen_for};
     ghost use Rattle.batcher_types.specs.declared.messages.Vote.TheVariants.{Notarize as NotarizeVote};
 

@@ -1,4 +1,4 @@
-use Rattle.std.proofs.Common.{◌≡◌}
+use Rattle.batcher_bench.proofs.Words.{◌≡◌}
 use Rattle.batcher_bench.proofs.play.play.Given as goal
 
 abbrev pub invariant-loop-step : goal.invariant-loop-step

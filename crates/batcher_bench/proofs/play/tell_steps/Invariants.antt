@@ -1,5 +1,4 @@
-use Rattle.std.proofs.Common.{◌≡◌}
-use Rattle.batcher_rows.specs.declared.plan.TheConstants.{NUMBER}
+use Rattle.batcher_bench.proofs.Words.{◌≡◌, NUMBER}
 use Rattle.batcher_bench.proofs.play.tell_steps.Given as goal
 
 abbrev pub invariant-loop-step : goal.invariant-loop-step

@@ -1,5 +1,4 @@
-use Rattle.std.proofs.Common.{◌≡◌, arith}
-use Rattle.batcher.specs.Attestations.{index_of_signer}
+use Rattle.batcher_evidence.proofs.Words.{◌≡◌, arith, index_of_signer}
 use Rattle.batcher_evidence.proofs.Merging.{leaves_left, leaves_right, leaves_both, ends_left, ends_right}
 use Rattle.batcher_evidence.proofs.certificates.merge.Goals as goal
 

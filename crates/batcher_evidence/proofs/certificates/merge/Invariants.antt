@@ -1,7 +1,4 @@
-use Rattle.std.proofs.Common.{◌≡◌, ◌+◌, ◌++◌, length}
-use Rattle.batcher.specs.Ascending.{IsAscending}
-use Rattle.batcher.specs.Attestations.{index_of_signer}
-use Rattle.batcher_evidence.specs.Culprits.{signed_both}
+use Rattle.batcher_evidence.proofs.Words.{◌≡◌, ◌+◌, ◌++◌, length, IsAscending, index_of_signer, signed_both}
 use Rattle.batcher_evidence.proofs.certificates.merge.Given as goal
 
 -- Those found, and those whom what is left of the lists shows, are all.

@@ -1,4 +1,4 @@
-use Rattle.batcher.specs.Votes.{subject_certified, content_of}
+use Rattle.batcher_evidence.proofs.Words.{subject_certified, content_of}
 use Rattle.batcher_evidence.proofs.Both.{merged_if_ok}
 use Rattle.batcher_evidence.proofs.certificates.signers_of_both.Goals as goal
 

@@ -1,5 +1,4 @@
-use Rattle.std.proofs.Common.{sym, ap, ◌∙◌}
-use Rattle.std.specs.Option.{option_copied}
+use Rattle.batcher_evidence.proofs.Words.{sym, ap, ◌∙◌, option_copied}
 use Rattle.batcher_evidence.proofs.Finding.{no_two, second_found, two_found}
 use Rattle.batcher_evidence.proofs.forks.contradicting.Goals as goal
 

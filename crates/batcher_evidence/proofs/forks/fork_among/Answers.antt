@@ -1,4 +1,4 @@
-use Rattle.std.proofs.Common.{refl, sym}
+use Rattle.batcher_evidence.proofs.Words.{refl, sym}
 use Rattle.batcher_evidence.proofs.Forked.{fork_contradicts}
 use Rattle.batcher_evidence.proofs.forks.fork_among.Goals as goal
 

@@ -1,4 +1,4 @@
-use Rattle.std.proofs.Common.{◌∙◌}
+use Rattle.batcher_evidence.proofs.Words.{◌∙◌}
 use Rattle.batcher_evidence.proofs.Convicting.{convicted_proves, convicted_where_is}
 use Rattle.batcher_evidence.proofs.reports.convicted_with.Goals as goal
 

@@ -1,6 +1,4 @@
-use Rattle.std.proofs.Common.{⊎_elim}
-use Rattle.batcher_node.specs.Nodes.{node_config}
-use Rattle.batcher_node.proofs.SendingKept.{keeps_known, keeps_unheard, keeps_heard, still_unblocked}
+use Rattle.batcher_example.proofs.Words.{⊎_elim, node_config, keeps_known, keeps_unheard, keeps_heard, still_unblocked}
 use Rattle.batcher_example.proofs.exchange.cast_and_send.Goals as goal
 
 pub returns-in_err-receive_vote-in-ToSend-clause-keeps :

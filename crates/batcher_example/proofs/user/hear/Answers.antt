@@ -1,6 +1,4 @@
-use Rattle.std.specs.Prelude.{◌∷◌}
-use Rattle.batcher.specs.calls.Call.TheVariants.{Network as NetworkCall}
-use Rattle.batcher.specs.answers.Answer.TheVariants.{Network as NetworkAnswer}
+use Rattle.batcher_example.proofs.Words.{◌∷◌, NetworkCall, NetworkAnswer}
 use Rattle.batcher_example.proofs.user.hear.Goals as goal
 
 pub returns-clause-cause : goal.returns-clause-cause

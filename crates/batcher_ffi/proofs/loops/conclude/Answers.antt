@@ -1,7 +1,4 @@
-use Rattle.std.proofs.Common.{◌≡◌, ◌∙◌, nat_lt, true, false, Ok, ap, rules, sym}
-use Rattle.std.specs.List.{list_all}
-use Rattle.std.proofs.lemmas.Bool.{true≢false}
-use Rattle.batcher_ffi.specs.Loops.{loop_participants}
+use Rattle.batcher_ffi.proofs.Words.{◌≡◌, ◌∙◌, nat_lt, true, false, Ok, ap, rules, sym, list_all, true≢false, loop_participants}
 use Rattle.batcher_ffi.proofs.Verified.{as_long, loop_all_attest, none_missing, same_read}
 use Rattle.batcher_ffi.proofs.loops.conclude.Goals as goal
 

@@ -1,7 +1,4 @@
-use Rattle.std.proofs.Common.{◌∙◌, ◌∷◌, ap, refl, subst}
-use Rattle.batcher_validator.specs.Histories.{again, expired}
-use Rattle.batcher_validator.specs.Running.{RunMeets}
-use Rattle.batcher_ffi.specs.Loops.{config_by}
+use Rattle.batcher_ffi.proofs.Words.{◌∙◌, ◌∷◌, ap, refl, subst, again, expired, RunMeets, config_by}
 use Rattle.batcher_ffi.proofs.loops.expire.Goals as goal
 
 pub returns-clause-expires : goal.returns-clause-expires

@@ -1,5 +1,4 @@
-use Rattle.std.proofs.Common.{arith, rules}
-use Rattle.std.proofs.lemmas.Grind.{common_steps}
+use Rattle.batcher_ffi.proofs.Words.{arith, rules, common_steps}
 use Rattle.batcher_ffi.proofs.loops.lend_next.Goals as goal
 
 pub returns : goal.returns

@@ -1,4 +1,4 @@
-use Rattle.std.proofs.Common.{rules}
+use Rattle.batcher_ffi.proofs.Words.{rules}
 use Rattle.batcher_ffi.proofs.loops.lend_of.Goals as goal
 
 pub returns : goal.returns

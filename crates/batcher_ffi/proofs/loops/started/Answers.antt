@@ -1,9 +1,4 @@
-use Rattle.std.proofs.Common.{◌∙◌, Err, ap, inl, subst, sym}
-use Rattle.batcher_bytes.specs.Encodings.{signature_format}
-use Rattle.batcher_bytes.specs.Keys.{same_digest}
-use Rattle.batcher_codec.specs.Messages.{sha256_format, vote_format}
-use Rattle.batcher_journal.specs.Causes.{Cause}
-use Rattle.batcher_journal.specs.Text.{fields_of}
+use Rattle.batcher_ffi.proofs.Words.{◌∙◌, Err, ap, inl, subst, sym, signature_format, same_digest, sha256_format, vote_format, Cause, fields_of}
 use Rattle.batcher_ffi.proofs.Others.{is_anothers}
 use Rattle.batcher_ffi.proofs.loops.started.Goals as goal
 

@@ -1,7 +1,5 @@
-use Rattle.std.proofs.Common.{◌≡◌, ◌∙◌, ◌&&◌, nat_lt, Err, ap, length, refl, sym, rules, arith}
-use Rattle.std.proofs.lemmas.Grind.{common_steps}
-use Rattle.batcher_types.specs.Votes.{attestation_of, subject_of}
-use Rattle.batcher_ffi.specs.Rounds.{config_of}
+use Rattle.batcher_ffi.proofs.Words.{◌≡◌, ◌∙◌, ◌&&◌, nat_lt, Err, ap, length, refl, sym, rules, arith, common_steps, attestation_of, subject_of}
+use Rattle.batcher_ffi.proofs.Words.{config_of_handle}
 use Rattle.batcher_ffi.proofs.Verified.{attests_if}
 use Rattle.batcher_ffi.proofs.rounds.accept_vote.Goals as goal
 
@@ -10,9 +8,9 @@ returns-in-Ok-Added-default c =
     let read = sym c.vote.ensures ∙ c.in-Some.is in
     let a = attestation_of c.in-Some.typed in
     let r = c.args.round.now in
-    let verified : (config_of r).meaning.attests (subject_of c.in-Some.typed) a ≡ c.is_verified.result =
+    let verified : (config_of_handle r).meaning.attests (subject_of c.in-Some.typed) a ≡ c.is_verified.result =
     attests_if r (subject_of c.in-Some.typed) a
-    ∙ ap (λ b. nat_lt a.signer.0 (length (config_of r).meaning.participants) && b) (rw read at c.requires)
+    ∙ ap (λ b. nat_lt a.signer.0 (length (config_of_handle r).meaning.participants) && b) (rw read at c.requires)
     ∙ ap (λ n. nat_lt a.signer.0 n && c.args.attests) (sym c.participants.ensures) ∙ sym c.is_verified.ensures in
     record {
       codes = grind (arith, common_steps);
@@ -36,9 +34,9 @@ returns-in-Err c =
     let a = attestation_of c.in-Some.typed in
     let r = c.args.round.now in
     let does = c.in-Err.ensures.does in
-    let verified : (config_of r).meaning.attests (subject_of c.in-Some.typed) a ≡ c.is_verified.result =
+    let verified : (config_of_handle r).meaning.attests (subject_of c.in-Some.typed) a ≡ c.is_verified.result =
     attests_if r (subject_of c.in-Some.typed) a
-    ∙ ap (λ b. nat_lt a.signer.0 (length (config_of r).meaning.participants) && b) (rw read at c.requires)
+    ∙ ap (λ b. nat_lt a.signer.0 (length (config_of_handle r).meaning.participants) && b) (rw read at c.requires)
     ∙ ap (λ n. nat_lt a.signer.0 n && c.args.attests) (sym c.participants.ensures) ∙ sym c.is_verified.ensures in
     record {
       codes = grind (arith, common_steps);

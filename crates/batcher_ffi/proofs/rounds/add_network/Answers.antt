@@ -1,5 +1,4 @@
-use Rattle.std.proofs.Common.{◌∙◌, sym, rules, arith}
-use Rattle.std.proofs.lemmas.Grind.{common_steps}
+use Rattle.batcher_ffi.proofs.Words.{◌∙◌, sym, rules, arith, common_steps}
 use Rattle.batcher_ffi.proofs.rounds.add_network.Goals as goal
 
 pub returns-in-Ok-Some : goal.returns-in-Ok-Some

@@ -1,5 +1,4 @@
-use Rattle.std.proofs.Common.{◌≡◌, ◌∙◌, Ok, ap, is_some, refl, rules, sym}
-use Rattle.std.proofs.lemmas.Bool.{true≢false}
+use Rattle.batcher_ffi.proofs.Words.{◌≡◌, ◌∙◌, Ok, ap, is_some, refl, rules, sym, true≢false}
 use Rattle.batcher_ffi.proofs.Verified.{none_missing, same_read, same_self}
 use Rattle.batcher_ffi.proofs.rounds.construct_together.Goals as goal
 

@@ -1,7 +1,4 @@
-use Rattle.std.proofs.Common.{◌≡◌, ◌∙◌, nat_lt, true, false, Ok, ap, length, refl, rules, sym}
-use Rattle.std.specs.List.{list_all}
-use Rattle.std.proofs.lemmas.Bool.{true≢false}
-use Rattle.batcher_ffi.specs.Rounds.{config_of}
+use Rattle.batcher_ffi.proofs.Words.{◌≡◌, ◌∙◌, nat_lt, true, false, Ok, ap, length, refl, rules, sym, list_all, true≢false, config_of_handle}
 use Rattle.batcher_ffi.proofs.Verified.{all_attest, as_long, none_missing, same_read, same_self}
 use Rattle.batcher_ffi.proofs.rounds.record_verdicts.Goals as goal
 
@@ -11,7 +8,7 @@ call-requires c =
     let read = rw c.in-Ok-Some.field-0-is at c.in-Ok-Some.ensures.read in
     let given = (rw (sym c.subject_of.ensures ∙ c.in-Some.is) at c.requires) items read
     (c.if-verdicts-list.false ∙ as_long c.args.list.now items read) in
-    let part : list_all (λ a. nat_lt a.signer.0 (length (config_of c.args.round.now).meaning.participants)) items ≡ true =
+    let part : list_all (λ a. nat_lt a.signer.0 (length (config_of_handle c.args.round.now).meaning.participants)) items ≡ true =
     rw (sym c.participants.ensures, sym c.deref.ensures.value)
     (sym c.take_part.ensures ∙ c.if-not-take_part.false) in
     rw c.deref-2.ensures.value (given ∙ all_attest c.args.round.now c.in-Some.subject items part)
@@ -75,7 +72,7 @@ returns-then-not-take_part c = record {
   malformed = λ is some parts alike.
       let items : parts.0 ≡ c.in-Ok-Some.all.items = same_read c.args.list.now parts.0 c.in-Ok-Some.all.items
       parts.1.0 (rw c.in-Ok-Some.field-0-is at c.in-Ok-Some.ensures.read) in
-      let part : list_all (λ a. nat_lt a.signer.0 (length (config_of c.args.round.now).meaning.participants)) c.in-Ok-Some.all.items ≡ false =
+      let part : list_all (λ a. nat_lt a.signer.0 (length (config_of_handle c.args.round.now).meaning.participants)) c.in-Ok-Some.all.items ≡ false =
       rw (sym c.participants.ensures, sym c.deref.ensures.value)
       (sym c.take_part.ensures ∙ c.if-not-take_part.true) in
       true≢false (sym (rw items at parts.1.1) ∙ part);

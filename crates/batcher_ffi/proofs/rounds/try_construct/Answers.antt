@@ -1,6 +1,4 @@
-use Rattle.std.proofs.Common.{arith, ◌∙◌, Ok, ap, length, refl, rules, sym}
-use Rattle.std.proofs.lemmas.Bool.{true≢false}
-use Rattle.std.specs.Option.{option_map}
+use Rattle.batcher_ffi.proofs.Words.{arith, ◌∙◌, Ok, ap, length, refl, rules, sym, true≢false, option_map}
 use Rattle.batcher_ffi.proofs.Quorums.{round_makes_quorum}
 use Rattle.batcher_ffi.proofs.Verified.{not_short}
 use Rattle.batcher_ffi.proofs.rounds.try_construct.Goals as goal

@@ -1,5 +1,4 @@
-use Rattle.std.proofs.Common.{take}
-use Rattle.batcher_ffi.specs.Flat.{AreIn}
+use Rattle.batcher_ffi.proofs.Words.{take, AreIn}
 use Rattle.batcher_ffi.proofs.writing.attestations_of.Given as goal
 
 abbrev pub invariant-loop-flat : goal.invariant-loop-flat

@@ -1,6 +1,4 @@
-use Rattle.std.proofs.Common.{◌≡◌, ◌<◌, ◌≤◌, ℕ, length, slice_get}
-use Rattle.std.specs.Option.{option_map}
-use Rattle.batcher_types.specs.Keys.{participant}
+use Rattle.batcher_ffi.proofs.Words.{◌≡◌, ◌<◌, ◌≤◌, ℕ, length, slice_get, option_map, participant}
 use Rattle.batcher_ffi.proofs.writing.write_signers.Given as goal
 
 abbrev pub invariant-loop-index : goal.invariant-loop-index

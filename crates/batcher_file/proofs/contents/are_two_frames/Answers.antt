@@ -1,4 +1,4 @@
-use Rattle.std.proofs.Common.{refl}
+use Rattle.batcher_file.proofs.Words.{refl}
 use Rattle.batcher_file.proofs.Exact.{are_two, not_two, nothing_behind}
 use Rattle.batcher_file.proofs.contents.are_two_frames.Goals as goal
 

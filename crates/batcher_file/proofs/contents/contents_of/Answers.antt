@@ -1,4 +1,4 @@
-use Rattle.std.proofs.Common.{arith, refl}
+use Rattle.batcher_file.proofs.Words.{arith, refl}
 use Rattle.batcher_file.proofs.SoFar.{closed_not_open, not_damaged, not_empty, not_too_many, one_more, read_to, same_place}
 use Rattle.batcher_file.proofs.contents.contents_of.Goals as goal
 

@@ -1,4 +1,4 @@
-use Rattle.std.proofs.Common.{length}
+use Rattle.batcher_file.proofs.Words.{length}
 use Rattle.batcher_file.proofs.SoFar.{IsSoFar}
 use Rattle.batcher_file.proofs.contents.contents_of.Given as goal
 

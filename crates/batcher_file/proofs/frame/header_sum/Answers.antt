@@ -1,5 +1,5 @@
-use Rattle.std.proofs.Common.{refl}
-use Rattle.batcher_codec.specs.Format.{number_bytes}
+use Rattle.batcher_file.proofs.Words.{refl}
+use Rattle.batcher_bytes.specs.Format.{number_bytes}
 use Rattle.batcher_file.proofs.frame.header_sum.Goals as goal
 
 pub returns : goal.returns

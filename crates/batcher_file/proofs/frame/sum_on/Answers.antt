@@ -1,5 +1,5 @@
-use Rattle.std.proofs.Common.{rules, take_all}
-use Rattle.std.proofs.hash.Loops.{byte_more}
+use Rattle.batcher_file.proofs.Words.{rules, byte_more}
+use Rattle.std.proofs.Common.{take_all}
 use Rattle.batcher_file.proofs.frame.sum_on.Goals as goal
 
 pub loop-byte-preserved : goal.loop-byte-preserved

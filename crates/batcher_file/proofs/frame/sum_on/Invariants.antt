@@ -1,6 +1,4 @@
-use Rattle.std.proofs.Common.{◌≡◌, take}
-use Rattle.std.specs.List.{fold}
-use Rattle.batcher_file.specs.Checksums.{summed}
+use Rattle.batcher_file.proofs.Words.{◌≡◌, take, fold, summed}
 use Rattle.batcher_file.proofs.frame.sum_on.Given as goal
 
 abbrev pub invariant-loop-byte : goal.invariant-loop-byte

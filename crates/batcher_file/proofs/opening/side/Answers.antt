@@ -1,4 +1,4 @@
-use Rattle.std.proofs.Common.{Err, ap}
+use Rattle.batcher_file.proofs.Words.{Err, ap}
 use Rattle.batcher_file.proofs.opening.side.Goals as goal
 
 pub returns-in-Err-Damaged-clause-refused : goal.returns-in-Err-Damaged-clause-refused

@@ -1,5 +1,6 @@
-use Rattle.std.proofs.Common.{◌∙◌}
-use Rattle.batcher_file.proofs.Logs.{append_leaves, append_opens, append_settled, replace_leaves, replace_opens, replace_settled, tidy_leaves, tidy_loses, tidy_settled}
+use Rattle.batcher_file.proofs.Words.{◌∙◌}
+use Rattle.batcher_file.proofs.Logs.{append_leaves, append_opens, append_settled, replace_leaves, replace_opens, replace_settled, tidy_leaves, tidy_loses}
+use Rattle.batcher_file.proofs.Logs.{tidy_settled}
 use Rattle.batcher_file.proofs.Making.{made_settled, making_leaves}
 use Rattle.batcher_file.proofs.safe.plans_are_safe.Goals as goal
 

@@ -1,4 +1,4 @@
-use Rattle.batcher_file.specs.Steps.{steps}
+use Rattle.batcher_file.proofs.Words.{steps}
 use Rattle.batcher_file.proofs.Doing.{IsUnderWay}
 use Rattle.batcher_file.proofs.steps.carry_out.Given as goal
 

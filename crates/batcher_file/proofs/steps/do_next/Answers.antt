@@ -1,6 +1,4 @@
-use Rattle.std.proofs.Common.{Some, ap, sym, ◌∙◌}
-use Rattle.std.proofs.lemmas.Result.{on_err_weaker, on_ok_weaker}
-use Rattle.batcher_file.specs.Steps.{steps}
+use Rattle.batcher_file.proofs.Words.{Some, ap, sym, ◌∙◌, on_err_weaker, on_ok_weaker, steps}
 use Rattle.batcher_file.proofs.Doing.{current_begun, current_next, other_begun, other_next}
 use Rattle.batcher_file.proofs.steps.do_next.Goals as goal
 

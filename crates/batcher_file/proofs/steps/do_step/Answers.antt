@@ -1,4 +1,4 @@
-use Rattle.std.proofs.lemmas.Result.{on_err_weaker}
+use Rattle.batcher_file.proofs.Words.{on_err_weaker}
 use Rattle.batcher_file.proofs.Doing.{counted}
 use Rattle.batcher_file.proofs.steps.do_step.Goals as goal
 

@@ -1,10 +1,8 @@
-use Rattle.std.proofs.Common.{ap, refl, subst, sym, take, ◌∙◌}
-use Rattle.batcher_journal.specs.Contradictions.{IsFree}
-use Rattle.batcher_journal.specs.Floors.{is_below}
+use Rattle.batcher_journal.proofs.Words.{ap, refl, subst, sym, take, ◌∙◌, IsFree, is_below}
 use Rattle.batcher_journal.proofs.Following.{all_follow, more_follow, not_new, not_old}
 use Rattle.batcher_journal.proofs.Indexing.{met_not_free}
 use Rattle.batcher_journal.proofs.asking.may_follow.Goals as goal
-use Rattle.batcher_types.specs.Votes.{round_in}
+use Rattle.batcher_journal.proofs.Words.{round_in}
 
 pub returns-in-Some : goal.returns-in-Some
 returns-in-Some g c =

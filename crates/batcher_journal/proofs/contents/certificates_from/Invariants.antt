@@ -1,5 +1,4 @@
-use Rattle.std.proofs.Common.{◌≡◌, take}
-use Rattle.batcher_journal.specs.Floors.{certified_from}
+use Rattle.batcher_journal.proofs.Words.{◌≡◌, take, certified_from}
 use Rattle.batcher_journal.proofs.contents.certificates_from.Given as goal
 
 abbrev pub invariant-loop-it : goal.invariant-loop-it

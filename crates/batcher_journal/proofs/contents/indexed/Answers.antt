@@ -1,11 +1,7 @@
-use Rattle.std.proofs.Common.{ap, refl, subst, sym, take, [], ◌++◌, ◌∙◌, ◌∷◌}
-use Rattle.std.proofs.lemmas.List.{take_more}
-use Rattle.std.proofs.lemmas.List.Elements.{All-nil}
-use Rattle.batcher_journal.specs.Contradictions.{IsFree, LeavesFree}
-use Rattle.batcher_journal.specs.Floors.{is_below}
+use Rattle.batcher_journal.proofs.Words.{ap, refl, subst, sym, take, [], ◌++◌, ◌∙◌, ◌∷◌, take_more, All-nil, IsFree, LeavesFree, is_below}
 use Rattle.batcher_journal.proofs.Following.{all_follow, more_follow}
 use Rattle.batcher_journal.proofs.contents.indexed.Goals as goal
-use Rattle.batcher_types.specs.Votes.{round_in, subject_of}
+use Rattle.batcher_journal.proofs.Words.{round_in, subject_of}
 
 pub loop-vote-preserved : goal.loop-vote-preserved
 loop-vote-preserved g c =

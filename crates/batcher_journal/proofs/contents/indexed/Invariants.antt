@@ -1,8 +1,7 @@
-use Rattle.std.proofs.Common.{take, ◌≡◌, []}
-use Rattle.batcher_journal.specs.Answers.{MayFollow}
+use Rattle.batcher_journal.proofs.Words.{take, ◌≡◌, [], MayBeWrittenBehind}
 use Rattle.batcher_journal.proofs.contents.indexed.Given as goal
 
 abbrev pub invariant-loop-vote : goal.invariant-loop-vote
 invariant-loop-vote g l =
     (l.all ≡ take l.vote-index l.votes)
-    × MayFollow g.D.PartialEq.eq l.floor [] (take l.vote-index l.votes)
+    × MayBeWrittenBehind g.D.PartialEq.eq l.floor [] (take l.vote-index l.votes)

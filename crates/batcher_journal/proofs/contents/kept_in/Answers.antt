@@ -1,10 +1,4 @@
-use Rattle.std.proofs.Common.{[], Err, Ok, ap, subst, sym, ◌∙◌}
-use Rattle.batcher_codec.specs.Lawful.{vote_is_exact}
-use Rattle.batcher_codec.specs.Messages.{vote_format}
-use Rattle.batcher_journal.specs.Causes.{Unfollowed}
-use Rattle.batcher_journal.specs.Records.{HasRecords}
-use Rattle.batcher_journal.specs.Text.{fields_of}
-use Rattle.batcher_journal.specs.Seen.{contents_of}
+use Rattle.batcher_journal.proofs.Words.{[], Err, Ok, ap, subst, sym, ◌∙◌, vote_is_exact, vote_format, Unfollowed, HasRecords, fields_of, contents_of}
 use Rattle.batcher_journal.proofs.Splitting.{found_text, no_floor, no_owner, no_records, refused}
 use Rattle.batcher_journal.proofs.contents.kept_in.Goals as goal
 

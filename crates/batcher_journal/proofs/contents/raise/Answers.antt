@@ -1,6 +1,4 @@
-use Rattle.batcher_codec.specs.Messages.{vote_format}
-use Rattle.batcher_journal.specs.Seen.{contents_of}
-use Rattle.batcher_journal.specs.Text.{fields_of}
+use Rattle.batcher_journal.proofs.Words.{vote_format, contents_of, fields_of}
 use Rattle.batcher_journal.proofs.Sorting.{whole_text}
 use Rattle.batcher_journal.proofs.contents.raise.Goals as goal
 

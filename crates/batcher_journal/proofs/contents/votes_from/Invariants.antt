@@ -1,5 +1,4 @@
-use Rattle.std.proofs.Common.{◌≡◌, take}
-use Rattle.batcher_journal.specs.Floors.{from_floor}
+use Rattle.batcher_journal.proofs.Words.{◌≡◌, take, from_floor}
 use Rattle.batcher_journal.proofs.contents.votes_from.Given as goal
 
 abbrev pub invariant-loop-vote : goal.invariant-loop-vote

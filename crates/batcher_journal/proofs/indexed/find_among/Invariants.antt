@@ -1,5 +1,4 @@
-use Rattle.std.proofs.Common.{take}
-use Rattle.batcher_journal.specs.Contradictions.{IsFree}
+use Rattle.batcher_journal.proofs.Words.{take, IsFree}
 use Rattle.batcher_journal.proofs.indexed.find_among.Given as goal
 
 abbrev pub invariant-loop-vote : goal.invariant-loop-vote

@@ -1,6 +1,4 @@
-use Rattle.std.proofs.Common.{subst, sym, true, ◌<◌, ◌∙◌, ◌≡◌, ℕ, ap, get_or}
-use Rattle.batcher_journal.specs.Floors.{is_below}
-use Rattle.batcher_journal.specs.declared.indexed.Entry.{Entry}
+use Rattle.batcher_journal.proofs.Words.{subst, sym, true, ◌<◌, ◌∙◌, ◌≡◌, ℕ, ap, get_or, is_below, Entry}
 use Rattle.batcher_journal.proofs.Indexing.{before_place, is_there, nowhere, one_searched, searched_all, stopped}
 use Rattle.batcher_journal.proofs.indexed.find_indexed.Goals as goal
 

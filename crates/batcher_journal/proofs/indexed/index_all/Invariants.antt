@@ -1,5 +1,4 @@
-use Rattle.std.proofs.Common.{length, ◌-◌}
-use Rattle.batcher_journal.specs.Index.{IsIndex}
+use Rattle.batcher_journal.proofs.Words.{length, ◌-◌, IsIndex}
 use Rattle.batcher_journal.proofs.indexed.index_all.Given as goal
 
 abbrev pub invariant-loop-index : goal.invariant-loop-index

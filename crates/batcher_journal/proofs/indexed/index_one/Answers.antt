@@ -1,11 +1,7 @@
-use Rattle.std.proofs.Common.{ap, arith, false, get_or, length, refl, subst, sym, true, ◌+◌, ◌<◌, ◌∙◌, ◌≡◌, ◌≤◌, ℕ}
-use Rattle.std.proofs.lemmas.List.{get_or_default}
-use Rattle.batcher_journal.specs.Floors.{is_below}
-use Rattle.batcher_journal.specs.declared.indexed.Entry.{Entry}
+use Rattle.batcher_journal.proofs.Words.{ap, arith, false, get_or, length, refl, subst, sym, true, ◌+◌, ◌<◌, ◌∙◌, ◌≡◌, ◌≤◌, ℕ, get_or_default, is_below, Entry}
 use Rattle.batcher_journal.proofs.Indexing.{inserted}
 use Rattle.batcher_journal.proofs.indexed.index_one.Goals as goal
-use Rattle.batcher_types.specs.Votes.{round_in, subject_of}
-use Rattle.batcher_types.specs.declared.messages.Vote.{Vote}
+use Rattle.batcher_journal.proofs.Words.{round_in, subject_of, Vote}
 
 pub returns-in-Ok-clause-index : goal.returns-in-Ok-clause-index
 returns-in-Ok-clause-index g c =

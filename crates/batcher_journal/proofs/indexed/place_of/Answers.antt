@@ -1,6 +1,4 @@
-use Rattle.std.proofs.Common.{arith, rules}
-use Rattle.std.proofs.lemmas.List.Sorted.{IsPartitionPoint-from_clause}
-use Rattle.batcher_journal.specs.Floors.{is_below}
+use Rattle.batcher_journal.proofs.Words.{arith, rules, IsPartitionPoint-from_clause, is_below}
 use Rattle.batcher_journal.proofs.Indexing.{parted}
 use Rattle.batcher_journal.proofs.indexed.place_of.Goals as goal
 

@@ -1,5 +1,4 @@
-use Rattle.batcher_codec.specs.Lawful.{vote_is_exact}
-use Rattle.batcher_codec.specs.Messages.{vote_format}
+use Rattle.batcher_journal.proofs.Words.{vote_is_exact, vote_format}
 use Rattle.batcher_journal.proofs.Splitting.{one_text}
 use Rattle.batcher_journal.proofs.journal.bytes_are_of_one_journal.Goals as goal
 

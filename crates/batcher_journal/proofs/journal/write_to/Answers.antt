@@ -1,6 +1,4 @@
-use Rattle.std.proofs.Common.{inl}
-use Rattle.batcher_codec.specs.Messages.{vote_format}
-use Rattle.batcher_journal.specs.Records.{records_of}
+use Rattle.batcher_journal.proofs.Words.{inl, vote_format, records_of}
 use Rattle.batcher_journal.proofs.Writes.{with_values}
 use Rattle.batcher_journal.proofs.journal.write_to.Goals as goal
 

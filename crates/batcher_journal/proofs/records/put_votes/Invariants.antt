@@ -1,6 +1,4 @@
-use Rattle.std.proofs.Common.{◌≡◌, ◌++◌, map, take}
-use Rattle.batcher_codec.specs.Messages.{vote_format}
-use Rattle.batcher_journal.specs.Records.{AreRecords, Voted, records_text}
+use Rattle.batcher_journal.proofs.Words.{◌≡◌, ◌++◌, map, take, vote_format, AreRecords, Voted, records_text}
 use Rattle.batcher_journal.proofs.records.put_votes.Given as goal
 
 abbrev pub invariant-loop-vote : goal.invariant-loop-vote

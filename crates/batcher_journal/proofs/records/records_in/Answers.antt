@@ -1,7 +1,4 @@
-use Rattle.std.proofs.Common.{arith, length, sym, ◌∙◌}
-use Rattle.std.proofs.lemmas.Bool.{eqb-false}
-use Rattle.batcher_codec.specs.Lawful.{vote_is_exact}
-use Rattle.batcher_codec.specs.Messages.{vote_format}
+use Rattle.batcher_journal.proofs.Words.{arith, length, sym, ◌∙◌, eqb-false, vote_is_exact, vote_format}
 use Rattle.batcher_journal.proofs.Sorting.{less, no_records, one_record}
 use Rattle.batcher_journal.proofs.records.records_in.Goals as goal
 

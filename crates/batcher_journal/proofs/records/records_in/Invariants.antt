@@ -1,6 +1,4 @@
-use Rattle.std.proofs.Common.{length}
-use Rattle.batcher_codec.specs.Messages.{vote_format}
-use Rattle.batcher_journal.specs.Records.{HasRecords}
+use Rattle.batcher_journal.proofs.Words.{length, vote_format, HasRecords}
 use Rattle.batcher_journal.proofs.records.records_in.Given as goal
 
 abbrev pub invariant-loop-rest : goal.invariant-loop-rest

@@ -1,5 +1,4 @@
-use Rattle.std.proofs.Common.{◌≡◌, length, map, take}
-use Rattle.batcher_bytes.specs.Listings.{attests}
+use Rattle.batcher_judge.proofs.Words.{◌≡◌, length, map, take, attests}
 use Rattle.batcher_judge.specs.contracts.marked.MarkedTruth.TheImpl.{ghosts}
 use Rattle.batcher_judge.proofs.verifying.verify.Given as goal
 

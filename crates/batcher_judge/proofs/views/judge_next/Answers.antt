@@ -1,7 +1,5 @@
-use Rattle.std.proofs.Common.{rules, ◌≡◌, length, sym, subst}
-use Rattle.batcher_bytes.specs.Listings.{attests}
+use Rattle.batcher_judge.proofs.Words.{rules, ◌≡◌, length, sym, subst, attests, AllTrue}
 use Rattle.batcher_judge.specs.contracts.marked.MarkedTruth.TheImpl.{ghosts}
-use Rattle.batcher_verdicts.specs.Rounds.{AllTrue}
 use Rattle.batcher_judge.proofs.views.judge_next.Goals as goal
 
 -- the node's scheme is still the one by which the verdicts are

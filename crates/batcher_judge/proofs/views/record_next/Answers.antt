@@ -1,5 +1,4 @@
-use Rattle.std.proofs.Common.{rules, ◌≡◌, map, length}
-use Rattle.batcher_bytes.specs.Listings.{attests}
+use Rattle.batcher_judge.proofs.Words.{rules, ◌≡◌, map, length, attests}
 use Rattle.batcher_judge.specs.contracts.marked.MarkedTruth.TheImpl.{ghosts}
 use Rattle.batcher_judge.proofs.views.record_next.Goals as goal
 

@@ -1,8 +1,4 @@
-use Rattle.std.proofs.Common.{[], inr, subst, sym, ◌≡◌, ◌⊎◌}
-use Rattle.batcher_codec.specs.Messages.{vote_format}
-use Rattle.batcher_lives.specs.Living.{IsShut}
-use Rattle.batcher_journal.specs.Ready.{begun}
-use Rattle.batcher_journal.specs.Text.{IsText, fields_of}
+use Rattle.batcher_lives.proofs.Words.{[], inr, subst, sym, ◌≡◌, ◌⊎◌, vote_format, IsShut, begun, IsText, fields_of}
 use Rattle.batcher_lives.proofs.Calls.{begin_err, begin_ok}
 use Rattle.batcher_lives.proofs.life.first.Goals as goal
 

@@ -1,6 +1,4 @@
-use Rattle.std.proofs.Common.{subst}
-use Rattle.batcher_codec.specs.Messages.{vote_format}
-use Rattle.batcher_lives.specs.Living.{IsLived}
+use Rattle.batcher_lives.proofs.Words.{subst, vote_format, IsLived}
 use Rattle.batcher_lives.proofs.life.go_on.Goals as goal
 
 pub returns-in-Restart : goal.returns-in-Restart

@@ -1,6 +1,4 @@
-use Rattle.std.proofs.Common.{subst, sym}
-use Rattle.batcher_codec.specs.Messages.{vote_format}
-use Rattle.batcher_lives.specs.Living.{IsLived}
+use Rattle.batcher_lives.proofs.Words.{subst, sym, vote_format, IsLived}
 use Rattle.batcher_lives.proofs.Calls.{all_compatible, all_kept, all_once}
 use Rattle.batcher_lives.proofs.life.live.Goals as goal
 

@@ -1,5 +1,4 @@
-use Rattle.batcher_codec.specs.Messages.{vote_format}
-use Rattle.batcher_lives.specs.Living.{IsLived}
+use Rattle.batcher_lives.proofs.Words.{vote_format, IsLived}
 use Rattle.batcher_lives.proofs.life.live.Given as goal
 
 abbrev pub invariant-loop-deed : goal.invariant-loop-deed

@@ -1,5 +1,4 @@
-use Rattle.batcher_codec.specs.Messages.{vote_format}
-use Rattle.batcher_journal.specs.Text.{fields_of}
+use Rattle.batcher_lives.proofs.Words.{vote_format, fields_of}
 use Rattle.batcher_lives.proofs.Calls.{raise_err, raise_ok}
 use Rattle.batcher_lives.proofs.life.raise.Goals as goal
 

@@ -1,6 +1,4 @@
-use Rattle.std.proofs.Common.{subst, sym}
-use Rattle.batcher_codec.specs.Messages.{vote_format}
-use Rattle.batcher_lives.specs.Living.{IsShut}
+use Rattle.batcher_lives.proofs.Words.{subst, sym, vote_format, IsShut}
 use Rattle.batcher_lives.proofs.Calls.{not_opened, opens, restart_err}
 use Rattle.batcher_lives.proofs.life.restart.Goals as goal
 

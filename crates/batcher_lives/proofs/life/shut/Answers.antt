@@ -1,6 +1,4 @@
-use Rattle.std.proofs.Common.{subst, sym}
-use Rattle.batcher_codec.specs.Messages.{vote_format}
-use Rattle.batcher_lives.specs.Living.{IsLived, IsShut}
+use Rattle.batcher_lives.proofs.Words.{subst, sym, vote_format, IsLived, IsShut}
 use Rattle.batcher_lives.proofs.Calls.{shut_open}
 use Rattle.batcher_lives.proofs.life.shut.Goals as goal
 

@@ -1,14 +1,11 @@
-use Rattle.std.proofs.Common.{ap, subst, sym, take, ◌∙◌}
-use Rattle.std.proofs.lemmas.List.{take_at}
-use Rattle.batcher_codec.specs.Messages.{vote_format}
-use Rattle.batcher_lives.specs.Living.{IsOpen}
+use Rattle.batcher_lives.proofs.Words.{ap, subst, sym, take, ◌∙◌, take_at, vote_format, LeadsToOpen}
 use Rattle.batcher_lives.proofs.Calls.{write_err, write_ok}
 use Rattle.batcher_lives.proofs.life.write.Goals as goal
 
 pub returns-in-Ok-write : goal.returns-in-Ok-write
 returns-in-Ok-write g c =
     λ floor was.
-    subst (λ vs. IsOpen (vote_format g.G.Codec.format g.D.Codec.format) g.D.PartialEq.eq g.L.Log.is_honest g.L.Log.may_leave floor c.write.new.self vs)
+    subst (λ vs. LeadsToOpen (vote_format g.G.Codec.format g.D.Codec.format) g.D.PartialEq.eq g.L.Log.is_honest g.L.Log.may_leave floor c.write.new.self vs)
     (sym c.in-Ok.ensures.items)
     (write_ok (vote_format g.G.Codec.format g.D.Codec.format) g.D.PartialEq.eq g.L.Log.is_honest g.L.Log.may_leave g.L.Log.has_failed floor
     c.bytes_are_of_one_journal.ensures c.args.journal.now c.write.new.self c.args.handed.now.items was
@@ -18,7 +15,7 @@ returns-in-Ok-write g c =
 pub returns-in-Err-write : goal.returns-in-Err-write
 returns-in-Err-write g c =
     λ floor was.
-    subst (λ vs. IsOpen (vote_format g.G.Codec.format g.D.Codec.format) g.D.PartialEq.eq g.L.Log.is_honest g.L.Log.may_leave floor c.write.new.self vs)
+    subst (λ vs. LeadsToOpen (vote_format g.G.Codec.format g.D.Codec.format) g.D.PartialEq.eq g.L.Log.is_honest g.L.Log.may_leave floor c.write.new.self vs)
     (sym (c.truncate.ensures.items ∙ ap (take c.len-len.result) c.in-Ok.ensures.items
     ∙ take_at c.args.handed.now.items c.args.votes.now c.len-len.result (sym (c.len-len.ensures ∙ c.args.handed.now.ok.0))))
     (write_err (vote_format g.G.Codec.format g.D.Codec.format) g.D.PartialEq.eq g.L.Log.is_honest g.L.Log.may_leave g.L.Log.has_failed floor

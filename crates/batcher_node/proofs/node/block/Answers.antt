@@ -1,4 +1,4 @@
-use Rattle.std.proofs.Common.{rules}
+use Rattle.batcher_node.proofs.Words.{rules}
 use Rattle.batcher_node.proofs.Blocking.{now_blocked}
 use Rattle.batcher_node.proofs.node.block.Goals as goal
 

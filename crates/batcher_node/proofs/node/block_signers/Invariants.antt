@@ -1,8 +1,4 @@
-use Rattle.std.proofs.Common.{◌≡◌, ◌<◌, ◌==◌, ℕ, cond, Some, None, length, take}
-use Rattle.std.specs.List.{list_any}
-use Rattle.std.specs.Option.{option_or}
-use Rattle.batcher_node.specs.declared.answers.Cause.TheVariants.{Signature as ForSignature}
-use Rattle.batcher_node.specs.Nodes.{cause_at}
+use Rattle.batcher_node.proofs.Words.{◌≡◌, ◌<◌, ◌==◌, ℕ, cond, Some, None, length, take, list_any, option_or, ForSignature, cause_at}
 use Rattle.batcher_node.proofs.node.block_signers.Given as goal
 
 abbrev pub invariant-loop-signer : goal.invariant-loop-signer

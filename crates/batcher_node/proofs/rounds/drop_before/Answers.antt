@@ -1,5 +1,4 @@
-use Rattle.std.proofs.Common.{rules}
-use Rattle.std.proofs.lemmas.Map.Made.{filter_same_pairs}
+use Rattle.batcher_node.proofs.Words.{rules, filter_same_pairs}
 use Rattle.batcher_node.proofs.Dropping.{is_kept, kept_from, none_before}
 use Rattle.batcher_node.proofs.rounds.drop_before.Goals as goal
 

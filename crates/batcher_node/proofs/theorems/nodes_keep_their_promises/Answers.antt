@@ -1,9 +1,6 @@
+use Rattle.batcher_node.proofs.Words.{numbered, view_history, mode_of, node_config}
 use Rattle.batcher_node.proofs.Answering.{rests_if_unchanged}
 use Rattle.batcher_node.proofs.Promising.{node_promised}
-use Rattle.batcher_node.specs.Windows.{numbered}
-use Rattle.batcher_node.specs.Events.{view_history}
-use Rattle.batcher_node.specs.Represents.{mode_of}
-use Rattle.batcher_node.specs.Nodes.{node_config}
 use Rattle.batcher_node.proofs.theorems.nodes_keep_their_promises.Goals as goal
 
 pub returns-clause-promised : goal.returns-clause-promised

@@ -1,5 +1,4 @@
-use Rattle.std.proofs.Common.{◌≤◌, ◌<◌, ◌∙◌, ℕ, length, sym, subst, arith}
-use Rattle.batcher_node.specs.Nodes.{node_config}
+use Rattle.batcher_node.proofs.Words.{◌≤◌, ◌<◌, ◌∙◌, ℕ, length, sym, subst, arith, node_config}
 use Rattle.batcher_node.proofs.SendingBlocks.{no_cause_in}
 use Rattle.batcher_node.proofs.SendingCertificates.{held_certify}
 use Rattle.batcher_node.proofs.theorems.senders_of_votes_to_send_are_never_blocked.Goals as goal

@@ -1,6 +1,4 @@
-use Rattle.std.proofs.Common.{◌∙◌, ◌&&◌, length, nat_lt, ap, refl}
-use Rattle.std.proofs.lemmas.Bool.{and_right}
-use Rattle.std.proofs.Math.Bool.{and-true}
+use Rattle.batcher_reader.proofs.Words.{◌∙◌, ◌&&◌, length, nat_lt, ap, refl, and_right, and-true}
 use Rattle.batcher_reader.proofs.Signing.{same_itself}
 use Rattle.batcher_reader.proofs.calls.attestation.Goals as goal
 

@@ -1,9 +1,5 @@
-use Rattle.std.proofs.Common.{◌<◌, ℕ, zero, suc, List, [], ◌∷◌, ◌++◌, length, get_or, take, arith, add-one, ◌≡◌, ◌∙◌, ◌+◌, ap, refl, length-append}
-use Rattle.std.proofs.lemmas.Grind.{common_steps}
-use Rattle.std.specs.List.{AllZip}
-use Rattle.std.proofs.lemmas.List.Elements.{All-push}
-use Rattle.batcher_histories.specs.Runs.{MayCall}
-use Rattle.batcher_reader.specs.Calls.{IsCallOf}
+use Rattle.batcher_reader.proofs.Words.{◌<◌, ℕ, zero, suc, List, [], ◌∷◌, ◌++◌, length, get_or, take, arith, add-one, ◌≡◌, ◌∙◌, ◌+◌, ap, refl, length-append}
+use Rattle.batcher_reader.proofs.Words.{common_steps, AllZip, All-push, MayCall, IsCallOf}
 use Rattle.batcher_reader.proofs.calls.calls_of.Goals as goal
 
 zip_more : {A B : Type 0} (R : A → B → Type 0) (xs : List A) (ys : List B) (i : ℕ) (x : A) (y : B)

@@ -1,7 +1,4 @@
-use Rattle.std.proofs.Common.{◌≡◌, ◌≤◌, All, length, take, vec_capacity}
-use Rattle.std.specs.List.{AllZip}
-use Rattle.batcher_histories.specs.Runs.{MayCall}
-use Rattle.batcher_reader.specs.Calls.{IsCallOf}
+use Rattle.batcher_reader.proofs.Words.{◌≡◌, ◌≤◌, All, length, take, vec_capacity, AllZip, MayCall, IsCallOf}
 use Rattle.batcher_reader.proofs.calls.calls_of.Given as goal
 
 abbrev pub invariant-loop-command : goal.invariant-loop-command

@@ -1,10 +1,6 @@
-use Rattle.std.proofs.Common.{◌&&◌, nat_lt, ◌≡◌, ◌<◌, ◌≤◌, ◌+◌, ◌==◌, ◌∙◌, ◌++◌, ◌∷◌, [], ℕ, Bool, true, false, cond, All, List, length, ap, sym, refl, arith, length-append}
-use Rattle.std.proofs.lemmas.Bool.Decides.{nat_tests}
-use Rattle.std.proofs.lemmas.List.Elements.{All-head, All-tail, All-push}
-use Rattle.batcher_types.specs.Lists.{count, EachOnce}
-use Rattle.batcher_types.specs.Attestations.{index_of_signer}
-use Rattle.batcher_types.specs.Hashed.{same_bytes}
-use Rattle.batcher_types.proofs.CountLemmas.{count-append}
+use Rattle.batcher_reader.proofs.Words.{◌&&◌, nat_lt, ◌≡◌, ◌<◌, ◌≤◌, ◌+◌, ◌==◌, ◌∙◌, ◌++◌, ◌∷◌, [], ℕ, Bool, true, false, cond, All, List, length, ap, sym}
+use Rattle.batcher_reader.proofs.Words.{refl, arith, length-append, nat_tests, All-head, All-tail, All-push, count, EachOnce, index_of_signer, same_bytes}
+use Rattle.batcher_reader.proofs.Words.{count-append}
 use Rattle.batcher_reader.proofs.Signing.{same_itself}
 use Rattle.batcher_reader.proofs.calls.quorum_of.Goals as goal
 

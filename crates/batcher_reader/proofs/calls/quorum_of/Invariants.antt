@@ -1,8 +1,4 @@
-use Rattle.std.proofs.Common.{◌≡◌, ◌<◌, All, length}
-use Rattle.std.specs.List.{AllPass}
-use Rattle.batcher_types.specs.Quorum.{quorum_of}
-use Rattle.batcher_types.specs.Lists.{EachOnce}
-use Rattle.batcher_types.specs.Attestations.{index_of_signer}
+use Rattle.batcher_reader.proofs.Words.{◌≡◌, ◌<◌, All, length, AllPass, quorum_of, EachOnce, index_of_signer}
 use Rattle.batcher_reader.proofs.calls.quorum_of.Given as goal
 
 abbrev pub invariant-loop-index : goal.invariant-loop-index

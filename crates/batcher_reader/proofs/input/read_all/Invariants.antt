@@ -1,4 +1,4 @@
-use Rattle.std.specs.Io.KnownBytes.{Consumes}
+use Rattle.batcher_reader.proofs.Words.{Consumes}
 use Rattle.batcher_reader.proofs.input.read_all.Given as goal
 
 abbrev pub invariant-loop : goal.invariant-loop

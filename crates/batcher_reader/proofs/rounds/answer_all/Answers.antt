@@ -1,4 +1,4 @@
-use Rattle.std.proofs.Common.{sym}
+use Rattle.batcher_reader.proofs.Words.{sym}
 use Rattle.batcher_reader.proofs.rounds.answer_all.Goals as goal
 
 pub run-requires-clause-calls : goal.run-requires-clause-calls

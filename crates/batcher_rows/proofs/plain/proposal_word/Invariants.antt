@@ -1,5 +1,4 @@
-use Rattle.std.proofs.Common.{◌≡◌, fold, take}
-use Rattle.batcher_rows.specs.Plain.{mixed}
+use Rattle.batcher_rows.proofs.Words.{◌≡◌, fold, take, mixed}
 use Rattle.batcher_rows.proofs.plain.proposal_word.Given as goal
 
 abbrev pub invariant-loop-byte : goal.invariant-loop-byte

@@ -1,5 +1,4 @@
-use Rattle.std.proofs.Common.{◌≡◌, take}
-use Rattle.batcher_rows.specs.Plain.{sum_from}
+use Rattle.batcher_rows.proofs.Words.{◌≡◌, take, sum_from}
 use Rattle.batcher_rows.proofs.plain.sum_from.Given as goal
 
 abbrev pub invariant-loop-attestation : goal.invariant-loop-attestation

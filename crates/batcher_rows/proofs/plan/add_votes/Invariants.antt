@@ -1,6 +1,4 @@
-use Rattle.std.proofs.Common.{All}
-use Rattle.batcher_rows.specs.Steps.{IsOfRound}
-use Rattle.batcher_rows.specs.declared.plan.TheConstants.{NUMBER}
+use Rattle.batcher_rows.proofs.Words.{All, IsOfRound, NUMBER}
 use Rattle.batcher_rows.proofs.plan.add_votes.Given as goal
 
 abbrev pub invariant-loop-signer : goal.invariant-loop-signer

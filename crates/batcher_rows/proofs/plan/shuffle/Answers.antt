@@ -1,4 +1,4 @@
-use Rattle.std.proofs.lemmas.List.Sorted.{IsPermutation-trans}
+use Rattle.batcher_rows.proofs.Words.{IsPermutation-trans}
 use Rattle.batcher_rows.proofs.plan.shuffle.Goals as goal
 
 pub loop-last-preserved : goal.loop-last-preserved

@@ -1,4 +1,4 @@
-use Rattle.std.specs.List.Sorted.{IsPermutation}
+use Rattle.batcher_rows.proofs.Words.{IsPermutation}
 use Rattle.batcher_rows.proofs.plan.shuffle.Given as goal
 
 abbrev pub invariant-loop-last : goal.invariant-loop-last

@@ -1,5 +1,4 @@
-use Rattle.std.proofs.Common.{◌≡◌, ◌+◌, ◌++◌, ◌∷◌, [], ℕ, zero, suc, ap, sym, arith, add-zero, add-one}
-use Rattle.std.specs.List.{range_with_len}
+use Rattle.batcher_rows.proofs.Words.{◌≡◌, ◌+◌, ◌++◌, ◌∷◌, [], ℕ, zero, suc, ap, sym, arith, add-zero, add-one, range_with_len}
 use Rattle.batcher_rows.proofs.plan.signers.Goals as goal
 
 range_more : (a n : ℕ) → range_with_len a (suc n) ≡ range_with_len a n ++ (a + n) ∷ []

@@ -1,5 +1,4 @@
-use Rattle.std.proofs.Common.{◌≡◌}
-use Rattle.std.specs.List.{range_with_len}
+use Rattle.batcher_rows.proofs.Words.{◌≡◌, range_with_len}
 use Rattle.batcher_rows.proofs.plan.signers.Given as goal
 
 abbrev pub invariant-loop-signer : goal.invariant-loop-signer

@@ -1,8 +1,4 @@
-use Rattle.std.proofs.Common.{◌≡◌, ◌∙◌, ℕ, List, length}
-use Rattle.std.specs.List.{range_with_len}
-use Rattle.std.specs.List.Sorted.{IsPermutation}
-use Rattle.std.proofs.lemmas.List.Sorted.{length_permutation}
-use Rattle.std.proofs.lemmas.List.FromFn.{length-range_with_len}
+use Rattle.batcher_rows.proofs.Words.{◌≡◌, ◌∙◌, ℕ, List, length, range_with_len, IsPermutation, length_permutation, length-range_with_len}
 use Rattle.batcher_rows.proofs.plan.steps_of.Goals as goal
 
 as_many : (n : ℕ) (xs : List ℕ) → IsPermutation (range_with_len 0 n) xs → length xs ≡ n

@@ -3,7 +3,7 @@
 
 ghost use Rattle.std.specs.Prelude.{◌≡◌, true};
 ghost use Rattle.std.specs.List.{list_all};
-ghost use Rattle.batcher_reader.specs.Commands.{is_among};
+ghost use Rattle.batcher_reader.specs.Commands.{is_signer_among};
 
 use super::printed;
 use batcher::messages::Sha256Digest;
@@ -74,7 +74,7 @@ fn ran(
     opening: &Opening,
     commands: &[Command],
 ) -> Result<PairRan<Keyed<true>, Sha256Digest>, AllocError>
-    requires { list_all (is_among opening.now.participants) commands.now ≡ true }
+    requires { list_all (is_signer_among opening.now.participants) commands.now ≡ true }
 {
     let scheme = Keyed::of(names(alloc, opening.participants)?);
     let calls = calls_of(alloc, &scheme, opening.round, commands)?;

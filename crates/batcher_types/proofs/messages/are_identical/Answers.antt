@@ -1,8 +1,4 @@
-use Rattle.std.proofs.Common.{◌≡◌, ◌&&◌, ◌==◌, Bool, true, ap, subst}
-use Rattle.std.specs.Bool.{Decides}
-use Rattle.std.proofs.lemmas.Bool.Decides.{Decides-and, Decides-eqb}
-use Rattle.std.proofs.lemmas.Slice.Eq.{slice_eq-Decides}
-use Rattle.batcher_types.specs.declared.messages.Attestation.{Attestation}
+use Rattle.batcher_types.proofs.Words.{◌≡◌, ◌&&◌, ◌==◌, Bool, true, ap, subst, Decides, Decides-and, Decides-eqb, slice_eq-Decides, Attestation}
 use Rattle.batcher_types.proofs.messages.are_identical.Goals as goal
 
 module _ {G : Type 0} (eq : G → G → Bool) (reflexive : (a : G) → eq a a ≡ true)

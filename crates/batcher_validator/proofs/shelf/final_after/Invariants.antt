@@ -1,6 +1,4 @@
-use Rattle.std.proofs.Common.{◌≡◌, None, take}
-use Rattle.std.specs.Prelude.{IfSome}
-use Rattle.batcher_validator.specs.Shelves.{HaveNoFinal, IsFinalAt}
+use Rattle.batcher_validator.proofs.Words.{◌≡◌, None, take, IfSome, HaveNoFinal, IsFinalAt}
 use Rattle.batcher_validator.proofs.shelf.final_after.Given as goal
 
 abbrev pub invariant-loop-i : goal.invariant-loop-i

@@ -1,5 +1,4 @@
-use Rattle.std.proofs.Common.{◌∙◌, ap, sym}
-use Rattle.batcher.specs.Votes.{subject_certified}
+use Rattle.batcher_validator.proofs.Words.{◌∙◌, ap, sym, subject_certified}
 use Rattle.batcher_validator.proofs.Looking.{not_after, not_notarize, not_nullify, one_at, read_at}
 use Rattle.batcher_validator.proofs.shelf.final_at.Goals as goal
 

@@ -1,6 +1,4 @@
-use Rattle.std.proofs.Common.{◌∙◌, subst}
-use Rattle.batcher_validator.specs.Queues.{HasKey}
-use Rattle.batcher_validator.specs.Shelves.{key_of}
+use Rattle.batcher_validator.proofs.Words.{◌∙◌, subst, HasKey, kind_and_round}
 use Rattle.batcher_validator.proofs.Queueing.{key_is}
 use Rattle.batcher_validator.proofs.shelf.has_one_of.Goals as goal
 
@@ -14,5 +12,5 @@ returns-in-Some g c =
 
 pub returns-in-None : goal.returns-in-None
 returns-in-None g c =
-    subst (λ key. HasKey key_of c.args.certificates.now key → ⊥)
+    subst (λ key. HasKey kind_and_round c.args.certificates.now key → ⊥)
     (key_is _ _ _ _ c.kind.ensures c.round.ensures) (c.find.ensures.none c.in-None.is)

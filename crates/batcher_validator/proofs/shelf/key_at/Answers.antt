@@ -1,4 +1,4 @@
-use Rattle.std.proofs.Common.{sym}
+use Rattle.batcher_validator.proofs.Words.{sym}
 use Rattle.batcher_validator.proofs.Looking.{read_at}
 use Rattle.batcher_validator.proofs.Queueing.{key_is}
 use Rattle.batcher_validator.proofs.shelf.key_at.Goals as goal

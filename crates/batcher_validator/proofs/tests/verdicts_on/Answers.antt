@@ -1,5 +1,6 @@
-use Rattle.std.proofs.Common.{◌≡◌, ◌<◌, ◌+◌, map, ℕ, length, get_or, Bool, true, false, nat_eq, List, [], ◌∷◌, ◌++◌, refl, sym, filter, not, take, arith}
-use Rattle.std.proofs.lemmas.List.{take_more, map-append}
+use Rattle.batcher_validator.proofs.Words.{◌≡◌, ◌<◌, ◌+◌, map, ℕ, length, get_or, Bool, true, false, nat_eq, List, [], ◌∷◌, ◌++◌, refl, sym, not, take, arith}
+use Rattle.batcher_validator.proofs.Words.{take_more, map-append}
+use Rattle.std.specs.Prelude.{filter}
 use Rattle.batcher_validator.proofs.tests.verdicts_on.Goals as goal
 
 -- that no item of a list of one fails is the item's verdict

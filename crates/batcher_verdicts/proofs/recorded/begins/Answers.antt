@@ -1,6 +1,4 @@
-use Rattle.std.proofs.Common.{◌≡◌, ◌++◌, ◌∙◌, List, length, take, drop, sym, ap}
-use Rattle.std.proofs.Math.Seq.{take-append_seam}
-use Rattle.std.proofs.lemmas.List.{take-append-drop}
+use Rattle.batcher_verdicts.proofs.Words.{◌≡◌, ◌++◌, ◌∙◌, List, length, take, drop, sym, ap, take-append_seam, take-append-drop}
 use Rattle.batcher_verdicts.proofs.recorded.begins.Goals as goal
 
 begun : {X : Type 0} (list whole : List X) → take (length list) whole ≡ list

@@ -1,7 +1,4 @@
-use Rattle.std.proofs.Common.{ap, ◌∙◌, rules}
-use Rattle.std.proofs.lemmas.Map.Made.{filter_same_pairs}
-use Rattle.batcher_node.specs.Nodes.{slot_at}
-use Rattle.batcher_node.proofs.Dropping.{is_kept, kept_from}
+use Rattle.batcher_voter.proofs.Words.{ap, ◌∙◌, rules, filter_same_pairs, slot_at, is_kept, kept_from}
 use Rattle.batcher_voter.proofs.knowledge.drop_before.Goals as goal
 
 pub returns : goal.returns

@@ -1,8 +1,5 @@
-use Rattle.std.proofs.Common.{◌≡◌, ◌∙◌, ap, sym, arith, set, get_or}
-use Rattle.std.proofs.lemmas.List.Edits.{map_over_more}
-use Rattle.std.specs.Option.{option_copied}
-use Rattle.batcher_votes.specs.RoundState.{of_kind}
-use Rattle.batcher_votes.specs.Entries.{entry_released, with_part, seen_released, votes_in}
+use Rattle.batcher_votes.proofs.Words.{◌≡◌, ◌∙◌, ap, sym, arith, set, get_or, map_over_more, option_copied, of_kind, entry_released, with_part, seen_released}
+use Rattle.batcher_votes.proofs.Words.{votes_in}
 use Rattle.batcher_votes.proofs.votes.release_each.Goals as goal
 
 pub loop-index-preserved : goal.loop-index-preserved

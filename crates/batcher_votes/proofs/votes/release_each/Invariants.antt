@@ -1,7 +1,4 @@
-use Rattle.std.proofs.Common.{◌≡◌, ◌++◌, take, drop, map}
-use Rattle.std.specs.Option.{option_copied}
-use Rattle.batcher_votes.specs.RoundState.{of_kind}
-use Rattle.batcher_votes.specs.Entries.{entry_released, votes_in}
+use Rattle.batcher_votes.proofs.Words.{◌≡◌, ◌++◌, take, drop, map, option_copied, of_kind, entry_released, votes_in}
 use Rattle.batcher_votes.proofs.votes.release_each.Given as goal
 
 -- The entries before the index are released, and the others are as they were.

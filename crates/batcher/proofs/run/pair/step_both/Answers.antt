@@ -1,12 +1,5 @@
-use Rattle.std.proofs.Common.{◌≡◌, ◌∙◌, ◌++◌, ◌∷◌, ◌+◌, [], refl, sym, ap, take, length, arith}
-use Rattle.std.proofs.lemmas.Grind.{common_steps}
-use Rattle.std.proofs.lemmas.List.{take_more, length-take-le}
-use Rattle.batcher_votes.specs.declared.votes.Mode.TheVariants.{Retaining, Releasing}
-use Rattle.batcher_histories.specs.Config.{config}
-use Rattle.batcher_histories.specs.History.{history}
-use Rattle.batcher_promises.specs.Pairs.{in_mode}
-use Rattle.batcher_histories.proofs.History.Laws.{laws_by}
-use Rattle.batcher_promises.proofs.Pairs.Runs.{Takes, pair_first, pair_more, pair_ends, pair_stops, pair_stops_later}
+use Rattle.batcher.proofs.Words.{◌≡◌, ◌∙◌, ◌++◌, ◌∷◌, ◌+◌, [], refl, sym, ap, take, length, arith, common_steps, take_more, length-take-le, Retaining}
+use Rattle.batcher.proofs.Words.{Releasing, config, history, in_mode, laws_by, Takes, pair_first, pair_more, pair_ends, pair_stops, pair_stops_later}
 use Rattle.batcher.proofs.run.pair.step_both.Goals as goal
 
 pub step-answer-requires : goal.step-answer-requires

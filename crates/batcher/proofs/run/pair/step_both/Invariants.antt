@@ -1,7 +1,4 @@
-use Rattle.std.proofs.Common.{◌≡◌, ◌≤◌, length, take, vec_capacity}
-use Rattle.batcher_votes.specs.declared.votes.Mode.TheVariants.{Retaining, Releasing}
-use Rattle.batcher_histories.specs.Config.{config}
-use Rattle.batcher_promises.proofs.Pairs.Runs.{PairGoes}
+use Rattle.batcher.proofs.Words.{◌≡◌, ◌≤◌, length, take, vec_capacity, Retaining, Releasing, config, PairGoes}
 use Rattle.batcher.proofs.run.pair.step_both.Given as goal
 
 abbrev pub invariant-loop-call : goal.invariant-loop-call

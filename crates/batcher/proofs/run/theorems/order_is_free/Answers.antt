@@ -1,6 +1,4 @@
-use Rattle.batcher_histories.specs.Config.{config}
-use Rattle.batcher_histories.proofs.History.Laws.{HasLaws}
-use Rattle.batcher_promises.proofs.Order.Free.{order_is_free}
+use Rattle.batcher.proofs.Words.{config, HasLaws, order_is_free}
 use Rattle.batcher.proofs.run.theorems.order_is_free.Goals as goal
 
 pub returns : goal.returns

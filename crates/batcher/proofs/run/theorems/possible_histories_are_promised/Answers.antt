@@ -1,6 +1,4 @@
-use Rattle.batcher_histories.specs.Config.{config}
-use Rattle.batcher_histories.proofs.History.Laws.{HasLaws}
-use Rattle.batcher_promises.proofs.Runs.Going.{is_promised}
+use Rattle.batcher.proofs.Words.{config, HasLaws, is_promised}
 use Rattle.batcher.proofs.run.theorems.possible_histories_are_promised.Goals as goal
 
 pub returns : goal.returns

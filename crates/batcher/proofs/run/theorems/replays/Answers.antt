@@ -1,4 +1,4 @@
-use Rattle.batcher_promises.proofs.Order.Replays.{equal_runs_go_alike}
+use Rattle.batcher.proofs.Words.{equal_runs_go_alike}
 use Rattle.batcher.proofs.run.theorems.replays.Goals as goal
 
 pub returns : goal.returns

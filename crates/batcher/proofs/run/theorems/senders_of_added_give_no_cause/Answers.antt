@@ -1,5 +1,4 @@
-use Rattle.batcher_histories.specs.Config.{config}
-use Rattle.batcher_promises.proofs.Blocks.Sent.{senders_of_added}
+use Rattle.batcher.proofs.Words.{config, senders_of_added}
 use Rattle.batcher.proofs.run.theorems.senders_of_added_give_no_cause.Goals as goal
 
 pub returns : goal.returns

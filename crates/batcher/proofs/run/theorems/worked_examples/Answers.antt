@@ -1,8 +1,4 @@
-use Rattle.batcher_promises.proofs.Examples.Answers.{worked}
-use Rattle.batcher_promises.proofs.Examples.Certificates.{computed}
-use Rattle.batcher_promises.proofs.Examples.Blocks.{just}
-use Rattle.batcher_promises.proofs.Examples.Honest.{honest_computed}
-use Rattle.batcher_promises.proofs.Examples.Replays.{replay_computed}
+use Rattle.batcher.proofs.Words.{worked, computed, just, honest_computed, replay_computed}
 use Rattle.batcher.proofs.run.theorems.worked_examples.Goals as goal
 
 pub returns : goal.returns

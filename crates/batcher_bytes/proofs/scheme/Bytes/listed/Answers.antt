@@ -1,4 +1,4 @@
-use Rattle.std.proofs.Common.{rules, ◌≡◌, ◌++◌, length}
+use Rattle.batcher_bytes.proofs.Words.{rules, ◌≡◌, ◌++◌, length}
 use Rattle.batcher_bytes.proofs.Passing.{same_passed}
 use Rattle.batcher_bytes.proofs.scheme.Bytes.listed.Goals as goal
 

@@ -1,6 +1,4 @@
-use Rattle.std.proofs.Common.{arith, ◌≡◌, ◌++◌, true, length, sym, subst}
-use Rattle.batcher_bytes.specs.Lawful.{made}
-use Rattle.batcher_bytes.specs.Meanings.{certifies}
+use Rattle.batcher_bytes.proofs.Words.{arith, ◌≡◌, ◌++◌, true, length, sym, subst, made, certifies}
 use Rattle.batcher_bytes.proofs.Passing.{together_passed}
 use Rattle.batcher_bytes.proofs.scheme.Bytes.together.Goals as goal
 

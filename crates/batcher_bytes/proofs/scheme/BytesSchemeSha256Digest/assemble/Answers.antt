@@ -1,4 +1,4 @@
-use Rattle.std.proofs.Common.{arith, ◌++◌, length}
+use Rattle.batcher_bytes.proofs.Words.{arith, ◌++◌, length}
 use Rattle.batcher_bytes.proofs.Passing.{each_passed}
 use Rattle.batcher_bytes.proofs.scheme.BytesSchemeSha256Digest.assemble.Goals as goal
 

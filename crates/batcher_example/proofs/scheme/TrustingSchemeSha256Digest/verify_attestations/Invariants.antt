@@ -1,5 +1,4 @@
-use Rattle.std.proofs.Common.{◌≡◌, ◌&&◌, nat_lt, length, filter, take}
-use Rattle.batcher.specs.Attestations.{failing, signers}
+use Rattle.batcher_example.proofs.Words.{◌≡◌, ◌&&◌, nat_lt, length, filter, take, failing, signers}
 use Rattle.batcher_example.proofs.scheme.TrustingSchemeSha256Digest.verify_attestations.Given as goal
 
 abbrev pub invariant-loop-attestation : goal.invariant-loop-attestation

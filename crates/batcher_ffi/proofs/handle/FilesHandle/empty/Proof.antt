@@ -1,5 +1,5 @@
 -- `empty` makes a null pointer.
-use Rattle.std.proofs.Common.{◌≡◌, List, [], ◌∷◌, refl}
+use Rattle.batcher_ffi.proofs.Words.{◌≡◌, List, [], ◌∷◌, refl}
 use mir.Val.{Val}
 use base.Logic.{SProp, emp}
 use base.Fml.{ftrue}
@@ -16,15 +16,12 @@ use denote.Signature.{types_at, plain}
 use denote.RawPtr.{Ptr, null_ptr}
 use denote.Steps.{nothing}
 use denote.Triple.Walked.{Stays, stay_dropped, walk_of, Goes-dropped}
-use Rattle.core.proofs.alloc.Calls.{handle_tells}
-use Rattle.std.specs.declared.option.Option.{Option}
-use Rattle.std.specs.declared.option.Option.TheVariants.{None}
+use Rattle.batcher_ffi.proofs.Words.{handle_tells, Option, None}
 use Rattle.std.specs.contracts.alloc.Global as heap
 use Rattle.std.specs.contracts.impls.GlobalAllocator.TheImpl.{ghosts}
 use Rattle.std.proofs.alloc.Global.TheLaws as heap_laws
-use Rattle.std.proofs.raw_atomic.Walks.{proved_at, leaves}
+use Rattle.batcher_ffi.proofs.Words.{proved_at, leaves, R}
 use Rattle.batcher_ffi.proofs.Pointers.{word, with_one, bare_alloc, fits_null, handle_in}
-use Rattle.batcher_ffi.specs.Rows.{files_row as R}
 use Rattle.batcher_ffi.specs.contracts.handle.FilesHandle.empty.{ended, clauses}
 use Rattle.batcher_ffi.specs.contracts.handle.FilesHandle.empty.Key.{name}
 use Rattle.batcher_ffi.proofs.handle.FilesHandle.empty.Statement.{statement}

@@ -1,5 +1,5 @@
 -- `into_unboxed` compares the pointer with null.
-use Rattle.std.proofs.Common.{◌≡◌, List, [], ◌∷◌, refl, subst, lit<}
+use Rattle.batcher_ffi.proofs.Words.{◌≡◌, List, [], ◌∷◌, refl, subst, lit<}
 use mir.Val.{Val, vcons, vnil}
 use base.Logic.{SProp, emp}
 use base.Fml.{ftrue}
@@ -18,17 +18,12 @@ use denote.RawPtr.{Ptr, block_ptr, null_ptr, tests_null}
 use denote.Steps.{nothing}
 use denote.Param.{layout}
 use denote.Triple.Walked.{Stays, stay_dropped, walk_of, Goes-dropped}
-use Rattle.core.proofs.alloc.Shapes.{after}
-use Rattle.core.proofs.cell.Inside.{Good}
-use Rattle.core.proofs.option.Made.{Some-of, none_of}
-use Rattle.std.specs.declared.option.Option.TheVariants.{None, Some}
+use Rattle.batcher_ffi.proofs.Words.{after, Good, Some-of, none_of, None, Some}
 use Rattle.std.specs.contracts.alloc.Global as heap
 use Rattle.std.specs.contracts.impls.GlobalAllocator.TheImpl.{ghosts}
 use Rattle.std.proofs.alloc.Global.TheLaws as heap_laws
-use Rattle.std_alloc.proofs.ResultValues.{and_tt}
-use Rattle.std.proofs.raw_atomic.Walks.{proved_at, leaves}
+use Rattle.batcher_ffi.proofs.Words.{and_tt, proved_at, leaves, R}
 use Rattle.batcher_ffi.proofs.Pointers.{word, with_one, fits_at, fits_null, Unboxed, unboxed_in, handle_out, either}
-use Rattle.batcher_ffi.specs.Rows.{files_row as R}
 use Rattle.batcher_ffi.specs.contracts.handle.FilesHandle.{the_row as Handle}
 use Rattle.batcher_ffi.specs.contracts.handle.FilesHandle.into_unboxed.{ended, clauses}
 use Rattle.batcher_ffi.specs.contracts.handle.FilesHandle.into_unboxed.Key.{name}

@@ -1,5 +1,5 @@
 -- `from_unboxed` keeps the pointer.
-use Rattle.std.proofs.Common.{◌≡◌, List, [], ◌∷◌, refl}
+use Rattle.batcher_ffi.proofs.Words.{◌≡◌, List, [], ◌∷◌, refl}
 use mir.Val.{Val}
 use base.Logic.{SProp, emp}
 use base.Fml.{ftrue}
@@ -16,12 +16,11 @@ use denote.Signature.{types_at, plain}
 use denote.RawPtr.{block_ptr}
 use denote.Steps.{nothing}
 use denote.Triple.Walked.{Stays, stay_dropped, walk_of, Goes-dropped}
-use Rattle.std.specs.declared.option.Option.{Option}
-use Rattle.std.specs.declared.option.Option.TheVariants.{Some}
+use Rattle.batcher_ffi.proofs.Words.{Option, Some}
 use Rattle.std.specs.contracts.alloc.Global as heap
 use Rattle.std.specs.contracts.impls.GlobalAllocator.TheImpl.{ghosts}
 use Rattle.std.proofs.alloc.Global.TheLaws as heap_laws
-use Rattle.std.proofs.raw_atomic.Walks.{proved_at, leaves}
+use Rattle.batcher_ffi.proofs.Words.{proved_at, leaves}
 use Rattle.batcher_ffi.proofs.Pointers.{word, with_one, fits_at, Unboxed, unboxed_out, handle_in}
 use Rattle.batcher_ffi.specs.Rows.{loop_row as R}
 use Rattle.batcher_ffi.specs.contracts.handle.LoopHandle.from_unboxed.{ended, clauses}

@@ -1,5 +1,5 @@
 -- `as_mut` reads the pointer, and lends what is there.
-use Rattle.std.proofs.Common.{◌≡◌, ℕ, List, [], ◌∷◌, refl, sym, lit<}
+use Rattle.batcher_ffi.proofs.Words.{◌≡◌, ℕ, List, [], ◌∷◌, refl, sym, lit<}
 use seplogic.Ra.Ura.{Ura}
 use mir.Syntax.{Body, seq, assign, place, rv_opd, copy, aggregate, int, w8, named}
 use mir.Val.{Val, vptr, vcons, vnil}
@@ -9,7 +9,8 @@ use base.Logic.{SProp, ent, sep, emp}
 use base.Fml.{Fml, GName, fsep, ftrue, flft, fres}
 use prog.Wp.{WpFn, Wp, after_seq, at_return}
 use types.Logic.{Logic, sem}
-use types.Kit.{‵, raw, later, some, ◌⊛◌, at_ret, any_q, ◌$◌, ◌∵◌, !, qed, by, move, keep, drop, split, split3, join, fsplit, fsplit3, fjoin, fpack, feq_l, feq_i, rewrite, use0, use1, await, pick, group, done}
+use types.Kit.{‵, raw, later, some, ◌⊛◌, at_ret, any_q, ◌$◌, ◌∵◌, !, qed, by, move, keep, drop, split, split3, join, fsplit, fsplit3, fjoin, fpack, feq_l}
+use types.Kit.{feq_i, rewrite, use0, use1, await, pick, group, done}
 use types.Run.{stop, fld, addr, lit, load, of_opd, bin, no_more, and_then, first, blocks, branches, exec, returns, enter}
 use types.ByLocal.{alloc_all, pass_all, free_all, look_at, get, through, sets, sets_last, env}
 use types.Part.{agg, look_in, sub, whole}
@@ -26,16 +27,10 @@ use denote.RawPtr.{Ptr, block_ptr, null_ptr, tests_null}
 use denote.Steps.{nothing, opens, closes}
 use denote.Param.{layout}
 use denote.Triple.Walked.{Stays, stay_dropped, walk_of, Goes-spent_ref}
-use Rattle.core.proofs.alloc.Shapes.{after}
-use Rattle.core.proofs.atomic.Steps.{Ptr-Good}
-use Rattle.core.proofs.cell.Inside.{Good}
-use Rattle.core.proofs.option.Made.{Some-of, none_of}
-use Rattle.std.specs.declared.option.Option.{Option}
-use Rattle.std.specs.declared.option.Option.TheVariants.{None, Some}
+use Rattle.batcher_ffi.proofs.Words.{after, Ptr-Good, Good, Some-of, none_of, Option, None, Some}
 use Rattle.std.specs.contracts.alloc.Global as heap
+use Rattle.batcher_ffi.proofs.Words.{proved_at, leaves, owned_or_null}
 use Rattle.std.specs.contracts.impls.GlobalAllocator.TheImpl.{ghosts}
-use Rattle.std.proofs.raw_atomic.Walks.{proved_at, leaves}
-use Rattle.batcher_ffi.specs.Ownership.{owned_or_null}
 use Rattle.batcher_ffi.proofs.Pointers.{word, with_one, either, handle_out, handle_in}
 use Rattle.batcher_ffi.specs.Rows.{round_row as R}
 use Rattle.batcher_ffi.specs.contracts.handle.RoundHandle.{the_row as Handle}

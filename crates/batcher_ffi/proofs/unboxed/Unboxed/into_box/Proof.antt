@@ -1,5 +1,5 @@
 -- `into_box` hands the pointer to `from_raw`, with the right to free the block.
-use Rattle.std.proofs.Common.{◌≡◌, List, [], ◌∷◌, refl, sym, ap, subst}
+use Rattle.batcher_ffi.proofs.Words.{◌≡◌, List, [], ◌∷◌, refl, sym, ap, subst}
 use mir.Syntax.{Fn, a_type, dcons, dnil}
 use mir.Val.{Val, vptr}
 use mir.MapTy.{inst_fn}
@@ -24,16 +24,12 @@ use denote.Triple.Clauses.{Lasts, lasts}
 use denote.Triple.Spec.{triple_of}
 use denote.Triple.Call.{calls_at_last}
 use denote.Triple.Walked.{Stays, stay_dropped, walk_of}
-use Rattle.core.proofs.alloc.Calls.{Goes-blank}
-use Rattle.core.proofs.alloc.Shapes.{after}
-use Rattle.core.proofs.atomic.Steps.{fm}
-use Rattle.core.proofs.cell.Inside.{Good}
+use Rattle.batcher_ffi.proofs.Words.{Goes-blank, after, fm, Good}
 use Rattle.std_alloc.proofs.BoxSteps.Form as box
-use Rattle.std_alloc.proofs.BoxSteps.Steps.{box_out, box_in}
-use Rattle.std.proofs.raw_atomic.Walks.{proved_at, leaves}
+use Rattle.batcher_ffi.proofs.Words.{box_out, box_in, proved_at, leaves}
 use Rattle.batcher_ffi.proofs.Pointers.{word, with_one, fits_at, Unboxed, unboxed_out}
 use Rattle.std_alloc.specs.contracts.boxed.Box.from_raw as callee
-use Rattle.std_alloc.proofs.boxed.Box.from_raw.Met.{met}
+use Rattle.batcher_ffi.proofs.Words.{met}
 use Rattle.batcher_ffi.specs.contracts.unboxed.Unboxed.into_box.{ended, clauses}
 use Rattle.batcher_ffi.specs.contracts.unboxed.Unboxed.into_box.Key.{name}
 use Rattle.batcher_ffi.proofs.unboxed.Unboxed.into_box.Statement.{statement}

@@ -1,5 +1,5 @@
 -- `of` takes what `into_raw_with_allocator` gives.
-use Rattle.std.proofs.Common.{◌≡◌, List, [], ◌∷◌, refl, ap, ◌∙◌}
+use Rattle.batcher_ffi.proofs.Words.{◌≡◌, List, [], ◌∷◌, refl, ap, ◌∙◌}
 use mir.Syntax.{Fn, a_type, dcons, dnil}
 use mir.Val.{Val}
 use mir.MapTy.{inst_fn}
@@ -22,11 +22,9 @@ use denote.Param.Laws.{param_laws}
 use denote.Triple.Spec.{triple_of}
 use denote.Triple.Call.{calls_at}
 use denote.Triple.Walked.{Stays, stay_dropped, walk_of}
-use Rattle.core.proofs.alloc.Calls.{Goes-blank}
-use Rattle.core.proofs.atomic.Steps.{fm}
+use Rattle.batcher_ffi.proofs.Words.{Goes-blank, fm}
 use Rattle.std_alloc.proofs.BoxSteps.Form as box
-use Rattle.std_alloc.proofs.BoxSteps.Steps.{box_out, box_in}
-use Rattle.std.proofs.raw_atomic.Walks.{proved_at, leaves}
+use Rattle.batcher_ffi.proofs.Words.{box_out, box_in, proved_at, leaves}
 use Rattle.batcher_ffi.proofs.Pointers.{word, with_one, fits_at, Parts, parts_out, there, somewhere, unboxed_in}
 use Rattle.std_alloc.specs.contracts.boxed.Box.into_raw_with_allocator as callee
 use Rattle.std_alloc.proofs.boxed.Box.into_raw_with_allocator.Met.{met}

@@ -1,5 +1,4 @@
-use Rattle.std.proofs.Common.{ap, refl, subst}
-use Rattle.batcher_file.specs.Pairs.{IsFound}
+use Rattle.batcher_file.proofs.Words.{ap, refl, subst, IsFound}
 use Rattle.batcher_file.proofs.Choosing.{IsLeft, tidies}
 use Rattle.batcher_file.proofs.files.TwoFiles.open.Goals as goal
 use Rattle.batcher_file.proofs.files.TwoFiles.open.Goals.{else-is_turned, then-is_turned}

@@ -1,6 +1,4 @@
-use Rattle.std.proofs.Common.{inr, ◌∙◌}
-use Rattle.batcher_file.specs.Settled.{rest_settled}
-use Rattle.batcher_file.specs.Steps.{steps}
+use Rattle.batcher_file.proofs.Words.{inr, ◌∙◌, rest_settled, steps}
 use Rattle.batcher_file.proofs.Making.{made_settled, making_leaves}
 use Rattle.batcher_file.proofs.Reopening.{begun_honest, done_honest}
 use Rattle.batcher_file.proofs.log.FileLog.create.Goals as goal

@@ -1,5 +1,4 @@
-use Rattle.std.proofs.Common.{subst, ◌∙◌}
-use Rattle.batcher_file.specs.Carrying.{IsBegun, IsCarriedOut}
+use Rattle.batcher_file.proofs.Words.{subst, ◌∙◌, IsBegun, IsCarriedOut}
 use Rattle.batcher_file.proofs.Reopening.{lost_nothing, open_found, open_leaves, open_opens, open_settled, opened_leaves, opened_opens, refused}
 use Rattle.batcher_file.proofs.log.FileLog.open.Goals as goal
 

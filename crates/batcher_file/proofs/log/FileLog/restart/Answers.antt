@@ -1,4 +1,4 @@
-use Rattle.std.proofs.lemmas.Result.{on_ok_weaker}
+use Rattle.batcher_file.proofs.Words.{on_ok_weaker}
 use Rattle.batcher_file.proofs.log.FileLog.restart.Goals as goal
 
 pub returns-clause-found : goal.returns-clause-found

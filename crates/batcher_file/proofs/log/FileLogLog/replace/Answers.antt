@@ -1,5 +1,4 @@
-use Rattle.std.proofs.Common.{inl, inr, ◌∙◌}
-use Rattle.batcher_file.specs.Settled.{rest_opens, rest_settled}
+use Rattle.batcher_file.proofs.Words.{inl, inr, ◌∙◌, rest_opens, rest_settled}
 use Rattle.batcher_file.proofs.Logs.{replace_leaves, replace_opens, replace_settled, unchanged_leaves, unchanged_opens}
 use Rattle.batcher_file.proofs.log.FileLogLog.replace.Goals as goal
 

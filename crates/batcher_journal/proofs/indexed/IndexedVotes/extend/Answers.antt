@@ -1,5 +1,4 @@
-use Rattle.std.proofs.Common.{subst, sym}
-use Rattle.batcher_journal.specs.Index.{IsIndex}
+use Rattle.batcher_journal.proofs.Words.{subst, sym, IsIndex}
 use Rattle.batcher_journal.proofs.Indexing.{longer}
 use Rattle.batcher_journal.proofs.indexed.IndexedVotes.extend.Goals as goal
 

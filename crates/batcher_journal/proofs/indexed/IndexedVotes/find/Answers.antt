@@ -1,5 +1,4 @@
-use Rattle.std.proofs.Common.{length, refl, subst, take, ◌∙◌}
-use Rattle.batcher_journal.specs.Contradictions.{IsFree}
+use Rattle.batcher_journal.proofs.Words.{length, refl, subst, take, ◌∙◌, IsFree}
 use Rattle.batcher_journal.proofs.Indexing.{both_free, rest}
 use Rattle.batcher_journal.proofs.indexed.IndexedVotes.find.Goals as goal
 

@@ -1,8 +1,5 @@
-use Rattle.std.proofs.Common.{Err, ap, arith, inl, inr, subst, sym, true, ◌∙◌, ◌≡◌}
-use Rattle.batcher_codec.specs.Messages.{vote_format}
-use Rattle.batcher_journal.specs.Ready.{RaiseLeaves, left_by}
-use Rattle.batcher_journal.specs.Seen.{contents_of}
-use Rattle.batcher_journal.specs.Text.{IsText, fields_of}
+use Rattle.batcher_journal.proofs.Words.{Err, ap, arith, inl, inr, subst, sym, true, ◌∙◌, ◌≡◌, vote_format, RaiseLeaves, left_by_floor, contents_of, IsText}
+use Rattle.batcher_journal.proofs.Words.{fields_of}
 use Rattle.batcher_journal.proofs.Raises.{raise_leaves, ready_raised}
 use Rattle.batcher_journal.proofs.Writes.{ready_same, stays}
 use Rattle.batcher_journal.proofs.journal.Journal.begin_epoch.Goals as goal
@@ -34,8 +31,8 @@ invariant_of-self g c = (
       c.self.inside.log c.self.inside.written (contents_of c.self.inside.kept) (c.self.invariant.1 is_open) (fields_of c.args.owner.now) c.args.floor
       c.args.finalization.now
       (contents_of c.in-Ok.raised.kept) (c.in-Ok.ensures.kept
-      ∙ ap (λ vs. left_by (fields_of c.args.owner.now) c.args.floor c.args.finalization.now vs c.deref.result.now) c.as_slice-votes.ensures
-      ∙ ap (λ its. left_by (fields_of c.args.owner.now) c.args.floor c.args.finalization.now c.self.inside.kept.votes its) c.deref.ensures.value)
+      ∙ ap (λ vs. left_by_floor (fields_of c.args.owner.now) c.args.floor c.args.finalization.now vs c.deref.result.now) c.as_slice-votes.ensures
+      ∙ ap (λ its. left_by_floor (fields_of c.args.owner.now) c.args.floor c.args.finalization.now c.self.inside.kept.votes its) c.deref.ensures.value)
       c.replace.new.self c.deref-2.result.now c.len-self-inside.result (c.len-self-inside.ensures ∙ c.in-Ok.raised.kept.certificates.ok.0) (subst (λ
       t. IsText (vote_format g.G.Codec.format g.D.Codec.format) t (contents_of c.in-Ok.raised.kept)) (sym c.deref-2.ensures.value) c.in-Ok.ensures.text)
       c.in-Ok-replace.ensures.ok.0 c.in-Ok-replace.ensures.ok.1,
@@ -52,8 +49,8 @@ returns-in-Ok-replace-clause-leaves g c =
     c.self.inside.log c.self.inside.written (contents_of c.self.inside.kept) (c.self.invariant.1 is_open) (fields_of c.args.owner.now) c.args.floor
     c.args.finalization.now
     (contents_of c.in-Ok.raised.kept) (c.in-Ok.ensures.kept
-    ∙ ap (λ vs. left_by (fields_of c.args.owner.now) c.args.floor c.args.finalization.now vs c.deref.result.now) c.as_slice-votes.ensures
-    ∙ ap (λ its. left_by (fields_of c.args.owner.now) c.args.floor c.args.finalization.now c.self.inside.kept.votes its) c.deref.ensures.value)
+    ∙ ap (λ vs. left_by_floor (fields_of c.args.owner.now) c.args.floor c.args.finalization.now vs c.deref.result.now) c.as_slice-votes.ensures
+    ∙ ap (λ its. left_by_floor (fields_of c.args.owner.now) c.args.floor c.args.finalization.now c.self.inside.kept.votes its) c.deref.ensures.value)
     left c.deref-2.result.now (sym c.if-is_before.ensures) (subst (λ t. IsText (vote_format g.G.Codec.format g.D.Codec.format) t (contents_of
     c.in-Ok.raised.kept)) (sym c.deref-2.ensures.value) c.in-Ok.ensures.text)
     (c.replace.ensures.leaves left honest may))
@@ -73,8 +70,8 @@ returns-in-Err-OutOfMemory-clause-leaves g c =
     c.self.inside.log c.self.inside.written (contents_of c.self.inside.kept) (c.self.invariant.1 is_open) (fields_of c.args.owner.now) c.args.floor
     c.args.finalization.now
     (contents_of c.in-Ok.raised.kept) (c.in-Ok.ensures.kept
-    ∙ ap (λ vs. left_by (fields_of c.args.owner.now) c.args.floor c.args.finalization.now vs c.deref.result.now) c.as_slice-votes.ensures
-    ∙ ap (λ its. left_by (fields_of c.args.owner.now) c.args.floor c.args.finalization.now c.self.inside.kept.votes its) c.deref.ensures.value)
+    ∙ ap (λ vs. left_by_floor (fields_of c.args.owner.now) c.args.floor c.args.finalization.now vs c.deref.result.now) c.as_slice-votes.ensures
+    ∙ ap (λ its. left_by_floor (fields_of c.args.owner.now) c.args.floor c.args.finalization.now c.self.inside.kept.votes its) c.deref.ensures.value)
     left c.deref-2.result.now (sym c.if-is_before.ensures) (subst (λ t. IsText (vote_format g.G.Codec.format g.D.Codec.format) t (contents_of
     c.in-Ok.raised.kept)) (sym c.deref-2.ensures.value) c.in-Ok.ensures.text)
     (c.replace.ensures.leaves left honest may))
@@ -94,8 +91,8 @@ returns-in-Err-Full-clause-leaves g c =
     c.self.inside.log c.self.inside.written (contents_of c.self.inside.kept) (c.self.invariant.1 is_open) (fields_of c.args.owner.now) c.args.floor
     c.args.finalization.now
     (contents_of c.in-Ok.raised.kept) (c.in-Ok.ensures.kept
-    ∙ ap (λ vs. left_by (fields_of c.args.owner.now) c.args.floor c.args.finalization.now vs c.deref.result.now) c.as_slice-votes.ensures
-    ∙ ap (λ its. left_by (fields_of c.args.owner.now) c.args.floor c.args.finalization.now c.self.inside.kept.votes its) c.deref.ensures.value)
+    ∙ ap (λ vs. left_by_floor (fields_of c.args.owner.now) c.args.floor c.args.finalization.now vs c.deref.result.now) c.as_slice-votes.ensures
+    ∙ ap (λ its. left_by_floor (fields_of c.args.owner.now) c.args.floor c.args.finalization.now c.self.inside.kept.votes its) c.deref.ensures.value)
     left c.deref-2.result.now (sym c.if-is_before.ensures) (subst (λ t. IsText (vote_format g.G.Codec.format g.D.Codec.format) t (contents_of
     c.in-Ok.raised.kept)) (sym c.deref-2.ensures.value) c.in-Ok.ensures.text)
     (c.replace.ensures.leaves left honest may))
@@ -133,8 +130,8 @@ returns-clause-leaves g c =
     c.self.inside.log c.self.inside.written (contents_of c.self.inside.kept) (c.self.invariant.1 is_open) (fields_of c.args.owner.now) c.args.floor
     c.args.finalization.now
     (contents_of c.in-Ok.raised.kept) (c.in-Ok.ensures.kept
-    ∙ ap (λ vs. left_by (fields_of c.args.owner.now) c.args.floor c.args.finalization.now vs c.deref.result.now) c.as_slice-votes.ensures
-    ∙ ap (λ its. left_by (fields_of c.args.owner.now) c.args.floor c.args.finalization.now c.self.inside.kept.votes its) c.deref.ensures.value)
+    ∙ ap (λ vs. left_by_floor (fields_of c.args.owner.now) c.args.floor c.args.finalization.now vs c.deref.result.now) c.as_slice-votes.ensures
+    ∙ ap (λ its. left_by_floor (fields_of c.args.owner.now) c.args.floor c.args.finalization.now c.self.inside.kept.votes its) c.deref.ensures.value)
     left c.deref-2.result.now (sym c.if-is_before.ensures) (subst (λ t. IsText (vote_format g.G.Codec.format g.D.Codec.format) t (contents_of
     c.in-Ok.raised.kept)) (sym c.deref-2.ensures.value) c.in-Ok.ensures.text)
     (c.replace.ensures.leaves left honest may))

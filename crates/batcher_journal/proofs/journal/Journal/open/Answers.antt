@@ -1,8 +1,4 @@
-use Rattle.std.proofs.Common.{arith, refl, subst, ◌∙◌}
-use Rattle.batcher_codec.specs.Messages.{vote_format}
-use Rattle.batcher_journal.specs.Causes.{Cause}
-use Rattle.batcher_journal.specs.Seen.{contents_of}
-use Rattle.batcher_journal.specs.Text.{IsText, fields_of}
+use Rattle.batcher_journal.proofs.Words.{arith, refl, subst, ◌∙◌, vote_format, Cause, contents_of, IsText, fields_of}
 use Rattle.batcher_journal.proofs.Writes.{ready_opened}
 use Rattle.batcher_journal.proofs.journal.Journal.open.Goals as goal
 

@@ -1,9 +1,5 @@
-use Rattle.std.proofs.Common.{Err, ap, arith, drop, inl, inr, refl, subst, sym, true, ◌++◌, ◌∙◌, ◌≡◌, ◌⊎◌}
-use Rattle.batcher_codec.specs.Messages.{vote_format}
-use Rattle.batcher_journal.specs.Answers.{MayFollow}
-use Rattle.batcher_journal.specs.Ready.{Has, IsReady, WriteLeaves, first_of, with_more}
-use Rattle.batcher_journal.specs.Records.{AreRecords, records_of, records_text}
-use Rattle.batcher_journal.specs.Seen.{contents_of}
+use Rattle.batcher_journal.proofs.Words.{Err, ap, arith, drop, inl, inr, refl, subst, sym, true, ◌++◌, ◌∙◌, ◌≡◌, ◌⊎◌, vote_format, MayBeWrittenBehind}
+use Rattle.batcher_journal.proofs.Words.{HasContents, IsReady, WriteLeaves, first_of, with_more, AreRecords, records_of, records_text, contents_of}
 use Rattle.batcher_journal.proofs.Indexing.{rest}
 use Rattle.batcher_journal.proofs.Sorting.{made, none_left}
 use Rattle.batcher_journal.proofs.Writes.{more_is, ready_more, ready_same, stays, write_leaves}
@@ -13,7 +9,7 @@ pub returns-then-not-may_follow-clause-not_free : goal.returns-then-not-may_foll
 returns-then-not-may_follow-clause-not_free g c =
     λ fault. (
       refl,
-      subst (λ v. MayFollow g.D.PartialEq.eq v.contents.floor v.contents.votes c.args.votes.now → ⊥) c.self.view_is
+      subst (λ v. MayBeWrittenBehind g.D.PartialEq.eq v.contents.floor v.contents.votes c.args.votes.now → ⊥) c.self.view_is
           c.if-not-may_follow.ensures,
     )
 
@@ -53,7 +49,7 @@ invariant_of-self g c = (
 
 pub returns-in-Ok-clause-written : goal.returns-in-Ok-clause-written
 returns-in-Ok-clause-written g c =
-    subst (λ v. (v.is_open ≡ true) × MayFollow g.D.PartialEq.eq v.contents.floor v.contents.votes c.args.votes.now × Has (record {
+    subst (λ v. (v.is_open ≡ true) × MayBeWrittenBehind g.D.PartialEq.eq v.contents.floor v.contents.votes c.args.votes.now × HasContents (record {
       log = c.write_to.new.log;
       contents = first_of c.len-self-inside.result (made c.self.inside.kept.owner c.self.inside.kept.floor c.self.inside.kept.finalization.items
           c.index_more.new.self c.self.inside.kept.certificates.items);

@@ -1,6 +1,4 @@
-use Rattle.std.proofs.Common.{◌≡◌, ◌≤◌, ℕ}
-use Rattle.std.specs.BinaryHeap.{heap_items, heap_len, heap_capacity}
-use Rattle.batcher_node.specs.Due.{times}
+use Rattle.batcher_node.proofs.Words.{◌≡◌, ◌≤◌, ℕ, heap_items, heap_len, heap_capacity, times}
 use Rattle.batcher_node.proofs.due.Due.drop_before.Given as goal
 
 abbrev pub invariant-loop-view : goal.invariant-loop-view

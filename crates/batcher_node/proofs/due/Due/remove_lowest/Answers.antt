@@ -1,6 +1,4 @@
-use Rattle.std.proofs.Common.{sym, ◌≡◌, ◌∙◌, ◌==◌, false, arith, zero-add}
-use Rattle.std.proofs.lemmas.Bool.Decides.{nat_tests}
-use Rattle.std.specs.BinaryHeap.{heap_items}
+use Rattle.batcher_node.proofs.Words.{sym, ◌≡◌, ◌∙◌, ◌==◌, false, arith, zero-add, nat_tests, heap_items}
 use Rattle.batcher_node.proofs.DueLemmas.{same_times, none_below}
 use Rattle.batcher_node.proofs.due.Due.remove_lowest.Goals as goal
 

@@ -1,9 +1,5 @@
-use Rattle.std.proofs.Common.{◌≡◌, ◌<◌, ◌≤◌, ◌+◌, ◌==◌, ℕ, Bool, true, false, cond, List, Option, Some, None, refl, subst, arith}
-use Rattle.std.specs.Prelude.{IfSome, IfNone}
-use Rattle.std.specs.BinaryHeap.{heap_items}
-use Rattle.std.specs.declared.cmp.Reverse.{Reverse}
-use Rattle.std.proofs.lemmas.Bool.Decides.{nat_tests}
-use Rattle.batcher_node.specs.Due.{times}
+use Rattle.batcher_node.proofs.Words.{◌≡◌, ◌<◌, ◌≤◌, ◌+◌, ◌==◌, ℕ, Bool, true, false, cond, List, Option, Some, None, refl, subst, arith, IfSome, IfNone}
+use Rattle.batcher_node.proofs.Words.{heap_items, Reverse, nat_tests, times}
 use Rattle.batcher_node.proofs.due.Due.rest.Goals as goal
 
 -- The lowest view that is taken away is the lowest that is listed.

@@ -1,4 +1,4 @@
-use Rattle.std.proofs.Common.{ap}
+use Rattle.batcher_node.proofs.Words.{ap}
 use Rattle.batcher_node.proofs.node.Node.blocked.Goals as goal
 
 pub returns-clause-cause : goal.returns-clause-cause

@@ -1,10 +1,4 @@
-use Rattle.std.proofs.Common.{◌∷◌, ◌∙◌, sym, refl, rules, ap, subst}
-use Rattle.batcher.specs.answers.OwnFault.TheVariants.{OutOfMemory as OutOfMemoryFault}
-use Rattle.batcher.specs.RoundContracts.{round_config}
-use Rattle.batcher.specs.Votes.{round_in, subject_of}
-use Rattle.batcher.specs.calls.Call.TheVariants.{Own as OwnCall}
-use Rattle.batcher_node.specs.Represents.{IsNode}
-use Rattle.batcher_node.specs.Events.{vote_cast}
+use Rattle.batcher_node.proofs.Words.{◌∷◌, ◌∙◌, sym, refl, rules, ap, subst, OutOfMemoryFault, round_config, round_in, subject_of, OwnCall, IsNode, vote_cast}
 use Rattle.batcher_node.proofs.Calling.{err_known, err_fact, if_ok, known_error, own_needs, own_refused, none_named}
 use Rattle.batcher_node.proofs.Answering.{needed_there, not_far, own_told, own_named, cast_told}
 use Rattle.batcher_node.proofs.Tending.{still_tended}

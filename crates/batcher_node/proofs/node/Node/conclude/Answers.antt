@@ -1,10 +1,4 @@
-use Rattle.std.proofs.Common.{◌∷◌, ◌∙◌, Some, inl, refl, rules, sym, ap, subst}
-use Rattle.std.specs.Prelude.{is_some}
-use Rattle.batcher.specs.RoundContracts.{round_config}
-use Rattle.batcher_node.specs.Nodes.{slot_at}
-use Rattle.batcher_node.specs.Verdicts.{LooksAtThere}
-use Rattle.batcher_node.specs.Represents.{IsNode}
-use Rattle.batcher_node.specs.Events.{constructed}
+use Rattle.batcher_node.proofs.Words.{◌∷◌, ◌∙◌, Some, inl, refl, rules, sym, ap, subst, is_some, round_config, slot_at, LooksAtThere, IsNode, constructed}
 use Rattle.batcher_node.proofs.Calling.{if_some, on_err}
 use Rattle.batcher_node.proofs.Lowest.{one_next}
 use Rattle.batcher_node.proofs.Tending.{still_tended}

@@ -1,8 +1,4 @@
-use Rattle.std.proofs.Common.{◌∷◌, refl, arith, rules, sym, ap, subst, ◌∙◌}
-use Rattle.batcher.specs.RoundContracts.{round_config}
-use Rattle.batcher_node.specs.Represents.{IsNode}
-use Rattle.batcher_node.specs.Windows.{entered}
-use Rattle.batcher_node.specs.Events.{view_entered}
+use Rattle.batcher_node.proofs.Words.{◌∷◌, refl, arith, rules, sym, ap, subst, ◌∙◌, round_config, IsNode, entered, view_entered}
 use Rattle.batcher_node.proofs.Calling.{err_fact, if_ok, led_refused}
 use Rattle.batcher_node.proofs.Answering.{entered_told}
 use Rattle.batcher_node.proofs.node.Node.enter.Goals as goal

@@ -1,6 +1,4 @@
-use Rattle.std.proofs.Common.{◌∷◌, refl, rules, sym, subst}
-use Rattle.batcher_node.specs.Represents.{IsNode}
-use Rattle.batcher_node.specs.Events.{view_finalized}
+use Rattle.batcher_node.proofs.Words.{◌∷◌, refl, rules, sym, subst, IsNode, view_finalized}
 use Rattle.batcher_node.proofs.Answering.{finalized_told}
 use Rattle.batcher_node.proofs.node.Node.finalize.Goals as goal
 

@@ -1,4 +1,4 @@
-use Rattle.std.proofs.Common.{rules}
+use Rattle.batcher_node.proofs.Words.{rules}
 use Rattle.batcher_node.proofs.Causing.{starts}
 use Rattle.batcher_node.proofs.node.Node.new.Goals as goal
 

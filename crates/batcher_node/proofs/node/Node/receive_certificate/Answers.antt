@@ -1,11 +1,5 @@
-use Rattle.std.proofs.Common.{◌∷◌, ◌∙◌, sym, refl, rules, ap, subst}
-use Rattle.batcher.specs.calls.Call.TheVariants.{Certificate as CertificateCall}
-use Rattle.batcher.specs.RoundContracts.{round_config}
-use Rattle.batcher.specs.Votes.{round_in, subject_certified}
-use Rattle.batcher_node.specs.Represents.{IsNode}
-use Rattle.batcher_node.specs.declared.answers.Receipt.TheVariants.{Answered}
-use Rattle.batcher_node.specs.declared.answers.Verdict.TheVariants.{Recorded, Forged}
-use Rattle.batcher_node.specs.Events.{certificate_came}
+use Rattle.batcher_node.proofs.Words.{◌∷◌, ◌∙◌, sym, refl, rules, ap, subst, CertificateCall, round_config, round_in, subject_certified, IsNode, Answered}
+use Rattle.batcher_node.proofs.Words.{Recorded, Forged, certificate_came}
 use Rattle.batcher_node.proofs.Calling.{if_ok, needs_refused, on_err}
 use Rattle.batcher_node.proofs.Answering.{needed_there, not_far, certified_there, certificate_told, certificate_forged}
 use Rattle.batcher_node.proofs.Tending.{still_tended}

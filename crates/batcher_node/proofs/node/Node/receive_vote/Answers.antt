@@ -1,10 +1,4 @@
-use Rattle.std.proofs.Common.{◌∷◌, ◌∙◌, sym, refl, rules, ap, subst}
-use Rattle.batcher.specs.calls.Call.TheVariants.{Network as NetworkCall}
-use Rattle.batcher.specs.RoundContracts.{round_config}
-use Rattle.batcher.specs.Votes.{round_in, subject_of}
-use Rattle.batcher_node.specs.Represents.{IsNode}
-use Rattle.batcher_node.specs.declared.answers.Receipt.TheVariants.{Answered}
-use Rattle.batcher_node.specs.Events.{vote_came}
+use Rattle.batcher_node.proofs.Words.{◌∷◌, ◌∙◌, sym, refl, rules, ap, subst, NetworkCall, round_config, round_in, subject_of, IsNode, Answered, vote_came}
 use Rattle.batcher_node.proofs.Calling.{if_ok, needs_refused, on_err}
 use Rattle.batcher_node.proofs.Answering.{needed_there, not_far, vote_told}
 use Rattle.batcher_node.proofs.Tending.{still_tended}

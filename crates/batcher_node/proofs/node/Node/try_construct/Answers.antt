@@ -1,6 +1,4 @@
-use Rattle.std.proofs.Common.{◌∷◌, refl, rules, sym, ap, subst}
-use Rattle.batcher_node.specs.Represents.{IsNode}
-use Rattle.batcher_node.specs.Events.{constructed}
+use Rattle.batcher_node.proofs.Words.{◌∷◌, refl, rules, sym, ap, subst, IsNode, constructed}
 use Rattle.batcher_node.proofs.Calling.{if_some, on_err}
 use Rattle.batcher_node.proofs.Answering.{construction_told, next_needed}
 use Rattle.batcher_node.proofs.node.Node.try_construct.Goals as goal

@@ -1,5 +1,4 @@
-use Rattle.std.proofs.Common.{refl, sym, ap, subst}
-use Rattle.batcher_node.specs.Represents.{IsNode}
+use Rattle.batcher_node.proofs.Words.{refl, sym, ap, subst, IsNode}
 use Rattle.batcher_node.proofs.Answering.{forwards_there, forwards_nothing}
 use Rattle.batcher_node.proofs.Forwarding.{still_node}
 use Rattle.batcher_node.proofs.node.Node.try_forward_proposal.Goals.{in-Some, in-None}

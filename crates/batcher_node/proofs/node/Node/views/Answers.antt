@@ -1,5 +1,4 @@
-use Rattle.std.proofs.Common.{◌∙◌, ◌==◌, ap}
-use Rattle.std.specs.List.{list_any}
+use Rattle.batcher_node.proofs.Words.{◌∙◌, ◌==◌, ap, list_any}
 use Rattle.batcher_node.proofs.Listing.{listed}
 use Rattle.batcher_node.proofs.node.Node.views.Goals as goal
 

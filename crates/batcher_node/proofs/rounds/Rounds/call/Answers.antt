@@ -1,12 +1,5 @@
-use Rattle.std.proofs.Common.{◌∙◌, ◌≡◌, ◌+◌, ◌&&◌, ◌≤◌, ℕ, Bool, true, false, cond, not, length, is_some, refl, sym, ap, Some, rules, arith}
-use Rattle.std.specs.BinaryHeap.{heap_items, heap_capacity}
-use Rattle.batcher_node.specs.Due.{times_due}
-use Rattle.std.specs.Ordering.{nat_cmp}
-use Rattle.std.specs.BTreeMap.{get}
-use Rattle.std.proofs.lemmas.Map.{length-set_value}
-use Rattle.std.proofs.lemmas.Map.Steps.{set_value_same}
-use Rattle.batcher.specs.RoundContracts.{round_config}
-use Rattle.batcher_node.specs.Nodes.{due_after, slot_at}
+use Rattle.batcher_node.proofs.Words.{◌∙◌, ◌≡◌, ◌+◌, ◌&&◌, ◌≤◌, ℕ, Bool, true, false, cond, not, length, is_some, refl, sym, ap, Some, rules, arith, heap_items}
+use Rattle.batcher_node.proofs.Words.{heap_capacity, times_due, nat_cmp, get, length-set_value, set_value_same, round_config, due_after, slot_at}
 use Rattle.batcher_node.proofs.Calling.{not_at, told_there, told_fresh, refused_fresh, on_err_same}
 use Rattle.batcher_node.proofs.DueRounds.{kept_listed, no_more, rested_before, room_for, woken_due, woken_listed}
 use Rattle.batcher_node.proofs.rounds.Rounds.call.Goals as goal

@@ -1,8 +1,4 @@
-use Rattle.std.proofs.Common.{◌∙◌, ◌≡◌, length, sym, ap, Some, Ok, true, rules}
-use Rattle.std.proofs.lemmas.Map.Steps.{set_value_same}
-use Rattle.std.specs.BinaryHeap.{heap_items, heap_capacity}
-use Rattle.std.proofs.lemmas.Map.{length-set_value}
-use Rattle.batcher_node.specs.Nodes.{slot_at}
+use Rattle.batcher_node.proofs.Words.{◌∙◌, ◌≡◌, length, sym, ap, Some, Ok, true, rules, set_value_same, heap_items, heap_capacity, length-set_value, slot_at}
 use Rattle.batcher_node.proofs.Calling.{if_some, not_at, on_err}
 use Rattle.batcher_node.proofs.DueRounds.{as_listed, next_changed}
 use Rattle.batcher_node.proofs.rounds.Rounds.conclude.Goals as goal

@@ -1,7 +1,4 @@
-use Rattle.std.proofs.Common.{◌≡◌, arith}
-use Rattle.std.specs.BinaryHeap.{heap_items}
-use Rattle.batcher_node.specs.Due.{times, times_due}
-use Rattle.batcher_node.specs.Nodes.{slot_at}
+use Rattle.batcher_node.proofs.Words.{◌≡◌, arith, heap_items, times, times_due, slot_at}
 use Rattle.batcher_node.proofs.DueRounds.{on_either_side}
 use Rattle.batcher_node.proofs.rounds.Rounds.finalize.Goals as goal
 

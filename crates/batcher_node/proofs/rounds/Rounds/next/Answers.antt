@@ -1,8 +1,4 @@
-use Rattle.std.proofs.Common.{◌≡◌, ◌<◌, ◌≤◌, ◌∙◌, sym, ℕ, false, Option, Some, None}
-use Rattle.std.specs.Prelude.{IfSome, IfNone}
-use Rattle.std.specs.BinaryHeap.{heap_items}
-use Rattle.batcher_node.specs.Due.{times}
-use Rattle.batcher_node.specs.Nodes.{HasChanged, slot_at}
+use Rattle.batcher_node.proofs.Words.{◌≡◌, ◌<◌, ◌≤◌, ◌∙◌, sym, ℕ, false, Option, Some, None, IfSome, IfNone, heap_items, times, HasChanged, slot_at}
 use Rattle.batcher_node.proofs.DueRounds.{listed_changed, unlisted_rests}
 use Rattle.batcher_node.proofs.rounds.Rounds.next.Goals as goal
 

@@ -1,7 +1,5 @@
-use Rattle.std.proofs.Common.{◌∙◌, ◌≡◌, not, Bool, true, false, length, refl, sym, ap, Some, rules}
-use Rattle.std.proofs.lemmas.Map.Steps.{set_value_same}
-use Rattle.std.specs.BinaryHeap.{heap_items, heap_capacity}
-use Rattle.std.proofs.lemmas.Map.{length-set_value}
+use Rattle.batcher_node.proofs.Words.{◌∙◌, ◌≡◌, not, Bool, true, false, length, refl, sym, ap, Some, rules, set_value_same, heap_items, heap_capacity}
+use Rattle.batcher_node.proofs.Words.{length-set_value}
 use Rattle.batcher_node.proofs.Calling.{not_at, on_err, due_given}
 use Rattle.batcher_node.proofs.DueRounds.{next_listed}
 use Rattle.batcher_node.proofs.rounds.Rounds.try_construct.Goals as goal

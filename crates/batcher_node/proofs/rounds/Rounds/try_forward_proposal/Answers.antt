@@ -1,6 +1,4 @@
-use Rattle.std.proofs.Common.{◌≡◌, length, refl, sym, rules}
-use Rattle.std.specs.BinaryHeap.{heap_items, heap_capacity}
-use Rattle.std.proofs.lemmas.Map.{length-set_value}
+use Rattle.batcher_node.proofs.Words.{◌≡◌, length, refl, sym, rules, heap_items, heap_capacity, length-set_value}
 use Rattle.batcher_node.proofs.Calling.{not_at}
 use Rattle.batcher_node.proofs.DueRounds.{as_listed}
 use Rattle.batcher_node.proofs.rounds.Rounds.try_forward_proposal.Goals as goal

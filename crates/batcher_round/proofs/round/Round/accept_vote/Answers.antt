@@ -1,11 +1,4 @@
-use Rattle.std.proofs.Common.{◌≡◌, subst, rules}
-use Rattle.std.specs.Prelude.{IfErr}
-use Rattle.batcher_histories.specs.Config.{config}
-use Rattle.batcher_histories.specs.Steps.{fault_or_memory}
-use Rattle.batcher_histories.proofs.History.Laws.{laws_by}
-use Rattle.batcher_histories.proofs.KnownLemmas.Named.{own_same}
-use Rattle.batcher_histories.proofs.Simulation.Own.{own_simulates}
-use Rattle.batcher_histories.proofs.Memory.Needed.{own_needed}
+use Rattle.batcher_round.proofs.Words.{◌≡◌, subst, rules, IfErr, config, fault_or_memory, laws_by, own_same, own_simulates, own_needed}
 use Rattle.batcher_round.proofs.InRound.{own_in_round}
 use Rattle.batcher_round.proofs.OwnVotes.{held_by}
 use Rattle.batcher_round.proofs.round.Round.accept_vote.Goals as goal

@@ -1,15 +1,7 @@
-use Rattle.std.proofs.Common.{None, rules, ◌==◌, ◌≡◌, ◌&&◌, ◌∙◌, not, true, false, Some, ap, subst, sym, refl}
-use Rattle.std.specs.Prelude.{MatchBool}
-use Rattle.std.proofs.lemmas.Bool.{not-true}
-use Rattle.batcher_types.specs.Votes.{kind_of}
-use Rattle.batcher_votes.specs.RoundState.{of_kind, RoundState}
-use Rattle.batcher_votes.specs.VerifierSteps.{selected_in, AddsVote}
-use Rattle.batcher_histories.specs.Config.{config, sender_in}
-use Rattle.batcher_histories.specs.Admissions.{block_for, mismatch_reason, admission_of}
-use Rattle.batcher_histories.proofs.Correctness.Admission.{first_added, first_unopposed, mismatched, objected, same_number, unopposed_admission, unopposed_after}
-use Rattle.batcher_histories.proofs.History.Laws.{laws_by}
-use Rattle.batcher_histories.proofs.Simulation.Network.{network_simulates}
-use Rattle.batcher_histories.proofs.Memory.Needed.{network_needed}
+use Rattle.batcher_round.proofs.Words.{None, rules, ◌==◌, ◌≡◌, ◌&&◌, ◌∙◌, not, true, false, Some, ap, subst, sym, refl, MatchBool, not-true, kind_of, of_kind}
+use Rattle.batcher_round.proofs.Words.{RoundState, selected_in, AddsVote, config, sender_in, block_for, mismatch_reason, admission_of, first_added}
+use Rattle.batcher_round.proofs.Words.{first_unopposed, mismatched, objected, same_number, unopposed_admission, unopposed_after, laws_by, network_simulates}
+use Rattle.batcher_round.proofs.Words.{network_needed}
 use Rattle.batcher_round.proofs.round.Round.add_network.Goals as goal
 
 pub returns-in_default-clause-step : goal.returns-in_default-clause-step

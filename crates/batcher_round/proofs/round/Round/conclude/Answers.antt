@@ -1,15 +1,6 @@
-use Rattle.std.proofs.Common.{◌≡◌, ◌∙◌, Some, None, sym}
-use Rattle.std.specs.Prelude.{Result, Ok, Err, Option}
-use Rattle.std.proofs.lemmas.Option.{none-some}
+use Rattle.batcher_round.proofs.Words.{◌≡◌, ◌∙◌, Some, None, sym, Result, Ok, Err, Option, none-some}
 use Rattle.batcher_votes.specs.Verdicts as votes
-use Rattle.batcher_votes.specs.Verifiers.{IfGiven}
-use Rattle.batcher_votes.proofs.VerifierLemmas.Verdicts.{judged_lawful, no_stream}
-use Rattle.batcher_histories.specs.RoundContracts.{round_config}
-use Rattle.batcher_histories.specs.Steps.{kind_tried}
-use Rattle.batcher_histories.proofs.History.Laws.{laws_by}
-use Rattle.batcher_histories.proofs.KnownLemmas.Ready.{tried_ready}
-use Rattle.batcher_histories.proofs.Memory.Needed.{construct_needed}
-use Rattle.batcher_round.specs.BallotsView.{round_with}
+use Rattle.batcher_round.proofs.Words.{IfGiven, judged_lawful, no_stream, round_config, kind_tried, laws_by, tried_ready, construct_needed, round_with}
 use Rattle.batcher_round.proofs.Assembling.{assembled_by_verdicts}
 use Rattle.batcher_round.proofs.Otherwise.{next_of, kind_of_next, none_next, step_otherwise, followed_otherwise}
 use Rattle.batcher_round.proofs.round.Round.conclude.Goals as goal

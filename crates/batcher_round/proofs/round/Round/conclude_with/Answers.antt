@@ -1,12 +1,6 @@
-use Rattle.std.proofs.Common.{◌≡◌, ◌∙◌, Option, Some, None, sym}
-use Rattle.std.specs.Prelude.{IfSome}
+use Rattle.batcher_round.proofs.Words.{◌≡◌, ◌∙◌, Option, Some, None, sym, IfSome}
 use Rattle.batcher_votes.specs.Verdicts as votes
-use Rattle.batcher_votes.proofs.VerifierLemmas.Verdicts.{judged_with_lawful}
-use Rattle.batcher_histories.specs.RoundContracts.{round_config}
-use Rattle.batcher_histories.specs.Steps.{kind_tried}
-use Rattle.batcher_histories.proofs.History.Laws.{laws_by}
-use Rattle.batcher_histories.proofs.KnownLemmas.Ready.{tried_ready}
-use Rattle.batcher_round.specs.BallotsView.{round_with}
+use Rattle.batcher_round.proofs.Words.{judged_with_lawful, round_config, kind_tried, laws_by, tried_ready, round_with}
 use Rattle.batcher_round.proofs.Otherwise.{next_of, kind_of_next, quorum_of_next, none_next, step_otherwise, followed_otherwise}
 use Rattle.batcher_round.proofs.round.Round.conclude_with.Goals as goal
 

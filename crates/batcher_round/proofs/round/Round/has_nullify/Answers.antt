@@ -1,5 +1,4 @@
-use Rattle.std.proofs.Common.{◌∙◌}
-use Rattle.batcher_histories.proofs.KnownLemmas.Observed.{nullify_same}
+use Rattle.batcher_round.proofs.Words.{◌∙◌, nullify_same}
 use Rattle.batcher_round.proofs.round.Round.has_nullify.Goals as goal
 
 pub returns-clause-meets : goal.returns-clause-meets

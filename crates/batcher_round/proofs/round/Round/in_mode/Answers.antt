@@ -1,7 +1,4 @@
-use Rattle.std.proofs.Common.{[], ap, sym, subst}
-use Rattle.batcher_histories.proofs.KnownLemmas.AtFirst.{fresh_represents}
-use Rattle.batcher_histories.specs.RoundContracts.{round_config}
-use Rattle.batcher_histories.specs.Represents.{Represents}
+use Rattle.batcher_round.proofs.Words.{[], ap, sym, subst, fresh_represents, round_config, Represents}
 use Rattle.batcher_round.proofs.round.Round.in_mode.Goals as goal
 
 pub invariant_of-result : goal.invariant_of-result

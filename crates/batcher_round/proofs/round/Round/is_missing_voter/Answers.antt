@@ -1,7 +1,4 @@
-use Rattle.std.proofs.Common.{◌∙◌, not, ap}
-use Rattle.batcher_votes.specs.RoundState.{RoundState}
-use Rattle.batcher_histories.specs.Config.{config}
-use Rattle.batcher_histories.proofs.KnownLemmas.Named.{block_same}
+use Rattle.batcher_round.proofs.Words.{◌∙◌, not, ap, RoundState, config, block_same}
 use Rattle.batcher_round.proofs.round.Round.is_missing_voter.Goals as goal
 
 pub returns-clause-meets : goal.returns-clause-meets

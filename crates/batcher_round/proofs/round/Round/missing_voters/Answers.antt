@@ -1,6 +1,4 @@
-use Rattle.std.proofs.Common.{refl, ◌∙◌}
-use Rattle.batcher_histories.proofs.History.Laws.{laws_by}
-use Rattle.batcher_histories.proofs.Simulation.Resting.{missing_simulates}
+use Rattle.batcher_round.proofs.Words.{refl, ◌∙◌, laws_by, missing_simulates}
 use Rattle.batcher_round.proofs.round.Round.missing_voters.Goals as goal
 
 pub returns-clause-meets : goal.returns-clause-meets

@@ -1,7 +1,4 @@
-use Rattle.std.proofs.Common.{◌∙◌, ap}
-use Rattle.std.specs.Prelude.{length}
-use Rattle.batcher_types.proofs.CountLemmas.{length_same}
-use Rattle.batcher_votes.specs.RoundState.{of_kind}
+use Rattle.batcher_round.proofs.Words.{◌∙◌, ap, length, length_same, of_kind}
 use Rattle.batcher_round.proofs.round.Round.progress.Goals as goal
 
 pub returns-clause-meets : goal.returns-clause-meets

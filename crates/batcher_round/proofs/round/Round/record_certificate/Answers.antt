@@ -1,14 +1,5 @@
-use Rattle.std.proofs.Common.{Bool}
-use Rattle.std.proofs.lemmas.Result.{IfOk-weaker}
-use Rattle.batcher_histories.specs.Config.{config}
-use Rattle.batcher_histories.specs.Steps.{AfterCertificate}
-use Rattle.batcher_histories.specs.Represents.{Simulates}
-use Rattle.batcher_histories.specs.declared.calls.Call.TheVariants.{Certificate as CertificateCall}
-use Rattle.batcher_histories.specs.declared.answers.Answer.TheVariants.{Certificate as CertificateAnswer}
-use Rattle.batcher_votes.specs.RoundState.{RoundState}
-use Rattle.batcher_histories.proofs.History.Laws.{laws_by}
-use Rattle.batcher_histories.proofs.Simulation.Recorded.{certificate_simulates}
-use Rattle.batcher_histories.proofs.Memory.Needed.{certificate_needed}
+use Rattle.batcher_round.proofs.Words.{Bool, IfOk-weaker, config, AfterCertificate, Simulates, CertificateCall, CertificateAnswer, RoundState, laws_by}
+use Rattle.batcher_round.proofs.Words.{certificate_simulates, certificate_needed}
 use Rattle.batcher_round.proofs.InRound.{certificate_in_round}
 use Rattle.batcher_round.proofs.OwnVotes.{held_by}
 use Rattle.batcher_round.proofs.round.Round.record_certificate.Goals as goal

@@ -1,9 +1,4 @@
-use Rattle.std.proofs.Common.{◌∙◌, ap}
-use Rattle.batcher_votes.specs.RoundState.{RoundState}
-use Rattle.batcher_histories.specs.Config.{config}
-use Rattle.batcher_histories.specs.Steps.{leader_set_answer}
-use Rattle.batcher_histories.proofs.History.Laws.{laws_by}
-use Rattle.batcher_histories.proofs.Simulation.Resting.{leader_meets}
+use Rattle.batcher_round.proofs.Words.{◌∙◌, ap, RoundState, config, leader_set_answer, laws_by, leader_meets}
 use Rattle.batcher_round.proofs.InRound.{first_on_err, leader_in_round, leader_tracks}
 use Rattle.batcher_round.proofs.OwnVotes.{held_by}
 use Rattle.batcher_round.proofs.round.Round.set_leader.Goals as goal

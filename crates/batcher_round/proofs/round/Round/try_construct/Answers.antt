@@ -1,17 +1,6 @@
-use Rattle.std.proofs.Common.{rules, true, false, ◌≡◌, ◌∙◌, ap, subst, sym, IfSome, Some, is_some}
-use Rattle.std.specs.Prelude.{Result, Ok, Err, IfOk}
-use Rattle.batcher_types.specs.declared.messages.Kind.TheVariants.{Nullification, Finalization}
-use Rattle.batcher_votes.specs.RoundState.{RoundState}
-use Rattle.batcher_votes.specs.Verifiers.{IfGiven, certifies_itself}
-use Rattle.batcher_histories.specs.RoundContracts.{round_config}
-use Rattle.batcher_histories.specs.declared.calls.Call.TheVariants.{Construct as ConstructCall}
-use Rattle.batcher_histories.specs.declared.answers.Answer.TheVariants.{Construct as ConstructAnswer}
-use Rattle.batcher_histories.specs.Steps.{AfterConstruct, TriesHeld, is_ready_in}
-use Rattle.batcher_histories.specs.Represents.{Simulates}
-use Rattle.batcher_histories.proofs.History.Laws.{laws_by}
-use Rattle.batcher_histories.proofs.Simulation.Construct.{construct_simulates}
-use Rattle.batcher_histories.proofs.Memory.Needed.{construct_needed}
-use Rattle.batcher_round.specs.BallotsView.{round_with}
+use Rattle.batcher_round.proofs.Words.{rules, true, false, ◌≡◌, ◌∙◌, ap, subst, sym, IfSome, Some, is_some, Result, Ok, Err, IfOk, Nullification, Finalization}
+use Rattle.batcher_round.proofs.Words.{RoundState, IfGiven, certifies_itself, round_config, ConstructCall, ConstructAnswer, AfterConstruct, TriesHeld}
+use Rattle.batcher_round.proofs.Words.{is_ready_in, Simulates, laws_by, construct_simulates, construct_needed, round_with}
 use Rattle.batcher_round.proofs.Construction.{same_round, notarization_tried, nullification_tried, finalization_tried}
 use Rattle.batcher_round.proofs.round.Round.try_construct.Goals as goal
 

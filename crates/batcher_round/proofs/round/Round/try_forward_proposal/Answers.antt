@@ -1,6 +1,4 @@
-use Rattle.std.proofs.Common.{rules}
-use Rattle.batcher_histories.proofs.History.Laws.{laws_by}
-use Rattle.batcher_histories.proofs.Simulation.Resting.{forward_simulates}
+use Rattle.batcher_round.proofs.Words.{rules, laws_by, forward_simulates}
 use Rattle.batcher_round.proofs.round.Round.try_forward_proposal.Goals as goal
 
 pub returns-then-self-clause-answer : goal.returns-then-self-clause-answer

@@ -1,12 +1,7 @@
-use Rattle.std.proofs.Common.{◌≡◌, ◌∙◌, Bool, true, false, not, is_some, ap, sym, refl, arith}
-use Rattle.batcher_types.specs.declared.messages.Proposal.{Proposal}
-use Rattle.batcher_types.specs.declared.messages.Kind.TheVariants.{Notarization, Finalization}
-use Rattle.batcher_types.proofs.VoteLemmas.{same_proposal-refl}
-use Rattle.batcher_votes.specs.declared.verifier.ProposalState.{ProposalState}
-use Rattle.batcher_votes.specs.declared.verifier.ProposalState.TheVariants.{Unknown, Leader as LeadersProposal, Certificate as FixedProposal}
-use Rattle.batcher_votes.specs.ProposalStates.{proposal_of, updated, same_selected, replaces}
-use Rattle.batcher_votes.specs.RoundState.{of_kind}
-use Rattle.batcher_votes.proofs.VerifierLemmas.RestoredVotes.{replaced_by, fixed_now, room_after, none_came, fixes_alone, within_alone, fixes_both, within_both, once_kept, kinds_kept}
+use Rattle.batcher_round.proofs.Words.{◌≡◌, ◌∙◌, Bool, true, false, not, is_some, ap, sym, refl, arith, Proposal, Notarization, Finalization}
+use Rattle.batcher_round.proofs.Words.{same_proposal-refl, ProposalState, Unknown, LeadersProposal, FixedProposal, proposal_of, updated, same_selected}
+use Rattle.batcher_round.proofs.Words.{replaces, of_kind, replaced_by, fixed_now, room_after, none_came, fixes_alone, within_alone, fixes_both, within_both}
+use Rattle.batcher_round.proofs.Words.{once_kept, kinds_kept}
 use Rattle.batcher_round.proofs.round.ballots.fix_proposal.Goals as goal
 
 some_fixed : {D : Type 0} (s : ProposalState D) (p : Proposal D)

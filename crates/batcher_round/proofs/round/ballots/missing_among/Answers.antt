@@ -1,11 +1,6 @@
-use Rattle.std.proofs.Common.{◌≡◌, ◌∙◌, ◌+◌, ◌≤◌, ◌||◌, ◌∷◌, [], not, nat_lt, cond, is_ok, true, false, ap, sym, subst, arith, length-append}
-use Rattle.batcher_types.specs.declared.messages.Kind.TheVariants.{Notarization, Finalization}
-use Rattle.batcher_types.specs.Lists.{count}
-use Rattle.batcher_types.proofs.PlaceLemmas.{none_below}
-use Rattle.batcher_votes.specs.RoundState.{RoundState}
-use Rattle.batcher_votes.specs.TrackerSteps.{is_seen_for, observed}
-use Rattle.batcher_histories.specs.Steps.{has_block}
-use Rattle.batcher_histories.proofs.Correctness.Missing.{missing_one, missing_none}
+use Rattle.batcher_round.proofs.Words.{◌≡◌, ◌∙◌, ◌+◌, ◌≤◌, ◌||◌, ◌∷◌, [], not, nat_lt, cond, is_ok, true, false, ap, sym, subst, arith, length-append}
+use Rattle.batcher_round.proofs.Words.{Notarization, Finalization, count, none_below, RoundState, is_seen_for, observed, has_block_held, missing_one}
+use Rattle.batcher_round.proofs.Words.{missing_none}
 use Rattle.batcher_round.proofs.round.ballots.missing_among.Goals as goal
 use Rattle.batcher_round.proofs.round.ballots.missing_among.Goals.{then-is_ok, else-is_ok, then-not-has_block_at, else-not-has_block_at}
 
@@ -28,7 +23,7 @@ loop-index-preserved g c =
     c.from_usize-participant.ensures c.place_after-place.ensures.next in
     let seen = c.has_block_at.ensures i.0 c.place_after-place.ensures.place in
     let block : (held : RoundState g.row.G.Denot g.row.D.Denot) → held.tracked ≡ c.args.tracker.now.holds
-    → has_block same held i.0 p ≡ c.has_block_at.result = λ held is.
+    → has_block_held same held i.0 p ≡ c.has_block_at.result = λ held is.
     ap (λ t. is_seen_for same p (observed t Notarization i.0) || is_seen_for same p (observed t Finalization i.0)) is ∙ sym seen in
     let lower : c.if-is_ok.lower ≡ count (λ s. nat_lt s (c.loop-index.index + 1)) signers = elim c.if-is_ok.branch [
       | then-is_ok w ↦

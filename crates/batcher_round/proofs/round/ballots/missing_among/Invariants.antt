@@ -1,7 +1,4 @@
-use Rattle.std.proofs.Common.{◌≡◌, ◌≤◌, length, nat_lt, vec_capacity}
-use Rattle.batcher_types.specs.Lists.{count}
-use Rattle.batcher_votes.specs.RoundState.{RoundState}
-use Rattle.batcher_histories.specs.Steps.{missing_in}
+use Rattle.batcher_round.proofs.Words.{◌≡◌, ◌≤◌, length, nat_lt, vec_capacity, count, RoundState, missing_in}
 use Rattle.batcher_round.proofs.round.ballots.missing_among.Given as goal
 
 abbrev pub invariant-loop-index : goal.invariant-loop-index

@@ -1,6 +1,4 @@
-use Rattle.std.proofs.Common.{◌≡◌, ◌≤◌, ◌∙◌, ℕ, Bool, true, false, ap, sym, refl, arith}
-use Rattle.batcher_types.specs.declared.messages.Kind.TheVariants.{Notarization, Finalization}
-use Rattle.batcher_votes.specs.RoundState.{of_kind}
+use Rattle.batcher_round.proofs.Words.{◌≡◌, ◌≤◌, ◌∙◌, ℕ, Bool, true, false, ap, sym, refl, arith, Notarization, Finalization, of_kind}
 use Rattle.batcher_round.proofs.round.ballots.reserve_to_fix.Goals as goal
 
 -- none is counted of a kind that is compacted

@@ -1,5 +1,5 @@
-use Rattle.std.proofs.Common.{◌≡◌, ◌<◌, ◌+◌, map, ℕ, length, get_or, Bool, true, false, nat_eq, List, [], ◌∷◌, ◌++◌, refl, sym, filter, not, take, arith}
-use Rattle.std.proofs.lemmas.List.{take_more, map-append}
+use Rattle.batcher_tests.proofs.Words.{◌≡◌, ◌<◌, ◌+◌, map, ℕ, length, get_or, Bool, true, false, nat_eq, List, [], ◌∷◌, ◌++◌, refl, sym, filter, not, take}
+use Rattle.batcher_tests.proofs.Words.{arith, take_more, map-append}
 use Rattle.batcher_tests.proofs.tests.verdicts.verdicts_on.Goals as goal
 
 -- that no item of a list of one fails is the item's verdict

@@ -1,4 +1,4 @@
-use Rattle.std.proofs.Common.{◌≡◌, map, take}
+use Rattle.batcher_tests.proofs.Words.{◌≡◌, map, take}
 use Rattle.batcher_tests.proofs.tests.verdicts.verdicts_on.Given as goal
 
 abbrev pub invariant-loop-attestation : goal.invariant-loop-attestation

@@ -1,7 +1,5 @@
-use Rattle.std.proofs.Common.{◌∙◌, ◌++◌, w64, refl}
-use Rattle.std.specs.Int.{to_be_bytes}
-use Rattle.sha2.specs.Hashers.{Holds256}
-use Rattle.batcher_types.specs.Hashed.{proposal_bytes, round_bytes}
+use Rattle.batcher_types.proofs.Words.{◌∙◌, ◌++◌, w64, refl, to_be_bytes, Holds256, round_bytes}
+use Rattle.batcher_types.specs.Hashed.{proposal_bytes}
 use Rattle.batcher_types.proofs.HashingLemmas.{fed_both}
 use Rattle.batcher_types.proofs.scheme.hashing.add_proposal.Goals as goal
 

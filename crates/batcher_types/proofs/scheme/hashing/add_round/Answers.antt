@@ -1,6 +1,4 @@
-use Rattle.std.proofs.Common.{◌∙◌, w64}
-use Rattle.std.specs.Int.{to_be_bytes}
-use Rattle.sha2.specs.Hashers.{Holds256}
+use Rattle.batcher_types.proofs.Words.{◌∙◌, w64, to_be_bytes, Holds256}
 use Rattle.batcher_types.specs.Hashed.{round_bytes}
 use Rattle.batcher_types.proofs.HashingLemmas.{fed_both}
 use Rattle.batcher_types.proofs.scheme.hashing.add_round.Goals as goal

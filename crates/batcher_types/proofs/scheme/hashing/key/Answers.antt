@@ -1,4 +1,4 @@
-use Rattle.std.proofs.Common.{[]}
+use Rattle.batcher_types.proofs.Words.{[]}
 use Rattle.batcher_types.specs.Hashed.{key_of}
 use Rattle.batcher_types.proofs.scheme.hashing.key.Goals as goal
 

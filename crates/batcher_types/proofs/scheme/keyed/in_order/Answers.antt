@@ -1,6 +1,4 @@
-use Rattle.std.proofs.Common.{◌≡◌, ◌++◌, rules}
-use Rattle.std.proofs.lemmas.List.Sorted.{IsNonDecreasingBy-from_sort_by_key}
-use Rattle.batcher_types.specs.Attestations.{index_of_signer}
+use Rattle.batcher_types.proofs.Words.{◌≡◌, ◌++◌, rules, IsNonDecreasingBy-from_sort_by_key, index_of_signer}
 use Rattle.batcher_types.proofs.AscendingLemmas.{ordered_from_sort}
 use Rattle.batcher_types.proofs.scheme.keyed.in_order.Goals as goal
 

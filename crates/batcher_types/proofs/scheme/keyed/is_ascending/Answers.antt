@@ -1,8 +1,5 @@
-use Rattle.std.proofs.Common.{◌≡◌, ◌-◌, ◌+◌, ◌<◌, ◌≤◌, ℕ, Bool, true, false, List, [], get_or, length, refl, sym, arith}
-use Rattle.batcher_types.specs.declared.messages.Attestation.{Attestation}
-use Rattle.batcher_types.specs.Attestations.{index_of_signer}
-use Rattle.batcher_types.specs.Ascending.{is_ascending}
-use Rattle.batcher_types.specs.Ordered.{is_ascending-true}
+use Rattle.batcher_types.proofs.Words.{◌≡◌, ◌-◌, ◌+◌, ◌<◌, ◌≤◌, ℕ, Bool, true, false, List, [], get_or, length, refl, sym, arith, Attestation, index_of_signer}
+use Rattle.batcher_types.proofs.Words.{is_ascending, is_ascending-true}
 use Rattle.batcher_types.proofs.AscendingLemmas.{ascending_from_adjacent, adjacent_from_ascending, ascending_from_test}
 use Rattle.batcher_types.proofs.scheme.keyed.is_ascending.Goals as goal
 

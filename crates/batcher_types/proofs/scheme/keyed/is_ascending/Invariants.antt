@@ -1,5 +1,4 @@
-use Rattle.std.proofs.Common.{◌<◌}
-use Rattle.std.specs.List.{AllAdjacentBelow}
+use Rattle.batcher_types.proofs.Words.{◌<◌, AllAdjacentBelow}
 use Rattle.batcher_types.proofs.scheme.keyed.is_ascending.Given as goal
 
 abbrev pub invariant-loop-i : goal.invariant-loop-i

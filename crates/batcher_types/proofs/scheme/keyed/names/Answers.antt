@@ -1,11 +1,5 @@
-use Rattle.std.proofs.Common.{◌≡◌, ◌<◌, length, ℕ, Bool, false, List, get_or, arith, ap, refl, Err}
-use Rattle.std.specs.List.{IsDistinct}
-use Rattle.std.proofs.lemmas.Bool.Decides.{nat_tests}
-use Rattle.std.proofs.lemmas.Map.Keys.{IsDistinct-from_apart}
-use Rattle.std.proofs.lemmas.List.Sorted.{All-permutation, length_permutation}
-use Rattle.batcher_types.specs.declared.scheme.keyed.Name.{Name}
-use Rattle.batcher_types.specs.declared.positions.keys.SetFault.{SetFault}
-use Rattle.batcher_types.specs.declared.positions.keys.SetFault.TheVariants.{Duplicate, TooMany}
+use Rattle.batcher_types.proofs.Words.{◌≡◌, ◌<◌, length, ℕ, Bool, false, List, get_or, arith, ap, refl, Err, IsDistinct, nat_tests, IsDistinct-from_apart}
+use Rattle.batcher_types.proofs.Words.{All-permutation, length_permutation, Name, SetFault, Duplicate, TooMany}
 use Rattle.batcher_types.proofs.scheme.keyed.names.Goals as goal
 
 -- names that are their own places are distinct

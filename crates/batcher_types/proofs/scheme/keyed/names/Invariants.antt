@@ -1,5 +1,4 @@
-use Rattle.std.proofs.Common.{◌≡◌, ◌<◌, ℕ, get_or, vec_len}
-use Rattle.batcher_types.specs.declared.scheme.keyed.Name.{Name}
+use Rattle.batcher_types.proofs.Words.{◌≡◌, ◌<◌, ℕ, get_or, vec_len, Name}
 use Rattle.batcher_types.proofs.scheme.keyed.names.Given as goal
 
 abbrev pub invariant-loop-number : goal.invariant-loop-number

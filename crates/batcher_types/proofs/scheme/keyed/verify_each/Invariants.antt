@@ -1,6 +1,4 @@
-use Rattle.std.proofs.Common.{◌≡◌, filter, take}
-use Rattle.batcher_types.specs.Hashed.{is_signed}
-use Rattle.batcher_types.specs.Attestations.{failing, signers}
+use Rattle.batcher_types.proofs.Words.{◌≡◌, filter, take, is_signed, failing, signers}
 use Rattle.batcher_types.proofs.scheme.keyed.verify_each.Given as goal
 
 abbrev pub invariant-loop-attestation : goal.invariant-loop-attestation

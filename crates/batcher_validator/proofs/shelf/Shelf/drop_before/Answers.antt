@@ -1,16 +1,12 @@
-use Rattle.std.proofs.Common.{◌∙◌, ap, rules, subst, sym}
-use Rattle.std.proofs.lemmas.Fn.{filter_same}
-use Rattle.std.specs.List.{filter}
+use Rattle.batcher_validator.proofs.Words.{◌∙◌, ap, rules, subst, sym, filter_same, filter, AreDistinct, is_from, kind_and_round}
 use Rattle.batcher_validator.proofs.Queueing.{distinct_left}
-use Rattle.batcher_validator.specs.Queues.{AreDistinct}
-use Rattle.batcher_validator.specs.Shelves.{is_from, key_of}
 use Rattle.batcher_validator.proofs.shelf.Shelf.drop_before.Goals as goal
 
 pub invariant_of-self : goal.invariant_of-self
 invariant_of-self g c =
-    subst (AreDistinct key_of)
+    subst (AreDistinct kind_and_round)
     (sym (filter_same _ (is_from c.args.first) _ (λ x b f' k. search rules) _ _ c.retain.ensures.filtered))
-    (distinct_left key_of (is_from c.args.first) c.self.inside.certificates.items c.self.invariant)
+    (distinct_left kind_and_round (is_from c.args.first) c.self.inside.certificates.items c.self.invariant)
 
 pub returns-clause-certificates : goal.returns-clause-certificates
 returns-clause-certificates g c =

@@ -1,5 +1,4 @@
-use Rattle.std.proofs.Common.{◌∙◌, ap, subst}
-use Rattle.batcher_validator.specs.Shelves.{HaveNoFinal}
+use Rattle.batcher_validator.proofs.Words.{◌∙◌, ap, subst, HaveNoFinal}
 use Rattle.batcher_validator.proofs.shelf.Shelf.final_after.Goals as goal
 
 pub returns-clause-none : goal.returns-clause-none

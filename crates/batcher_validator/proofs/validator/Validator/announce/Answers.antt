@@ -1,13 +1,7 @@
-use Rattle.std.proofs.Common.{◌∙◌, ap, refl, subst, sym}
-use Rattle.batcher_node.specs.Nodes.{node_config}
+use Rattle.batcher_validator.proofs.Words.{◌∙◌, ap, refl, subst, sym, node_config, take, count_by, filter, WhyNotFinal, is_from, IsRaised}
 use Rattle.batcher_validator.proofs.Ending.{final_less}
 use Rattle.batcher_validator.proofs.Finalizing.{gives_final, moves, not_announced, not_forged, not_passed, noted, of_this_epoch}
 use Rattle.batcher_validator.proofs.Giving.{contained}
-use Rattle.std.proofs.Common.{take}
-use Rattle.std.specs.List.{count_by, filter}
-use Rattle.batcher_validator.specs.Running.{WhyNotFinal}
-use Rattle.batcher_validator.specs.Shelves.{is_from}
-use Rattle.batcher_voter.specs.Journals.{IsRaised}
 use Rattle.batcher_validator.proofs.validator.Validator.announce.Goals as goal
 
 pub returns-in-Ok-clause-gives : goal.returns-in-Ok-clause-gives

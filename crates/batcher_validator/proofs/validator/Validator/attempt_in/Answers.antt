@@ -1,4 +1,4 @@
-use Rattle.batcher.specs.RoundContracts.{round_config}
+use Rattle.batcher_validator.proofs.Words.{round_config}
 use Rattle.batcher_validator.proofs.Lending.{kind_looks_in, no_kind_in}
 use Rattle.batcher_validator.proofs.validator.Validator.attempt_in.Goals as goal
 

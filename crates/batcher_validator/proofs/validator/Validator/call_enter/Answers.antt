@@ -1,5 +1,4 @@
-use Rattle.std.proofs.Common.{subst}
-use Rattle.batcher_node.specs.Nodes.{IsLedByAnother, slot_at}
+use Rattle.batcher_validator.proofs.Words.{subst, IsLedByAnother, slot_at}
 use Rattle.batcher_validator.proofs.validator.Validator.call_enter.Goals as goal
 
 pub returns-clause-led : goal.returns-clause-led

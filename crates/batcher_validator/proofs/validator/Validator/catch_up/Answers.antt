@@ -1,7 +1,4 @@
-use Rattle.std.proofs.Common.{◌≡◌, refl, subst, sym, true}
-use Rattle.batcher.specs.Verifiers.{certifies_itself}
-use Rattle.batcher_node.specs.Nodes.{node_config}
-use Rattle.batcher_validator.specs.Histories.{took}
+use Rattle.batcher_validator.proofs.Words.{◌≡◌, refl, subst, sym, true, certifies_itself, node_config, took}
 use Rattle.batcher_validator.proofs.Going.{runs_roomy, takes_in}
 use Rattle.batcher_validator.proofs.validator.Validator.catch_up.Goals as goal
 

@@ -1,13 +1,7 @@
-use Rattle.std.proofs.Common.{◌∙◌, Ok, ap, refl, subst, sym}
-use Rattle.std.specs.Prelude.{IfSome}
-use Rattle.batcher_agreement.specs.Lives.{node_history}
-use Rattle.batcher_node.specs.Events.{constructed}
-use Rattle.batcher_node.specs.Nodes.{node_config}
+use Rattle.batcher_validator.proofs.Words.{◌∙◌, Ok, ap, refl, subst, sym, IfSome, node_history, constructed, node_config, voter_history, VoterMeets}
 use Rattle.batcher_validator.proofs.Certifying.{certified, given_is_held, none_is_given}
 use Rattle.batcher_validator.proofs.Giving.{answers, not_verifying}
 use Rattle.batcher_validator.proofs.Going.{never_calm, run_stays, runs, runs_with}
-use Rattle.batcher_validator.specs.Histories.{voter_history}
-use Rattle.batcher_voter.specs.Voting.{VoterMeets}
 use Rattle.batcher_validator.proofs.validator.Validator.construct_with_room.Goals as goal
 
 pub returns-in-Some-clause-made : goal.returns-in-Some-clause-made

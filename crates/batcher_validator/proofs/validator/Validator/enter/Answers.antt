@@ -1,5 +1,4 @@
-use Rattle.std.proofs.Common.{ap, refl}
-use Rattle.batcher_node.specs.Events.{view_entered}
+use Rattle.batcher_validator.proofs.Words.{ap, refl, view_entered}
 use Rattle.batcher_validator.proofs.Going.{runs}
 use Rattle.batcher_validator.proofs.validator.Validator.enter.Goals as goal
 

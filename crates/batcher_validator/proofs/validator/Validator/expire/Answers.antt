@@ -1,4 +1,4 @@
-use Rattle.std.proofs.Common.{refl}
+use Rattle.batcher_validator.proofs.Words.{refl}
 use Rattle.batcher_validator.proofs.Choosing.{expires}
 use Rattle.batcher_validator.proofs.validator.Validator.expire.Goals as goal
 

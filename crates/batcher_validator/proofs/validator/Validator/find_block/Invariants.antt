@@ -1,6 +1,4 @@
-use Rattle.std.proofs.Common.{◌≡◌, ◌<◌, ◌⊎◌, ℕ, None, Some, true}
-use Rattle.std.specs.List.{slice_get}
-use Rattle.batcher_node.specs.Nodes.{cause_at}
+use Rattle.batcher_validator.proofs.Words.{◌≡◌, ◌<◌, ◌⊎◌, ℕ, None, Some, true, slice_get, cause_at}
 use Rattle.batcher_validator.proofs.validator.Validator.find_block.Given as goal
 
 abbrev pub invariant-loop-i : goal.invariant-loop-i

@@ -1,5 +1,4 @@
-use Rattle.std.proofs.Common.{◌∙◌, sym}
-use Rattle.batcher_node.specs.Nodes.{node_config}
+use Rattle.batcher_validator.proofs.Words.{◌∙◌, sym, node_config}
 use Rattle.batcher_validator.proofs.Giving.{gives_forward}
 use Rattle.batcher_validator.proofs.validator.Validator.give_forward.Goals as goal
 

@@ -1,5 +1,4 @@
-use Rattle.std.proofs.Common.{◌≡◌, ◌⊎◌, ◌∙◌, ap, false, refl, subst, true}
-use Rattle.batcher_node.specs.Nodes.{IsAtRest, node_config}
+use Rattle.batcher_validator.proofs.Words.{◌≡◌, ◌⊎◌, ◌∙◌, ap, false, refl, subst, true, IsAtRest, node_config}
 use Rattle.batcher_validator.proofs.Giving.{becomes_calm, contained, gives_certificate, gives_verify, nothing_due}
 use Rattle.batcher_validator.proofs.validator.Validator.give_others.Goals as goal
 

@@ -1,10 +1,6 @@
-use Rattle.std.proofs.Common.{◌∙◌, refl, sym}
-use Rattle.std.proofs.lemmas.Option.{slice_get_within}
-use Rattle.batcher_node.specs.Nodes.{node_config}
-use Rattle.batcher_types.proofs.VoteLemmas.{same_subject-refl}
+use Rattle.batcher_validator.proofs.Words.{◌∙◌, refl, sym, slice_get_within, node_config, same_subject-refl, voter_history}
 use Rattle.batcher_validator.proofs.Ending.{vote_less}
 use Rattle.batcher_validator.proofs.Giving.{contained, gives_cast, gives_enter, gives_vote, no_enter_due}
-use Rattle.batcher_validator.specs.Histories.{voter_history}
 use Rattle.batcher_validator.proofs.validator.Validator.give_own.Goals as goal
 
 pub returns-in-Some-clause-gives : goal.returns-in-Some-clause-gives

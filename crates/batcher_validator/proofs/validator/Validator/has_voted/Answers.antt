@@ -1,10 +1,4 @@
-use Rattle.std.proofs.Common.{◌∙◌, ap, refl}
-use Rattle.std.specs.List.{list_any}
-use Rattle.batcher.specs.Votes.{round_in, same_round, subject_of}
-use Rattle.batcher.specs.messages.Vote.{Vote}
-use Rattle.batcher.specs.positions.Round.{Round}
-use Rattle.batcher_node.specs.Nodes.{node_config}
-use Rattle.batcher_node.specs.Windows.{numbered}
+use Rattle.batcher_validator.proofs.Words.{◌∙◌, ap, refl, list_any, round_in, same_round, subject_of, Vote, Round, node_config, numbered}
 use Rattle.batcher_validator.proofs.Leading.{cast_by}
 use Rattle.batcher_validator.proofs.validator.Validator.has_voted.Goals as goal
 

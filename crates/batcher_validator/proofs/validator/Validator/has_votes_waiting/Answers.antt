@@ -1,4 +1,4 @@
-use Rattle.std.proofs.Common.{◌∙◌, sym}
+use Rattle.batcher_validator.proofs.Words.{◌∙◌, sym}
 use Rattle.batcher_validator.proofs.Looking.{not_at_rest}
 use Rattle.batcher_validator.proofs.validator.Validator.has_votes_waiting.Goals as goal
 

@@ -1,4 +1,4 @@
-use Rattle.std.proofs.Common.{refl}
+use Rattle.batcher_validator.proofs.Words.{refl}
 use Rattle.batcher_validator.proofs.Choosing.{chooses}
 use Rattle.batcher_validator.proofs.validator.Validator.judge.Goals as goal
 

@@ -1,5 +1,4 @@
-use Rattle.batcher_node.specs.Nodes.{node_config}
-use Rattle.std.proofs.Common.{refl}
+use Rattle.batcher_validator.proofs.Words.{node_config, refl}
 use Rattle.batcher_validator.proofs.Deciding.{proposal_itself, refused_by, refused_unpreferred}
 use Rattle.batcher_validator.proofs.validator.Validator.may_vote.Goals as goal
 

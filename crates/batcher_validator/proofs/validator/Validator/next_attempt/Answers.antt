@@ -1,4 +1,4 @@
-use Rattle.batcher.specs.RoundContracts.{round_config}
+use Rattle.batcher_validator.proofs.Words.{round_config}
 use Rattle.batcher_validator.proofs.Lending.{looks_there, none_there}
 use Rattle.batcher_validator.proofs.validator.Validator.next_attempt.Goals as goal
 

@@ -1,9 +1,5 @@
-use Rattle.std.proofs.Common.{◌≡◌, arith, refl}
-use Rattle.batcher.specs.messages.Proposal.{Proposal}
-use Rattle.batcher.specs.messages.Subject.TheVariants.{Finalize}
-use Rattle.batcher_node.specs.Nodes.{node_config}
+use Rattle.batcher_validator.proofs.Words.{◌≡◌, arith, refl, Proposal, Finalize, node_config, IsNotToSign}
 use Rattle.batcher_validator.proofs.Deciding.{all_views, before_final, one_more}
-use Rattle.batcher_validator.specs.Posing.{IsNotToSign}
 use Rattle.batcher_validator.proofs.validator.Validator.next_to_finalize.Goals.{else-loop-view-test, then-loop-view-test+in-None+else-view-view-end}
 use Rattle.batcher_validator.proofs.validator.Validator.next_to_finalize.Goals as goal
 

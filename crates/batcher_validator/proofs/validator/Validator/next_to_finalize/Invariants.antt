@@ -1,8 +1,4 @@
-use Rattle.std.proofs.Common.{◌≡◌, ◌<◌, ℕ}
-use Rattle.batcher.specs.messages.Proposal.{Proposal}
-use Rattle.batcher.specs.messages.Subject.TheVariants.{Finalize}
-use Rattle.batcher_node.specs.Nodes.{node_config}
-use Rattle.batcher_validator.specs.Posing.{IsNotToSign}
+use Rattle.batcher_validator.proofs.Words.{◌≡◌, ◌<◌, ℕ, Proposal, Finalize, node_config, IsNotToSign}
 use Rattle.batcher_validator.proofs.validator.Validator.next_to_finalize.Given as goal
 
 abbrev pub invariant-loop-view : goal.invariant-loop-view

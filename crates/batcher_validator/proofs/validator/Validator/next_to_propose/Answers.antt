@@ -1,6 +1,4 @@
-use Rattle.std.proofs.Common.{subst, sym}
-use Rattle.batcher_node.specs.Nodes.{node_config}
-use Rattle.batcher_validator.specs.Posing.{Grounds}
+use Rattle.batcher_validator.proofs.Words.{subst, sym, node_config, Grounds}
 use Rattle.batcher_validator.proofs.validator.Validator.next_to_propose.Goals as goal
 
 pub returns-in-Some-clause-grounds : goal.returns-in-Some-clause-grounds

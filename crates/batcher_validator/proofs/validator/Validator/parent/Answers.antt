@@ -1,11 +1,5 @@
-use Rattle.std.proofs.Common.{◌≡◌, ◌≤◌, ◌++◌, refl, subst}
-use Rattle.batcher.specs.messages.Proposal.{Proposal}
-use Rattle.batcher_agreement.specs.Lives.{conduct_of}
-use Rattle.batcher_agreement.specs.Policy.{IsGrounded}
-use Rattle.batcher_node.specs.Nodes.{node_config}
-use Rattle.batcher_node.specs.Windows.{numbered}
+use Rattle.batcher_validator.proofs.Words.{◌≡◌, ◌≤◌, ◌++◌, refl, subst, Proposal, conduct_of, IsGrounded, node_config, numbered, ForEachLife}
 use Rattle.batcher_validator.proofs.Leading.{grounds_by, no_parent}
-use Rattle.batcher_voter.specs.Voting.{ForEachLife}
 use Rattle.batcher_validator.proofs.validator.Validator.parent.Goals as goal
 
 pub returns-in-Some-clause-grounds : goal.returns-in-Some-clause-grounds

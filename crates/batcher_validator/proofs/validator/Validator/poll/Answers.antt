@@ -1,4 +1,4 @@
-use Rattle.batcher_node.specs.Nodes.{node_config}
+use Rattle.batcher_validator.proofs.Words.{node_config}
 use Rattle.batcher_validator.proofs.Ending.{block_less}
 use Rattle.batcher_validator.proofs.Giving.{gives_block}
 use Rattle.batcher_validator.proofs.validator.Validator.poll.Goals as goal

@@ -1,4 +1,4 @@
-use Rattle.std.proofs.Common.{refl}
+use Rattle.batcher_validator.proofs.Words.{refl}
 use Rattle.batcher_validator.proofs.Choosing.{judges, proposes, signs}
 use Rattle.batcher_validator.proofs.validator.Validator.pose.Goals as goal
 

@@ -1,9 +1,5 @@
-use Rattle.std.proofs.Common.{subst}
-use Rattle.batcher_codec.specs.Messages.{certificate_format}
-use Rattle.batcher_node.specs.Nodes.{node_config}
+use Rattle.batcher_validator.proofs.Words.{subst, certificate_format, node_config, Recalls, AreBytesOf}
 use Rattle.batcher_validator.proofs.Reading.{recalls_both}
-use Rattle.batcher_validator.specs.Recalling.{Recalls}
-use Rattle.batcher_validator.specs.Running.{AreBytesOf}
 use Rattle.batcher_validator.proofs.validator.Validator.recall.Goals as goal
 
 pub returns-in-Ok-recall_others-clause-recalls : goal.returns-in-Ok-recall_others-clause-recalls

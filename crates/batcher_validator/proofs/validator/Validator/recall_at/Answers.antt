@@ -1,5 +1,4 @@
-use Rattle.batcher_codec.specs.Messages.{certificate_format}
-use Rattle.batcher_node.specs.Nodes.{node_config}
+use Rattle.batcher_validator.proofs.Words.{certificate_format, node_config}
 use Rattle.batcher_validator.proofs.Reading.{recalls_one, same_at_place}
 use Rattle.batcher_validator.proofs.validator.Validator.recall_at.Goals as goal
 

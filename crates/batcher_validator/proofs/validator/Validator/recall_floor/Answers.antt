@@ -1,6 +1,4 @@
-use Rattle.std.proofs.Common.{Ok, ap}
-use Rattle.batcher_codec.specs.Messages.{certificate_format}
-use Rattle.batcher_node.specs.Nodes.{node_config}
+use Rattle.batcher_validator.proofs.Words.{Ok, ap, certificate_format, node_config}
 use Rattle.batcher_validator.proofs.Reading.{recalls_none, recalls_one, same_decoded}
 use Rattle.batcher_validator.proofs.validator.Validator.recall_floor.Goals as goal
 

@@ -1,8 +1,5 @@
-use Rattle.std.proofs.Common.{◌∙◌, refl, subst}
-use Rattle.batcher_codec.specs.Messages.{certificate_format}
-use Rattle.batcher_node.specs.Nodes.{node_config}
+use Rattle.batcher_validator.proofs.Words.{◌∙◌, refl, subst, certificate_format, node_config, IsAtPlace, Recalls}
 use Rattle.batcher_validator.proofs.Reading.{bytes_more, none_at_first, recalls_both, recalls_none}
-use Rattle.batcher_validator.specs.Recalling.{IsAtPlace, Recalls}
 use Rattle.batcher_validator.proofs.validator.Validator.recall_others.Goals as goal
 
 pub loop-i-init : goal.loop-i-init

@@ -1,8 +1,4 @@
-use Rattle.std.proofs.Common.{◌≡◌, take}
-use Rattle.batcher_codec.specs.Messages.{certificate_format}
-use Rattle.batcher_node.specs.Nodes.{node_config}
-use Rattle.batcher_validator.specs.Recalling.{Recalls}
-use Rattle.batcher_validator.specs.Running.{AreBytesOf}
+use Rattle.batcher_validator.proofs.Words.{◌≡◌, take, certificate_format, node_config, Recalls, AreBytesOf}
 use Rattle.batcher_validator.proofs.validator.Validator.recall_others.Given as goal
 
 abbrev pub invariant-loop-i : goal.invariant-loop-i

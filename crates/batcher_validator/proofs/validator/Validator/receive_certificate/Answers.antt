@@ -1,8 +1,5 @@
-use Rattle.batcher_node.specs.Events.{certificate_came}
-use Rattle.batcher_agreement.specs.Lives.{called}
-use Rattle.batcher_node.specs.Nodes.{node_config}
+use Rattle.batcher_validator.proofs.Words.{certificate_came, called, node_config, did}
 use Rattle.batcher_validator.proofs.Going.{runs_roomy, stays_roomy}
-use Rattle.batcher_validator.specs.Histories.{did}
 use Rattle.batcher_validator.proofs.validator.Validator.receive_certificate.Goals as goal
 
 pub returns-in-Ok-receive_with_room-clause-meets : goal.returns-in-Ok-receive_with_room-clause-meets

@@ -1,10 +1,6 @@
-use Rattle.std.proofs.Common.{◌∙◌, false, ap, refl, subst, sym}
-use Rattle.batcher_node.specs.Events.{vote_came}
-use Rattle.batcher_node.specs.Nodes.{node_config}
+use Rattle.batcher_validator.proofs.Words.{◌∙◌, false, ap, refl, subst, sym, vote_came, node_config, GivenView, VoterMeets}
 use Rattle.batcher_validator.proofs.Blocking.{vote_blocks_nobody}
 use Rattle.batcher_validator.proofs.Going.{never_calm, runs}
-use Rattle.batcher_validator.specs.Running.{GivenView}
-use Rattle.batcher_voter.specs.Voting.{VoterMeets}
 use Rattle.batcher_validator.proofs.validator.Validator.receive_vote.Goals as goal
 
 pub returns-then-blocks_sender-clause-meets : goal.returns-then-blocks_sender-clause-meets

@@ -1,10 +1,6 @@
-use Rattle.std.proofs.Common.{◌∙◌, ap, refl, sym}
-use Rattle.batcher_agreement.specs.Lives.{node_history}
-use Rattle.batcher_node.specs.Events.{certificate_came}
-use Rattle.batcher_node.specs.Nodes.{node_config}
+use Rattle.batcher_validator.proofs.Words.{◌∙◌, ap, refl, sym, node_history, certificate_came, node_config, voter_history}
 use Rattle.batcher_validator.proofs.Certifying.{certified, none_is_held, recorded_is_held}
 use Rattle.batcher_validator.proofs.Going.{never_calm, run_stays, runs, runs_with}
-use Rattle.batcher_validator.specs.Histories.{voter_history}
 use Rattle.batcher_validator.proofs.validator.Validator.receive_with_room.Goals as goal
 
 pub returns-then-is_recorded-clause-meets : goal.returns-then-is_recorded-clause-meets

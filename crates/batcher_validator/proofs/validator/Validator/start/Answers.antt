@@ -1,10 +1,6 @@
-use Rattle.std.proofs.Common.{◌≡◌, ◌∙◌, ◌⊎◌, All, ap, length, subst, sym}
-use Rattle.batcher_codec.specs.Messages.{certificate_format}
-use Rattle.batcher_journal.specs.Ready.{JournalView}
-use Rattle.batcher_node.specs.Nodes.{node_config}
+use Rattle.batcher_validator.proofs.Words.{◌≡◌, ◌∙◌, ◌⊎◌, All, ap, length, subst, sym, certificate_format, JournalView, node_config, IsFinalView, IsTakenIn}
+use Rattle.batcher_validator.proofs.Words.{HasStarted}
 use Rattle.batcher_validator.proofs.Beginning.{begun, has_begun, none_resized}
-use Rattle.batcher_voter.specs.Reopening.{IsFinalView, IsTakenIn}
-use Rattle.batcher_voter.specs.Voting.{HasStarted}
 use Rattle.batcher_validator.proofs.validator.Validator.start.Goals as goal
 
 pub returns-in-Ok-recall-clause-running : goal.returns-in-Ok-recall-clause-running

@@ -1,5 +1,4 @@
-use Rattle.std.proofs.Common.{refl}
-use Rattle.batcher_node.specs.Nodes.{node_config}
+use Rattle.batcher_validator.proofs.Words.{refl, node_config}
 use Rattle.batcher_validator.proofs.Deciding.{not_finalized, proposal_itself}
 use Rattle.batcher_validator.proofs.validator.Validator.to_finalize_in.Goals as goal
 

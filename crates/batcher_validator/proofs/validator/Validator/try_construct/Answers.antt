@@ -1,6 +1,5 @@
-use Rattle.batcher_node.specs.Nodes.{node_config}
+use Rattle.batcher_validator.proofs.Words.{node_config, answered}
 use Rattle.batcher_validator.proofs.Going.{constructs_roomy, runs_roomy, stays_roomy}
-use Rattle.batcher_validator.specs.Histories.{answered}
 use Rattle.batcher_validator.proofs.validator.Validator.try_construct.Goals as goal
 
 pub returns-in-Ok-construct_with_room-clause-made :

@@ -1,4 +1,4 @@
-use Rattle.std.proofs.Common.{rules}
+use Rattle.batcher_verdicts.proofs.Words.{rules}
 use Rattle.batcher_verdicts.proofs.Recording.{none_true}
 use Rattle.batcher_verdicts.proofs.recorded.KindVerdicts.forget.Goals as goal
 

@@ -1,5 +1,4 @@
-use Rattle.std.proofs.Common.{rules, ◌≡◌, ◌++◌, ◌∙◌, length, take, refl, sym, subst}
-use Rattle.batcher_verdicts.specs.Recorded.{Asks}
+use Rattle.batcher_verdicts.proofs.Words.{rules, ◌≡◌, ◌++◌, ◌∙◌, length, take, refl, sym, subst, Asks}
 use Rattle.batcher_verdicts.proofs.Recording.{rest_is, asks_rest, added, even_after, true_after}
 use Rattle.batcher_verdicts.proofs.recorded.KindVerdicts.record.Goals as goal
 

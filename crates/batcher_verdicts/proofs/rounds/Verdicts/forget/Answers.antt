@@ -1,6 +1,4 @@
-use Rattle.std.proofs.Common.{sym, subst}
-use Rattle.batcher_types.specs.declared.messages.Kind.TheVariants.{Notarization, Nullification, Finalization}
-use Rattle.batcher_verdicts.specs.Rounds.{AllTrue}
+use Rattle.batcher_verdicts.proofs.Words.{sym, subst, Notarization, Nullification, Finalization, AllTrue}
 use Rattle.batcher_verdicts.proofs.Recording.{each_true}
 use Rattle.batcher_verdicts.proofs.rounds.Verdicts.forget.Goals as goal
 

@@ -1,5 +1,4 @@
-use Rattle.std.proofs.Common.{◌≡◌, ◌∙◌, Some, None, IfSome, Option, take, sym, ap}
-use Rattle.batcher_verdicts.specs.Rounds.{recorded_of}
+use Rattle.batcher_verdicts.proofs.Words.{◌≡◌, ◌∙◌, Some, None, IfSome, Option, take, sym, ap, recorded_of}
 use Rattle.batcher_verdicts.proofs.Completing.{looks_at_all, asks_nothing}
 use Rattle.batcher_verdicts.proofs.rounds.Verdicts.try_construct.Goals as goal
 

@@ -1,5 +1,4 @@
-use Rattle.std.proofs.Common.{◌≡◌, ◌∙◌, Some, None, IfSome, Option, take, map, sym, ap}
-use Rattle.batcher_verdicts.specs.Rounds.{recorded_of, kind_attested}
+use Rattle.batcher_verdicts.proofs.Words.{◌≡◌, ◌∙◌, Some, None, IfSome, Option, take, map, sym, ap, recorded_of, kind_attested}
 use Rattle.batcher_verdicts.proofs.Recording.{true_first}
 use Rattle.batcher_verdicts.proofs.Viewing.{looks_there, complete_there}
 use Rattle.batcher_verdicts.proofs.rounds.Verdicts.try_construct_next.Goals as goal

@@ -1,5 +1,4 @@
-use Rattle.std.proofs.Common.{◌≡◌, ◌<◌, ℕ, true}
-use Rattle.batcher_voter.specs.Knowledge.{learned_at}
+use Rattle.batcher_voter.proofs.Words.{◌≡◌, ◌<◌, ℕ, true, learned_at}
 use Rattle.batcher_voter.proofs.knowledge.Knowledge.gap.Given as goal
 
 abbrev pub invariant-loop-between : goal.invariant-loop-between

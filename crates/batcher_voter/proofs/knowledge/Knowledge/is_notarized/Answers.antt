@@ -1,4 +1,4 @@
-use Rattle.std.proofs.Common.{ap, sym, ◌∙◌}
+use Rattle.batcher_voter.proofs.Words.{ap, sym, ◌∙◌}
 use Rattle.batcher_voter.proofs.Grounding.{none_notarized, notarized_or_not}
 use Rattle.batcher_voter.proofs.knowledge.Knowledge.is_notarized.Goals as goal
 

@@ -1,5 +1,4 @@
-use Rattle.std.proofs.Common.{◌≡◌, ◌≤◌, ◌<◌, ℕ, true}
-use Rattle.batcher_voter.specs.Knowledge.{IsParent, learned_at}
+use Rattle.batcher_voter.proofs.Words.{◌≡◌, ◌≤◌, ◌<◌, ℕ, true, IsParent, learned_at}
 use Rattle.batcher_voter.proofs.knowledge.Knowledge.parent_below.Given as goal
 
 abbrev pub invariant-loop-below : goal.invariant-loop-below

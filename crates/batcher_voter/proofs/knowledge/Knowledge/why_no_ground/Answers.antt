@@ -1,7 +1,4 @@
-use Rattle.std.proofs.Common.{arith, subst, sym}
-use Rattle.batcher.specs.messages.Subject.TheVariants.{Nullify}
-use Rattle.batcher_agreement.specs.Policy.{Knows}
-use Rattle.batcher_node.specs.Windows.{numbered}
+use Rattle.batcher_voter.proofs.Words.{arith, subst, sym, Nullify, Knows, numbered}
 use Rattle.batcher_voter.proofs.Grounding.{no_parent_known, not_nullified_here, parent_grounds}
 use Rattle.batcher_voter.proofs.knowledge.Knowledge.why_no_ground.Goals as goal
 

@@ -1,10 +1,4 @@
-use Rattle.std.proofs.Common.{subst}
-use Rattle.std.specs.Prelude.{IfOk, IfSome}
-use Rattle.batcher_node.specs.Events.{NodeHistory, constructed}
-use Rattle.batcher_node.specs.NodePromises.{IsNodePromised}
-use Rattle.batcher_node.specs.Nodes.{node_config}
-use Rattle.batcher_node.specs.Represents.{Meets, NodeRepresents}
-use Rattle.batcher_voter.specs.Voting.{IsOfItsView}
+use Rattle.batcher_voter.proofs.Words.{subst, IfOk, IfSome, NodeHistory, constructed, IsNodePromised, node_config, NodeMeets, NodeRepresents, IsOfItsView}
 use Rattle.batcher_voter.proofs.Calling.{same_config}
 use Rattle.batcher_voter.proofs.Given.{all_of_view}
 use Rattle.batcher_voter.proofs.voter.Voter.ask_conclude.Goals as goal
@@ -12,7 +6,7 @@ use Rattle.batcher_voter.proofs.voter.Voter.ask_conclude.Goals as goal
 pub returns-clause-meets : goal.returns-clause-meets
 returns-clause-meets g c =
     subst (λ voter. IfOk c.conclude-made.result (λ made. IfSome made (λ one.
-    Meets (node_config g.S.Scheme.meaning g.S.PublicKey.Ord.cmp g.S.Signature.PartialEq.eq
+    NodeMeets (node_config g.S.Scheme.meaning g.S.PublicKey.Ord.cmp g.S.Signature.PartialEq.eq
     g.D.PartialEq.eq voter.node) voter.node (constructed one.view.0 one.batch)
     c.conclude-made.new.self)))
     c.self.view_is c.conclude-made.ensures.meets

@@ -1,5 +1,4 @@
-use Rattle.std.proofs.Common.{◌≤◌, ◌∙◌, ap, length, subst, sym}
-use Rattle.batcher_node.specs.Windows.{numbered}
+use Rattle.batcher_voter.proofs.Words.{◌≤◌, ◌∙◌, ap, length, subst, sym, numbered}
 use Rattle.batcher_voter.proofs.voter.Voter.begin.Goals as goal
 
 pub invariant_of-result : goal.invariant_of-result

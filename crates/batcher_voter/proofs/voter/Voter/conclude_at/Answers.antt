@@ -1,11 +1,4 @@
-use Rattle.std.proofs.Common.{◌∙◌, ap, subst, sym}
-use Rattle.std.specs.Prelude.{IfSome}
-use Rattle.batcher.specs.Votes.{subject_certified}
-use Rattle.batcher_node.specs.Events.{constructed}
-use Rattle.batcher_node.specs.Nodes.{node_config}
-use Rattle.batcher_node.specs.Represents.{Meets}
-use Rattle.batcher_voter.specs.Knowledge.{Learns}
-use Rattle.batcher_voter.specs.Voting.{IsOfItsView}
+use Rattle.batcher_voter.proofs.Words.{◌∙◌, ap, subst, sym, IfSome, subject_certified, constructed, node_config, NodeMeets, Learns, IsOfItsView}
 use Rattle.batcher_voter.proofs.Calling.{given_is_learned, given_is_of, learning}
 use Rattle.batcher_voter.proofs.voter.Voter.conclude_at.Goals as goal
 
@@ -16,14 +9,14 @@ returns-in-Some-clause-meets g c =
     let made = c.in-Ok-Some.made in
     let config = node_config g.S.Scheme.meaning g.S.PublicKey.Ord.cmp g.S.Signature.PartialEq.eq g.D.PartialEq.eq in
     let old = c.args.self.now.node in
-    let meets : Meets (config old) old (constructed made.view.0 made.batch) c.call_conclude.new.self.node =
+    let meets : NodeMeets (config old) old (constructed made.view.0 made.batch) c.call_conclude.new.self.node =
     subst
-    (λ it. IfSome it (λ one. Meets (config old) old (constructed one.view.0 one.batch) c.call_conclude.new.self.node))
+    (λ it. IfSome it (λ one. NodeMeets (config old) old (constructed one.view.0 one.batch) c.call_conclude.new.self.node))
     c.in-Ok-Some.field-0-is c.in-Ok-Some.ensures.meets in
     let of_view : IsOfItsView old.epoch made =
     subst (λ it. IfSome it (IsOfItsView old.epoch)) c.in-Ok-Some.field-0-is c.in-Ok-Some.ensures.of_view in
     learning _ c.args.self.now c.learn.new.self (constructed made.view.0 made.batch)
-    (subst (Meets (config old) old (constructed made.view.0 made.batch)) (sym c.learn.ensures.node) meets)
+    (subst (NodeMeets (config old) old (constructed made.view.0 made.batch)) (sym c.learn.ensures.node) meets)
     (c.learn.ensures.contents ∙ ap (λ j. j.contents) c.in-Ok-Some.ensures.journal)
     (c.learn.ensures.open ∙ ap (λ j. j.is_open) c.in-Ok-Some.ensures.journal)
     (λ earlier past h. h) s

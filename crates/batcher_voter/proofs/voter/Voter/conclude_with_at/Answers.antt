@@ -1,9 +1,4 @@
-use Rattle.std.proofs.Common.{◌∙◌, ap, subst, sym}
-use Rattle.batcher.specs.Votes.{subject_certified}
-use Rattle.batcher_node.specs.Events.{constructed}
-use Rattle.batcher_node.specs.Nodes.{node_config}
-use Rattle.batcher_node.specs.Represents.{Meets}
-use Rattle.batcher_voter.specs.Knowledge.{Learns}
+use Rattle.batcher_voter.proofs.Words.{◌∙◌, ap, subst, sym, subject_certified, constructed, node_config, NodeMeets, Learns}
 use Rattle.batcher_voter.proofs.Calling.{given_is_learned, given_is_of, learning}
 use Rattle.batcher_voter.proofs.voter.Voter.conclude_with_at.Goals as goal
 
@@ -15,7 +10,7 @@ returns-in-Some-certificate_in-clause-meets g c =
     let config = node_config g.S.Scheme.meaning g.S.PublicKey.Ord.cmp g.S.Signature.PartialEq.eq g.D.PartialEq.eq in
     let old = c.args.self.now.node in
     learning _ c.args.self.now c.learn.new.self (constructed made.view.0 made.batch)
-    (subst (Meets (config old) old (constructed made.view.0 made.batch)) (sym c.learn.ensures.node)
+    (subst (NodeMeets (config old) old (constructed made.view.0 made.batch)) (sym c.learn.ensures.node)
     c.in-Some.ensures.meets)
     (c.learn.ensures.contents ∙ ap (λ j. j.contents) c.in-Some.ensures.journal)
     (c.learn.ensures.open ∙ ap (λ j. j.is_open) c.in-Some.ensures.journal)

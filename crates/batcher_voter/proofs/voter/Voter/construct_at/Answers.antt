@@ -1,8 +1,4 @@
-use Rattle.std.proofs.Common.{◌∙◌, ap, subst, sym}
-use Rattle.batcher.specs.Votes.{subject_certified}
-use Rattle.batcher_node.specs.Events.{constructed}
-use Rattle.batcher_node.specs.Represents.{Meets}
-use Rattle.batcher_voter.specs.Knowledge.{Learns}
+use Rattle.batcher_voter.proofs.Words.{◌∙◌, ap, subst, sym, subject_certified, constructed, NodeMeets, Learns}
 use Rattle.batcher_voter.proofs.Calling.{given_is_learned, given_is_of, learning}
 use Rattle.batcher_voter.proofs.voter.Voter.construct_at.Goals as goal
 
@@ -12,7 +8,7 @@ returns-in-Some-clause-meets g c =
     let s = subject_certified certificate in
     let made = c.in-Ok.made in
     learning _ c.args.self.now c.learn.new.self (constructed made.view.0 made.batch)
-    (subst (Meets _ c.args.self.now.node _) (sym c.learn.ensures.node) c.in-Ok.ensures.meets)
+    (subst (NodeMeets _ c.args.self.now.node _) (sym c.learn.ensures.node) c.in-Ok.ensures.meets)
     (c.learn.ensures.contents ∙ ap (λ j. j.contents) c.in-Ok.ensures.journal)
     (c.learn.ensures.open ∙ ap (λ j. j.is_open) c.in-Ok.ensures.journal)
     (λ earlier past h. h) s

@@ -1,5 +1,4 @@
-use Rattle.std.proofs.Common.{ap, refl}
-use Rattle.batcher_node.specs.Events.{view_entered}
+use Rattle.batcher_voter.proofs.Words.{ap, refl, view_entered}
 use Rattle.batcher_voter.proofs.Calling.{quiet, same_of}
 use Rattle.batcher_voter.proofs.voter.Voter.enter.Goals as goal
 

@@ -1,10 +1,7 @@
-use Rattle.std.proofs.Common.{◌++◌, subst}
-use Rattle.batcher_agreement.specs.Lives.{conduct_of}
-use Rattle.batcher_journal.specs.Answers.{Answers}
-use Rattle.batcher_journal.specs.declared.journal.Answer.TheVariants.{Refused}
+use Rattle.batcher_voter.proofs.Words.{◌++◌, subst, conduct_of, Answers, Refused}
 use Rattle.batcher_voter.proofs.Clearing.{not_nullified}
 use Rattle.batcher_voter.proofs.voter.Voter.has_nullified.Goals as goal
-use Rattle.batcher.specs.messages.Subject.TheVariants.{Nullify}
+use Rattle.batcher_voter.proofs.Words.{Nullify}
 
 pub returns-in-Refused : goal.returns-in-Refused
 returns-in-Refused g c = λ past earlier is voted.

@@ -1,6 +1,4 @@
-use Rattle.std.proofs.Common.{All, subst}
-use Rattle.batcher_codec.specs.Messages.{certificate_format}
-use Rattle.batcher_voter.specs.Reopening.{IsTakenIn}
+use Rattle.batcher_voter.proofs.Words.{All, subst, certificate_format, IsTakenIn}
 use Rattle.batcher_voter.proofs.voter.Voter.learn_all.Goals as goal
 
 pub returns-in-Ok-learn_kept-clause-kept : goal.returns-in-Ok-learn_kept-clause-kept

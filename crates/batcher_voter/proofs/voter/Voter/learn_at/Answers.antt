@@ -1,4 +1,4 @@
-use Rattle.std.proofs.Common.{◌≢◌, ◌∙◌, inl, inr, subst, sym, ⊎_elim}
+use Rattle.batcher_voter.proofs.Words.{◌≢◌, ◌∙◌, inl, inr, subst, sym, ⊎_elim}
 use Rattle.batcher_voter.proofs.voter.Voter.learn_at.Goals as goal
 
 pub returns-in-Ok-take_in-clause-kept : goal.returns-in-Ok-take_in-clause-kept

@@ -1,8 +1,4 @@
-use Rattle.std.proofs.Common.{◌∙◌, slice_index_or, subst}
-use Rattle.batcher_codec.specs.Messages.{certificate_format}
-use Rattle.batcher_node.specs.Nodes.{node_config}
-use Rattle.batcher_voter.specs.Reopening.{IsTakenIn}
-use Rattle.batcher_voter.specs.Voting.{HasStarted}
+use Rattle.batcher_voter.proofs.Words.{◌∙◌, slice_index_or, subst, certificate_format, node_config, IsTakenIn, HasStarted}
 use Rattle.batcher_voter.proofs.Reopening.{one_more}
 use Rattle.batcher_voter.proofs.voter.Voter.learn_kept.Goals as goal
 

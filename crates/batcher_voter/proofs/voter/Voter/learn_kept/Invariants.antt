@@ -1,10 +1,4 @@
-use Rattle.std.proofs.Common.{◌≡◌, ◌<◌, ℕ, slice_index_or}
-use Rattle.batcher_agreement.specs.Policy.{Conduct}
-use Rattle.batcher_codec.specs.Messages.{certificate_format}
-use Rattle.batcher_journal.specs.Records.{Certified}
-use Rattle.batcher_node.specs.Nodes.{node_config}
-use Rattle.batcher_voter.specs.Reopening.{IsTakenIn, StaysKnown}
-use Rattle.batcher_voter.specs.Voting.{HasStarted}
+use Rattle.batcher_voter.proofs.Words.{◌≡◌, ◌<◌, ℕ, slice_index_or, Conduct, certificate_format, Certified, node_config, IsTakenIn, StaysKnown, HasStarted}
 use Rattle.batcher_voter.proofs.voter.Voter.learn_kept.Given as goal
 
 abbrev pub invariant-loop-i : goal.invariant-loop-i

@@ -1,7 +1,4 @@
-use Rattle.std.proofs.Common.{subst, sym}
-use Rattle.batcher_codec.specs.Messages.{vote_format}
-use Rattle.batcher_journal.specs.Text.{IsText}
-use Rattle.batcher_node.specs.Nodes.{node_config}
+use Rattle.batcher_voter.proofs.Words.{subst, sym, vote_format, IsText, node_config}
 use Rattle.batcher_voter.proofs.Leaving.{rests}
 use Rattle.batcher_voter.proofs.voter.Voter.leaves_what_was_done.Goals as goal
 

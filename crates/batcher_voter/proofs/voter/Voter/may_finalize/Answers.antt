@@ -1,6 +1,4 @@
-use Rattle.std.proofs.Common.{◌++◌}
-use Rattle.batcher_agreement.specs.Lives.{conduct_of}
-use Rattle.batcher.specs.messages.Subject.TheVariants.{Finalize, Notarize}
+use Rattle.batcher_voter.proofs.Words.{◌++◌, conduct_of, Finalize, Notarize}
 use Rattle.batcher_voter.proofs.Appending.{knows_before}
 use Rattle.batcher_voter.proofs.Clearing.{free_is_new, no_nullify_beside}
 use Rattle.batcher_voter.proofs.Windowed.{above_floor}

@@ -1,6 +1,4 @@
-use Rattle.std.proofs.Common.{◌++◌}
-use Rattle.batcher_agreement.specs.Lives.{conduct_of}
-use Rattle.batcher.specs.messages.Subject.TheVariants.{Notarize}
+use Rattle.batcher_voter.proofs.Words.{◌++◌, conduct_of, Notarize}
 use Rattle.batcher_voter.proofs.Appending.{grounded_before}
 use Rattle.batcher_voter.proofs.Clearing.{free_is_new, no_other_notarize}
 use Rattle.batcher_voter.proofs.Grounding.{refused_by_ground}

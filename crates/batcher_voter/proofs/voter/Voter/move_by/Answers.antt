@@ -1,11 +1,5 @@
-use Rattle.std.proofs.Common.{◌≡◌, ◌∙◌, ap, false, subst, sym}
-use Rattle.batcher.specs.Votes.{round_in, subject_certified}
-use Rattle.batcher_journal.specs.Floors.{is_below}
-use Rattle.batcher_journal.specs.Ready.{raised}
-use Rattle.batcher_node.specs.Events.{view_finalized}
-use Rattle.batcher_node.specs.Nodes.{node_config}
-use Rattle.batcher_node.specs.Represents.{Meets}
-use Rattle.batcher_voter.specs.Knowledge.{Forgets, Learns}
+use Rattle.batcher_voter.proofs.Words.{◌≡◌, ◌∙◌, ap, false, subst, sym, round_in, subject_certified, is_below, raised, view_finalized, node_config, NodeMeets}
+use Rattle.batcher_voter.proofs.Words.{Forgets, Learns}
 use Rattle.batcher_voter.proofs.Leaving.{leaves_raised}
 use Rattle.batcher_voter.proofs.Finalizing.{finalized_by}
 use Rattle.batcher_voter.proofs.voter.Voter.move_by.Goals as goal
@@ -18,9 +12,9 @@ returns-in-Ok-move_to-clause-meets g c =
     let config = node_config g.S.Scheme.meaning g.S.PublicKey.Ord.cmp g.S.Signature.PartialEq.eq
     g.D.PartialEq.eq old.node in
     finalized_by config old c.note.new.self c.args.finalization.now moved.knowledge c.requires.certifies
-    (subst (Meets config old.node (view_finalized (round_in (subject_certified c.args.finalization.now)).view.0))
+    (subst (NodeMeets config old.node (view_finalized (round_in (subject_certified c.args.finalization.now)).view.0))
     (sym c.note.ensures.node)
-    (subst (λ r. Meets config old.node (view_finalized r.view.0) moved.node) c.round.ensures it.meets))
+    (subst (λ r. NodeMeets config old.node (view_finalized r.view.0) moved.node) c.round.ensures it.meets))
     (subst (λ r. Forgets r.view.0 old.knowledge moved.knowledge) c.round.ensures it.forgets)
     (subst (λ s. Learns s moved.knowledge c.note.new.self.knowledge) c.subject.ensures c.note.ensures.learns)
     (c.requires.epoch ∙ sym c.begins.ensures.begins.of_epoch)

@@ -1,6 +1,4 @@
-use Rattle.std.proofs.Common.{◌≤◌, ◌∙◌, ap, subst, sym}
-use Rattle.batcher_agreement.specs.Lives.{conduct_of}
-use Rattle.batcher_node.specs.Windows.{numbered}
+use Rattle.batcher_voter.proofs.Words.{◌≤◌, ◌∙◌, ap, subst, sym, conduct_of, numbered}
 use Rattle.batcher_voter.proofs.Grounding.{not_notarized_here, notarized_here}
 use Rattle.batcher_voter.proofs.voter.Voter.notarized.Goals as goal
 

@@ -1,6 +1,4 @@
-use Rattle.std.proofs.Common.{◌≤◌, ◌<◌, ◌∙◌, ap, subst, sym}
-use Rattle.batcher_voter.specs.Knowledge.{AreNullified, IsParent}
-use Rattle.batcher_agreement.specs.Lives.{conduct_of}
+use Rattle.batcher_voter.proofs.Words.{◌≤◌, ◌<◌, ◌∙◌, ap, subst, sym, AreNullified, IsParent, conduct_of}
 use Rattle.batcher_voter.proofs.Appending.{grounded_before}
 use Rattle.batcher_voter.proofs.Grounding.{ground_has_no_gap, ground_has_parent, not_above, parent_grounds}
 use Rattle.batcher_voter.proofs.voter.Voter.parent_for.Goals as goal

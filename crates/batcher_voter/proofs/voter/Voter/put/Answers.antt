@@ -1,15 +1,11 @@
-use Rattle.std.proofs.Common.{◌++◌, ◌∙◌, [], ◌∷◌, ap, inl, subst, sym}
-use Rattle.batcher_codec.specs.Messages.{vote_format}
-use Rattle.batcher_journal.specs.Answers.{MayFollow}
-use Rattle.batcher_journal.specs.Ready.{WriteLeaves}
-use Rattle.batcher_journal.specs.Text.{IsText}
+use Rattle.batcher_voter.proofs.Words.{◌++◌, ◌∙◌, [], ◌∷◌, ap, inl, subst, sym, vote_format, MayBeWrittenBehind, WriteLeaves, IsText}
 use Rattle.batcher_voter.proofs.voter.Voter.put.Goals as goal
 
 pub returns-in-Ok-clause-not_free : goal.returns-in-Ok-clause-not_free
 returns-in-Ok-clause-not_free g c = λ e follow.
     let contents = c.args.self.now.journal.contents in
     c.write_all.ensures.not_free e
-    (subst (λ votes. MayFollow g.D.PartialEq.eq contents.floor contents.votes votes)
+    (subst (λ votes. MayBeWrittenBehind g.D.PartialEq.eq contents.floor contents.votes votes)
     (sym (c.deref.ensures.value ∙ c.in-Ok.ensures.items
     ∙ ap (λ before. before ++ c.args.vote.now ∷ []) c.new-one.ensures.items)) follow)
 

@@ -1,5 +1,4 @@
-use Rattle.std.proofs.Common.{ap, refl}
-use Rattle.batcher_node.specs.Events.{vote_came}
+use Rattle.batcher_voter.proofs.Words.{ap, refl, vote_came}
 use Rattle.batcher_voter.proofs.Calling.{quiet, same_of}
 use Rattle.batcher_voter.proofs.voter.Voter.receive_vote.Goals as goal
 

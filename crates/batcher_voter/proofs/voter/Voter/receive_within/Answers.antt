@@ -1,8 +1,4 @@
-use Rattle.std.proofs.Common.{ap, subst, sym, ◌∙◌}
-use Rattle.batcher.specs.Votes.{round_in, subject_certified}
-use Rattle.batcher_node.specs.Events.{certificate_came}
-use Rattle.batcher_node.specs.Represents.{Meets}
-use Rattle.batcher_voter.specs.Knowledge.{Learns}
+use Rattle.batcher_voter.proofs.Words.{ap, subst, sym, ◌∙◌, round_in, subject_certified, certificate_came, NodeMeets, Learns}
 use Rattle.batcher_voter.proofs.Calling.{learning, recorded_is_learned}
 use Rattle.batcher_voter.proofs.Windowed.{same_epoch}
 use Rattle.batcher_voter.proofs.voter.Voter.receive_within.Goals as goal
@@ -11,7 +7,7 @@ pub returns-then-is_recorded-clause-meets : goal.returns-then-is_recorded-clause
 returns-then-is_recorded-clause-meets g c =
     let s = subject_certified c.args.certificate.now in
     learning _ c.args.self.now c.learn.new.self (certificate_came c.args.peer c.args.certificate.now c.in-Ok.receipt)
-    (subst (Meets _ c.args.self.now.node _) (sym c.learn.ensures.node) c.in-Ok.ensures.meets)
+    (subst (NodeMeets _ c.args.self.now.node _) (sym c.learn.ensures.node) c.in-Ok.ensures.meets)
     (c.learn.ensures.contents ∙ ap (λ j. j.contents) c.in-Ok.ensures.journal)
     (c.learn.ensures.open ∙ ap (λ j. j.is_open) c.in-Ok.ensures.journal)
     (λ earlier past h. h) s

@@ -1,9 +1,4 @@
-use Rattle.std.proofs.Common.{◌≡◌, ◌⊎◌, All, subst, sym}
-use Rattle.batcher_codec.specs.Messages.{certificate_format}
-use Rattle.batcher_node.specs.Nodes.{node_config}
-use Rattle.batcher_voter.specs.Remembering.{Remembers}
-use Rattle.batcher_voter.specs.Reopening.{IsFinalView, IsTakenIn}
-use Rattle.batcher_voter.specs.Voting.{HasStarted}
+use Rattle.batcher_voter.proofs.Words.{◌≡◌, ◌⊎◌, All, subst, sym, certificate_format, node_config, Remembers, IsFinalView, IsTakenIn, HasStarted}
 use Rattle.batcher_voter.proofs.Beginning.{begun}
 use Rattle.batcher_voter.proofs.voter.Voter.start.Goals as goal
 

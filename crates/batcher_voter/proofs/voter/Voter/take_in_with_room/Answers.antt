@@ -1,6 +1,4 @@
-use Rattle.std.proofs.Common.{◌∙◌, subst, sym}
-use Rattle.batcher_node.specs.Nodes.{node_config}
-use Rattle.batcher_voter.specs.Knowledge.{Learns}
+use Rattle.batcher_voter.proofs.Words.{◌∙◌, subst, sym, node_config, Learns}
 use Rattle.batcher_voter.proofs.Beginning.{started_with}
 use Rattle.batcher_voter.proofs.voter.Voter.take_in_with_room.Goals as goal
 

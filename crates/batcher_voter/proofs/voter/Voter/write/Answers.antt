@@ -1,7 +1,4 @@
-use Rattle.std.proofs.Common.{ap, ◌∙◌}
-use Rattle.std.specs.Prelude.{Err}
-use Rattle.batcher.specs.Votes.{round_in, subject_of}
-use Rattle.batcher_node.specs.Nodes.{node_config}
+use Rattle.batcher_voter.proofs.Words.{ap, ◌∙◌, Err, round_in, subject_of, node_config}
 use Rattle.batcher_voter.proofs.Leaving.{leaves_vote}
 use Rattle.batcher_voter.proofs.Voting.{may_follow_one, there_at_end, wrote}
 use Rattle.batcher_voter.proofs.Windowed.{above_floor}

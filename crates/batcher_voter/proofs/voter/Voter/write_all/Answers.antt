@@ -1,13 +1,10 @@
-use Rattle.std.proofs.Common.{◌≡◌, subst, sym, true}
-use Rattle.batcher_codec.specs.Messages.{vote_format}
-use Rattle.batcher_journal.specs.Answers.{MayFollow}
-use Rattle.batcher_journal.specs.Ready.{WriteLeaves}
+use Rattle.batcher_voter.proofs.Words.{◌≡◌, subst, sym, true, vote_format, MayBeWrittenBehind, WriteLeaves}
 use Rattle.batcher_voter.proofs.voter.Voter.write_all.Goals as goal
 
 pub returns-clause-not_free : goal.returns-clause-not_free
 returns-clause-not_free g c = λ e follow.
     (c.write.ensures.not_free e).1
-    (subst (λ voter. MayFollow g.D.PartialEq.eq voter.journal.contents.floor
+    (subst (λ voter. MayBeWrittenBehind g.D.PartialEq.eq voter.journal.contents.floor
     voter.journal.contents.votes c.args.votes.now) (sym c.self.view_is) follow)
 
 pub returns-clause-leaves : goal.returns-clause-leaves

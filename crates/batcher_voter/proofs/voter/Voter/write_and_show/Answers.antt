@@ -1,6 +1,4 @@
-use Rattle.std.proofs.Common.{subst}
-use Rattle.batcher_node.specs.Nodes.{node_config}
-use Rattle.batcher_voter.specs.Voting.{Shows, WhyNotShown}
+use Rattle.batcher_voter.proofs.Words.{subst, node_config, Shows, WhyNotShown}
 use Rattle.batcher_voter.proofs.Noding.{why_not_shown, wrote_alone, wrote_and_shown}
 use Rattle.batcher_voter.proofs.voter.Voter.write_and_show.Goals as goal
 

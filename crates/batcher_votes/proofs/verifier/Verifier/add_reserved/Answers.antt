@@ -1,7 +1,5 @@
-use Rattle.std.proofs.Common.{◌≡◌, ◌∙◌, ◌&&◌, ◌++◌, ◌∷◌, [], true, not, cond, ap, sym}
-use Rattle.batcher_types.specs.Votes.{is_eligible}
-use Rattle.batcher_votes.specs.ProposalStates.{proposal_of}
-use Rattle.batcher_votes.specs.Certifications.{is_complete, pending_of, verified_of, held_by}
+use Rattle.batcher_votes.proofs.Words.{◌≡◌, ◌∙◌, ◌&&◌, ◌++◌, ◌∷◌, [], true, not, cond, ap, sym, is_eligible, proposal_of, is_complete, pending_of, verified_of}
+use Rattle.batcher_votes.proofs.Words.{verifier_holding}
 use Rattle.batcher_votes.proofs.VerifierLemmas.KindChanges.{places}
 use Rattle.batcher_votes.proofs.VerifierLemmas.Soundness.{MayJoin, sound_placed}
 use Rattle.batcher_votes.proofs.VerifierLemmas.EligibleVotes.{adds_placed}
@@ -13,7 +11,7 @@ invariant_of-self g c =
     let same = g.D.PartialEq.eq in
     let m = g.S.Scheme.meaning v.scheme.value in
     let old = c.args.self.now.holds in
-    let mid = held_by v.leader v.proposal v.kinds in
+    let mid = verifier_holding v.leader v.proposal v.kinds in
     let vote = c.args.vote.now in
     let is_verified = c.args.verified in
     let own = c.get_mut.ensures.value in
@@ -34,7 +32,7 @@ returns-then-may_be_eligible-clause-adds g c =
     let same = g.D.PartialEq.eq in
     let m = g.S.Scheme.meaning v.scheme.value in
     let old = c.args.self.now.holds in
-    let mid = held_by v.leader v.proposal v.kinds in
+    let mid = verifier_holding v.leader v.proposal v.kinds in
     let vote = c.args.vote.now in
     let is_verified = c.args.verified in
     let own = c.get_mut.ensures.value in

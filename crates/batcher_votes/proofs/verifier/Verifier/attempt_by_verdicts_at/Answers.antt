@@ -1,7 +1,4 @@
-use Rattle.std.proofs.Common.{◌≡◌, Some}
-use Rattle.batcher_votes.specs.RoundState.{of_kind}
-use Rattle.batcher_votes.specs.Certifications.{pending_of, verified_of, held_by}
-use Rattle.batcher_votes.specs.Verifiers.{subject_ready}
+use Rattle.batcher_votes.proofs.Words.{◌≡◌, Some, of_kind, pending_of, verified_of, verifier_holding, subject_ready}
 use Rattle.batcher_votes.proofs.VerifierLemmas.KindChanges.{of_mapped}
 use Rattle.batcher_votes.proofs.VerifierLemmas.Construction.{once_attestations, verified_about, attested_about}
 use Rattle.batcher_votes.proofs.VerifierLemmas.Results.{if_ok}
@@ -12,7 +9,7 @@ pub attempt_by_verdicts-requires-clause-once : goal.attempt_by_verdicts-requires
 attempt_by_verdicts-requires-clause-once g c =
     let v = c.self.inside in
     let kind = c.args.kind in
-    let held = held_by v.leader v.proposal v.kinds in
+    let held = verifier_holding v.leader v.proposal v.kinds in
     rw (c.verified.ensures, c.pending.ensures, c.get-certification.ensures, ← of_mapped verified_of v.kinds kind, ← of_mapped pending_of v.kinds kind)
     (once_attestations (of_kind held.verified kind) (of_kind held.pending kind) (c.self.invariant.kinds kind).once)
 
@@ -22,7 +19,7 @@ attempt_by_verdicts-requires-clause-attested g c =
     let m = g.S.Scheme.meaning v.scheme.value in
     let same = g.D.PartialEq.eq in
     let kind = c.args.kind in
-    let held = held_by v.leader v.proposal v.kinds in
+    let held = verifier_holding v.leader v.proposal v.kinds in
     let ready : subject_ready same m.batchable v.quorum held v.round kind ≡ Some c.args.subject = rw (← c.self.view_is) at c.requires.ready in
     let about = verified_about same g.met.D.Digest.identical v.round c.args.subject m.batchable v.quorum held kind ready (c.self.invariant.kinds kind).verified
     in
@@ -35,7 +32,7 @@ returns-clause-fine g c =
     let m = g.S.Scheme.meaning v.scheme.value in
     let same = g.D.PartialEq.eq in
     let kind = c.args.kind in
-    let held = held_by v.leader v.proposal v.kinds in
+    let held = verifier_holding v.leader v.proposal v.kinds in
     let ready : subject_ready same m.batchable v.quorum held v.round kind ≡ Some c.args.subject = rw (← c.self.view_is) at c.requires.ready in
     let about = verified_about same g.met.D.Digest.identical v.round c.args.subject m.batchable v.quorum held kind ready (c.self.invariant.kinds kind).verified
     in

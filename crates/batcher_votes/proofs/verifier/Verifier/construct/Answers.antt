@@ -1,8 +1,4 @@
-use Rattle.batcher_types.specs.declared.messages.Certificate.{Certificate}
-use Rattle.batcher_votes.specs.declared.verifier.Batch.{Batch}
-use Rattle.batcher_votes.specs.AttemptInputs.{verified_tried}
-use Rattle.batcher_votes.specs.Outcomes.{TakesIn, outcome_of}
-use Rattle.batcher_votes.specs.VerifierSteps.{TriesKind}
+use Rattle.batcher_votes.proofs.Words.{Certificate, Batch, verified_tried, TakesIn, attempt_result, TriesKind}
 use Rattle.batcher_votes.proofs.VerifierLemmas.Construction.{tries_by}
 use Rattle.batcher_votes.proofs.VerifierLemmas.Results.{if_ok}
 use Rattle.batcher_votes.proofs.verifier.Verifier.construct.Goals as goal
@@ -14,7 +10,7 @@ returns-clause-tries g c =
     let m = g.S.Scheme.meaning old.scheme in
     let before = g.R.Rng.stream c.args.rng.now in
     let after = g.R.Rng.stream c.attempt_at.new.rng in
-    let outcome = outcome_of (verified_tried old.holds c.args.kind) c.in_ok-tried.tried.batch c.in_ok-tried.tried.joining.items in
+    let outcome = attempt_result (verified_tried old.holds c.args.kind) c.in_ok-tried.tried.batch c.in_ok-tried.tried.joining.items in
     let by : (batch : Batch (Certificate g.row.S-Certificate.Denot g.row.D.Denot))
     → TakesIn old.number old.holds c.args.kind c.args.subject outcome batch new.holds
     → TriesKind m old.number old.quorum old.holds c.args.kind before batch after new.holds

@@ -1,10 +1,4 @@
-use Rattle.rand_core.specs.Stream.{Stream}
-use Rattle.batcher_types.specs.declared.messages.Certificate.{Certificate}
-use Rattle.batcher_votes.specs.declared.verifier.Batch.{Batch}
-use Rattle.batcher_votes.specs.AttemptInputs.{verified_tried}
-use Rattle.batcher_votes.specs.Outcomes.{TakesIn, outcome_of}
-use Rattle.batcher_votes.specs.Verdicts.{judged}
-use Rattle.batcher_votes.specs.VerifierSteps.{TriesKind}
+use Rattle.batcher_votes.proofs.Words.{Stream, Certificate, Batch, verified_tried, TakesIn, attempt_result, judged, TriesKind}
 use Rattle.batcher_votes.proofs.VerifierLemmas.Construction.{tries_by}
 use Rattle.batcher_votes.proofs.VerifierLemmas.Results.{if_ok}
 use Rattle.batcher_votes.proofs.verifier.Verifier.construct_by_verdicts.Goals as goal
@@ -14,7 +8,7 @@ returns-clause-tries g c =
     let old = c.args.self.now in
     let new = c.take_in.new.self in
     let m = judged (g.S.Scheme.meaning old.scheme) in
-    let outcome = outcome_of (verified_tried old.holds c.args.kind) c.in_ok-tried.tried.batch c.in_ok-tried.tried.joining.items in
+    let outcome = attempt_result (verified_tried old.holds c.args.kind) c.in_ok-tried.tried.batch c.in_ok-tried.tried.joining.items in
     let by : (batch : Batch (Certificate g.row.S-Certificate.Denot g.row.D.Denot))
     → TakesIn old.number old.holds c.args.kind c.args.subject outcome batch new.holds
     → (stream : Stream) → TriesKind m old.number old.quorum old.holds c.args.kind stream batch stream new.holds

@@ -1,5 +1,4 @@
-use Rattle.batcher_votes.specs.RoundState.{of_kind}
-use Rattle.batcher_votes.specs.Certifications.{pending_of, verified_of, held_by}
+use Rattle.batcher_votes.proofs.Words.{of_kind, pending_of, verified_of, verifier_holding}
 use Rattle.batcher_votes.proofs.VerifierLemmas.KindChanges.{of_mapped}
 use Rattle.batcher_votes.proofs.VerifierLemmas.Construction.{once_attestations, once_checked}
 use Rattle.batcher_votes.proofs.verifier.Verifier.next_attempt.Goals as goal
@@ -8,7 +7,7 @@ pub returns-clause-once : goal.returns-clause-once
 returns-clause-once g c =
     let v = c.self.inside in
     let kind = c.args.kind in
-    let held = held_by v.leader v.proposal v.kinds in
+    let held = verifier_holding v.leader v.proposal v.kinds in
     rw (
       c.looked_at-pending.ensures,
       c.verified-verified.ensures,

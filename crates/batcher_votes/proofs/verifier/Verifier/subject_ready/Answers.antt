@@ -1,6 +1,4 @@
-use Rattle.std.proofs.Common.{◌≡◌, ◌∙◌, sym}
-use Rattle.batcher_votes.specs.VerifierSteps.{is_ready}
-use Rattle.batcher_votes.specs.Certifications.{is_complete, pending_of, verified_of, held_by}
+use Rattle.batcher_votes.proofs.Words.{◌≡◌, ◌∙◌, sym, is_ready, is_complete, pending_of, verified_of, verifier_holding}
 use Rattle.batcher_votes.proofs.VerifierLemmas.KindChanges.{of_mapped}
 use Rattle.batcher_votes.proofs.VerifierLemmas.Construction.{ready_some, some_left}
 use Rattle.batcher_votes.proofs.verifier.Verifier.subject_ready.Goals as goal
@@ -10,7 +8,7 @@ returns-clause-ready g c =
     let v = c.self.inside in
     let m = g.S.Scheme.meaning v.scheme.value in
     let same = g.D.PartialEq.eq in
-    let held = held_by v.leader v.proposal v.kinds in
+    let held = verifier_holding v.leader v.proposal v.kinds in
     let kind = c.args.kind in
     let ready : c.is_ready.result ≡ is_ready same m.batchable v.quorum held kind
     = rw (of_mapped is_complete v.kinds kind, of_mapped verified_of v.kinds kind, of_mapped pending_of v.kinds kind)

@@ -1,7 +1,4 @@
-use Rattle.std.proofs.Common.{◌≡◌, ◌∙◌, Some, ap, sym, rules}
-use Rattle.batcher_votes.specs.Kinds.{with_kind}
-use Rattle.batcher_votes.specs.Certifications.{is_complete, pending_of, verified_of, held_by}
-use Rattle.batcher_votes.specs.Verifiers.{subject_ready}
+use Rattle.batcher_votes.proofs.Words.{◌≡◌, ◌∙◌, Some, ap, sym, rules, with_kind, is_complete, pending_of, verified_of, verifier_holding, subject_ready}
 use Rattle.batcher_votes.proofs.VerifierLemmas.KindChanges.{completes, absorbs, holds_same}
 use Rattle.batcher_votes.proofs.VerifierLemmas.Construction.{constructs_one, constructs_none}
 use Rattle.batcher_votes.proofs.verifier.Verifier.take_in.Goals as goal
@@ -11,13 +8,13 @@ invariant_of-self g c =
     let v = c.self.inside in
     let m = g.S.Scheme.meaning v.scheme.value in
     let same = g.D.PartialEq.eq in
-    let held = held_by v.leader v.proposal v.kinds in
+    let held = verifier_holding v.leader v.proposal v.kinds in
     let kind = c.args.kind in
     let subject = c.args.subject in
     let ready : subject_ready same m.batchable v.quorum held v.round kind ≡ Some subject = rw (← c.self.view_is) at c.requires.ready in
     let fine = rw (← c.self.view_is) at c.requires.fine in
     let made = constructs_one m same g.met.D.Digest.identical g.met.D.Eq.laws.refl v.round v.quorum held
-    (held_by v.leader v.proposal (with_kind v.kinds kind c.finish.new.self)) c.self.invariant kind subject ready c.args.tried.batch
+    (verifier_holding v.leader v.proposal (with_kind v.kinds kind c.finish.new.self)) c.self.invariant kind subject ready c.args.tried.batch
     c.args.tried.joining.items fine c.for_subject-batch.result c.for_subject-batch.ensures
     (sym c.is_some.ensures ∙ c.if-is_some.true)
     (completes v.leader v.proposal v.kinds kind c.finish.new.self same c.finish.ensures.complete c.finish.ensures.pending
@@ -29,13 +26,13 @@ returns-then-is_some g c =
     let v = c.self.inside in
     let m = g.S.Scheme.meaning v.scheme.value in
     let same = g.D.PartialEq.eq in
-    let held = held_by v.leader v.proposal v.kinds in
+    let held = verifier_holding v.leader v.proposal v.kinds in
     let kind = c.args.kind in
     let subject = c.args.subject in
     let ready : subject_ready same m.batchable v.quorum held v.round kind ≡ Some subject = rw (← c.self.view_is) at c.requires.ready in
     let fine = rw (← c.self.view_is) at c.requires.fine in
     let made = constructs_one m same g.met.D.Digest.identical g.met.D.Eq.laws.refl v.round v.quorum held
-    (held_by v.leader v.proposal (with_kind v.kinds kind c.finish.new.self)) c.self.invariant kind subject ready c.args.tried.batch
+    (verifier_holding v.leader v.proposal (with_kind v.kinds kind c.finish.new.self)) c.self.invariant kind subject ready c.args.tried.batch
     c.args.tried.joining.items fine c.for_subject-batch.result c.for_subject-batch.ensures
     (sym c.is_some.ensures ∙ c.if-is_some.true)
     (completes v.leader v.proposal v.kinds kind c.finish.new.self same c.finish.ensures.complete c.finish.ensures.pending
@@ -62,13 +59,13 @@ invariant_of-self-2 g c =
     let v = c.self.inside in
     let m = g.S.Scheme.meaning v.scheme.value in
     let same = g.D.PartialEq.eq in
-    let held = held_by v.leader v.proposal v.kinds in
+    let held = verifier_holding v.leader v.proposal v.kinds in
     let kind = c.args.kind in
     let subject = c.args.subject in
     let ready : subject_ready same m.batchable v.quorum held v.round kind ≡ Some subject = rw (← c.self.view_is) at c.requires.ready in
     let fine = rw (← c.self.view_is) at c.requires.fine in
     let made = constructs_none m same g.met.D.Digest.identical g.met.D.Eq.laws.refl v.round v.quorum held
-    (held_by v.leader v.proposal (with_kind v.kinds kind c.absorb.new.self)) c.self.invariant kind subject ready c.args.tried.batch
+    (verifier_holding v.leader v.proposal (with_kind v.kinds kind c.absorb.new.self)) c.self.invariant kind subject ready c.args.tried.batch
     c.args.tried.joining.items fine c.for_subject-batch.result c.for_subject-batch.ensures
     (sym c.is_some.ensures ∙ c.if-is_some.false)
     (absorbs v.leader v.proposal v.kinds kind c.absorb.new.self subject c.args.tried.joining.items
@@ -83,13 +80,13 @@ returns g c =
     let v = c.self.inside in
     let m = g.S.Scheme.meaning v.scheme.value in
     let same = g.D.PartialEq.eq in
-    let held = held_by v.leader v.proposal v.kinds in
+    let held = verifier_holding v.leader v.proposal v.kinds in
     let kind = c.args.kind in
     let subject = c.args.subject in
     let ready : subject_ready same m.batchable v.quorum held v.round kind ≡ Some subject = rw (← c.self.view_is) at c.requires.ready in
     let fine = rw (← c.self.view_is) at c.requires.fine in
     let made = constructs_none m same g.met.D.Digest.identical g.met.D.Eq.laws.refl v.round v.quorum held
-    (held_by v.leader v.proposal (with_kind v.kinds kind c.absorb.new.self)) c.self.invariant kind subject ready c.args.tried.batch
+    (verifier_holding v.leader v.proposal (with_kind v.kinds kind c.absorb.new.self)) c.self.invariant kind subject ready c.args.tried.batch
     c.args.tried.joining.items fine c.for_subject-batch.result c.for_subject-batch.ensures
     (sym c.is_some.ensures ∙ c.if-is_some.false)
     (absorbs v.leader v.proposal v.kinds kind c.absorb.new.self subject c.args.tried.joining.items

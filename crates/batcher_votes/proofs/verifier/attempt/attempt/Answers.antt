@@ -1,5 +1,4 @@
-use Rattle.std.proofs.Common.{◌≤◌, ◌+◌, ap, arith, filter, length}
-use Rattle.batcher_types.specs.Attempts.{checked}
+use Rattle.batcher_votes.proofs.Words.{◌≤◌, ◌+◌, ap, arith, filter, length, checked}
 use Rattle.batcher_votes.proofs.VerifierLemmas.CheckedQuorum.{IsQuorum-checked, IsQuorum-valid, AllPass-valid}
 use Rattle.batcher_votes.proofs.verifier.attempt.attempt.Goals as goal
 

@@ -1,8 +1,5 @@
-use Rattle.std.proofs.Common.{◌≡◌, ◌≤◌, ◌<◌, ◌&&◌, not, ℕ, min, ◌+◌, true, false, nat_le, ap, arith, filter, length}
-use Rattle.std.proofs.lemmas.Bool.Decides.{nat_tests}
-use Rattle.batcher_types.specs.Attestations.{Sorts, signers, failing}
-use Rattle.batcher_types.specs.Attempts.{checked}
-use Rattle.batcher_types.specs.Lists.{is_empty}
+use Rattle.batcher_votes.proofs.Words.{◌≡◌, ◌≤◌, ◌<◌, ◌&&◌, not, ℕ, min, ◌+◌, true, false, nat_le, ap, arith, filter, length, nat_tests, Sorts, signers}
+use Rattle.batcher_votes.proofs.Words.{failing, checked, is_empty}
 use Rattle.batcher_votes.proofs.VerifierLemmas.CheckedQuorum.{IsQuorum-valid, AllPass-valid}
 use Rattle.batcher_votes.proofs.VerifierLemmas.Verdicts.{judged_given, judged_none, fell}
 use Rattle.batcher_votes.proofs.verifier.attempt.attempt_by_verdicts.Goals as goal

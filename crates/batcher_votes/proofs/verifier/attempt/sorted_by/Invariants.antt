@@ -1,5 +1,4 @@
-use Rattle.std.proofs.Common.{◌≡◌, Bool, map}
-use Rattle.batcher_types.specs.declared.messages.Attestation.{Attestation}
+use Rattle.batcher_votes.proofs.Words.{◌≡◌, Bool, map, Attestation}
 use Rattle.batcher_votes.proofs.VerifierLemmas.Verdicts.{AreSorted}
 use Rattle.batcher_votes.proofs.verifier.attempt.sorted_by.Given as goal
 

@@ -1,6 +1,4 @@
-use Rattle.std.proofs.Common.{◌≡◌, true, take}
-use Rattle.std.specs.List.{list_all}
-use Rattle.batcher_types.specs.Votes.{same_subject}
+use Rattle.batcher_votes.proofs.Words.{◌≡◌, true, take, list_all, same_subject}
 use Rattle.batcher_votes.proofs.verifier.buffer.all_same.Given as goal
 
 abbrev pub invariant-loop-run : goal.invariant-loop-run

@@ -1,5 +1,4 @@
-use Rattle.std.proofs.Common.{◌++◌, ◌-◌, ◌∙◌, ap}
-use Rattle.batcher_votes.specs.BufferView.{subjects_of_runs}
+use Rattle.batcher_votes.proofs.Words.{◌++◌, ◌-◌, ◌∙◌, ap, subjects_of_runs}
 use Rattle.batcher_votes.proofs.VerifierLemmas.Runs.{as_many, subjects_of_runs-append}
 use Rattle.batcher_votes.proofs.verifier.buffer.push_run.Goals as goal
 

@@ -1,6 +1,4 @@
-use Rattle.std.proofs.Common.{◌≡◌, ◌<◌, ◌+◌, ◌-◌, ◌∙◌, ap, sym, length, arith}
-use Rattle.batcher_types.specs.Votes.{subject_of}
-use Rattle.batcher_types.proofs.VoteLemmas.{same_subject-true}
+use Rattle.batcher_votes.proofs.Words.{◌≡◌, ◌<◌, ◌+◌, ◌-◌, ◌∙◌, ap, sym, length, arith, subject_of, same_subject-true}
 use Rattle.batcher_votes.proofs.VerifierLemmas.Runs.{same_item, subjects_of_runs-grow}
 use Rattle.batcher_votes.proofs.verifier.buffer.push_subject.Goals as goal
 

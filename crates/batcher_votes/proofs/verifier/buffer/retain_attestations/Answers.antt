@@ -1,4 +1,4 @@
-use Rattle.std.proofs.Common.{◌∙◌, sym, arith}
+use Rattle.batcher_votes.proofs.Words.{◌∙◌, sym, arith}
 use Rattle.batcher_votes.proofs.VerifierLemmas.Runs.{moved_no, moved_yes, moved_start}
 use Rattle.batcher_votes.proofs.verifier.buffer.retain_attestations.Goals as goal
 use Rattle.batcher_votes.proofs.verifier.buffer.retain_attestations.Goals.{then-fits, else-fits}

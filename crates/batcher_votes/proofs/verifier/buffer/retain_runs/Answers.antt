@@ -1,5 +1,4 @@
-use Rattle.std.proofs.Common.{◌<◌, ◌∙◌, sym, arith, length}
-use Rattle.std.proofs.lemmas.List.Filters.{FiltersInPlace-more_no, FiltersInPlace-more_set}
+use Rattle.batcher_votes.proofs.Words.{◌<◌, ◌∙◌, sym, arith, length, FiltersInPlace-more_no, FiltersInPlace-more_set}
 use Rattle.batcher_votes.proofs.verifier.buffer.retain_runs.Goals as goal
 
 pub loop-i-preserved : goal.loop-i-preserved

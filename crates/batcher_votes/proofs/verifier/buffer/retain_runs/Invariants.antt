@@ -1,5 +1,4 @@
-use Rattle.std.proofs.lemmas.List.Filters.{FiltersInPlace}
-use Rattle.batcher_votes.specs.BufferView.{may_be_eligible}
+use Rattle.batcher_votes.proofs.Words.{FiltersInPlace, may_be_eligible}
 use Rattle.batcher_votes.proofs.verifier.buffer.retain_runs.Given as goal
 
 abbrev pub invariant-loop-i : goal.invariant-loop-i

@@ -1,7 +1,4 @@
-use Rattle.std.proofs.Common.{◌≡◌, length}
-use Rattle.std.specs.List.{filter_map}
-use Rattle.batcher_votes.specs.RoundState.{of_kind}
-use Rattle.batcher_votes.specs.Entries.{part, vote_at, votes_in}
+use Rattle.batcher_votes.proofs.Words.{◌≡◌, length, filter_map, of_kind, part, vote_at, votes_in}
 use Rattle.batcher_votes.proofs.votes.KeptVotesIterator.next.Given as goal
 
 -- The entries that are left show the votes that are left.

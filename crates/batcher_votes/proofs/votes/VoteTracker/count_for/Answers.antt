@@ -1,7 +1,4 @@
-use Rattle.std.proofs.Common.{◌∙◌, Some, length, filter, sym, ap}
-use Rattle.batcher_votes.specs.RoundState.{of_kind}
-use Rattle.batcher_types.specs.Votes.{is_eligible}
-use Rattle.batcher_votes.specs.Entries.{marks_of, part, vote_at, votes_in, kept_among}
+use Rattle.batcher_votes.proofs.Words.{◌∙◌, Some, length, filter, sym, ap, of_kind, is_eligible, marks_of, part, vote_at, votes_in, kept_among}
 use Rattle.batcher_votes.proofs.TrackerLemmas.KeptVotes.{length-filter_map, kept_shown}
 use Rattle.batcher_votes.proofs.TrackerLemmas.SignerFacts.{kept_is}
 use Rattle.batcher_votes.proofs.votes.VoteTracker.count_for.Goals as goal

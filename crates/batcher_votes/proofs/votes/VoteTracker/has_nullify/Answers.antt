@@ -1,6 +1,4 @@
-use Rattle.std.proofs.Common.{◌∙◌, ap, refl, nat_eq, find}
-use Rattle.batcher_types.specs.declared.messages.Kind.TheVariants.{Nullification}
-use Rattle.batcher_votes.specs.Entries.{key_of, marks_of, has_index, votes_in}
+use Rattle.batcher_votes.proofs.Words.{◌∙◌, ap, refl, nat_eq, find, Nullification, entry_key, marks_of, has_index, votes_in}
 use Rattle.batcher_votes.proofs.TrackerLemmas.RecordVote.{has_kept_vote}
 use Rattle.batcher_votes.proofs.votes.VoteTracker.has_nullify.Goals as goal
 
@@ -12,5 +10,5 @@ returns g c =
     let i = c.args.signer.0 in
     rw (← c.self.view_is)
     (c.is_kept.ensures ∙ ap has_index (c.seen_at.ensures.seen i c.place-place.ensures.place)
-    ∙ has_kept_vote marks votes es Nullification i (find (λ e. nat_eq (key_of e) i) es) c.seen_at.ensures.ascending
+    ∙ has_kept_vote marks votes es Nullification i (find (λ e. nat_eq (entry_key e) i) es) c.seen_at.ensures.ascending
     (c.self.invariant.kinds Nullification).each refl)

@@ -1,5 +1,4 @@
-use Rattle.std.proofs.Common.{sym}
-use Rattle.batcher_votes.specs.Entries.{marks_of, votes_in}
+use Rattle.batcher_votes.proofs.Words.{sym, marks_of, votes_in}
 use Rattle.batcher_votes.proofs.TrackerLemmas.KeptVotes.{keeps_each, kept_shown}
 use Rattle.batcher_votes.proofs.votes.VoteTracker.iter_kept.Goals as goal
 

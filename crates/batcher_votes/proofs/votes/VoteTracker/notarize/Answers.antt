@@ -1,6 +1,4 @@
-use Rattle.std.proofs.Common.{◌∙◌, ap, sym, refl, nat_eq, find}
-use Rattle.batcher_types.specs.declared.messages.Kind.TheVariants.{Notarization}
-use Rattle.batcher_votes.specs.Entries.{key_of, marks_of, vote_at, votes_in}
+use Rattle.batcher_votes.proofs.Words.{◌∙◌, ap, sym, refl, nat_eq, find, Notarization, entry_key, marks_of, vote_at, votes_in}
 use Rattle.batcher_votes.proofs.TrackerLemmas.RecordVote.{kept_vote_found}
 use Rattle.batcher_votes.proofs.votes.VoteTracker.notarize.Goals as goal
 
@@ -12,5 +10,5 @@ returns g c =
     let i = c.args.signer.0 in
     rw (← c.self.view_is)
     (c.notarize.ensures ∙ ap (λ s. vote_at votes.notarize s) (c.seen_at-seen.ensures.seen i c.place-place.ensures.place)
-    ∙ sym (kept_vote_found marks votes es Notarization i (find (λ e. nat_eq (key_of e) i) es) c.seen_at-seen.ensures.ascending
+    ∙ sym (kept_vote_found marks votes es Notarization i (find (λ e. nat_eq (entry_key e) i) es) c.seen_at-seen.ensures.ascending
     (c.self.invariant.kinds Notarization).each refl))

@@ -1,6 +1,4 @@
-use Rattle.std.proofs.Common.{◌∙◌, refl, nat_eq, find}
-use Rattle.batcher_types.specs.Votes.{signer_of}
-use Rattle.batcher_votes.specs.Entries.{key_of, marks_of, votes_in}
+use Rattle.batcher_votes.proofs.Words.{◌∙◌, refl, nat_eq, find, signer_of, entry_key, marks_of, votes_in}
 use Rattle.batcher_votes.proofs.TrackerLemmas.RecordVote.{outcome_here}
 use Rattle.batcher_votes.proofs.votes.VoteTracker.outcome_at.Goals as goal
 
@@ -16,4 +14,4 @@ returns g c =
     (c.of.ensures, seen, c.is_selected-is_selected.ensures, c.proposal.ensures, c.as_ref.ensures.value, c.kind-kind.ensures) at c.outcome.ensures in
     rw (← c.self.view_is)
     (given ∙ outcome_here g.D.PartialEq.eq marks votes es c.args.proposal vote c.seen_at-seen.ensures.ascending (λ kind. c.self.invariant.kinds kind)
-    (find (λ e. nat_eq (key_of e) i) es) refl)
+    (find (λ e. nat_eq (entry_key e) i) es) refl)

@@ -1,11 +1,9 @@
-use Rattle.std.proofs.Common.{◌≡◌, ◌∙◌, true, false, nat_eq, length, find, ap, sym, refl, arith, rules}
-use Rattle.std.proofs.lemmas.Bool.{false≢true, lt-ltb}
-use Rattle.std.specs.Option.{option_copied}
-use Rattle.batcher_types.specs.Votes.{signer_of, kind_of}
-use Rattle.batcher_votes.specs.RoundState.{of_kind}
-use Rattle.batcher_votes.specs.Entries.{marks_of, key_of, part, seen_in, has_index, compared, seen_outcome, is_selected_in, tested, tracked_by, votes_in}
+use Rattle.batcher_votes.proofs.Words.{◌≡◌, ◌∙◌, true, false, nat_eq, length, find, ap, sym, refl, arith, rules, false≢true, lt-ltb, option_copied, signer_of}
+use Rattle.batcher_votes.proofs.Words.{kind_of, of_kind, marks_of, entry_key, part, seen_in, has_index, compared, seen_outcome, is_selected_in, tested}
+use Rattle.batcher_votes.proofs.Words.{tracked_by, votes_in}
 use Rattle.batcher_votes.proofs.TrackerLemmas.PutEntry.{count_few}
-use Rattle.batcher_votes.proofs.TrackerLemmas.RecordVote.{known_entry, seen_known, recorded_none, recorded_compared, recorded_full, tracked_compared, tracked_full, outcome_found, outcome_first, outcome_kept, seen_compacted}
+use Rattle.batcher_votes.proofs.TrackerLemmas.RecordVote.{known_entry, seen_known, recorded_none, recorded_compared, recorded_full, tracked_compared}
+use Rattle.batcher_votes.proofs.TrackerLemmas.RecordVote.{tracked_full, outcome_found, outcome_first, outcome_kept, seen_compacted}
 use Rattle.batcher_votes.proofs.votes.VoteTracker.record_at.Goals as goal
 
 pub returns-then-is_kept : goal.returns-then-is_kept
@@ -16,8 +14,9 @@ returns-then-is_kept g c =
     let vote = c.args.vote.now in
     let up = c.seen_at-seen.ensures.ascending in
     let place = rw (← c.self.view_is) at c.requires.place in
-    let o = find (λ e. nat_eq (key_of e) (signer_of c.args.vote.now)) c.self.inside.entries.items in
-    let seen : c.seen_at-seen.result ≡ seen_in (kind_of c.args.vote.now) (find (λ e. nat_eq (key_of e) (signer_of c.args.vote.now)) c.self.inside.entries.items)
+    let o = find (λ e. nat_eq (entry_key e) (signer_of c.args.vote.now)) c.self.inside.entries.items in
+    let seen : c.seen_at-seen.result ≡ seen_in (kind_of c.args.vote.now)
+    (find (λ e. nat_eq (entry_key e) (signer_of c.args.vote.now)) c.self.inside.entries.items)
     = c.seen_at-seen.ensures.seen (signer_of vote) place ∙ ap (λ k. seen_in k o) c.kind-kind.ensures in
     let in_range = lt-ltb _ _ (rw (← c.self.view_is) at c.requires.range) in
     let has = ap has_index (sym seen) ∙ sym c.is_kept.ensures ∙ c.if-is_kept.true in
@@ -57,8 +56,9 @@ returns-in_err-make_room_at-clause-repeated g c =
     let k = kind_of vote in
     let up = c.seen_at-seen.ensures.ascending in
     let place = rw (← c.self.view_is) at c.requires.place in
-    let o = find (λ e. nat_eq (key_of e) (signer_of c.args.vote.now)) c.self.inside.entries.items in
-    let seen : c.seen_at-seen.result ≡ seen_in (kind_of c.args.vote.now) (find (λ e. nat_eq (key_of e) (signer_of c.args.vote.now)) c.self.inside.entries.items)
+    let o = find (λ e. nat_eq (entry_key e) (signer_of c.args.vote.now)) c.self.inside.entries.items in
+    let seen : c.seen_at-seen.result ≡ seen_in (kind_of c.args.vote.now)
+    (find (λ e. nat_eq (entry_key e) (signer_of c.args.vote.now)) c.self.inside.entries.items)
     = c.seen_at-seen.ensures.seen i place ∙ ap (λ k. seen_in k o) c.kind-kind.ensures in
     let none = ap has_index (sym seen) ∙ sym c.is_kept.ensures ∙ c.if-is_kept.false in
     rw (← c.self.view_is)
@@ -76,8 +76,9 @@ invariant_of-self-then-is_compacted g c =
     let vote = c.args.vote.now in
     let up = c.seen_at-seen.ensures.ascending in
     let place = rw (← c.self.view_is) at c.requires.place in
-    let o = find (λ e. nat_eq (key_of e) (signer_of c.args.vote.now)) c.self.inside.entries.items in
-    let seen : c.seen_at-seen.result ≡ seen_in (kind_of c.args.vote.now) (find (λ e. nat_eq (key_of e) (signer_of c.args.vote.now)) c.self.inside.entries.items)
+    let o = find (λ e. nat_eq (entry_key e) (signer_of c.args.vote.now)) c.self.inside.entries.items in
+    let seen : c.seen_at-seen.result ≡ seen_in (kind_of c.args.vote.now)
+    (find (λ e. nat_eq (entry_key e) (signer_of c.args.vote.now)) c.self.inside.entries.items)
     = c.seen_at-seen.ensures.seen (signer_of vote) place ∙ ap (λ k. seen_in k o) c.kind-kind.ensures in
     let on : of_kind (marks_of c.self.inside.compacted) (kind_of c.args.vote.now) ≡ true =
     ap (of_kind marks) (sym c.kind-kind.ensures) ∙ sym c.of-is_compacted.ensures ∙ c.if-is_compacted.true in
@@ -100,8 +101,9 @@ returns-then-is_compacted g c =
     let k = kind_of vote in
     let up = c.seen_at-seen.ensures.ascending in
     let place = rw (← c.self.view_is) at c.requires.place in
-    let o = find (λ e. nat_eq (key_of e) (signer_of c.args.vote.now)) c.self.inside.entries.items in
-    let seen : c.seen_at-seen.result ≡ seen_in (kind_of c.args.vote.now) (find (λ e. nat_eq (key_of e) (signer_of c.args.vote.now)) c.self.inside.entries.items)
+    let o = find (λ e. nat_eq (entry_key e) (signer_of c.args.vote.now)) c.self.inside.entries.items in
+    let seen : c.seen_at-seen.result ≡ seen_in (kind_of c.args.vote.now)
+    (find (λ e. nat_eq (entry_key e) (signer_of c.args.vote.now)) c.self.inside.entries.items)
     = c.seen_at-seen.ensures.seen (signer_of vote) place ∙ ap (λ k. seen_in k o) c.kind-kind.ensures in
     let in_range = lt-ltb _ _ (rw (← c.self.view_is) at c.requires.range) in
     let on : of_kind (marks_of c.self.inside.compacted) (kind_of c.args.vote.now) ≡ true =
@@ -149,8 +151,9 @@ invariant_of-self-2 g c =
     let vote = c.args.vote.now in
     let up = c.seen_at-seen.ensures.ascending in
     let place = rw (← c.self.view_is) at c.requires.place in
-    let o = find (λ e. nat_eq (key_of e) (signer_of c.args.vote.now)) c.self.inside.entries.items in
-    let seen : c.seen_at-seen.result ≡ seen_in (kind_of c.args.vote.now) (find (λ e. nat_eq (key_of e) (signer_of c.args.vote.now)) c.self.inside.entries.items)
+    let o = find (λ e. nat_eq (entry_key e) (signer_of c.args.vote.now)) c.self.inside.entries.items in
+    let seen : c.seen_at-seen.result ≡ seen_in (kind_of c.args.vote.now)
+    (find (λ e. nat_eq (entry_key e) (signer_of c.args.vote.now)) c.self.inside.entries.items)
     = c.seen_at-seen.ensures.seen (signer_of vote) place ∙ ap (λ k. seen_in k o) c.kind-kind.ensures in
     let none = ap has_index (sym seen) ∙ sym c.is_kept.ensures ∙ c.if-is_kept.false in
     let off : of_kind (marks_of c.self.inside.compacted) (kind_of c.args.vote.now) ≡ false =
@@ -171,8 +174,9 @@ returns g c =
     let vote = c.args.vote.now in
     let up = c.seen_at-seen.ensures.ascending in
     let place = rw (← c.self.view_is) at c.requires.place in
-    let o = find (λ e. nat_eq (key_of e) (signer_of c.args.vote.now)) c.self.inside.entries.items in
-    let seen : c.seen_at-seen.result ≡ seen_in (kind_of c.args.vote.now) (find (λ e. nat_eq (key_of e) (signer_of c.args.vote.now)) c.self.inside.entries.items)
+    let o = find (λ e. nat_eq (entry_key e) (signer_of c.args.vote.now)) c.self.inside.entries.items in
+    let seen : c.seen_at-seen.result ≡ seen_in (kind_of c.args.vote.now)
+    (find (λ e. nat_eq (entry_key e) (signer_of c.args.vote.now)) c.self.inside.entries.items)
     = c.seen_at-seen.ensures.seen (signer_of vote) place ∙ ap (λ k. seen_in k o) c.kind-kind.ensures in
     let in_range = lt-ltb _ _ (rw (← c.self.view_is) at c.requires.range) in
     let none = ap has_index (sym seen) ∙ sym c.is_kept.ensures ∙ c.if-is_kept.false in

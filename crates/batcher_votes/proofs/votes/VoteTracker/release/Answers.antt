@@ -1,7 +1,4 @@
-use Rattle.std.proofs.Common.{◌≡◌, ◌∙◌, true, false, sym}
-use Rattle.batcher_votes.specs.RoundState.{of_kind}
-use Rattle.batcher_votes.specs.TrackerSteps.{is_released_in}
-use Rattle.batcher_votes.specs.Entries.{marks_of, votes_in}
+use Rattle.batcher_votes.proofs.Words.{◌≡◌, ◌∙◌, true, false, sym, of_kind, is_released_in, marks_of, votes_in}
 use Rattle.batcher_votes.proofs.TrackerLemmas.ReleaseKind.{released_now, released_beside, released_fits, released_none, released_before}
 use Rattle.batcher_votes.proofs.votes.VoteTracker.release.Goals as goal
 use Rattle.batcher_votes.proofs.votes.VoteTracker.release.Goals.{else-is_releasing-via-then-is_releasing+else-not-of, else-is_releasing-via-else-is_releasing}

@@ -1,7 +1,4 @@
-use Rattle.std.proofs.Common.{◌∙◌, ap, sym, refl, nat_eq, find}
-use Rattle.batcher_votes.specs.RoundState.{of_kind}
-use Rattle.batcher_votes.specs.TrackerSteps.{shown}
-use Rattle.batcher_votes.specs.Entries.{key_of, marks_of, observed_seen, votes_in}
+use Rattle.batcher_votes.proofs.Words.{◌∙◌, ap, sym, refl, nat_eq, find, of_kind, shown, entry_key, marks_of, observed_seen, votes_in}
 use Rattle.batcher_votes.proofs.TrackerLemmas.RecordVote.{observed_found}
 use Rattle.batcher_votes.proofs.votes.VoteTracker.saw_at.Goals as goal
 
@@ -13,5 +10,5 @@ returns g c = λ i is.
     let seen = c.seen_at.ensures.seen i (rw (← c.self.view_is) at is) in
     rw (← c.self.view_is)
     (c.observed.ensures i ∙ ap (λ s. shown (observed_seen i (of_kind votes c.args.kind) s)) seen
-    ∙ ap shown (sym (observed_found marks votes es c.args.kind i (find (λ e. nat_eq (key_of e) i) es) c.seen_at.ensures.ascending
+    ∙ ap shown (sym (observed_found marks votes es c.args.kind i (find (λ e. nat_eq (entry_key e) i) es) c.seen_at.ensures.ascending
     (c.self.invariant.kinds c.args.kind).each refl)))

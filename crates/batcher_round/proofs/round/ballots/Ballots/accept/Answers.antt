@@ -1,12 +1,5 @@
-use Rattle.std.proofs.Common.{◌≡◌, ◌∙◌, true, nat_lt, Ok, arith, ap, refl, sym}
-use Rattle.std.proofs.lemmas.Bool.Decides.{nat_tests}
-use Rattle.batcher_types.specs.Votes.{kind_of, signer_of, subject_of, attestation_of}
-use Rattle.batcher_votes.specs.VerifierSteps.{MayFix}
-use Rattle.batcher_votes.specs.Soundness.{BuffersOnlyKept}
-use Rattle.batcher_votes.specs.TrackerSteps.{observed, is_seen}
-use Rattle.batcher_histories.specs.Config.{config}
-use Rattle.batcher_histories.specs.Steps.{own_result, fixed_by}
-use Rattle.batcher_histories.proofs.Correctness.Admission.{not_buffered}
+use Rattle.batcher_round.proofs.Words.{◌≡◌, ◌∙◌, true, nat_lt, Ok, arith, ap, refl, sym, nat_tests, kind_of, signer_of, subject_of, attestation_of, MayFix}
+use Rattle.batcher_round.proofs.Words.{BuffersOnlyKept, observed, is_seen, config, own_result, fixed_by, not_buffered}
 use Rattle.batcher_round.proofs.OwnVotes.{held_by, recordable, kept_new, accepted, right_accepted, right_kept}
 use Rattle.batcher_round.proofs.round.ballots.Ballots.accept.Goals as goal
 

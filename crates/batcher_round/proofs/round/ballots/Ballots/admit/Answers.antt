@@ -1,8 +1,4 @@
-use Rattle.std.proofs.Common.{◌∙◌, false, refl, sym}
-use Rattle.batcher_types.specs.Votes.{kind_of, signer_of}
-use Rattle.batcher_votes.specs.VerifierSteps.{AddsVote}
-use Rattle.batcher_histories.proofs.Correctness.Admission.{IsNew, added_new, not_buffered, right_eligible}
-use Rattle.batcher_histories.proofs.Correctness.Own.{kept_outcome}
+use Rattle.batcher_round.proofs.Words.{◌∙◌, false, refl, sym, kind_of, signer_of, AddsVote, IsNew, added_new, not_buffered, right_eligible, kept_outcome}
 use Rattle.batcher_round.proofs.round.ballots.Ballots.admit.Goals as goal
 
 pub record_at-requires-clause-range : goal.record_at-requires-clause-range

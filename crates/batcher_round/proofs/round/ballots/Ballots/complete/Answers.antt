@@ -1,15 +1,8 @@
-use Rattle.std.proofs.Common.{◌≡◌, ◌∙◌, ◌&&◌, not, ap, subst, refl, true, false, is_some, sym}
-use Rattle.batcher_types.specs.declared.messages.Kind.{Kind}
-use Rattle.batcher_types.specs.declared.messages.Kind.TheVariants.{Notarization, Finalization}
-use Rattle.batcher_types.specs.Votes.{is_kind, kind_certified}
-use Rattle.batcher_votes.specs.ProposalStates.{proposal_of, same_selected}
-use Rattle.batcher_votes.specs.TrackerSteps.{ReleasesKind, is_released_in}
-use Rattle.batcher_votes.specs.VerifierSteps.{MayFix, CompletesKind}
-use Rattle.batcher_histories.specs.Config.{config}
-use Rattle.batcher_histories.proofs.Correctness.Own.{right_certified, within_complete}
-use Rattle.batcher_histories.proofs.Correctness.Room.{no_room_with, room_left}
+use Rattle.batcher_round.proofs.Words.{◌≡◌, ◌∙◌, ◌&&◌, not, ap, subst, refl, true, false, is_some, sym, Kind, Notarization, Finalization, is_kind}
+use Rattle.batcher_round.proofs.Words.{kind_certified, proposal_of, same_selected, ReleasesKind, is_released_in, MayFix, CompletesKind, config, right_certified}
+use Rattle.batcher_round.proofs.Words.{within_complete, no_room_with, room_left}
 use Rattle.batcher_round.proofs.round.ballots.Ballots.complete.Goals as goal
-use Rattle.batcher_votes.proofs.VerifierLemmas.FixedProposal.{finalization_for}
+use Rattle.batcher_round.proofs.Words.{finalization_for}
 
 pub invariant_of-self-2 : goal.invariant_of-self-2
 invariant_of-self-2 g c =

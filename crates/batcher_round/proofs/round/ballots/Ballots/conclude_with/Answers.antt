@@ -1,13 +1,5 @@
-use Rattle.std.proofs.Common.{◌∙◌, ap, sym, refl, is_some}
-use Rattle.std.proofs.lemmas.Bool.{false≢true, and_parts, not-true}
-use Rattle.batcher_votes.specs.declared.votes.Mode.TheVariants.{Retaining}
-use Rattle.batcher_types.proofs.OptionLemmas.{given}
-use Rattle.batcher_votes.specs.Verdicts.{judged_with}
-use Rattle.batcher_votes.proofs.VerifierLemmas.FixedProposal.{made_for}
-use Rattle.batcher_votes.proofs.VerifierLemmas.Verdicts.{no_stream}
-use Rattle.batcher_histories.specs.Config.{config}
-use Rattle.batcher_histories.specs.Steps.{Fixes}
-use Rattle.batcher_histories.proofs.Correctness.Attempt.{right_without, right_given}
+use Rattle.batcher_round.proofs.Words.{◌∙◌, ap, sym, refl, is_some, false≢true, and_parts, not-true, Retaining, given, judged_with, made_for, no_stream, config}
+use Rattle.batcher_round.proofs.Words.{Fixes, right_without, right_given}
 use Rattle.batcher_round.proofs.Otherwise.{right_otherwise, otherwise_right}
 use Rattle.batcher_round.proofs.OwnCertificates.{made_is, takes_none, fixes_only}
 use Rattle.batcher_round.proofs.round.ballots.Ballots.conclude_with.Goals as goal

@@ -1,10 +1,5 @@
-use Rattle.std.proofs.Common.{◌∙◌, ap, sym, refl, is_some}
-use Rattle.std.proofs.lemmas.Bool.{false≢true, and_parts, not-true}
-use Rattle.batcher_votes.specs.declared.votes.Mode.TheVariants.{Retaining}
-use Rattle.batcher_votes.proofs.VerifierLemmas.FixedProposal.{made_for}
-use Rattle.batcher_histories.specs.Config.{config}
-use Rattle.batcher_histories.specs.Steps.{Fixes}
-use Rattle.batcher_histories.proofs.Correctness.Attempt.{right_without, right_given}
+use Rattle.batcher_round.proofs.Words.{◌∙◌, ap, sym, refl, is_some, false≢true, and_parts, not-true, Retaining, made_for, config, Fixes, right_without}
+use Rattle.batcher_round.proofs.Words.{right_given}
 use Rattle.batcher_round.proofs.OwnCertificates.{made_is, takes_none, fixes_only}
 use Rattle.batcher_round.proofs.round.ballots.Ballots.construct.Goals as goal
 use Rattle.batcher_round.proofs.round.ballots.Ballots.construct.Goals.{in-Some-certificate, in_default-certificate}

@@ -1,7 +1,4 @@
-use Rattle.std.proofs.Common.{◌≡◌, ◌∙◌, ap, length}
-use Rattle.batcher_types.specs.Quorum.{quorum_of}
-use Rattle.batcher_votes.specs.TrackerSteps.{nothing_tracked}
-use Rattle.batcher_histories.proofs.Correctness.Kept.{right_at_first}
+use Rattle.batcher_round.proofs.Words.{◌≡◌, ◌∙◌, ap, length, quorum_of, nothing_tracked, right_at_first}
 use Rattle.batcher_round.proofs.round.ballots.Ballots.new.Goals as goal
 
 pub invariant_of-result : goal.invariant_of-result

@@ -1,7 +1,4 @@
-use Rattle.std.proofs.Common.{◌≡◌, ◌∙◌, Bool, false, Option, is_some, ap, sym}
-use Rattle.batcher_votes.specs.ProposalStates.{proposal_of}
-use Rattle.batcher_votes.specs.TrackerSteps.{shown, observed_opposite}
-use Rattle.batcher_histories.proofs.Correctness.Own.{own_result_of}
+use Rattle.batcher_round.proofs.Words.{◌≡◌, ◌∙◌, Bool, false, Option, is_some, ap, sym, proposal_of, shown, observed_opposite, own_result_of}
 use Rattle.batcher_round.proofs.round.ballots.Ballots.own_result.Goals as goal
 
 -- a test that failed on what was shown

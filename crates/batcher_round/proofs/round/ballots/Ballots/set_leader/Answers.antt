@@ -1,9 +1,4 @@
-use Rattle.std.proofs.Common.{◌∙◌, ap, false, is_some, refl}
-use Rattle.batcher_votes.specs.VerifierSteps.{leader_answer}
-use Rattle.batcher_histories.specs.Config.{config}
-use Rattle.batcher_votes.specs.RoundState.{RoundState}
-use Rattle.batcher_histories.proofs.Simulation.Resting.{leader_step}
-use Rattle.batcher_histories.proofs.Correctness.Kept.{right_led, led_by}
+use Rattle.batcher_round.proofs.Words.{◌∙◌, ap, false, is_some, refl, leader_answer, config, RoundState, leader_step, right_led, led_by}
 use Rattle.batcher_round.proofs.round.ballots.Ballots.set_leader.Goals as goal
 
 pub invariant_of-self : goal.invariant_of-self

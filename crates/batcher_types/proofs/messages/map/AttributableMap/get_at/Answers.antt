@@ -1,7 +1,4 @@
-use Rattle.std.proofs.Common.{◌≡◌, ◌∙◌, ap, sym, arith, slice_get}
-use Rattle.std.proofs.lemmas.Grind.{common_steps}
-use Rattle.std.proofs.lemmas.Option.{gets}
-use Rattle.std.specs.Option.{option_copied}
+use Rattle.batcher_types.proofs.Words.{◌≡◌, ◌∙◌, ap, sym, arith, slice_get, common_steps, gets, option_copied}
 use Rattle.batcher_types.proofs.PlaceLemmas.{place_found, place_absent, ascending_few}
 use Rattle.batcher_types.proofs.messages.map.AttributableMap.get_at.Goals as goal
 

@@ -1,4 +1,4 @@
-use Rattle.std.proofs.Common.{◌≡◌, ◌∙◌, ◌<◌, true, false, sym, ap, arith}
+use Rattle.batcher_types.proofs.Words.{◌≡◌, ◌∙◌, ◌<◌, true, false, sym, ap, arith}
 use Rattle.batcher_types.proofs.MapLemmas.{is_new-absent, is_new-present}
 use Rattle.batcher_types.proofs.AscendingLemmas.{insert_new, All-insert_by}
 use Rattle.batcher_types.proofs.messages.map.AttributableMap.insert.Goals as goal

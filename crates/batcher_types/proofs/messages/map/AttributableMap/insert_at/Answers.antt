@@ -1,4 +1,4 @@
-use Rattle.std.proofs.Common.{◌<◌, ap, arith}
+use Rattle.batcher_types.proofs.Words.{◌<◌, ap, arith}
 use Rattle.batcher_types.proofs.AscendingLemmas.{insert_new, All-insert_by}
 use Rattle.batcher_types.proofs.PlaceLemmas.{place_absent, place_insert, place_within}
 use Rattle.batcher_types.proofs.messages.map.AttributableMap.insert_at.Goals as goal

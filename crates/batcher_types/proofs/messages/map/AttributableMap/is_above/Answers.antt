@@ -1,4 +1,4 @@
-use Rattle.std.proofs.Common.{ap}
+use Rattle.batcher_types.proofs.Words.{ap}
 use Rattle.batcher_types.proofs.AscendingLemmas.{all_above_first}
 use Rattle.batcher_types.proofs.messages.map.AttributableMap.is_above.Goals as goal
 

@@ -1,4 +1,4 @@
-use Rattle.std.proofs.Common.{arith}
+use Rattle.batcher_types.proofs.Words.{arith}
 use Rattle.batcher_types.proofs.MapLemmas.{ascending-empty}
 use Rattle.batcher_types.proofs.messages.map.AttributableMap.new.Goals as goal
 

@@ -1,6 +1,5 @@
-use Rattle.std.proofs.Common.{◌<◌, ap, arith, refl}
+use Rattle.batcher_types.proofs.Words.{◌<◌, ap, arith, refl, rec_from_all}
 use Rattle.batcher_types.proofs.AscendingLemmas.{find_at, last_absent, last_insert, first_absent, first_insert}
-use Rattle.batcher_types.specs.Ordered.{rec_from_all}
 use Rattle.batcher_types.proofs.PlaceLemmas.{item_place, last_place, first_place}
 use Rattle.batcher_types.proofs.messages.map.AttributableMap.place.Goals as goal
 

@@ -1,4 +1,4 @@
-use Rattle.std.proofs.Common.{true, false}
+use Rattle.batcher_types.proofs.Words.{true, false}
 use Rattle.batcher_types.proofs.PlaceLemmas.{look_place, look_next}
 use Rattle.batcher_types.proofs.messages.map.AttributableMap.place_after.Goals as goal
 

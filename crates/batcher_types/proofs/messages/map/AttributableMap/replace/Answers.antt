@@ -1,5 +1,4 @@
-use Rattle.std.proofs.Common.{◌∙◌, ◌<◌, sym, ap, arith, length, get_or}
-use Rattle.std.proofs.lemmas.List.Elements.{All-set}
+use Rattle.batcher_types.proofs.Words.{◌∙◌, ◌<◌, sym, ap, arith, length, get_or, All-set}
 use Rattle.batcher_types.specs.Items.{replace_by}
 use Rattle.batcher_types.proofs.AscendingLemmas.{set_ascending, replace_at, replace_none, found_key}
 use Rattle.batcher_types.proofs.messages.map.AttributableMap.replace.Goals as goal

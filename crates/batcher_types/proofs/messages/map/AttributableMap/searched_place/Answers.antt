@@ -1,5 +1,4 @@
-use Rattle.std.proofs.Common.{rules, ap}
-use Rattle.std.proofs.lemmas.List.Sorted.{answers_always}
+use Rattle.batcher_types.proofs.Words.{rules, ap, answers_always}
 use Rattle.batcher_types.proofs.AscendingLemmas.{search_found, search_absent}
 use Rattle.batcher_types.proofs.PlaceLemmas.{search_place}
 use Rattle.batcher_types.proofs.messages.map.AttributableMap.searched_place.Goals as goal

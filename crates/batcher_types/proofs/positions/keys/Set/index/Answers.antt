@@ -1,5 +1,5 @@
-use Rattle.std.proofs.Common.{◌∙◌, ap, Some}
-use Rattle.batcher_types.specs.Keys.{index_of, participant}
+use Rattle.batcher_types.proofs.Words.{◌∙◌, ap, Some, participant}
+use Rattle.batcher_types.specs.Keys.{index_of}
 use Rattle.batcher_types.proofs.KeyLemmas.{index_found, index_absent}
 use Rattle.batcher_types.proofs.positions.keys.Set.index.Goals as goal
 

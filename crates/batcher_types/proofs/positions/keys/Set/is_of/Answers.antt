@@ -1,7 +1,4 @@
-use Rattle.std.proofs.Common.{◌≡◌, ◌∙◌, sym, ap, arith, Some, slice_get}
-use Rattle.std.proofs.lemmas.Grind.{common_steps}
-use Rattle.std.proofs.lemmas.Option.{gets, slice_get_within}
-use Rattle.std.specs.Option.{option_copied}
+use Rattle.batcher_types.proofs.Words.{◌≡◌, ◌∙◌, sym, ap, arith, Some, slice_get, common_steps, gets, slice_get_within, option_copied}
 use Rattle.batcher_types.specs.Keys.{index_of}
 use Rattle.batcher_types.proofs.KeyLemmas.{index_read}
 use Rattle.batcher_types.proofs.positions.keys.Set.is_of.Goals as goal

@@ -1,4 +1,4 @@
-use Rattle.std.proofs.Common.{◌∙◌, arith}
+use Rattle.batcher_types.proofs.Words.{◌∙◌, arith}
 use Rattle.batcher_types.proofs.KeyLemmas.{strict_from_adjacent, distinct_from_strict, twice_at}
 use Rattle.batcher_types.proofs.positions.keys.Set.new.Goals as goal
 

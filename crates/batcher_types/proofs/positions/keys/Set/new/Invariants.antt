@@ -1,6 +1,4 @@
-use Rattle.std.proofs.Common.{◌≡◌}
-use Rattle.std.specs.List.{AllAdjacentBelow}
-use Rattle.std.specs.declared.cmp.Ordering.TheVariants.{Less}
+use Rattle.batcher_types.proofs.Words.{◌≡◌, AllAdjacentBelow, Less}
 use Rattle.batcher_types.proofs.positions.keys.Set.new.Given as goal
 
 abbrev pub invariant-loop-i : goal.invariant-loop-i

@@ -1,5 +1,4 @@
-use Rattle.std.proofs.Common.{rules}
-use Rattle.rand_core.proofs.StepsLemmas.{meets_fill_bytes}
+use Rattle.batcher_types.proofs.Words.{rules, meets_fill_bytes}
 use Rattle.batcher_types.proofs.scheme.counter.CounterRng.fill_bytes.Goals as goal
 
 pub returns : goal.returns

@@ -1,5 +1,4 @@
-use Rattle.std.proofs.Common.{rules}
-use Rattle.rand_core.proofs.StepsLemmas.{meets_next_u64}
+use Rattle.batcher_types.proofs.Words.{rules, meets_next_u64}
 use Rattle.batcher_types.proofs.scheme.counter.CounterRng.next_u64.Goals as goal
 
 pub returns : goal.returns

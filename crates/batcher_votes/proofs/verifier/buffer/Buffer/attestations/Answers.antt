@@ -1,5 +1,4 @@
-use Rattle.std.proofs.Common.{sym, ◌∙◌}
-use Rattle.batcher_votes.specs.BufferView.{subjects_of_runs}
+use Rattle.batcher_votes.proofs.Words.{sym, ◌∙◌, subjects_of_runs}
 use Rattle.batcher_votes.proofs.VerifierLemmas.Runs.{attestations_from}
 use Rattle.batcher_votes.proofs.verifier.buffer.Buffer.attestations.Goals as goal
 

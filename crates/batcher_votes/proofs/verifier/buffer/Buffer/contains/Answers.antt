@@ -1,6 +1,4 @@
-use Rattle.std.proofs.Common.{sym, ap, ◌∙◌, ◌==◌}
-use Rattle.std.specs.List.{list_any}
-use Rattle.batcher_votes.specs.BufferView.{subjects_of_runs}
+use Rattle.batcher_votes.proofs.Words.{sym, ap, ◌∙◌, ◌==◌, list_any, subjects_of_runs}
 use Rattle.batcher_votes.proofs.VerifierLemmas.Runs.{any-from}
 use Rattle.batcher_votes.proofs.verifier.buffer.Buffer.contains.Goals as goal
 

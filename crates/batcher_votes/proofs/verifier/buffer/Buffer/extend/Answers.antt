@@ -1,5 +1,4 @@
-use Rattle.std.proofs.Common.{◌≡◌, ◌++◌, length, replicate, rules}
-use Rattle.batcher_votes.specs.BufferView.{subjects_of_runs}
+use Rattle.batcher_votes.proofs.Words.{◌≡◌, ◌++◌, length, replicate, rules, subjects_of_runs}
 use Rattle.batcher_votes.proofs.VerifierLemmas.Runs.{append-from, repeat-from, run_joins}
 use Rattle.batcher_votes.proofs.verifier.buffer.Buffer.extend.Goals as goal
 

@@ -1,6 +1,4 @@
-use Rattle.std.proofs.Common.{sym, ap, ◌∙◌}
-use Rattle.batcher_types.proofs.VoteLemmas.{same_subject-refl}
-use Rattle.batcher_votes.specs.BufferView.{one_subject_in, subjects_of_runs}
+use Rattle.batcher_votes.proofs.Words.{sym, ap, ◌∙◌, same_subject-refl, one_subject_in, subjects_of_runs}
 use Rattle.batcher_votes.proofs.VerifierLemmas.Runs.{one-from, one-subjects_of_runs}
 use Rattle.batcher_votes.proofs.verifier.buffer.Buffer.is_about_one.Goals as goal
 

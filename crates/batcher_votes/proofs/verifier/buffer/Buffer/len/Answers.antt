@@ -1,5 +1,4 @@
-use Rattle.std.proofs.Common.{arith}
-use Rattle.batcher_votes.specs.BufferView.{subjects_of_runs}
+use Rattle.batcher_votes.proofs.Words.{arith, subjects_of_runs}
 use Rattle.batcher_votes.proofs.VerifierLemmas.Runs.{length-from}
 use Rattle.batcher_votes.proofs.verifier.buffer.Buffer.len.Goals as goal
 

@@ -1,6 +1,4 @@
-use Rattle.std.proofs.Common.{◌≡◌, ◌++◌, ◌∷◌, [], rules}
-use Rattle.batcher_types.specs.Votes.{attestation_of}
-use Rattle.batcher_votes.specs.BufferView.{subjects_of_runs}
+use Rattle.batcher_votes.proofs.Words.{◌≡◌, ◌++◌, ◌∷◌, [], rules, attestation_of, subjects_of_runs}
 use Rattle.batcher_votes.proofs.VerifierLemmas.Runs.{push-from}
 use Rattle.batcher_votes.proofs.verifier.buffer.Buffer.push.Goals as goal
 

@@ -1,5 +1,4 @@
-use Rattle.std.proofs.Common.{◌≡◌, ◌≤◌, ◌++◌, Some, length, filter}
-use Rattle.batcher_types.specs.Votes.{is_eligible}
+use Rattle.batcher_votes.proofs.Words.{◌≡◌, ◌≤◌, ◌++◌, Some, length, filter, is_eligible}
 use Rattle.batcher_votes.proofs.verifier.buffer.Buffer.restore.Given as goal
 
 -- What is in the buffer and what is still to come are all of it, and there is room for what is to

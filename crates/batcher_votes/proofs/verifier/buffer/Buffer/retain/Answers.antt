@@ -1,5 +1,4 @@
-use Rattle.std.proofs.Common.{◌≡◌, length, vec_len, filter, arith}
-use Rattle.batcher_votes.specs.BufferView.{retained_attestations}
+use Rattle.batcher_votes.proofs.Words.{◌≡◌, length, vec_len, filter, arith, retained_attestations}
 use Rattle.batcher_votes.proofs.VerifierLemmas.Runs.{fitting_votes, length-retained_attestations, eligible_run, written_back}
 use Rattle.batcher_votes.proofs.verifier.buffer.Buffer.retain.Goals as goal
 

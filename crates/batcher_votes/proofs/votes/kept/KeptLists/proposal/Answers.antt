@@ -1,8 +1,4 @@
-use Rattle.std.proofs.Common.{◌≡◌, ◌∙◌, sym, ap, arith}
-use Rattle.std.proofs.lemmas.Grind.{common_steps}
-use Rattle.std.proofs.lemmas.Option.{gets}
-use Rattle.std.specs.Option.{option_copied}
-use Rattle.std.specs.List.{slice_get}
+use Rattle.batcher_votes.proofs.Words.{◌≡◌, ◌∙◌, sym, ap, arith, common_steps, gets, option_copied, slice_get}
 use Rattle.batcher_votes.proofs.TrackerLemmas.KeptLists.{none_carried, finalize_carried}
 use Rattle.batcher_votes.proofs.votes.kept.KeptLists.proposal.Goals as goal
 

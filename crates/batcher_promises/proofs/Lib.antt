@@ -1,9 +1,0 @@
-pub mod Runs
-pub mod Headline
-pub mod AnswerFacts
-pub mod Quorums
-pub mod Certificates
-pub mod Blocks
-pub mod Order
-pub mod Pairs
-pub mod Examples
