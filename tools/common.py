@@ -1,13 +1,20 @@
-"""What the tools in Python share: the crates, whether one was proved as it is now, and rt itself."""
+"""What the tools share: the crates, whether one was proved as it is now, how checks are counted, and rt itself."""
+import collections
+import contextlib
 import hashlib
 import html
 import importlib.machinery
 import importlib.util
 import os
+import re
 import shutil
+import subprocess
 import sys
+import tempfile
 
 TOP = os.path.dirname(os.path.dirname(os.path.realpath(__file__)))
+# What the programs end with where their output can't be written.
+CANNOT_WRITE = 4
 
 
 def say(text):
@@ -19,12 +26,57 @@ def say(text):
             pass
 
 
-def has_rt():
-    """Whether rt is on the path. It says so where it isn't."""
-    if shutil.which("rt"):
-        return True
-    say("rt is not on the path: it comes with the kit that README.md names; 'rt version' shows that it is there")
-    return False
+# Of each command who needs it, and what brings it.
+NEEDED = {
+    "rt": "it comes with the kit that README.md names; 'rt version' shows that it is there",
+    "cc": "tools/refuse, tools/memory and tools/rust need a C compiler of that name (README.md)",
+    "cargo": "tools/rust builds the crate with it; Debian has it as the package cargo, and it has to be 1.85 or later",
+    "valgrind": "tools/instructions counts by it; Debian has it as the package valgrind",
+}
+
+
+def has(*commands):
+    """Whether these commands are on the path. It says of each that isn't who needs it."""
+    missing = [it for it in commands if not shutil.which(it)]
+    for it in missing:
+        say(f"{it} is not on the path: {NEEDED[it]}")
+    return not missing
+
+
+class Count:
+    """What passed and what failed. The last line of a tool says so."""
+
+    def __init__(self, tool):
+        self.tool, self.passed, self.failed, self.unmet = tool, 0, 0, ""
+
+    def add(self, holds, what):
+        """Counts a check, and says what it was where it failed."""
+        self.passed += bool(holds)
+        self.failed += not holds
+        if not holds:
+            print(f"{self.tool}: {what}", flush=True)
+
+    def take(self, *command, env=None):
+        """Runs a tool whose last line is 'N passed, M failed', and adds up what it counts. Of one that failed the last
+        lines are kept."""
+        last = collections.deque(maxlen=20)
+        with subprocess.Popen(command, stdout=subprocess.PIPE, text=True, errors="replace", env=env) as ran:
+            for line in ran.stdout:
+                print(line, end="", flush=True)
+                last.append(line.rstrip("\n")[:300])
+        counted = re.fullmatch(r"(\d+) passed, (\d+) failed", last[-1] if last else "")
+        if not counted:
+            print(f"{command[0]} did not end in a count")
+        passed, failed = map(int, counted.groups()) if counted else (0, 1)
+        self.passed += passed
+        self.failed += failed
+        if failed:
+            self.unmet += "\n".join([f"== {os.path.basename(command[0])} failed; its last lines:", *last, ""])
+
+    def end(self):
+        """Says the last line, and gives the status of the tool."""
+        print(f"{self.passed} passed, {self.failed} failed", flush=True)
+        return 1 if self.failed else 0
 
 
 # What the tools take of the kit's own script, and of its module rtlib.
@@ -150,3 +202,53 @@ def note_proved(crate, sources):
 
 def processors():
     return len(os.sched_getaffinity(0))
+
+
+def brought_up_to_date(*crates):
+    """The programs of these crates, proved as they are now. Where one isn't proved, this ends."""
+    if subprocess.run([f"{TOP}/tools/prove", *crates]).returncode:
+        sys.exit(1)
+    return [program_of(it) for it in crates]
+
+
+def takes_streams():
+    """Gives whether standard output is open. A standard stream that is closed is opened to nothing, so that no file that
+    is opened later comes to be one."""
+    is_open = True
+    for number in (0, 1, 2):
+        try:
+            os.fstat(number)
+        except OSError:
+            # It gets the lowest number that is free.
+            os.open(os.devnull, os.O_RDWR)
+            is_open = is_open and number != 1
+    return is_open
+
+
+def hand_on(printed, can_print):
+    """Writes what was printed to standard output, and gives whether that went well."""
+    try:
+        while block := printed.read(1 << 16):
+            if not can_print:
+                return False
+            while block:
+                block = block[os.write(1, block):]
+        return True
+    except OSError:
+        return False
+
+
+@contextlib.contextmanager
+def preloaded(source):
+    """An environment in which a source in C of this folder is loaded into a program before the C library."""
+    with tempfile.TemporaryDirectory() as scratch:
+        made = f"{scratch}/made.so"
+        subprocess.run(["cc", "-O2", "-shared", "-fPIC", "-o", made, f"{TOP}/tools/{source}"], check=True)
+        yield {**os.environ, "LD_PRELOAD": made}
+
+
+def rows_of(program, words):
+    """The rows that the benchmark prints, in words, of which the first five name it: those that have all these words."""
+    printed = subprocess.run([program], capture_output=True, text=True, check=True).stdout
+    rows = (line.split() for line in printed.splitlines()[1:])
+    return [row for row in rows if set(words) <= set(row[:5])]
