@@ -80,7 +80,7 @@ class Count:
 
 
 # What the tools take of the kit's own script, and of its module rtlib.
-OF_RT = ["checked", "edits_of", "free", "must_fail", "processors", "read_edit", "unread"]
+OF_RT = ["checked", "edits_of", "free", "linked", "must_fail", "processors", "read_edit", "seeded", "unread"]
 OF_RTLIB = ["ALLOW_C", "KIT", "RATTLE", "STALE", "blanked", "crates_below", "guarded", "lock"]
 
 
