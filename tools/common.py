@@ -238,13 +238,18 @@ def hand_on(printed, can_print):
         return False
 
 
+def made_shared(source, folder):
+    """What a source in C of this folder is compiled to there, to be loaded into a program before the C library."""
+    made = f"{folder}/{source}.so"
+    subprocess.run(["cc", "-O2", "-shared", "-fPIC", "-o", made, f"{TOP}/tools/{source}", "-ldl"], check=True)
+    return made
+
+
 @contextlib.contextmanager
 def preloaded(source):
-    """An environment in which a source in C of this folder is loaded into a program before the C library."""
+    """An environment in which it is."""
     with tempfile.TemporaryDirectory() as scratch:
-        made = f"{scratch}/made.so"
-        subprocess.run(["cc", "-O2", "-shared", "-fPIC", "-o", made, f"{TOP}/tools/{source}"], check=True)
-        yield {**os.environ, "LD_PRELOAD": made}
+        yield {**os.environ, "LD_PRELOAD": made_shared(source, scratch)}
 
 
 def rows_of(program, words):
