@@ -4,8 +4,10 @@
 # make demo [SEED=n]       plays a network of validators, four of them faulty, and draws it; without a seed, of 1
 # make prove               proves and builds these programs, which are played unproved until then
 # make bench               proves the benchmark, plays its rows and takes their time
+# make check               plays scripts, networks and tests unproved, in a few minutes
 # make quick               proves what has changed, and plays all scripts
 # make rust                tests the interfaces for Rust and C, for which it takes cargo and cc
+# make simulate [SEED=n]   plays networks of validators in virtual time; with PRESET=name, of that sort
 # make test                proves everything and runs every test
 # make clean               removes all that rt has kept and built
 # make help                prints this list, as make does by itself
@@ -14,15 +16,16 @@
 export MAKEFILE_NAMED = $(value MAKEFILE_LIST)
 export SCRIPT_NAMED = $(value SCRIPT)
 export SEED_NAMED = $(value SEED)
+export PRESET_NAMED = $(value PRESET)
 # The folder in which make was called, also where -C leads elsewhere.
 export CALLED_IN = $(value PWD)
 # make would expand what it exports by itself.
-unexport SCRIPT SEED
+unexport SCRIPT SEED PRESET
 
 # make begins its list of files with a space.
 TOP = "$$(dirname "$${MAKEFILE_NAMED\# }")"
 
-.PHONY: help run hello audit demo prove bench quick rust test clean
+.PHONY: help run hello audit demo prove bench check quick rust simulate test clean
 
 # The list at the top is what it prints.
 help:
@@ -46,14 +49,20 @@ prove:
 bench:
 	@$(TOP)/tools/prove batcher_bench && $(TOP)/crates/batcher_bench/out/batcher_bench time
 
+check:
+	@$(TOP)/tools/check
+
 quick:
 	@$(TOP)/tools/quick
 
 rust:
 	@$(TOP)/tools/rust
 
+simulate:
+	@$(TOP)/tools/simulate $${SEED_NAMED:+"$$SEED_NAMED"} $${PRESET_NAMED:+"$$PRESET_NAMED"}
+
 test:
 	@$(TOP)/tools/test
 
 clean:
-	@rm -rf $(TOP)/crates/*/out $(TOP)/rust/target $(TOP)/rust/validator/target $(TOP)/out
+	@rm -rf $(TOP)/crates/*/out $(TOP)/rust/target $(TOP)/rust/validator/target $(TOP)/rust/simulator/target $(TOP)/out

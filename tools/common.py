@@ -1,10 +1,8 @@
-"""What the tools share: the crates, whether one was proved as it is now, how checks are counted, and rt itself."""
+"""What the tools share: the crates, whether one was proved as it is now, and how checks are counted."""
 import collections
 import contextlib
 import hashlib
 import html
-import importlib.machinery
-import importlib.util
 import os
 import re
 import shutil
@@ -30,9 +28,24 @@ def say(text):
 NEEDED = {
     "rt": "it comes with the kit that README.md names; 'rt version' shows that it is there",
     "cc": "tools/refuse, tools/memory and tools/rust need a C compiler of that name (README.md)",
-    "cargo": "tools/rust builds the crate with it; Debian has it as the package cargo, and it has to be 1.85 or later",
+    "cargo": "tools/rust and tools/simulate build the crate with it; Debian has it as the package cargo, and it has to be 1.85 or later",
     "valgrind": "tools/instructions counts by it; Debian has it as the package valgrind",
 }
+
+
+def logic_in(text):
+    """The logic that a text names, as a kit's line of its version does."""
+    found = re.search(r"\blogic `?([0-9a-f]{16})\b", text)
+    return found[1] if found else None
+
+
+def say_other_logic():
+    """Says so where the kit is of another logic than README.md names: what is proved by the one may not be by the other."""
+    with open(f"{TOP}/README.md", encoding="utf-8") as it:
+        wanted = logic_in(it.read())
+    here = subprocess.run(["rt", "version"], capture_output=True, text=True, check=False).stdout.strip()
+    if logic_in(here) != wanted:
+        say(f"this kit is {here or 'without a version'}, and README.md names logic {wanted}: a proof may fail here")
 
 
 def has(*commands):
@@ -40,6 +53,8 @@ def has(*commands):
     missing = [it for it in commands if not shutil.which(it)]
     for it in missing:
         say(f"{it} is not on the path: {NEEDED[it]}")
+    if "rt" in commands and "rt" not in missing:
+        say_other_logic()
     return not missing
 
 
@@ -56,47 +71,33 @@ class Count:
         if not holds:
             print(f"{self.tool}: {what}", flush=True)
 
-    def take(self, *command, env=None):
-        """Runs a tool whose last line is 'N passed, M failed', and adds up what it counts. Of one that failed the last
-        lines are kept."""
+    def take(self, *command, heard=None):
+        """Runs a tool whose last line is 'N passed, M failed', and adds up what it counts. Each line is handed to 'heard'."""
         last = collections.deque(maxlen=20)
-        with subprocess.Popen(command, stdout=subprocess.PIPE, text=True, errors="replace", env=env) as ran:
+        with subprocess.Popen(command, stdout=subprocess.PIPE, text=True, errors="replace") as ran:
             for line in ran.stdout:
                 print(line, end="", flush=True)
-                last.append(line.rstrip("\n")[:300])
+                last.append(line.rstrip("\n"))
+                if heard:
+                    heard(line)
+        self.take_lines(os.path.basename(command[0]), last)
+
+    def take_lines(self, tool, lines):
+        """Adds up what a tool counted, by its last line. Of one that failed the last lines are kept."""
+        last = [it[:300] for it in [*lines][-20:]]
         counted = re.fullmatch(r"(\d+) passed, (\d+) failed", last[-1] if last else "")
         if not counted:
-            print(f"{command[0]} did not end in a count")
+            print(f"{tool} did not end in a count")
         passed, failed = map(int, counted.groups()) if counted else (0, 1)
         self.passed += passed
         self.failed += failed
         if failed:
-            self.unmet += "\n".join([f"== {os.path.basename(command[0])} failed; its last lines:", *last, ""])
+            self.unmet += "\n".join([f"== {tool} failed; its last lines:", *last, ""])
 
     def end(self):
         """Says the last line, and gives the status of the tool."""
         print(f"{self.passed} passed, {self.failed} failed", flush=True)
         return 1 if self.failed else 0
-
-
-# What the tools take of the kit's own script, and of its module rtlib.
-OF_RT = ["checked", "edits_of", "free", "linked", "must_fail", "processors", "read_edit", "seeded", "unread"]
-OF_RTLIB = ["ALLOW_C", "KIT", "RATTLE", "STALE", "blanked", "crates_below", "guarded", "lock"]
-
-
-def load_rt():
-    """The kit's rt as a module, so that what rt does is done by its own code. Says what of it another kit doesn't have."""
-    path = shutil.which("rt")
-    if path is None:
-        sys.exit("rt is not on the path: it comes with the kit that README.md names")
-    loader = importlib.machinery.SourceFileLoader("rt", os.path.realpath(path))
-    module = importlib.util.module_from_spec(importlib.util.spec_from_loader("rt", loader))
-    loader.exec_module(module)
-    gone = [it for it in OF_RT if not hasattr(module, it)]
-    gone += [f"rtlib.{it}" for it in OF_RTLIB if not hasattr(module.rtlib, it)]
-    if gone:
-        sys.exit(f"this kit's rt has no {', '.join(gone)}, which tools/edits and tools/archive take: README.md names the kit")
-    return module
 
 
 def drawn_text(x, y, said, more=""):
@@ -116,15 +117,22 @@ def folder_of(crate):
     return f"{TOP}/crates/{crate}"
 
 
-def dependencies():
-    """Each crate with those of the repository that it lists in crates.txt."""
-    lines = {}
+def listed():
+    """Each crate of crates.txt with the words behind its name, and the libraries that it lists."""
+    found = {}
     with open(f"{TOP}/crates.txt", encoding="utf-8") as file:
         for line in file:
-            name, found, listed = line.partition("#")[0].partition(":")
-            if found:
-                lines[name.split()[0]] = listed.split()
-    return {name: [it for it in listed if it in lines] for name, listed in lines.items()}
+            names, colon, libraries = line.partition("#")[0].partition(":")
+            if colon:
+                name, *words = names.split()
+                found[name] = words, libraries.split()
+    return found
+
+
+def dependencies():
+    """Each crate with those of the repository that it lists in crates.txt."""
+    lines = listed()
+    return {name: [it for it in libraries if it in lines] for name, (_, libraries) in lines.items()}
 
 
 def with_libraries(crates):
@@ -250,6 +258,22 @@ def preloaded(source):
     """An environment in which it is."""
     with tempfile.TemporaryDirectory() as scratch:
         yield {**os.environ, "LD_PRELOAD": made_shared(source, scratch)}
+
+
+def static_library():
+    """The static library libbatcher_ffi.a: the one that BATCHER_LIB names, itself or its folder, or that of this
+    repository, which is brought up to date first. None where it can't be had."""
+    named = os.environ.get("BATCHER_LIB")
+    if named is None:
+        if subprocess.run([f"{TOP}/tools/prove", "batcher_ffi"], check=False).returncode:
+            return None
+        named = f"{TOP}/crates/batcher_ffi/out"
+    named = os.path.abspath(named)
+    file = named if named.endswith(".a") else f"{named}/libbatcher_ffi.a"
+    if os.path.isfile(file):
+        return file
+    say(f"there is no {file}")
+    return None
 
 
 def rows_of(program, words):
