@@ -1,10 +1,11 @@
 //! A log in memory, for whoever writes it down elsewhere.
 
-ghost use Rattle.std.specs.Prelude.{◌≡◌, ◌≢◌, ◌++◌, [], IfSome, MatchBool, None};
-ghost use Rattle.batcher_bytes.specs.Copies.{all_copied};
+ghost use Rattle.std.specs.Option.{option_map};
+ghost use Rattle.std.specs.Prelude.{◌≡◌, ◌≢◌, ◌++◌, [], IfOk, IfSome, MatchBool, None};
+ghost use Rattle.batcher_bytes.specs.Copies.{is_done_in, is_given};
 
 use crate::{Log, LogFault};
-use std::alloc::Global;
+use std::alloc::{AllocError, Global};
 use std::marker::Model;
 
 /// What a copy lacks.
@@ -15,8 +16,10 @@ pub struct Owed<'a> {
     pub bytes: &'a [u8],
 }
 
-/// Bytes in memory of which somebody else keeps a copy. They are taken to outlive a crash, so the
-/// copy is brought up to date before anything else is done.
+/// Bytes in memory of which somebody else keeps a copy, to which he writes. They are taken to
+/// outlive a crash, so the copy is brought up to date before anything is done that rests on them.
+///
+/// One write is under way at a time: what comes meanwhile is given with the next one.
 #[derive(Drop)]
 pub struct CopiedLog {
     bytes: Vec<u8>,
@@ -24,6 +27,12 @@ pub struct CopiedLog {
     copied: usize,
     // .. unless it has others.
     others: Option<Vec<u8>>,
+    // The number of the write that is under way.
+    under_way: Option<u64>,
+    // How many of the bytes the copy has by that write, ..
+    given: usize,
+    // .. unless it has others then.
+    between: Option<Vec<u8>>,
 }
 
 impl Model for CopiedLog {
@@ -35,42 +44,54 @@ impl Model for CopiedLog {
 
     ghost view = { λ l. record {
       bytes = l.bytes.items;
-      copy = copy_in (option_map (λ v. v.items) l.others) l.copied l.bytes.items;
+      copy = record {
+        lasting = copy_in (option_map (λ v. v.items) l.others) l.copied l.bytes.items;
+        under_way = option_map (λ number.
+          (number, copy_in (option_map (λ v. v.items) l.between) l.given l.bytes.items))
+          l.under_way;
+      };
     } };
 
-    ghost invariant = { λ l. l.copied ≤ length l.bytes.items };
+    ghost invariant = { λ l. (l.copied ≤ length l.bytes.items)
+      × (l.given ≤ length l.bytes.items) };
 }
 
 impl CopiedLog {
     /// No bytes, and nobody has any.
     pub fn new(alloc: Global) -> Self
         ensures bytes { result.bytes ≡ [] }
-        ensures copy { result.copy ≡ [] }
+        ensures copy { result.copy ≡ record { lasting = []; under_way = None } }
     {
         CopiedLog {
             bytes: Vec::new(alloc),
             copied: 0,
             others: None,
+            under_way: None,
+            given: 0,
+            between: None,
         }
     }
 
     /// Bytes of which there is a copy.
     pub fn of(bytes: Vec<u8>) -> Self
         ensures bytes { result.bytes ≡ bytes.items }
-        ensures copy { result.copy ≡ bytes.items }
+        ensures copy { result.copy ≡ record { lasting = bytes.items; under_way = None } }
     {
         let copied = bytes.len();
         CopiedLog {
             bytes,
             copied,
             others: None,
+            under_way: None,
+            given: 0,
+            between: None,
         }
     }
 
     /// Whether the copy lacks something.
     pub fn owes(&self) -> bool
-        ensures { MatchBool result (self.now.copy ≢ self.now.bytes)
-            (self.now.copy ≡ self.now.bytes) }
+        ensures { MatchBool result (self.now.copy.lasting ≢ self.now.bytes)
+            (self.now.copy.lasting ≡ self.now.bytes) }
     {
         match &self.others {
             Some(others) => *others != self.bytes,
@@ -78,13 +99,36 @@ impl CopiedLog {
         }
     }
 
-    /// What the copy lacks.
+    /// The number of the write that is under way.
+    pub fn under_way(&self) -> Option<u64>
+        ensures { result ≡ option_map (λ it. it.0) self.now.copy.under_way }
+    {
+        self.under_way
+    }
+
+    /// What the copy lacks, where no write is under way.
     pub fn owed(&self) -> Option<Owed<'_>>
         ensures some { IfSome result (λ owed. MatchBool owed.replaces
             (owed.bytes.now ≡ self.now.bytes)
-            (self.now.copy ++ owed.bytes.now ≡ self.now.bytes)) }
-        ensures lacks { IfSome result (λ owed. self.now.copy ≢ self.now.bytes) }
-        ensures none { result ≡ None → self.now.copy ≡ self.now.bytes }
+            (self.now.copy.lasting ++ owed.bytes.now ≡ self.now.bytes)) }
+        ensures lacks { IfSome result (λ owed. self.now.copy.lasting ≢ self.now.bytes) }
+        ensures waits { IfSome result (λ owed. self.now.copy.under_way ≡ None) }
+        ensures none { result ≡ None → self.now.copy.under_way ≡ None
+            → self.now.copy.lasting ≡ self.now.bytes }
+    {
+        match self.under_way {
+            Some(_) => None,
+            None => self.lacking(),
+        }
+    }
+
+    // What the copy lacks.
+    fn lacking(&self) -> Option<Owed<'_>>
+        ensures some { IfSome result (λ owed. MatchBool owed.replaces
+            (owed.bytes.now ≡ self.now.bytes)
+            (self.now.copy.lasting ++ owed.bytes.now ≡ self.now.bytes)) }
+        ensures lacks { IfSome result (λ owed. self.now.copy.lasting ≢ self.now.bytes) }
+        ensures none { result ≡ None → self.now.copy.lasting ≡ self.now.bytes }
     {
         if !self.owes() {
             return None;
@@ -101,16 +145,57 @@ impl CopiedLog {
         }
     }
 
-    /// The copy lacks nothing any more.
-    pub fn note_copied(&mut self)
-        ensures { self.new ≡ all_copied self.old }
+    /// A write of all that the copy lacks is under way, by this number.
+    pub fn note_given(&mut self, number: u64)
+        ensures { self.new ≡ is_given number self.old }
     {
-        self.copied = self.bytes.len();
-        self.others = None;
+        self.under_way = Some(number);
+        self.given = self.bytes.len();
+        self.between = None;
     }
 
-    // Other bytes take the place of all, and the copy stays.
-    fn put(&mut self, bytes: Vec<u8>)
+    /// The write that was under way is done: the copy has what it had then, and no more.
+    pub fn note_done(&mut self)
+        ensures { self.new ≡ is_done_in self.old }
+    {
+        match self.under_way {
+            Some(_) => {
+                self.copied = self.given;
+                self.others = self.between.take();
+                self.under_way = None;
+            }
+            None => {}
+        }
+    }
+
+    // What the write that is under way leaves, on its own.
+    fn given(&self) -> Result<Option<Vec<u8>>, AllocError>
+        ensures { IfOk result (λ kept. option_map (λ v. v.items) kept
+            ≡ option_map (λ it. it.1) self.now.copy.under_way) }
+    {
+        match self.under_way {
+            Some(_) => {
+                let mut kept = Vec::new(*self.bytes.allocator());
+                kept.extend_from_slice(self.given_bytes())?;
+                Ok(Some(kept))
+            }
+            None => Ok(None),
+        }
+    }
+
+    fn given_bytes(&self) -> &[u8]
+        ensures { IfSome self.now.copy.under_way (λ it. result.now ≡ it.1) }
+    {
+        match &self.between {
+            Some(between) => between,
+            None => &self.bytes[..self.given],
+        }
+    }
+
+    // Other bytes take the place of all. The copy stays, and so does what is under way.
+    fn put(&mut self, bytes: Vec<u8>, kept: Option<Vec<u8>>)
+        requires { option_map (λ v. v.items) kept
+            ≡ option_map (λ it. it.1) self.old.copy.under_way }
         ensures bytes { self.new.bytes ≡ bytes.items }
         ensures copy { self.new.copy ≡ self.old.copy }
     {
@@ -126,6 +211,8 @@ impl CopiedLog {
             }
         }
         self.copied = 0;
+        self.between = kept;
+        self.given = 0;
     }
 }
 
@@ -162,10 +249,13 @@ impl Log for CopiedLog {
     fn replace(&mut self, bytes: &[u8]) -> Result<(), LogFault> {
         let mut others = Vec::new(*self.bytes.allocator());
         match others.extend_from_slice(bytes) {
-            Ok(()) => {
-                self.put(others);
-                Ok(())
-            }
+            Ok(()) => match self.given() {
+                Ok(kept) => {
+                    self.put(others, kept);
+                    Ok(())
+                }
+                Err(_) => Err(LogFault::OutOfMemory),
+            },
             Err(_) => Err(LogFault::OutOfMemory),
         }
     }

@@ -6,7 +6,7 @@ ghost use Rattle.batcher_bytes.specs.Encodings.{flag_format, proof_format, proof
 ghost use Rattle.batcher_bytes.specs.Encodings.{signature_format, signature_is_exact};
 
 use crate::proof::Proof;
-use crate::signature::{Signature, WIDTH};
+use crate::signature::{Signature, WIDTH, are_zeros};
 use crate::{Codec, DecodeError, DecodeFault, OwnedCodec, decode_bytes, encode_bytes};
 use batcher_types::messages::Subject;
 use std::alloc::{AllocError, Global};
@@ -26,8 +26,14 @@ impl Codec for Signature {
         let Some((length, rest)) = bytes.split_first() else {
             return Err(DecodeFault::Short);
         };
-        let (bytes, rest) = <[u8; WIDTH]>::decode(rest)?;
         let length = *length;
+        if length as usize > WIDTH {
+            return Err(DecodeFault::Malformed);
+        }
+        let (bytes, rest) = <[u8; WIDTH]>::decode(rest)?;
+        if !are_zeros(&bytes[length as usize..]) {
+            return Err(DecodeFault::Malformed);
+        }
         Ok((Signature { length, bytes }, rest))
     }
 }

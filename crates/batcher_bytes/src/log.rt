@@ -1,6 +1,7 @@
 //! Bytes that outlive a crash, to which more are added.
 
 ghost use Rattle.std.specs.Prelude.{◌≡◌, ◌≤◌, ◌⊎◌, ◌++◌, [], Err, List, OnOk, ℕ};
+ghost use Rattle.batcher_bytes.specs.Copies.{CopyView};
 ghost use Rattle.batcher_bytes.specs.declared.log.LogFault.TheVariants.{Failed, Full, OutOfMemory};
 
 use std::alloc::Global;
@@ -37,8 +38,8 @@ pub trait Log: Drop {
     /// Whether the disk has failed.
     ghost has_failed: { Self → Type 0 };
 
-    /// Whether these bytes are the copy of it that somebody else keeps. Where nobody does, any are.
-    ghost is_copied_as: { Self → List ℕ → Type 0 };
+    /// Whether this is the copy of it that somebody else keeps. Where nobody does, any is.
+    ghost is_copied_as: { Self → CopyView → Type 0 };
 
     /// Adds bytes at the end. At `Ok` they are on the disk.
     fn append(&mut self, bytes: &[u8]) -> Result<(), LogFault>
@@ -54,7 +55,7 @@ pub trait Log: Drop {
         // And that opens.
         ensures opens { is_honest self.new → may_lose self.new → ⊥ }
         ensures honest { is_honest self.new → is_honest self.old }
-        ensures copied { (copy : List ℕ) → is_copied_as self.old copy
+        ensures copied { (copy : CopyView) → is_copied_as self.old copy
             → is_copied_as self.new copy };
 
     /// Puts these bytes in the place of all others. At `Ok` they are on the disk.
@@ -69,7 +70,7 @@ pub trait Log: Drop {
             → (left ≡ written self.old) ⊎ (left ≡ bytes.now) }
         ensures opens { is_honest self.new → may_lose self.new → ⊥ }
         ensures honest { is_honest self.new → is_honest self.old }
-        ensures copied { (copy : List ℕ) → is_copied_as self.old copy
+        ensures copied { (copy : CopyView) → is_copied_as self.old copy
             → is_copied_as self.new copy };
 
     /// The bytes that are on the disk.

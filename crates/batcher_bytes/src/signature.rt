@@ -1,10 +1,11 @@
 //! Signatures as bytes.
 
 ghost use Rattle.std.specs.Prelude.{◌≡◌, ◌≤◌, true, is_some, length, IfSome};
-ghost use Rattle.batcher_bytes.specs.Signatures.{signature_of};
+ghost use Rattle.batcher_bytes.specs.Signatures.{are_zeros, signature_of};
 ghost use Rattle.batcher_bytes.specs.declared.signature.TheConstants.{WIDTH};
 
 use batcher_types::messages::Identical;
+use std::marker::Model;
 
 /// How many bytes a signature has at most: 96 are enough for Ed25519, and for both groups of BLS.
 pub const WIDTH: usize = 96;
@@ -15,6 +16,18 @@ pub const WIDTH: usize = 96;
 pub struct Signature {
     pub length: u8,
     pub bytes: [u8; WIDTH],
+}
+
+impl Model for Signature {
+    ghost use Rattle.batcher_bytes.specs.Signatures.{SignatureView, IsPadded};
+
+    ghost Value = { SignatureView };
+
+    ghost view = { λ s. record { length = s.length; bytes = s.bytes } };
+
+    ghost invariant = { λ s. IsPadded (record { length = s.length; bytes = s.bytes }) };
+
+    ghost inverse = { λ s. record { length = s.length; bytes = s.bytes } };
 }
 
 impl Signature {
@@ -33,6 +46,13 @@ impl Signature {
             bytes: padded,
         })
     }
+}
+
+// Whether all of these are zeros.
+pub(crate) fn are_zeros(bytes: &[u8]) -> bool
+    ensures { result ≡ are_zeros bytes.now }
+{
+    bytes.iter().all(|byte| *byte == 0)
 }
 
 impl Identical for Signature {

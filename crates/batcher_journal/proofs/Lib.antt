@@ -7,6 +7,7 @@ pub mod Indexing
 pub mod Following
 pub mod Splitting
 pub mod Writes
+pub mod Keeping
 pub mod Raises
 pub mod Lives
 pub mod Rounds

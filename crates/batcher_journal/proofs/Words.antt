@@ -1,10 +1,11 @@
 -- What proofs of this crate use of definitions, and of lemmas from below it.
 pub use Rattle.std.proofs.Common.{◌∙◌, ap, arith, get_or, inl, inr, refl, subst, sym, eqb, ltb, Fits, append_assoc, w8, rules}
-pub use Rattle.std.proofs.Math.Seq.{take-append-add}
+pub use Rattle.std.proofs.Math.Seq.{take-append-add, take-append_seam}
 pub use Rattle.std.proofs.lemmas.Bool.{cases_lt, cases_eq, eq-eqb, eqb-true, ltb-true, lt-ltb, ne_eqb, eqb-false}
 pub use Rattle.std.proofs.lemmas.Grind.{flat_map-append}
 pub use Rattle.std.proofs.lemmas.List.{get_or-append-add, get_or-append_right, get_or-take, get_or_append_left, get_or_default, length-append, length-take}
-pub use Rattle.std.proofs.lemmas.List.{take-append-le, take-take, take_all, length-drop, take-append-drop, take_more, append-nil, drop_all, flat_map_more}
+pub use Rattle.std.proofs.lemmas.List.{take-append-le, take-take, drop-take, take_all, length-drop, take-append-drop, take_more, append-nil, drop_all}
+pub use Rattle.std.proofs.lemmas.List.{flat_map_more}
 pub use Rattle.std.proofs.lemmas.List.Elements.{All-append, All-contains, All-nil, All-weaker, Contains-append_cases, Contains-append_left}
 pub use Rattle.std.proofs.lemmas.List.Elements.{Contains-append_right, All-cons, All-filter, filter_more}
 pub use Rattle.std.proofs.lemmas.List.Sorted.{IsPartitionPoint-from_clause}
@@ -25,7 +26,7 @@ pub use Rattle.batcher_journal.specs.Floors.{is_over, is_below, from_floor, cert
 pub use Rattle.batcher_journal.specs.Index.{AreByRounds, IsIndex, Points}
 pub use Rattle.batcher_journal.specs.Lives.{Asks, Breaks, BreaksRaising, Crashes, JournalEvent, IsKept, JournalLife, NeverContradicts, Opens, Raises, Step}
 pub use Rattle.batcher_journal.specs.Lives.{World, Writes, handed_after}
-pub use Rattle.batcher_journal.specs.Ready.{IsReady, first_of, left_by_floor, raised, with_more, RaiseLeaves, HasContents, WriteLeaves}
+pub use Rattle.batcher_journal.specs.Ready.{IsReady, JournalView, Keeps, first_of, left_by_floor, raised, with_more, RaiseLeaves, HasContents, WriteLeaves}
 pub use Rattle.batcher_journal.specs.Records.{AreRecords, Certified, Certifies, HasRecords, Record, Voted, certificates_of, certified_format, record_bytes}
 pub use Rattle.batcher_journal.specs.Records.{record_format, records_of, records_text, votes_of, record_at}
 pub use Rattle.batcher_journal.specs.Seen.{contents_of}

@@ -7,9 +7,11 @@ ghost use Rattle.batcher_journal.specs.Answers.{Answers, MayBeWrittenBehind};
 ghost use Rattle.batcher_journal.specs.Causes.{Cause, IsOneText};
 ghost use Rattle.batcher_journal.specs.Floors.{is_below};
 ghost use Rattle.batcher_journal.specs.Lives.{NeverContradicts};
-ghost use Rattle.batcher_journal.specs.Ready.{HasContents, IsAsBefore, IsOnDisk, Keeps};
+ghost use Rattle.batcher_journal.specs.Ready.{HasContents, IsAsBefore, IsOnDisk, JournalView};
+ghost use Rattle.batcher_journal.specs.Ready.{Keeps};
 ghost use Rattle.batcher_journal.specs.Ready.{RaiseLeaves, WriteLeaves, begun, raised, with_more};
-ghost use Rattle.batcher_journal.specs.Records.{AreRecords, records_of, records_text};
+ghost use Rattle.batcher_journal.specs.Records.{AreRecords, Certified as KeptBytes, records_of};
+ghost use Rattle.batcher_journal.specs.Records.{records_text};
 ghost use Rattle.batcher_journal.specs.Text.{IsText, fields_of};
 ghost use Rattle.batcher_journal.specs.declared.journal.BeginFault.TheVariants.{Failed as BeginFailed};
 ghost use Rattle.batcher_journal.specs.declared.journal.BeginFault.TheVariants.{OutOfMemory as BeginMemory};
@@ -25,7 +27,7 @@ ghost use Rattle.batcher_journal.specs.declared.journal.WriteFault.TheVariants.{
 ghost use Rattle.batcher_bytes.specs.declared.log.LogFault.TheVariants.{Failed as LogFailed};
 ghost use Rattle.batcher_bytes.specs.declared.log.LogFault.TheVariants.{Full as LogFull};
 ghost use Rattle.batcher_bytes.specs.declared.log.LogFault.TheVariants.{OutOfMemory as LogMemory};
-ghost use Rattle.batcher_bytes.specs.Copies.{KeepsCopy, all_copied};
+ghost use Rattle.batcher_bytes.specs.Copies.{KeepsCopy, is_done_in, is_given};
 
 use crate::asking::{answer_of, is_before, may_follow};
 use crate::contents::{Kept, Raised, first_text, kept_in, raise};
@@ -298,6 +300,18 @@ impl<G: Codec, D: Digest + Codec, L: Log> Journal<G, D, L> {
         Ok(())
     }
 
+    /// Takes back the certificate that was kept last: it isn't to be written any more.
+    pub fn take_back(&mut self)
+        ensures back { (before : JournalView G D L) (it : KeptBytes)
+            → Keeps before self.old it → self.new ≡ before }
+        ensures copied { KeepsCopy L.is_copied_as self.old.log self.new.log }
+    {
+        let len = self.kept.certificates.len();
+        if self.written < len {
+            self.kept.certificates.truncate(len - 1);
+        }
+    }
+
     /// What is to be done about a subject, before it is signed.
     pub fn ask(&self, subject: &Subject<D>) -> Answer<G, D>
         ensures { Answers D.eq self.now.contents.floor self.now.is_open self.now.contents.votes
@@ -455,11 +469,18 @@ impl<G: Codec, D: Digest + Codec, L: Log> Journal<G, D, L> {
 }
 
 impl<G: Codec, D: Digest + Codec> Journal<G, D, CopiedLog> {
-    /// The copy of its log lacks nothing any more.
-    pub fn note_copied(&mut self)
-        ensures { self.new ≡ record self.old { log = all_copied self.old.log } }
+    /// A write of all that the copy of its log lacks is under way, by this number.
+    pub fn note_given(&mut self, number: u64)
+        ensures { self.new ≡ record self.old { log = is_given number self.old.log } }
     {
-        self.log.note_copied();
+        self.log.note_given(number);
+    }
+
+    /// The write of its log that was under way is done.
+    pub fn note_done(&mut self)
+        ensures { self.new ≡ record self.old { log = is_done_in self.old.log } }
+    {
+        self.log.note_done();
     }
 }
 

@@ -2,7 +2,7 @@
 
 use batcher::messages::Attestation;
 use batcher::positions::Participant;
-use batcher_bytes::{Keys, Signature, Truth, WIDTH};
+use batcher_bytes::{Keys, Signature, Truth};
 
 /// The truth of marks.
 #[derive(Clone, Copy)]
@@ -20,10 +20,8 @@ impl Truth for Marked {
 
 /// A signature by the keys, whatever it is of.
 pub fn sign(signer: Participant, keys: Keys) -> Attestation<Signature> {
-    let mut bytes = [0u8; WIDTH];
-    bytes[0] = keys.0[0];
-    Attestation {
-        signer,
-        signature: Signature { length: 1, bytes },
+    match Signature::new(&keys.0[..1]) {
+        Some(signature) => Attestation { signer, signature },
+        None => unreachable!(),
     }
 }
