@@ -128,30 +128,32 @@ same_config meaning compare same_signature same_digest old new same =
     rw (same.0, same.1, same.2) refl
 
 the_voter : {S G D L : Type 0} → NodeView S G D → JournalView G D L → KnowledgeView D
-    → VoterView S G D L
-the_voter node journal knowledge =
-    record { node = node; journal = journal; knowledge = knowledge }
+    → Option (Subject D) → VoterView S G D L
+the_voter node journal knowledge waits =
+    record { node = node; journal = journal; knowledge = knowledge; waits = waits }
 
-same_voter :
+pub same_voter :
     {S G D L : Type 0} (old new : VoterView S G D L) → new.node ≡ old.node
-    → new.journal ≡ old.journal → new.knowledge ≡ old.knowledge → new ≡ old
+    → new.journal ≡ old.journal → new.knowledge ≡ old.knowledge → new.waits ≡ old.waits
+    → new ≡ old
 unfolding the_voter
-same_voter old new node journal knowledge =
-    ap (λ n. the_voter n new.journal new.knowledge) node
-    ∙ ap (λ j. the_voter old.node j new.knowledge) journal
-    ∙ ap (λ k. the_voter old.node old.journal k) knowledge
+same_voter old new node journal knowledge waits =
+    ap (λ n. the_voter n new.journal new.knowledge new.waits) node
+    ∙ ap (λ j. the_voter old.node j new.knowledge new.waits) journal
+    ∙ ap (λ k. the_voter old.node old.journal k new.waits) knowledge
+    ∙ ap (λ w. the_voter old.node old.journal old.knowledge w) waits
 
 -- a proposal is handed on
 module _ {S D K G C L : Type 0} (x : NodeConfig D K G C) (old new : VoterView S G D L) (view : ℕ)
     (me : Participant) (given : Option (Proposal D)) (journal : new.journal ≡ old.journal)
-    (knowledge : new.knowledge ≡ old.knowledge) where
+    (knowledge : new.knowledge ≡ old.knowledge) (waits : new.waits ≡ old.waits) where
   by_slot :
       {X : Type 0} (slot : Option X)
       → MatchOption slot ((given ≡ None) × (new.node ≡ old.node))
       (λ s. NodeMeets x old.node (proposal_forwarded view me given) new.node)
       → MatchOption slot ((given ≡ None) × (new ≡ old))
       (λ s. VoterMeets x old new (proposal_forwarded view me given))
-  by_slot None it = (it.0, same_voter old new it.1 journal knowledge)
+  by_slot None it = (it.0, same_voter old new it.1 journal knowledge waits)
   by_slot (Some s) meets =
       quiet x old new (proposal_forwarded view me given) meets
       (ap (λ (j : JournalView G D L). j.contents) journal)

@@ -8,6 +8,9 @@ pub mod Windowed
 mod Voting
 mod Noding
 mod Calling
+pub mod Keeping
+mod Waiting
+mod Verifying
 mod Given
 mod Finalizing
 mod Beginning

@@ -1,5 +1,6 @@
 pub mod Knowledge
 pub mod Remembering
+pub mod Keeping
 pub mod Voting
 pub mod Refusals
 pub mod Needing

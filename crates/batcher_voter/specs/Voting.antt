@@ -48,6 +48,8 @@ pub record VoterView (S G D L : Type 0) : Type 0 where
   pub node : NodeView S G D
   pub journal : JournalView G D L
   pub knowledge : KnowledgeView D
+  -- the subject of a certificate that is known, and that there was no memory to keep
+  pub waits : Option (Subject D)
 
 -- What each voter keeps true: its node, its journal and its knowledge begin with one view.
 pub record BeginWithOneView {S G D L : Type 0} (voter : VoterView S G D L) : Type 0 where

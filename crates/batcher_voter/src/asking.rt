@@ -21,13 +21,14 @@ use crate::voter::Voter;
 use batcher::messages::{Digest, Identical, Proposal, Subject};
 use batcher::positions::{Round, View};
 use batcher::scheme::Scheme;
-use batcher_bytes::{Codec, Log};
+use batcher_bytes::{Codec, Log, OwnedCodec};
 use batcher_journal::Answer;
 use batcher_node::NodeConfigs;
 
 impl<S: Scheme<D>, D: Digest + Codec, L: Log> Voter<S, D, L>
 where
     S::Signature: Codec + Identical,
+    S::Certificate: OwnedCodec,
 {
     /// What is to be done about a vote for a subject, before it is signed.
     pub fn ask(&self, subject: &Subject<D>) -> Permission<S::Signature, D>

@@ -1,7 +1,7 @@
 //! The calls of a voter's node, and what is learned by them.
 
-ghost use Rattle.std.specs.Prelude.{◌≡◌, ◌<◌, Err, IfNone, IfOk, IfSome, None, Ok, OnErr, OnOk};
-ghost use Rattle.std.specs.Prelude.{option_and_then, true, false};
+ghost use Rattle.std.specs.Prelude.{◌≡◌, ◌≢◌, ◌<◌, ◌≤◌, Err, IfNone, IfOk, IfSome, MatchBool, None};
+ghost use Rattle.std.specs.Prelude.{Ok, OnErr, OnOk, Some, is_some, option_and_then, true, false};
 ghost use Rattle.std.specs.Option.{option_copied};
 ghost use Rattle.batcher.specs.Votes.{round_in, subject_certified, subject_of};
 ghost use Rattle.batcher_node.specs.Events.{certificate_came, constructed, view_entered, vote_came};
@@ -13,6 +13,12 @@ ghost use Rattle.batcher.specs.Verifiers.{certifies_itself};
 ghost use Rattle.batcher.specs.calls.Call.TheVariants.{Certificate as CertificateCall};
 ghost use Rattle.batcher.specs.calls.Call.TheVariants.{Network as NetworkCall};
 ghost use Rattle.batcher_node.specs.Windows.{is_of};
+ghost use Rattle.batcher.specs.messages.Subject.{Subject as TheSubject};
+ghost use Rattle.batcher_bytes.specs.Messages.{certificate_format, versioned};
+ghost use Rattle.batcher_journal.specs.Ready.{JournalView, Keeps};
+ghost use Rattle.batcher_journal.specs.Records.{Certified};
+ghost use Rattle.batcher_voter.specs.Keeping.{IsKeptAmong, IsKnownAlready, IsSafelyKept, kept_for};
+ghost use Rattle.batcher_voter.specs.Keeping.{KeptNeedlessly, WaitsFor};
 ghost use Rattle.batcher_voter.specs.Knowledge.{HasRoom, SameKnowledge, Learns};
 ghost use Rattle.batcher_voter.specs.Needing.{CertificateNeeds, ConstructionNeeds};
 ghost use Rattle.batcher_voter.specs.Voting.{IsOfItsView, VoterMeets, VoterStays, was_recorded};
@@ -21,7 +27,7 @@ ghost use Rattle.batcher_bytes.specs.Copies.{KeepsCopy};
 
 use crate::voter::Voter;
 use batcher::messages::{Certificate, Digest, Identical, Proposal, Subject, Vote};
-use batcher::positions::{Participant, View};
+use batcher::positions::{Participant, Round, View};
 use batcher::round::Admission;
 use batcher::scheme::Scheme;
 use batcher_bytes::{Codec, Log, OwnedCodec, encode_owned};
@@ -145,13 +151,14 @@ where
         ensures same { SameNode self.old.node self.new.node }
         ensures journal { self.new.journal ≡ self.old.journal }
         ensures knowledge { self.new.knowledge ≡ self.old.knowledge }
+        ensures waits { self.new.waits ≡ self.old.waits }
     {
         self.node.promises();
         self.node.try_forward_proposal(view, me)
     }
 
-    /// Takes in a certificate that a peer sent, as the node does. What the node records is learned,
-    /// so room for it is made first.
+    /// Takes in a certificate that a peer sent, as the node does. What the node records is learned
+    /// and kept for the disk, so there is room for it first. What can't be kept isn't learned.
     pub fn receive_certificate(
         &mut self,
         peer: S::PublicKey,
@@ -195,6 +202,44 @@ where
         ensures meets { IfOk result (λ receipt. VoterMeets
             (⟦<S as NodeConfigs<D>>⟧.of self.old.node) self.old self.new
             (certificate_came peer certificate.now receipt)) }
+        ensures heard { OnErr result (
+            IsKnownAlready self.old.knowledge (subject_certified certificate.now)
+            → IsHeard (⟦<S as NodeConfigs<D>>⟧.of self.old.node)
+            self.old.node peer (round_in (subject_certified certificate.now))) }
+        ensures certifies { OnErr result (
+            IsKnownAlready self.old.knowledge (subject_certified certificate.now)
+            → certifies_itself (S.meaning self.old.node.scheme) certificate.now ≡ true) }
+        ensures needed { OnErr result (
+            IsKnownAlready self.old.knowledge (subject_certified certificate.now)
+            → MayNeedIn (⟦<S as NodeConfigs<D>>⟧.of self.old.node)
+            self.old.node (round_in (subject_certified certificate.now)).view.0
+            (CertificateCall certificate.now)) }
+        ensures refused { OnErr result (self.new ≡ self.old) }
+        ensures same { SameNode self.old.node self.new.node }
+        ensures contents { self.new.journal.contents ≡ self.old.journal.contents }
+        ensures open { self.new.journal.is_open ≡ self.old.journal.is_open }
+        ensures copied { KeepsCopy L.is_copied_as self.old.journal.log self.new.journal.log }
+    {
+        if self.has(certificate) {
+            return self.receive_known(peer, certificate);
+        }
+        self.receive_new(peer, certificate)
+    }
+
+    // One like it is known, so nothing is to be kept.
+    fn receive_known(
+        &mut self,
+        peer: S::PublicKey,
+        certificate: &Certificate<S::Certificate, D>,
+    ) -> Result<Receipt<Verdict>, AllocError>
+        requires room { HasRoom self.old.knowledge
+            (round_in (subject_certified certificate.now)).view.0 }
+        requires within { is_of self.old.node.epoch self.old.node.window
+            (round_in (subject_certified certificate.now)) ≡ true }
+        requires known { IsKnownAlready self.old.knowledge (subject_certified certificate.now) }
+        ensures meets { IfOk result (λ receipt. VoterMeets
+            (⟦<S as NodeConfigs<D>>⟧.of self.old.node) self.old self.new
+            (certificate_came peer certificate.now receipt)) }
         ensures heard { OnErr result (IsHeard (⟦<S as NodeConfigs<D>>⟧.of self.old.node)
             self.old.node peer (round_in (subject_certified certificate.now))) }
         ensures certifies { OnErr result (certifies_itself (S.meaning self.old.node.scheme)
@@ -204,19 +249,57 @@ where
             (CertificateCall certificate.now)) }
         ensures refused { OnErr result (self.new ≡ self.old) }
         ensures same { SameNode self.old.node self.new.node }
-        ensures contents { self.new.journal.contents ≡ self.old.journal.contents }
-        ensures open { self.new.journal.is_open ≡ self.old.journal.is_open }
-        ensures copied { KeepsCopy L.is_copied_as self.old.journal.log self.new.journal.log }
+        ensures journal { self.new.journal ≡ self.old.journal }
     {
         self.begins();
         match self.call_certificate(peer, certificate) {
             Ok(receipt) => {
                 if is_recorded(&receipt) {
-                    self.learn(certificate);
+                    self.note_known(certificate.subject());
                     return Ok(receipt);
                 }
                 Ok(receipt)
             }
+            Err(fault) => Err(fault),
+        }
+    }
+
+    // It is kept first, and taken back where the node doesn't record it.
+    fn receive_new(
+        &mut self,
+        peer: S::PublicKey,
+        certificate: &Certificate<S::Certificate, D>,
+    ) -> Result<Receipt<Verdict>, AllocError>
+        requires room { HasRoom self.old.knowledge
+            (round_in (subject_certified certificate.now)).view.0 }
+        requires within { is_of self.old.node.epoch self.old.node.window
+            (round_in (subject_certified certificate.now)) ≡ true }
+        ensures meets { IfOk result (λ receipt. VoterMeets
+            (⟦<S as NodeConfigs<D>>⟧.of self.old.node) self.old self.new
+            (certificate_came peer certificate.now receipt)) }
+        ensures refused { OnErr result (self.new ≡ self.old) }
+        ensures same { SameNode self.old.node self.new.node }
+        ensures contents { self.new.journal.contents ≡ self.old.journal.contents }
+        ensures open { self.new.journal.is_open ≡ self.old.journal.is_open }
+        ensures log { self.new.journal.log ≡ self.old.journal.log }
+    {
+        self.begins();
+        self.keeps_what_it_knows();
+        match self.keep(certificate) {
+            Ok(()) => match self.call_certificate(peer, certificate) {
+                Ok(receipt) => {
+                    if is_recorded(&receipt) {
+                        self.note(certificate.subject());
+                        return Ok(receipt);
+                    }
+                    self.take_back();
+                    Ok(receipt)
+                }
+                Err(fault) => {
+                    self.take_back();
+                    Err(fault)
+                }
+            },
             Err(fault) => Err(fault),
         }
     }
@@ -266,16 +349,19 @@ where
         ensures same { SameNode self.old.node self.new.node }
         ensures journal { self.new.journal ≡ self.old.journal }
         ensures knowledge { self.new.knowledge ≡ self.old.knowledge }
+        ensures waits { self.new.waits ≡ self.old.waits }
     {
         self.node.promises();
         self.node.receive_certificate(peer, certificate)
     }
 
     /// Makes one construction, as the node does. The certificate of its batch is learned, so room
-    /// for it is made first.
+    /// for it is made first. Where there is no memory to keep it for the disk, it waits: hand it in
+    /// with the next call. Until it is kept no vote is written, and no other construction is made.
     pub fn try_construct<R: CryptoRng>(
         &mut self,
         rng: &mut R,
+        waiting: Option<&Certificate<S::Certificate, D>>,
     ) -> Result<Option<Construction<S::Certificate, D>>, AllocError>
         ensures meets { IfOk result (λ made. IfSome made (λ one.
             VoterMeets (⟦<S as NodeConfigs<D>>⟧.of self.old.node) self.old self.new
@@ -294,7 +380,7 @@ where
         ensures copied { KeepsCopy L.is_copied_as self.old.journal.log self.new.journal.log }
     {
         match self.next_construction() {
-            Some(view) => match self.make_room(view.0) {
+            Some(view) => match self.make_ready(view.0, waiting) {
                 Ok(()) => match self.construct_at(view, rng) {
                     Ok(made) => Ok(Some(made)),
                     Err(fault) => Err(fault),
@@ -320,6 +406,7 @@ where
         rng: &mut R,
     ) -> Result<Construction<S::Certificate, D>, AllocError>
         requires room { HasRoom self.old.knowledge view.0 }
+        requires none { self.old.waits ≡ None }
         requires next { IsNext self.old.node.rounds view.0 }
         ensures meets { IfOk result (λ one. VoterMeets (⟦<S as NodeConfigs<D>>⟧.of self.old.node)
             self.old self.new (constructed one.view.0 one.batch)) }
@@ -362,6 +449,7 @@ where
         ensures same { SameNode self.old.node self.new.node }
         ensures journal { self.new.journal ≡ self.old.journal }
         ensures knowledge { self.new.knowledge ≡ self.old.knowledge }
+        ensures waits { self.new.waits ≡ self.old.waits }
     {
         match self.ask_construct(rng) {
             Ok(Some(made)) => Ok(made),
@@ -388,6 +476,7 @@ where
         ensures same { SameNode self.old.node self.new.node }
         ensures journal { self.new.journal ≡ self.old.journal }
         ensures knowledge { self.new.knowledge ≡ self.old.knowledge }
+        ensures waits { self.new.waits ≡ self.old.waits }
     {
         self.node.promises();
         let made = self.node.try_construct(rng);
@@ -395,10 +484,14 @@ where
         made
     }
 
-    // It is known that this is certified, by a certificate of a view for which there is room.
+    // Learns a certificate that the node made, of a view for which there is room. Where there is no
+    // memory to keep it, it waits for that.
     pub(crate) fn learn(&mut self, certificate: &Certificate<S::Certificate, D>)
-        requires { HasRoom self.old.knowledge
+        requires room { HasRoom self.old.knowledge
             (round_in (subject_certified certificate.now)).view.0 }
+        requires epoch { (round_in (subject_certified certificate.now)).epoch
+            ≡ self.old.knowledge.epoch }
+        requires none { self.old.waits ≡ None }
         ensures learns { Learns (subject_certified certificate.now) self.old.knowledge
             self.new.knowledge }
         ensures node { self.new.node ≡ self.old.node }
@@ -406,39 +499,239 @@ where
         ensures open { self.new.journal.is_open ≡ self.old.journal.is_open }
         ensures log { self.new.journal.log ≡ self.old.journal.log }
     {
-        let subject = certificate.subject();
-        let is_known = self.knowledge.has(&subject);
-        self.note(subject);
-        if !is_known {
-            self.keep(certificate);
+        match self.learn_if_kept(certificate) {
+            Ok(()) => {}
+            Err(_) => self.note_waiting(certificate.subject()),
         }
     }
 
-    // Keeps a certificate for the disk, as far as there is memory.
-    fn keep(&mut self, certificate: &Certificate<S::Certificate, D>)
+    // Keeps a certificate for the disk, and learns it: of a view for which there is room.
+    pub(crate) fn learn_if_kept(
+        &mut self,
+        certificate: &Certificate<S::Certificate, D>,
+    ) -> Result<(), AllocError>
+        requires room { HasRoom self.old.knowledge
+            (round_in (subject_certified certificate.now)).view.0 }
+        requires epoch { (round_in (subject_certified certificate.now)).epoch
+            ≡ self.old.knowledge.epoch }
+        ensures learns { OnOk result (Learns (subject_certified certificate.now)
+            self.old.knowledge self.new.knowledge) }
+        ensures needed { OnErr result
+            (IsKnownAlready self.old.knowledge (subject_certified certificate.now) → ⊥) }
+        ensures err { OnErr result (self.new ≡ self.old) }
+        ensures node { self.new.node ≡ self.old.node }
+        ensures contents { self.new.journal.contents ≡ self.old.journal.contents }
+        ensures open { self.new.journal.is_open ≡ self.old.journal.is_open }
+        ensures log { self.new.journal.log ≡ self.old.journal.log }
+    {
+        if self.has(certificate) {
+            self.note_known(certificate.subject());
+            return Ok(());
+        }
+        match self.keep(certificate) {
+            Ok(()) => {
+                self.note(certificate.subject());
+                Ok(())
+            }
+            Err(fault) => Err(fault),
+        }
+    }
+
+    // Whether it is known, or of what is final, one of its view.
+    fn has(&self, certificate: &Certificate<S::Certificate, D>) -> bool
+        ensures { MatchBool result
+            (IsKnownAlready self.now.knowledge (subject_certified certificate.now))
+            (IsKnownAlready self.now.knowledge (subject_certified certificate.now) → ⊥) }
+    {
+        self.knowledge.has(&certificate.subject())
+    }
+
+    // Keeps a certificate for the disk.
+    pub(crate) fn keep(
+        &mut self,
+        certificate: &Certificate<S::Certificate, D>,
+    ) -> Result<(), AllocError>
+        ensures kept { OnOk result (Keeps self.old.journal self.new.journal (
+          round_in (subject_certified certificate.now),
+          (versioned (certificate_format S.Certificate.format D.format)).encoding
+              certificate.now,
+        )) }
+        ensures err { OnErr result (self.new ≡ self.old) }
+        ensures node { self.new.node ≡ self.old.node }
+        ensures knowledge { self.new.knowledge ≡ self.old.knowledge }
+        ensures waits { self.new.waits ≡ self.old.waits }
+    {
+        let mut bytes = Vec::new(self.alloc);
+        match encode_owned(certificate, &mut bytes) {
+            Ok(()) => self.keep_bytes(certificate.round(), &bytes),
+            Err(fault) => Err(fault),
+        }
+    }
+
+    fn keep_bytes(&mut self, round: Round, bytes: &[u8]) -> Result<(), AllocError>
+        ensures kept { OnOk result
+            (Keeps self.old.journal self.new.journal (round, bytes.now)) }
+        ensures err { OnErr result (self.new ≡ self.old) }
+        ensures node { self.new.node ≡ self.old.node }
+        ensures knowledge { self.new.knowledge ≡ self.old.knowledge }
+        ensures waits { self.new.waits ≡ self.old.waits }
+    {
+        self.journal.keep(round, bytes)
+    }
+
+    // Takes back what was kept last, without which all that is known is kept.
+    fn take_back(&mut self)
+        requires { KeptNeedlessly (certificate_format S.Certificate.format D.format)
+            self.old.journal self.old.knowledge self.old.waits }
+        ensures back { (before : JournalView S.Signature D L) (it : Certified)
+            → Keeps before self.old.journal it → self.new.journal ≡ before }
+        ensures node { self.new.node ≡ self.old.node }
+        ensures knowledge { self.new.knowledge ≡ self.old.knowledge }
+        ensures waits { self.new.waits ≡ self.old.waits }
+    {
+        self.journal.take_back();
+    }
+
+    // A certificate of this is learned, which is kept, or waits for that.
+    pub(crate) fn note(&mut self, subject: Subject<D>)
+        requires room { HasRoom self.old.knowledge (round_in subject).view.0 }
+        requires epoch { (round_in subject).epoch ≡ self.old.knowledge.epoch }
+        requires kept { self.old.knowledge.floor ≤ (round_in subject).view.0
+            → IsSafelyKept (certificate_format S.Certificate.format D.format)
+            self.old.journal self.old.waits subject }
+        ensures learns { Learns subject self.old.knowledge self.new.knowledge }
+        ensures node { self.new.node ≡ self.old.node }
+        ensures journal { self.new.journal ≡ self.old.journal }
+        ensures waits { self.new.waits ≡ self.old.waits }
+    {
+        self.knowledge.learn(subject);
+    }
+
+    // The same of one that is known.
+    fn note_known(&mut self, subject: Subject<D>)
+        requires room { HasRoom self.old.knowledge (round_in subject).view.0 }
+        requires epoch { (round_in subject).epoch ≡ self.old.knowledge.epoch }
+        requires known { IsKnownAlready self.old.knowledge subject }
+        ensures learns { Learns subject self.old.knowledge self.new.knowledge }
+        ensures node { self.new.node ≡ self.old.node }
+        ensures journal { self.new.journal ≡ self.old.journal }
+        ensures waits { self.new.waits ≡ self.old.waits }
+    {
+        self.keeps_what_it_knows();
+        self.note(subject);
+    }
+
+    // The same of one that there was no memory to keep.
+    fn note_waiting(&mut self, subject: Subject<D>)
+        requires room { HasRoom self.old.knowledge (round_in subject).view.0 }
+        requires epoch { (round_in subject).epoch ≡ self.old.knowledge.epoch }
+        requires none { self.old.waits ≡ None }
+        ensures learns { Learns subject self.old.knowledge self.new.knowledge }
+        ensures node { self.new.node ≡ self.old.node }
+        ensures journal { self.new.journal ≡ self.old.journal }
+    {
+        self.waits = Some(subject);
+        self.knowledge.learn(subject);
+    }
+
+    // Keeps the certificate that waits for memory, if this is it. Where there is none, or another,
+    // nothing changes.
+    fn keep_again(&mut self, certificate: &Certificate<S::Certificate, D>) -> Result<(), AllocError>
+        ensures kept { OnOk result (self.old.waits ≡ Some (subject_certified certificate.now)
+            → self.new.waits ≡ None) }
+        ensures none { self.old.waits ≡ None → self.new.waits ≡ None }
         ensures node { self.new.node ≡ self.old.node }
         ensures knowledge { self.new.knowledge ≡ self.old.knowledge }
         ensures contents { self.new.journal.contents ≡ self.old.journal.contents }
         ensures open { self.new.journal.is_open ≡ self.old.journal.is_open }
         ensures log { self.new.journal.log ≡ self.old.journal.log }
     {
-        let mut bytes = Vec::new(self.alloc);
-        match encode_owned(certificate, &mut bytes) {
-            Ok(()) => match self.journal.keep(certificate.round(), &bytes) {
-                Ok(()) => {}
-                Err(_) => {}
-            },
-            Err(_) => {}
+        if !self.is_waiting(&certificate.subject()) {
+            return Ok(());
+        }
+        match self.keep(certificate) {
+            Ok(()) => {
+                self.note_kept();
+                Ok(())
+            }
+            Err(fault) => Err(fault),
         }
     }
 
-    pub(crate) fn note(&mut self, subject: Subject<D>)
-        requires { HasRoom self.old.knowledge (round_in subject).view.0 }
-        ensures learns { Learns subject self.old.knowledge self.new.knowledge }
+    // Whether the certificate of this waits.
+    fn is_waiting(&self, subject: &Subject<D>) -> bool
+        ensures { MatchBool result (self.now.waits ≡ Some subject.now)
+            (self.now.waits ≢ Some subject.now) }
+    {
+        match &self.waits {
+            Some(waiting) => is_subject(waiting, subject),
+            None => false,
+        }
+    }
+
+    // What waited is kept.
+    fn note_kept(&mut self)
+        requires { self.old.journal.is_open ≡ true → (t : TheSubject D)
+            → WaitsFor self.old.waits t → IsKeptAmong
+            (certificate_format S.Certificate.format D.format) (kept_for self.old.journal t) t }
+        ensures waits { self.new.waits ≡ None }
         ensures node { self.new.node ≡ self.old.node }
         ensures journal { self.new.journal ≡ self.old.journal }
+        ensures knowledge { self.new.knowledge ≡ self.old.knowledge }
     {
-        self.knowledge.learn(subject);
+        self.waits = None;
+    }
+
+    // Makes room for what may be learned of a view, where no certificate waits to be kept any more.
+    pub(crate) fn make_ready(
+        &mut self,
+        view: u64,
+        waiting: Option<&Certificate<S::Certificate, D>>,
+    ) -> Result<(), AllocError>
+        ensures room { OnOk result (HasRoom self.new.knowledge view) }
+        ensures none { OnOk result (self.new.waits ≡ None) }
+        ensures needed { OnErr result (HasRoom self.old.knowledge view → self.old.waits ≡ None
+            → ⊥) }
+        ensures stays { VoterStays (⟦<S as NodeConfigs<D>>⟧.of self.old.node) self.old self.new }
+        ensures knowledge { SameKnowledge self.old.knowledge self.new.knowledge }
+        ensures node { self.new.node ≡ self.old.node }
+        ensures contents { self.new.journal.contents ≡ self.old.journal.contents }
+        ensures open { self.new.journal.is_open ≡ self.old.journal.is_open }
+        ensures log { self.new.journal.log ≡ self.old.journal.log }
+    {
+        self.keep_given(waiting);
+        if self.has_waiting() {
+            return Err(AllocError);
+        }
+        match self.make_room(view) {
+            Ok(()) => Ok(()),
+            Err(fault) => Err(fault),
+        }
+    }
+
+    // Keeps the certificate that waits for memory, if it is given, and as far as there is memory.
+    pub(crate) fn keep_given(&mut self, waiting: Option<&Certificate<S::Certificate, D>>)
+        ensures none { self.old.waits ≡ None → self.new.waits ≡ None }
+        ensures node { self.new.node ≡ self.old.node }
+        ensures knowledge { self.new.knowledge ≡ self.old.knowledge }
+        ensures contents { self.new.journal.contents ≡ self.old.journal.contents }
+        ensures open { self.new.journal.is_open ≡ self.old.journal.is_open }
+        ensures log { self.new.journal.log ≡ self.old.journal.log }
+    {
+        match waiting {
+            Some(certificate) => match self.keep_again(certificate) {
+                Ok(()) => {}
+                Err(_) => {}
+            },
+            None => {}
+        }
+    }
+
+    // Whether a certificate waits to be kept.
+    pub(crate) fn has_waiting(&self) -> bool
+        ensures { result ≡ is_some self.now.waits }
+    {
+        self.waits.is_some()
     }
 
     // Makes room for what may be learned of a view.
@@ -449,6 +742,7 @@ where
         ensures knowledge { SameKnowledge self.old.knowledge self.new.knowledge }
         ensures node { self.new.node ≡ self.old.node }
         ensures journal { self.new.journal ≡ self.old.journal }
+        ensures waits { self.new.waits ≡ self.old.waits }
     {
         match self.take_room(view) {
             Ok(()) => Ok(()),
@@ -462,9 +756,17 @@ where
         ensures knowledge { SameKnowledge self.old.knowledge self.new.knowledge }
         ensures node { self.new.node ≡ self.old.node }
         ensures journal { self.new.journal ≡ self.old.journal }
+        ensures waits { self.new.waits ≡ self.old.waits }
     {
         self.knowledge.make_room(view)
     }
+}
+
+// Whether the two are one.
+fn is_subject<D: Digest>(a: &Subject<D>, b: &Subject<D>) -> bool
+    ensures { MatchBool result (a.now ≡ b.now) (a.now ≢ b.now) }
+{
+    a.is_same(b)
 }
 
 // Whether a certificate was recorded.

@@ -1,7 +1,7 @@
 //! A vote is written, and then shown to the node.
 
-ghost use Rattle.std.specs.Prelude.{◌≡◌, ◌≢◌, ◌∷◌, [], Contains, Err, IfErr, IfOk, List, MatchBool};
-ghost use Rattle.std.specs.Prelude.{Ok, OnErr, OnOk, ℕ, true, false};
+ghost use Rattle.std.specs.Prelude.{◌≡◌, ◌≢◌, ◌⊎◌, ◌∷◌, [], Contains, Err, IfErr, IfOk, List};
+ghost use Rattle.std.specs.Prelude.{MatchBool, None, Ok, OnErr, OnOk, ℕ, true, false};
 ghost use Rattle.batcher.specs.Votes.{attestation_of, round_in, subject_of};
 ghost use Rattle.batcher_agreement.specs.Lives.{written};
 ghost use Rattle.batcher_node.specs.Events.{view_history};
@@ -20,35 +20,42 @@ ghost use Rattle.batcher.specs.Steps.{fault_or_memory};
 ghost use Rattle.batcher_voter.specs.declared.answers.CastFault.{CastFault};
 ghost use Rattle.batcher_voter.specs.declared.answers.Permission.TheVariants.{Known, Sign};
 ghost use Rattle.batcher_voter.specs.Voting.{ForEachLife, IsVoting, VoterStays, Casts, LeavesVote};
+ghost use Rattle.batcher_voter.specs.Keeping.{HasWrittenAll};
 ghost use Rattle.batcher_voter.specs.Voting.{IsInJournal, MayWrite, Permits, Says, Shows};
 ghost use Rattle.batcher_voter.specs.Voting.{WhyNotCast, WhyNotShown};
 ghost use Rattle.batcher_bytes.specs.Copies.{KeepsCopy};
 
 use crate::answers::{CastFault, Permission};
 use crate::voter::Voter;
-use batcher::messages::{Digest, Identical, Vote};
+use batcher::messages::{Certificate, Digest, Identical, Vote};
 use batcher::round::OwnFault;
 use batcher::scheme::Scheme;
-use batcher_bytes::{Codec, Log};
+use batcher_bytes::{Codec, Log, OwnedCodec};
 use batcher_journal::{WriteFault, bytes_are_of_one_journal};
 use batcher_node::{Cast, NodeConfigs};
 
 impl<S: Scheme<D>, D: Digest + Codec, L: Log> Voter<S, D, L>
 where
     S::Signature: Codec + Identical,
+    S::Certificate: OwnedCodec,
 {
     /// Casts a vote, which attests: it is written, unless it was before, and then shown to the
     /// node, which says whether it is to be sent. So nothing is to be sent, and no construction
-    /// counts it, before it is on the disk.
+    /// counts it, before it is on the disk. Where a certificate waits to be kept, hand it in: it
+    /// is written with the vote, and without it none is.
     pub fn cast(
         &mut self,
         vote: Vote<S::Signature, D>,
+        waiting: Option<&Certificate<S::Certificate, D>>,
     ) -> Result<Cast<S::Signature, D>, CastFault<S::Signature, D>>
         requires { (S.meaning self.old.node.scheme).attests (subject_of vote) (attestation_of vote)
             ≡ true }
         ensures meets { IfOk result (λ cast. Casts (⟦<S as NodeConfigs<D>>⟧.of self.old.node)
             self.old vote cast self.new) }
         ensures in_journal { IfOk result (IsInJournal vote self.new) }
+        // Its write has all that is known.
+        ensures all { OnOk result ((self.new ≡ self.old) ⊎ (HasWrittenAll self.new
+            ⊎ Contains self.old.journal.contents.votes vote)) }
         ensures refused { OnErr result (ForEachLife (⟦<S as NodeConfigs<D>>⟧.of self.old.node)
             self.old (λ past earlier. MayWrite (⟦<S as NodeConfigs<D>>⟧.of self.old.node) vote
             past earlier self.new)) }
@@ -67,7 +74,7 @@ where
             return Err(CastFault::NotOwn);
         }
         match self.ask(&vote.subject()) {
-            Permission::Sign => self.write_and_show(vote),
+            Permission::Sign => self.write_and_show(vote, waiting),
             Permission::Known(known) => self.show_again(vote, &known),
             Permission::Refused(rule) => Err(CastFault::Refused(rule)),
             Permission::Outside => Ok(Cast::Outside),
@@ -79,6 +86,7 @@ where
     fn write_and_show(
         &mut self,
         vote: Vote<S::Signature, D>,
+        waiting: Option<&Certificate<S::Certificate, D>>,
     ) -> Result<Cast<S::Signature, D>, CastFault<S::Signature, D>>
         requires attests { (S.meaning self.old.node.scheme).attests (subject_of vote)
             (attestation_of vote) ≡ true }
@@ -89,6 +97,7 @@ where
         ensures meets { IfOk result (λ cast. Casts (⟦<S as NodeConfigs<D>>⟧.of self.old.node)
             self.old vote cast self.new) }
         ensures in_journal { IfOk result (IsInJournal vote self.new) }
+        ensures all { OnOk result (HasWrittenAll self.new) }
         ensures refused { OnErr result (ForEachLife (⟦<S as NodeConfigs<D>>⟧.of self.old.node)
             self.old (λ past earlier. MayWrite (⟦<S as NodeConfigs<D>>⟧.of self.old.node) vote
             past earlier self.new)) }
@@ -102,7 +111,7 @@ where
         ensures gains { MayGain vote self.old.journal self.new.journal }
         ensures copied { KeepsCopy L.is_copied_as self.old.journal.log self.new.journal.log }
     {
-        match self.write(vote) {
+        match self.write(vote, waiting) {
             Ok(()) => match self.show(vote) {
                 Ok(cast) => Ok(cast),
                 Err(fault) => Err(fault),
@@ -127,6 +136,7 @@ where
         ensures meets { IfOk result (λ cast. Casts (⟦<S as NodeConfigs<D>>⟧.of self.old.node)
             self.old vote cast self.new) }
         ensures in_journal { IfOk result (IsInJournal vote self.new) }
+        ensures before { OnOk result (Contains self.old.journal.contents.votes vote) }
         ensures refused { OnErr result (self.new ≡ self.old) }
         ensures why { IfErr result (λ fault. WhyNotCast (⟦<S as NodeConfigs<D>>⟧.of self.old.node)
             D.eq self.old vote fault self.new) }
@@ -148,8 +158,12 @@ where
         }
     }
 
-    // Writes a vote that may be signed.
-    fn write(&mut self, vote: Vote<S::Signature, D>) -> Result<(), CastFault<S::Signature, D>>
+    // Writes a vote that may be signed, behind the certificate that waits to be kept.
+    fn write(
+        &mut self,
+        vote: Vote<S::Signature, D>,
+        waiting: Option<&Certificate<S::Certificate, D>>,
+    ) -> Result<(), CastFault<S::Signature, D>>
         requires says { Says (⟦<S as NodeConfigs<D>>⟧.of self.old.node) D.eq self.old
             (subject_of vote) Sign }
         requires permits { ForEachLife (⟦<S as NodeConfigs<D>>⟧.of self.old.node) self.old (Permits
@@ -161,6 +175,39 @@ where
             (VoterStays (⟦<S as NodeConfigs<D>>⟧.of self.old.node) self.old self.new) }
         ensures open { OnOk result (self.new.journal.is_open ≡ true) }
         ensures there { OnOk result (Contains self.new.journal.contents.votes vote) }
+        ensures all { OnOk result (HasWrittenAll self.new) }
+        ensures closed { result ≡ Err CastFault.Closed → self.new.journal.is_open ≡ false }
+        ensures why { IfErr result (λ fault. WhyNotCast (⟦<S as NodeConfigs<D>>⟧.of self.old.node)
+            D.eq self.old vote fault self.new) }
+        ensures leaves { (left : List ℕ) → L.is_honest self.new.journal.log
+            → L.may_leave self.new.journal.log left
+            → ForEachLife (⟦<S as NodeConfigs<D>>⟧.of self.old.node) self.old (λ past earlier.
+            LeavesVote (vote_format S.Signature.format D.format) past earlier vote left) }
+        ensures gains { MayGain vote self.old.journal self.new.journal }
+        ensures node { self.new.node ≡ self.old.node }
+        ensures copied { KeepsCopy L.is_copied_as self.old.journal.log self.new.journal.log }
+    {
+        self.keep_given(waiting);
+        match self.write_kept(vote) {
+            Ok(()) => Ok(()),
+            Err(fault) => Err(fault),
+        }
+    }
+
+    // The same, where what waited is kept, as far as there is memory.
+    fn write_kept(&mut self, vote: Vote<S::Signature, D>) -> Result<(), CastFault<S::Signature, D>>
+        requires says { Says (⟦<S as NodeConfigs<D>>⟧.of self.old.node) D.eq self.old
+            (subject_of vote) Sign }
+        requires permits { ForEachLife (⟦<S as NodeConfigs<D>>⟧.of self.old.node) self.old (Permits
+            (⟦<S as NodeConfigs<D>>⟧.of self.old.node) D.eq self.old (subject_of vote) Sign) }
+        ensures ok { OnOk result (ForEachLife (⟦<S as NodeConfigs<D>>⟧.of self.old.node) self.old
+            (λ past earlier. IsVoting (⟦<S as NodeConfigs<D>>⟧.of self.old.node)
+            (written vote ∷ past) earlier self.new)) }
+        ensures err { OnErr result
+            (VoterStays (⟦<S as NodeConfigs<D>>⟧.of self.old.node) self.old self.new) }
+        ensures open { OnOk result (self.new.journal.is_open ≡ true) }
+        ensures there { OnOk result (Contains self.new.journal.contents.votes vote) }
+        ensures all { OnOk result (HasWrittenAll self.new) }
         ensures closed { result ≡ Err CastFault.Closed → self.new.journal.is_open ≡ false }
         ensures why { IfErr result (λ fault. WhyNotCast (⟦<S as NodeConfigs<D>>⟧.of self.old.node)
             D.eq self.old vote fault self.new) }
@@ -188,6 +235,7 @@ where
         requires { self.old.journal.is_open ≡ true }
         ensures ok { OnOk result (HasContents self.new.journal
             (with_more self.old.journal.contents (vote.now ∷ []) self.old.journal.unwritten)) }
+        ensures none { OnOk result (self.new.waits ≡ None) }
         ensures memory { result ≡ Err NoMemory → IsAsBefore self.old.journal self.new.journal }
         ensures full { result ≡ Err NoRoom → IsAsBefore self.old.journal self.new.journal }
         ensures not_free { result ≡ Err NotFree
@@ -205,6 +253,10 @@ where
     {
         // What an open journal has is on the disk.
         let _ = self.is_open();
+        // A vote is written with all that is known, or not at all.
+        if self.has_waiting() {
+            return Err(WriteFault::OutOfMemory);
+        }
         let mut one = Vec::new(self.alloc);
         match one.push(*vote) {
             Ok(()) => self.write_all(&one),
@@ -230,6 +282,7 @@ where
             left }
         ensures node { self.new.node ≡ self.old.node }
         ensures knowledge { self.new.knowledge ≡ self.old.knowledge }
+        ensures waits { self.new.waits ≡ self.old.waits }
         ensures copied { KeepsCopy L.is_copied_as self.old.journal.log self.new.journal.log }
     {
         self.journal.write(votes)
@@ -251,6 +304,7 @@ where
             self.old.node vote) }
         ensures same { SameNode self.old.node self.new.node }
         ensures journal { self.new.journal ≡ self.old.journal }
+        ensures waits { self.new.waits ≡ self.old.waits }
     {
         match self.call_cast(vote) {
             Ok(cast) => Ok(cast),
@@ -275,6 +329,7 @@ where
         ensures same { SameNode self.old.node self.new.node }
         ensures journal { self.new.journal ≡ self.old.journal }
         ensures knowledge { self.new.knowledge ≡ self.old.knowledge }
+        ensures waits { self.new.waits ≡ self.old.waits }
     {
         self.node.promises();
         self.node.cast_vote(vote)

@@ -16,7 +16,7 @@ ghost use Rattle.batcher_bytes.specs.Copies.{KeepsCopy};
 
 use crate::calls::certificate_in;
 use crate::voter::Voter;
-use batcher::messages::{Attestation, Digest, Identical, Subject};
+use batcher::messages::{Attestation, Certificate, Digest, Identical, Subject};
 use batcher::positions::View;
 use batcher::round::RoundConfigs;
 use batcher::scheme::Scheme;
@@ -40,6 +40,7 @@ where
         subject: Subject<D>,
         list: &[Attestation<S::Signature>],
         verdicts: &[bool],
+        waiting: Option<&Certificate<S::Certificate, D>>,
     ) -> Result<Option<Construction<S::Certificate, D>>, AllocError>
         requires { verdicts.now ≡ map ((S.meaning self.old.node.scheme).attests subject) list.now }
         ensures meets { IfGiven result (λ one.
@@ -68,7 +69,7 @@ where
         ensures copied { KeepsCopy L.is_copied_as self.old.journal.log self.new.journal.log }
     {
         match self.next_construction() {
-            Some(view) => match self.make_room(view.0) {
+            Some(view) => match self.make_ready(view.0, waiting) {
                 Ok(()) => match self.conclude_at(view, subject, list, verdicts) {
                     Ok(made) => Ok(made),
                     Err(fault) => Err(fault),
@@ -90,6 +91,7 @@ where
         requires verdicts { verdicts.now
             ≡ map ((S.meaning self.old.node.scheme).attests subject) list.now }
         requires room { HasRoom self.old.knowledge view.0 }
+        requires none { self.old.waits ≡ None }
         requires next { IsNext self.old.node.rounds view.0 }
         ensures meets { IfGiven result (λ one.
             VoterMeets (⟦<S as NodeConfigs<D>>⟧.of self.old.node) self.old self.new
@@ -157,6 +159,7 @@ where
         ensures same { SameNode self.old.node self.new.node }
         ensures journal { self.new.journal ≡ self.old.journal }
         ensures knowledge { self.new.knowledge ≡ self.old.knowledge }
+        ensures waits { self.new.waits ≡ self.old.waits }
     {
         match self.ask_conclude(subject, list, verdicts) {
             Ok(Some(made)) => Ok(Some(made)),
@@ -191,6 +194,7 @@ where
         ensures same { SameNode self.old.node self.new.node }
         ensures journal { self.new.journal ≡ self.old.journal }
         ensures knowledge { self.new.knowledge ≡ self.old.knowledge }
+        ensures waits { self.new.waits ≡ self.old.waits }
     {
         self.node.promises();
         let made = self.node.conclude(subject, list, verdicts);
@@ -200,7 +204,7 @@ where
 
     /// Makes the construction of the next view by a certificate that was made elsewhere, as the
     /// node does, of all that the `next_attempt` of its round lends. It is learned, so room for it
-    /// is made first, which is all that takes memory.
+    /// is made first, and kept as that of `try_construct` is.
     ///
     /// None where the subject and the list aren't those of that attempt, or where all that it lends
     /// is too little for a quorum.
@@ -209,6 +213,7 @@ where
         subject: Subject<D>,
         list: &[Attestation<S::Signature>],
         certificate: S::Certificate,
+        waiting: Option<&Certificate<S::Certificate, D>>,
     ) -> Result<Option<Construction<S::Certificate, D>>, AllocError>
         requires { (S.meaning self.old.node.scheme).certifies subject certificate ≡ true }
         ensures meets { IfGiven result (λ one.
@@ -238,7 +243,7 @@ where
         ensures copied { KeepsCopy L.is_copied_as self.old.journal.log self.new.journal.log }
     {
         match self.next_construction() {
-            Some(view) => match self.make_room(view.0) {
+            Some(view) => match self.make_ready(view.0, waiting) {
                 Ok(()) => Ok(self.conclude_with_at(view, subject, list, certificate)),
                 Err(fault) => {
                     drop(certificate);
@@ -262,6 +267,7 @@ where
     ) -> Option<Construction<S::Certificate, D>>
         requires certifies { (S.meaning self.old.node.scheme).certifies subject certificate ≡ true }
         requires room { HasRoom self.old.knowledge view.0 }
+        requires none { self.old.waits ≡ None }
         requires next { IsNext self.old.node.rounds view.0 }
         ensures meets { IfSome result (λ one.
             VoterMeets (⟦<S as NodeConfigs<D>>⟧.of self.old.node) self.old self.new
@@ -325,6 +331,7 @@ where
         ensures same { SameNode self.old.node self.new.node }
         ensures journal { self.new.journal ≡ self.old.journal }
         ensures knowledge { self.new.knowledge ≡ self.old.knowledge }
+        ensures waits { self.new.waits ≡ self.old.waits }
     {
         match self.ask_conclude_with(subject, list, certificate) {
             Some(made) => Some(made),
@@ -357,6 +364,7 @@ where
         ensures same { SameNode self.old.node self.new.node }
         ensures journal { self.new.journal ≡ self.old.journal }
         ensures knowledge { self.new.knowledge ≡ self.old.knowledge }
+        ensures waits { self.new.waits ≡ self.old.waits }
     {
         self.node.promises();
         let made = self.node.conclude_with(subject, list, certificate);

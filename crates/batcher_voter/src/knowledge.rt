@@ -1,12 +1,13 @@
 //! What a voter knows to be certified.
 
-ghost use Rattle.std.specs.Prelude.{◌≡◌, ◌≤◌, ◌<◌, [], IfSome, MatchBool, MatchOption, None, OnErr};
-ghost use Rattle.std.specs.Prelude.{OnOk, Some, false, true, ℕ};
+ghost use Rattle.std.specs.Prelude.{◌≡◌, ◌≢◌, ◌≤◌, ◌<◌, [], IfSome, MatchBool, MatchOption, None};
+ghost use Rattle.std.specs.Prelude.{OnErr, OnOk, Some, false, true, ℕ};
 ghost use Rattle.std.specs.BTreeMap.{get};
 ghost use Rattle.std.specs.Ordering.{nat_cmp};
 ghost use Rattle.batcher.specs.Votes.{round_in, same_proposal};
 ghost use Rattle.batcher.specs.messages.Subject.TheVariants.{Notarize};
 ghost use Rattle.batcher_agreement.specs.Policy.{Conduct, Knows};
+ghost use Rattle.batcher_voter.specs.Keeping.{HasOf};
 ghost use Rattle.batcher_voter.specs.Knowledge.{AreNullified, Forgets, HasLearned, HaveNoParent};
 ghost use Rattle.batcher_voter.specs.Knowledge.{HasRoom, IsHighest, IsParent, SameKnowledge};
 ghost use Rattle.batcher_voter.specs.Knowledge.{Learns, learned_at, with_learned};
@@ -141,11 +142,15 @@ impl<D: Digest> Knowledge<D> {
         }
     }
 
-    /// Whether something of this kind is known of the view.
-    pub(crate) fn has(&self, subject: &Subject<D>) -> bool {
+    /// Whether this is known to be certified, and of what is final, whether one of its view is.
+    pub(crate) fn has(&self, subject: &Subject<D>) -> bool
+        ensures { MatchBool result
+            (HasOf (learned_at self.now (round_in subject.now).view.0) subject.now)
+            (HasOf (learned_at self.now (round_in subject.now).view.0) subject.now → ⊥) }
+    {
         let learned = self.at(subject.round().view.0);
         match subject {
-            Subject::Notarize { .. } => learned.notarized.is_some(),
+            Subject::Notarize { proposal } => is_held(&learned.notarized, proposal),
             Subject::Nullify { .. } => learned.nullified,
             Subject::Finalize { .. } => learned.finalized.is_some(),
         }
@@ -247,6 +252,16 @@ impl<D: Digest> Knowledge<D> {
             }
         }
         None
+    }
+}
+
+// Whether it is this proposal.
+fn is_held<D: Digest>(held: &Option<Proposal<D>>, proposal: &Proposal<D>) -> bool
+    ensures { MatchBool result (held.now ≡ Some proposal.now) (held.now ≢ Some proposal.now) }
+{
+    match held {
+        Some(known) => are_same(known, proposal),
+        None => false,
     }
 }
 

@@ -2,6 +2,7 @@
 //! who follow it agree on what is final.
 #![tactic(auto)]
 
+mod ahead;
 mod answers;
 mod asking;
 mod calls;
@@ -10,8 +11,6 @@ mod concluding;
 mod knowledge;
 mod moving;
 mod starting;
-#[cfg(test)]
-mod tests;
 mod voter;
 
 pub use answers::{CastFault, FinalizeFault, Permission, Rule, StartFault};

@@ -6,7 +6,7 @@ ghost use Rattle.batcher.specs.Votes.{kind_certified, round_in, subject_certifie
 ghost use Rattle.batcher_agreement.specs.Lives.{called, verified};
 ghost use Rattle.batcher_node.specs.Events.{view_finalized};
 ghost use Rattle.batcher_journal.specs.Ready.{HasContents, IsAsBefore, RaiseLeaves, raised};
-ghost use Rattle.batcher_bytes.specs.Messages.{vote_format};
+ghost use Rattle.batcher_bytes.specs.Messages.{certificate_format, vote_format};
 ghost use Rattle.batcher_journal.specs.Floors.{is_below};
 ghost use Rattle.batcher_voter.specs.Journals.{IsRaised};
 ghost use Rattle.batcher_journal.specs.declared.journal.RaiseFault.TheVariants.{Closed as RaiseClosed};
@@ -18,13 +18,15 @@ ghost use Rattle.batcher_node.specs.Represents.{NodeMeets};
 ghost use Rattle.batcher.specs.Verifiers.{certifies_itself};
 ghost use Rattle.batcher.specs.messages.Kind.TheVariants.{Finalization};
 ghost use Rattle.batcher_voter.specs.declared.answers.FinalizeFault.{FinalizeFault};
+ghost use Rattle.batcher_voter.specs.Keeping.{IsFinalOf, WaitsFor};
+ghost use Rattle.batcher.specs.messages.Subject.{Subject as TheSubject};
 ghost use Rattle.batcher_voter.specs.Knowledge.{Forgets, HasRoom};
 ghost use Rattle.batcher_voter.specs.Voting.{ForEachLife, IsVoting, VoterStays, LeavesWhatWasDone};
 ghost use Rattle.batcher_bytes.specs.Copies.{KeepsCopy};
 
 use crate::answers::FinalizeFault;
 use crate::voter::Voter;
-use batcher::messages::{Certificate, Digest, Identical, Kind};
+use batcher::messages::{Certificate, Digest, Identical, Kind, Subject};
 use batcher::positions::Round;
 use batcher::scheme::Scheme;
 use batcher_bytes::{Codec, Log, OwnedCodec, encode_owned};
@@ -109,6 +111,7 @@ where
             ≤ (round_in (subject_certified finalization.now)).view.0 }
         requires room { HasRoom self.old.knowledge
             (round_in (subject_certified finalization.now)).view.0 }
+        requires kind { kind_certified finalization.now ≡ Finalization }
         ensures meets { OnOk result (ForEachLife (⟦<S as NodeConfigs<D>>⟧.of self.old.node) self.old
             (λ past earlier. IsVoting (⟦<S as NodeConfigs<D>>⟧.of self.old.node)
             (called (view_finalized (round_in (subject_certified finalization.now)).view.0)
@@ -160,6 +163,8 @@ where
     fn move_to(&mut self, round: Round, finalization: &[u8]) -> Result<(), RaiseFault>
         requires epoch { round.epoch ≡ self.old.node.epoch }
         requires up { self.old.node.window.finalized ≤ round.view.0 }
+        requires finalizes { IsFinalOf (certificate_format S.Certificate.format D.format) round
+            finalization.now }
         ensures raised { OnOk result ((self.old.journal.is_open ≡ true)
             × (is_below self.old.journal.contents.floor round ≡ false)
             × HasContents self.new.journal
@@ -189,6 +194,7 @@ where
             Ok(()) => {
                 self.node.finalize(round.view);
                 self.knowledge.forget_before(round.view.0);
+                self.waits = waiting_from(self.waits, round.view.0);
                 Ok(())
             }
             Err(fault) => Err(fault),
@@ -201,5 +207,21 @@ where
             ≡ certifies_itself (S.meaning self.now.node.scheme) certificate.now }
     {
         self.node.verifies(certificate)
+    }
+}
+
+// What waits to be kept, unless its view is before this one.
+fn waiting_from<D: Digest>(waits: Option<Subject<D>>, first: u64) -> Option<Subject<D>>
+    ensures { (t : TheSubject D) → first ≤ (round_in t).view.0 → WaitsFor waits t
+        → WaitsFor result t }
+{
+    match waits {
+        Some(subject) => {
+            if subject.round().view.0 < first {
+                return None;
+            }
+            Some(subject)
+        }
+        None => None,
     }
 }

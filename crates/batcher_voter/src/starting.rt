@@ -1,12 +1,14 @@
 //! A voter is made from its journal.
 
-ghost use Rattle.std.specs.Prelude.{◌≡◌, ◌≢◌, ◌≤◌, ◌⊎◌, ◌∷◌, [], All, HoldsAt, IfErr, IfOk, OnOk};
+ghost use Rattle.std.specs.Prelude.{◌≡◌, ◌≢◌, ◌≤◌, ◌<◌, ◌⊎◌, ◌∷◌, [], All, HoldsAt, IfErr, IfOk};
+ghost use Rattle.std.specs.Prelude.{OnOk};
 ghost use Rattle.std.specs.Prelude.{length, true};
 ghost use Rattle.batcher.specs.Verifiers.{certifies_itself};
 ghost use Rattle.batcher.specs.Votes.{kind_certified, round_in, subject_certified};
 ghost use Rattle.batcher.specs.messages.Kind.TheVariants.{Finalization};
 ghost use Rattle.batcher_voter.specs.Knowledge.{HasLearned, HasRoom, IsHighest, Learns};
 ghost use Rattle.batcher_bytes.specs.Messages.{certificate_format, versioned};
+ghost use Rattle.batcher_voter.specs.Keeping.{HasOnDisk};
 ghost use Rattle.batcher_voter.specs.Reopening.{IsFinalView, IsKindKnown, IsTakenIn, StaysKnown};
 ghost use Rattle.batcher_agreement.specs.Policy.{Conduct, KeepsPolicy};
 ghost use Rattle.batcher_node.specs.Events.{started};
@@ -120,6 +122,7 @@ where
                 node,
                 journal,
                 knowledge: Knowledge::new(alloc, floor.epoch, floor.view.0),
+                waits: None,
             }),
             Err(_) => Err(NotStarted {
                 fault: StartFault::OutOfMemory,
@@ -243,7 +246,9 @@ where
     }
 
     fn floor_certificate(&self) -> Result<(Round, Certificate<S::Certificate, D>), StartFault>
-        ensures { IfOk result (λ it. it.0 ≡ self.now.journal.contents.floor) }
+        ensures round { IfOk result (λ it. it.0 ≡ self.now.journal.contents.floor) }
+        ensures bytes { IfOk result (λ it. self.now.journal.contents.finalization
+            ≡ (versioned (certificate_format S.Certificate.format D.format)).encoding it.1) }
     {
         let bytes = self.journal.finalization();
         if bytes.is_empty() {
@@ -257,9 +262,10 @@ where
         &self,
         i: usize,
     ) -> Result<(Round, Certificate<S::Certificate, D>), StartFault>
-        ensures { IfOk result (λ it. HoldsAt (λ kept. (kept.0 ≡ it.0) × (kept.1
+        ensures at { IfOk result (λ it. HoldsAt (λ kept. (kept.0 ≡ it.0) × (kept.1
             ≡ (versioned (certificate_format S.Certificate.format D.format)).encoding it.1))
             self.now.journal.contents.certificates i) }
+        ensures within { OnOk result (i < length self.now.journal.contents.certificates) }
     {
         match self.journal.certificates().get(i) {
             Some(kept) => {
@@ -276,6 +282,9 @@ where
         round: Round,
         certificate: &Certificate<S::Certificate, D>,
     ) -> Result<(), StartFault>
+        requires { round_in (subject_certified certificate.now) ≡ round
+            → HasOnDisk (certificate_format S.Certificate.format D.format)
+            self.old.journal.contents certificate.now }
         ensures started { OnOk result ((earlier : Conduct D)
             → HasStarted (⟦<S as NodeConfigs<D>>⟧.of self.old.node) earlier self.old
             → HasStarted (⟦<S as NodeConfigs<D>>⟧.of self.old.node) earlier self.new) }
@@ -314,6 +323,8 @@ where
             ≡ self.old.node.epoch }
         requires room { HasRoom self.old.knowledge
             (round_in (subject_certified certificate.now)).view.0 }
+        requires there { HasOnDisk (certificate_format S.Certificate.format D.format)
+            self.old.journal.contents certificate.now }
         ensures started { OnOk result ((earlier : Conduct D)
             → HasStarted (⟦<S as NodeConfigs<D>>⟧.of self.old.node) earlier self.old
             → HasStarted (⟦<S as NodeConfigs<D>>⟧.of self.old.node) earlier self.new) }

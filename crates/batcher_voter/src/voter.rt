@@ -3,17 +3,18 @@
 ghost use Rattle.std.specs.Prelude.{◌≡◌, ◌≤◌, [], List, length, ℕ, true};
 ghost use Rattle.batcher_journal.specs.Answers.{MayBeWrittenBehind};
 ghost use Rattle.batcher_journal.specs.Ready.{IsOnDisk};
-ghost use Rattle.batcher_bytes.specs.Messages.{vote_format};
+ghost use Rattle.batcher_bytes.specs.Messages.{certificate_format, vote_format};
 ghost use Rattle.batcher_node.specs.Windows.{is_of};
+ghost use Rattle.batcher_voter.specs.Keeping.{KeepsWhatIsKnown};
 ghost use Rattle.batcher_voter.specs.Voting.{BeginWithOneView, ForEachLife, VoterView};
 ghost use Rattle.batcher_voter.specs.Voting.{LeavesWhatWasDone, VoterStays};
-ghost use Rattle.batcher_bytes.specs.Copies.{all_copied};
+ghost use Rattle.batcher_bytes.specs.Copies.{is_done_in, is_given};
 
 use crate::knowledge::Knowledge;
-use batcher::messages::{Digest, Identical};
+use batcher::messages::{Digest, Identical, Subject};
 use batcher::positions::{Epoch, Round};
 use batcher::scheme::Scheme;
-use batcher_bytes::{Codec, CopiedLog, Log};
+use batcher_bytes::{Codec, CopiedLog, Log, OwnedCodec};
 use batcher_journal::{Journal, bytes_are_of_one_journal};
 use batcher_node::{Node, NodeConfigs};
 use std::alloc::Global;
@@ -25,35 +26,50 @@ use std::marker::Model;
 pub struct Voter<S: Scheme<D>, D: Digest + Codec, L: Log>
 where
     S::Signature: Codec,
+    S::Certificate: OwnedCodec,
 {
     pub(crate) alloc: Global,
     pub(crate) node: Node<S, D>,
     pub(crate) journal: Journal<S::Signature, D, L>,
     pub(crate) knowledge: Knowledge<D>,
+    // The subject of a certificate that is known, and that there was no memory to keep. Until it is
+    // kept no vote is written.
+    pub(crate) waits: Option<Subject<D>>,
 }
 
 impl<S: Scheme<D>, D: Digest + Codec, L: Log> Model for Voter<S, D, L>
 where
     S::Signature: Codec,
+    S::Certificate: OwnedCodec,
 {
     ghost use Rattle.std.specs.Prelude.{◌≤◌, length};
+    ghost use Rattle.batcher_bytes.specs.Messages.{certificate_format};
+    ghost use Rattle.batcher_voter.specs.Keeping.{KeepsWhatIsKnown};
     ghost use Rattle.batcher_voter.specs.Voting.{BeginWithOneView, VoterView};
 
     ghost Value = { VoterView S S.Signature D L };
 
-    ghost view = { λ v. record { node = v.node; journal = v.journal; knowledge = v.knowledge } };
+    ghost view = { λ v. record {
+      node = v.node;
+      journal = v.journal;
+      knowledge = v.knowledge;
+      waits = v.waits;
+    } };
 
     ghost invariant = { λ v. (1 ≤ length (S.meaning v.node.scheme).participants)
-        × BeginWithOneView (record {
+        × (BeginWithOneView (record {
           node = v.node;
           journal = v.journal;
           knowledge = v.knowledge;
-        }) };
+          waits = v.waits;
+        }) × KeepsWhatIsKnown (certificate_format S.Certificate.format D.format) v.journal
+        v.knowledge v.waits) };
 }
 
 impl<S: Scheme<D>, D: Digest + Codec, L: Log> Voter<S, D, L>
 where
     S::Signature: Codec + Identical,
+    S::Certificate: OwnedCodec,
 {
     /// The node, to look at: whom it blocks, and what its rounds have.
     pub fn node(&self) -> &Node<S, D>
@@ -88,6 +104,23 @@ where
         ensures some { 1 ≤ length (S.meaning self.now.node.scheme).participants }
     {
         let _ = &self.node;
+    }
+
+    /// Does nothing. Each certificate that is known, from the final view on, is on the disk, or
+    /// the next write puts it there, where the journal is open: but for one that waits for memory,
+    /// and no vote is written meanwhile.
+    pub fn keeps_what_it_knows(&self)
+        ensures { KeepsWhatIsKnown (certificate_format S.Certificate.format D.format)
+            self.now.journal self.now.knowledge self.now.waits }
+    {
+        let _ = &self.node;
+    }
+
+    /// The subject of the certificate that waits for memory, to be kept for the disk.
+    pub fn waits(&self) -> Option<Subject<D>>
+        ensures { result ≡ self.now.waits }
+    {
+        self.waits
     }
 
     /// The epoch that it votes in.
@@ -127,14 +160,25 @@ where
 impl<S: Scheme<D>, D: Digest + Codec> Voter<S, D, CopiedLog>
 where
     S::Signature: Codec + Identical,
+    S::Certificate: OwnedCodec,
 {
-    /// The copy of its journal's log lacks nothing any more.
-    pub fn note_copied(&mut self)
+    /// A write of all that the copy of its journal's log lacks is under way, by this number.
+    pub fn note_given(&mut self, number: u64)
         ensures noted { self.new ≡ record self.old {
-          journal = record self.old.journal { log = all_copied self.old.journal.log };
+          journal = record self.old.journal { log = is_given number self.old.journal.log };
         } }
         ensures stays { VoterStays (⟦<S as NodeConfigs<D>>⟧.of self.old.node) self.old self.new }
     {
-        self.journal.note_copied();
+        self.journal.note_given(number);
+    }
+
+    /// The write of its journal's log that was under way is done.
+    pub fn note_done(&mut self)
+        ensures noted { self.new ≡ record self.old {
+          journal = record self.old.journal { log = is_done_in self.old.journal.log };
+        } }
+        ensures stays { VoterStays (⟦<S as NodeConfigs<D>>⟧.of self.old.node) self.old self.new }
+    {
+        self.journal.note_done();
     }
 }

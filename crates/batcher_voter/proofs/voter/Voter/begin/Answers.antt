@@ -1,14 +1,19 @@
-use Rattle.batcher_voter.proofs.Words.{◌≤◌, ◌∙◌, ap, length, subst, sym, numbered}
+use Rattle.batcher_voter.proofs.Words.{◌≤◌, ◌∙◌, ap, length, subst, sym, None, certificate_format, numbered}
+use Rattle.batcher_voter.proofs.Keeping.{nothing_keeps}
 use Rattle.batcher_voter.proofs.voter.Voter.begin.Goals as goal
 
 pub invariant_of-result : goal.invariant_of-result
 invariant_of-result g c = (
   subst (λ s. 1 ≤ length (g.S.Scheme.meaning s).participants) (sym c.in-Ok.ensures.scheme) c.requires,
-  record {
-    of_epoch = c.new.ensures.epoch ∙ sym c.in-Ok.ensures.epoch;
-    from_final = c.new.ensures.floor ∙ sym (ap (λ w. w.finalized) c.in-Ok.ensures.window);
-    floor_is = λ _. sym c.floor-floor.ensures
-        ∙ ap (λ e. numbered e c.floor-floor.result.view.0) (sym c.in-Ok.ensures.epoch)
-        ∙ ap (λ n. numbered c.in-Ok.node.epoch n) (sym (ap (λ w. w.finalized) c.in-Ok.ensures.window));
-  },
+  (
+      record {
+        of_epoch = c.new.ensures.epoch ∙ sym c.in-Ok.ensures.epoch;
+        from_final = c.new.ensures.floor ∙ sym (ap (λ w. w.finalized) c.in-Ok.ensures.window);
+        floor_is = λ _. sym c.floor-floor.ensures
+            ∙ ap (λ e. numbered e c.floor-floor.result.view.0) (sym c.in-Ok.ensures.epoch)
+            ∙ ap (λ n. numbered c.in-Ok.node.epoch n) (sym (ap (λ w. w.finalized) c.in-Ok.ensures.window));
+      },
+    nothing_keeps (certificate_format g.S.Certificate.OwnedCodec.format g.D.Codec.format) c.args.journal
+        c.new.result None c.new.ensures.nothing,
+  ),
 )

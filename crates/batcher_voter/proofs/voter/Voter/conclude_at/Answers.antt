@@ -25,3 +25,12 @@ returns-in-Some-clause-meets g c =
     (subst (λ k. Learns s k c.learn.new.self.knowledge) c.in-Ok-Some.ensures.knowledge c.learn.ensures.learns)
     (ap (λ r. r.epoch) (given_is_of old.epoch made.view.0 made.batch certificate c.in-Some.ensures of_view)
     ∙ sym c.begins.ensures.begins.of_epoch)
+
+pub learn-requires-clause-epoch : goal.learn-requires-clause-epoch
+learn-requires-clause-epoch g c =
+    let made = c.in-Ok-Some.made in
+    let old = c.args.self.now.node in
+    let of_view : IsOfItsView old.epoch made =
+    subst (λ it. IfSome it (IsOfItsView old.epoch)) c.in-Ok-Some.field-0-is c.in-Ok-Some.ensures.of_view in
+    ap (λ r. r.epoch) (given_is_of old.epoch made.view.0 made.batch c.in-Some.certificate.now c.in-Some.ensures of_view)
+    ∙ sym c.begins.ensures.begins.of_epoch ∙ ap (λ k. k.epoch) (sym c.in-Ok-Some.ensures.knowledge)

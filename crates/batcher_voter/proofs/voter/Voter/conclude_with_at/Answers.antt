@@ -21,3 +21,11 @@ returns-in-Some-certificate_in-clause-meets g c =
     (ap (λ r. r.epoch) (given_is_of old.epoch made.view.0 made.batch certificate c.in-Some-certificate_in.ensures
     c.in-Some.ensures.of_view)
     ∙ sym c.begins.ensures.begins.of_epoch)
+
+pub learn-requires-clause-epoch : goal.learn-requires-clause-epoch
+learn-requires-clause-epoch g c =
+    let made = c.in-Some.made in
+    let old = c.args.self.now.node in
+    ap (λ r. r.epoch) (given_is_of old.epoch made.view.0 made.batch c.in-Some-certificate_in.certificate.now
+    c.in-Some-certificate_in.ensures c.in-Some.ensures.of_view)
+    ∙ sym c.begins.ensures.begins.of_epoch ∙ ap (λ k. k.epoch) (sym c.in-Some.ensures.knowledge)

@@ -18,3 +18,10 @@ returns-in-Some-clause-meets g c =
     (ap (λ r. r.epoch) (given_is_of c.args.self.now.node.epoch made.view.0 made.batch certificate
     c.in-Some.ensures c.in-Ok.ensures.of_view)
     ∙ sym c.begins.ensures.begins.of_epoch)
+
+pub learn-requires-clause-epoch : goal.learn-requires-clause-epoch
+learn-requires-clause-epoch g c =
+    let made = c.in-Ok.made in
+    ap (λ r. r.epoch) (given_is_of c.args.self.now.node.epoch made.view.0 made.batch c.in-Some.certificate.now
+    c.in-Some.ensures c.in-Ok.ensures.of_view)
+    ∙ sym c.begins.ensures.begins.of_epoch ∙ ap (λ k. k.epoch) (sym c.in-Ok.ensures.knowledge)

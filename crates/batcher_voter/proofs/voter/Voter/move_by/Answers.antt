@@ -1,7 +1,9 @@
-use Rattle.batcher_voter.proofs.Words.{◌≡◌, ◌∙◌, ap, false, subst, sym, round_in, subject_certified, is_below, raised, view_finalized, node_config, NodeMeets}
+use Rattle.batcher_voter.proofs.Words.{◌≡◌, ◌≤◌, ◌++◌, ◌∙◌, certificate_format, versioned, IsFinalOf, IsSafelyKept, ap, false, subst, sym, round_in}
+use Rattle.batcher_voter.proofs.Words.{subject_certified, is_below, raised, view_finalized, node_config, NodeMeets}
 use Rattle.batcher_voter.proofs.Words.{Forgets, Learns}
 use Rattle.batcher_voter.proofs.Leaving.{leaves_raised}
 use Rattle.batcher_voter.proofs.Finalizing.{finalized_by}
+use Rattle.batcher_voter.proofs.Keeping.{final_of, final_on_disk, safely_on_disk}
 use Rattle.batcher_voter.proofs.voter.Voter.move_by.Goals as goal
 
 pub returns-in-Ok-move_to-clause-meets : goal.returns-in-Ok-move_to-clause-meets
@@ -57,3 +59,30 @@ returns-clause-leaves g c = λ left is_open honest may.
     g.D.PartialEq.eq old.node) _ g.D.PartialEq.eq c.bytes_are_of_one_journal.ensures old is_open left
     old.journal.contents.owner c.round.result c.deref.result.now
     (c.move_to.ensures.leaves left is_open honest may)
+
+pub move_to-requires-clause-finalizes : goal.move_to-requires-clause-finalizes
+move_to-requires-clause-finalizes g c =
+    let final = final_of c.args.finalization.now c.requires.kind in
+    record {
+      certificate = c.args.finalization.now;
+      proposal = final.0;
+      final = final.1;
+      of_round = ap (λ s. round_in s) (sym final.1) ∙ sym c.round.ensures;
+      encoded = c.deref.ensures.value ∙ c.in-Ok.ensures.ok
+          ∙ ap (λ before. before ++ (versioned (certificate_format g.S.Certificate.OwnedCodec.format g.D.Codec.format)).encoding
+          c.args.finalization.now) c.new-bytes.ensures.items;
+    }
+
+pub note-requires-clause-kept : goal.note-requires-clause-kept
+note-requires-clause-kept g c =
+    let format = certificate_format g.S.Certificate.OwnedCodec.format g.D.Codec.format in
+    let final = final_of c.args.finalization.now c.requires.kind in
+    let moved = c.move_to.new.self in
+    let raised = c.in-Ok-move_to.ensures.raised.2.contents_are in
+    subst (λ s. moved.knowledge.floor ≤ (round_in s).view.0 → IsSafelyKept format moved.journal moved.waits s)
+    (sym c.subject.ensures)
+    (λ from. safely_on_disk format moved.journal c.args.finalization.now moved.waits
+    (final_on_disk format moved.journal.contents c.args.finalization.now final.0 final.1
+    (ap (λ k. k.floor) raised ∙ c.round.ensures)
+    (ap (λ k. k.finalization) raised ∙ c.deref.ensures.value ∙ c.in-Ok.ensures.ok
+    ∙ ap (λ before. before ++ (versioned format).encoding c.args.finalization.now) c.new-bytes.ensures.items)))
